@@ -1,0 +1,11 @@
+//! What a list gives back is what it was made from.
+use crate::Sequence;
+use std::test::Fail;
+
+#[test]
+fn keeps_its_items(rt: HostRuntime) -> Result<(), Fail> {
+    let list = Sequence::from(vec![in rt.alloc(); 3u8, 1, 2]?);
+    assert_eq!(rt; list.as_slice(), [3, 1, 2].as_slice());
+    assert_eq!(rt; list.into_vec().as_slice(), [3, 1, 2].as_slice());
+    Ok(())
+}
