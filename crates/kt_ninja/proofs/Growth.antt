@@ -1,0 +1,61 @@
+-- How growths of a sink follow one another.
+use Rattle.std.proofs.Common.{◌≡◌, ℕ, ◌+◌, List, [], ◌++◌, take, drop, refl, sym, ap, subst, ◌∙◌, append_assoc, append-nil}
+use Rattle.std.specs.Prelude.{Option, Some, None}
+use Rattle.std.proofs.lemmas.List.{take-append-drop}
+use Rattle.std.proofs.Math.Seq.{take-add}
+use Rattle.kt_ninja.specs.Written.{appended, GrowsByFront}
+
+pub appended-append : (taken : Option (List ℕ)) (a b : List ℕ) → appended (appended taken a) b ≡ appended taken (a ++ b)
+appended-append None a b = refl
+appended-append (Some bytes) a b = ap Some (append_assoc bytes a b)
+
+pub appended-nil : (taken : Option (List ℕ)) → appended taken [] ≡ taken
+appended-nil None = refl
+appended-nil (Some bytes) = ap Some (append-nil bytes)
+
+-- two texts taken one behind the other
+pub appended_twice : (first second third : Option (List ℕ)) (a b : List ℕ)
+    → second ≡ appended first a → third ≡ appended second b → third ≡ appended first (a ++ b)
+appended_twice first second third a b one two = two ∙ ap (λ t. appended t b) one ∙ appended-append first a b
+
+-- after a text that was taken, the next one is cut
+pub front_after : (first second third : Option (List ℕ)) (a b : List ℕ)
+    → second ≡ appended first a → GrowsByFront second third b → GrowsByFront first third (a ++ b)
+front_after first second third a b one grows = record {
+  front = a ++ grows.front;
+  rest = grows.rest;
+  cut = ap (λ t. a ++ t) grows.cut ∙ sym (append_assoc a grows.front grows.rest);
+  taken = appended_twice first second third a grows.front one grows.taken;
+}
+
+-- a text that is cut is a longer text that is cut
+pub front_of_more : (old new : Option (List ℕ)) (a b : List ℕ) → GrowsByFront old new a → GrowsByFront old new (a ++ b)
+front_of_more old new a b grows = record {
+  front = grows.front;
+  rest = grows.rest ++ b;
+  cut = ap (λ t. t ++ b) grows.cut ∙ append_assoc grows.front grows.rest b;
+  taken = grows.taken;
+}
+
+-- what is taken of a piece in two calls
+pub taken_twice : (first second third : Option (List ℕ)) (n k : ℕ) (piece : List ℕ)
+    → second ≡ appended first (take n piece) → third ≡ appended second (take k (drop n piece))
+    → third ≡ appended first (take (n + k) piece)
+taken_twice first second third n k piece one two =
+    appended_twice first second third (take n piece) (take k (drop n piece)) one two ∙ ap (λ t. appended first t) (sym (take-add n k piece))
+
+-- a beginning of what is left of a piece makes a beginning of the piece
+pub front_of_rest : (first second third : Option (List ℕ)) (n : ℕ) (piece : List ℕ)
+    → second ≡ appended first (take n piece) → GrowsByFront second third (drop n piece) → GrowsByFront first third piece
+front_of_rest first second third n piece one grows =
+    let P : List ℕ → Type 0 = λ t. GrowsByFront first third t in
+    subst P (take-append-drop n piece) (front_after first second third (take n piece) (drop n piece) one grows)
+
+-- the first n bytes of a piece are a beginning of it
+pub front_taken : (old new : Option (List ℕ)) (n : ℕ) (piece : List ℕ) → new ≡ appended old (take n piece) → GrowsByFront old new piece
+front_taken old new n piece taken = record {
+  front = take n piece;
+  rest = drop n piece;
+  cut = sym (take-append-drop n piece);
+  taken = taken;
+}

@@ -1,0 +1,11 @@
+use Rattle.std.proofs.Common.{codes}
+use Rattle.kt_ninja.specs.Text.{plan_text}
+use Rattle.kt_ninja.proofs.Putting.{puts_none, puts_then}
+use Rattle.kt_ninja.proofs.block.Block.put_plan.Goals as goal
+
+pub returns : goal.returns
+unfolding plan_text
+returns g c =
+    puts_then (codes "# kati\n") _ c.put.ensures
+    (puts_then _ _ (rw c.as_slice.ensures at c.put_statements.ensures)
+    (puts_then _ _ (rw c.as_slice-2.ensures at c.put_defaults.ensures) (puts_none _)))

@@ -1,0 +1,11 @@
+use Rattle.std.proofs.Common.{drop, ◌≤◌}
+use Rattle.kt_ninja.specs.Text.{statements_text}
+use Rattle.kt_ninja.proofs.Putting.{PutsUpTo}
+use Rattle.kt_ninja.proofs.block.Block.put_statements.Given as goal
+
+abbrev pub invariant-loop-statement : goal.invariant-loop-statement
+invariant-loop-statement g l = record {
+  puts : PutsUpTo g.W.Sink.written g.W.Sink.failed l.fn.self l.self
+      (statements_text 0 l.statements) (statements_text l.number (drop l.statement-index l.statements));
+  at_most : l.number ≤ l.statement-index;
+}

@@ -1,0 +1,20 @@
+use Rattle.std.proofs.Common.{arith}
+use Rattle.std.proofs.lemmas.List.{take_rest}
+use Rattle.kt_ninja.proofs.Growth.{taken_twice, front_of_rest, front_taken}
+use Rattle.kt_ninja.proofs.sink.put.Goals as goal
+
+pub returns-in-Ok-eq0-clause-fault : goal.returns-in-Ok-eq0-clause-fault
+returns-in-Ok-eq0-clause-fault g c =
+    front_of_rest _ _ _ c.loop-done.done c.args.piece.now c.loop-done.invariant.taken
+    (front_taken _ _ c.in-Ok-eq0.field-0 _ (rw take_rest at c.in-Ok-eq0.ensures.takes))
+
+pub loop-done-preserved : goal.loop-done-preserved
+loop-done-preserved g c = record {
+  within = grind arith;
+  taken = taken_twice _ _ _ c.loop-done.done c.in-Ok.taken c.args.piece.now c.loop-done.invariant.taken (rw take_rest at c.in-Ok.ensures.takes);
+  counts = omega arith;
+}
+
+pub returns-in-Err-clause-fault : goal.returns-in-Err-clause-fault
+returns-in-Err-clause-fault g c =
+    front_of_rest _ _ _ c.loop-done.done c.args.piece.now c.loop-done.invariant.taken (rw take_rest at c.in-Err.ensures.front)

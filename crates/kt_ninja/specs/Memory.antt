@@ -1,0 +1,30 @@
+-- A sink over memory.
+use Rattle.std.specs.Prelude.{◌≡◌, ◌≢◌, ℕ, ◌+◌, ◌-◌, ◌^◌, ◌<◌, min, List, [], ◌++◌, length, take, Result, Ok, Err}
+use Rattle.kt_ninja.specs.declared.sink.SinkFault.{SinkFault}
+use Rattle.kt_ninja.specs.Written.{Rises}
+
+-- what it holds, how much it can hold, how much it takes in a call, how often it failed, and how often it was called
+pub record Memory : Type 0 where
+  pub bytes : List ℕ
+  pub room : ℕ
+  pub step : ℕ
+  pub failures : ℕ
+  pub calls : ℕ
+
+-- one more, up to the greatest number of 64 bits
+abbrev pub one_more : ℕ → ℕ
+one_more count = min (count + 1) (2 ^ 64 - 1)
+
+-- how many bytes of a piece it takes: what the piece, the step and the room allow
+abbrev pub taken_of : Memory → List ℕ → ℕ
+taken_of m piece = min (min (length piece) m.step) (m.room - length m.bytes)
+
+-- what a call leaves, of which so many bytes were taken and which counts so many failures
+abbrev pub called : Memory → List ℕ → ℕ → Memory
+called m bytes failures = record {
+  bytes = m.bytes ++ bytes;
+  room = m.room;
+  step = m.step;
+  failures = failures;
+  calls = one_more m.calls;
+}

@@ -1,0 +1,77 @@
+-- The text of a plan as a Ninja file (Ninja manual, "Ninja file reference" and "Lexical syntax"). Names of rules,
+-- and the order of lines, are kati's own.
+use Rattle.std.specs.Prelude.{ℕ, ◌+◌, ◌==◌, ◌||◌, Bool, List, [], ◌∷◌, ◌++◌, codes, decimal, if◌then◌else◌}
+use Rattle.std.specs.List.{concat, flat_map}
+use Rattle.kt_ninja.specs.declared.escapes.Escapes.{Escapes}
+use Rattle.kt_ninja.specs.declared.escapes.Escapes.TheVariants.{InName, InCommand}
+use Rattle.kt_ninja.specs.declared.plan.Made.{Made}
+use Rattle.kt_ninja.specs.declared.plan.Made.TheVariants.{Command, Phony}
+use Rattle.kt_ninja.specs.declared.plan.Statement.{Statement}
+use Rattle.kt_ninja.specs.declared.plan.Plan.{Plan}
+
+-- each byte of this kind behind a dollar, every other byte as it is
+abbrev pub escaped : (ℕ → Bool) → List ℕ → List ℕ
+escaped test bytes = flat_map (λ b. if test b then codes "$" ++ b ∷ [] else b ∷ []) bytes
+
+-- what Ninja reads as more than a byte of its own: in a name dollar, space and colon, in a command the dollar alone
+abbrev pub is_special : Escapes → ℕ → Bool
+is_special InName b = b == 36 || b == 32 || b == 58
+is_special InCommand b = b == 36
+
+abbrev pub name_text : List ℕ → List ℕ
+name_text name = escaped (is_special InName) name
+
+-- Ninja drops spaces before a value, so that a first one stands behind a dollar too
+abbrev pub lead_text : List ℕ → List ℕ
+lead_text [] = []
+lead_text (b ∷ bs) = if b == 32 then codes "$" else []
+
+abbrev pub command_text : List ℕ → List ℕ
+command_text command = lead_text command ++ escaped (is_special InCommand) command
+
+-- each name behind one space
+abbrev pub names_text : List (List ℕ) → List ℕ
+names_text names = flat_map (λ n. codes " " ++ name_text n) names
+
+-- the names behind their mark, if there are any
+abbrev pub marked_text : List ℕ → List (List ℕ) → List ℕ
+marked_text mark [] = []
+marked_text mark (n ∷ ns) = mark ++ names_text (n ∷ ns)
+
+-- the two lines of the rule that runs the command
+abbrev pub rule_text : ℕ → Made → List ℕ
+rule_text number (Command c) = concat (codes "rule r" ∷ decimal number ∷ codes "\n command = " ∷ command_text c ∷ codes "\n" ∷ [])
+rule_text number Phony = []
+
+-- the name of the rule
+abbrev pub rule_name_text : ℕ → Made → List ℕ
+rule_name_text number (Command c) = concat (codes "r" ∷ decimal number ∷ [])
+rule_name_text number Phony = codes "phony"
+
+-- how many rules a statement takes
+abbrev pub rule_count : Made → ℕ
+rule_count (Command c) = 1
+rule_count Phony = 0
+
+-- the build line of a statement whose rule has this number
+abbrev pub build_text : ℕ → Statement → List ℕ
+build_text number s =
+    concat (codes "build" ∷ names_text s.outs ∷ codes ": " ∷ rule_name_text number s.made ∷ names_text s.inputs
+    ∷ marked_text (codes " |") s.implicit ∷ marked_text (codes " ||") s.order_only ∷ codes "\n" ∷ [])
+
+-- a statement whose rule, if it has one, has this number
+abbrev pub statement_text : ℕ → Statement → List ℕ
+statement_text number s = rule_text number s.made ++ build_text number s
+
+-- statements in order, their rules numbered from this number on
+abbrev pub statements_text : ℕ → List Statement → List ℕ
+statements_text number [] = []
+statements_text number (s ∷ ss) = statement_text number s ++ statements_text (number + rule_count s.made) ss
+
+-- the line of the default targets, if there are any
+abbrev pub defaults_text : List (List ℕ) → List ℕ
+defaults_text [] = []
+defaults_text (n ∷ ns) = concat (codes "default" ∷ names_text (n ∷ ns) ∷ codes "\n" ∷ [])
+
+unfoldable pub plan_text : Plan → List ℕ
+plan_text p = concat (codes "# kati\n" ∷ statements_text 0 p.statements ∷ defaults_text p.defaults ∷ [])

@@ -1,0 +1,94 @@
+-- Which plans can be written (Ninja manual, "Lexical syntax" and "Build statements"; which bytes are refused is kati's own).
+use Rattle.std.specs.Prelude.{◌≡◌, ◌≢◌, ℕ, ◌+◌, Bool, true, false, not, ◌==◌, ◌&&◌, ◌||◌, nat_eq, List, [], ◌∷◌, ◌++◌, All, AllPairs, Contains, Option, Some, None, option_map, Result, Ok, Err, find, if◌then◌else◌}
+use Rattle.std.specs.List.{list_all, list_any, position_from}
+use Rattle.std.specs.Option.{option_or}
+use Rattle.std.specs.Cmp.Lexicographic.{pointwise}
+use Rattle.kt_ninja.specs.declared.plan.Made.{Made}
+use Rattle.kt_ninja.specs.declared.plan.Made.TheVariants.{Command, Phony}
+use Rattle.kt_ninja.specs.declared.plan.Statement.{Statement}
+use Rattle.kt_ninja.specs.declared.plan.Plan.{Plan}
+use Rattle.kt_ninja.specs.declared.checking.Unwritable.{Unwritable}
+use Rattle.kt_ninja.specs.declared.checking.Unwritable.TheVariants as told
+use Rattle.kt_ninja.specs.Plan.{names_of, outputs}
+
+abbrev pub is_empty : {A : Type 0} → List A → Bool
+is_empty [] = true
+is_empty (x ∷ xs) = false
+
+-- a byte that a name can hold: no bar, CR, LF or NUL
+abbrev pub is_name_byte : ℕ → Bool
+is_name_byte b = not (b == 124 || (b == 13 || (b == 10 || b == 0)))
+
+abbrev pub is_name : List ℕ → Bool
+is_name name = not (is_empty name) && list_all is_name_byte name
+
+-- a byte that a command can hold: no CR, LF or NUL
+abbrev pub is_command_byte : ℕ → Bool
+is_command_byte b = not (b == 13 || (b == 10 || b == 0))
+
+abbrev pub is_command : List ℕ → Bool
+is_command command = not (is_empty command) && list_all is_command_byte command
+
+abbrev pub is_made : Made → Bool
+is_made (Command c) = is_command c
+is_made Phony = true
+
+-- whether the list holds this name
+abbrev pub is_among : List (List ℕ) → List ℕ → Bool
+is_among names name = list_any (λ n. pointwise nat_eq name n) names
+
+-- every statement makes something, its names and its command can be written, no output stands twice in the plan, and
+-- each default target is an output
+pub record IsWritable (plan : Plan) : Type 0 where
+  pub made : list_all (λ s. not (is_empty s.outs)) plan.statements ≡ true
+  pub texts : list_all (λ s. list_all is_name (names_of s) && is_made s.made) plan.statements ≡ true
+  pub different : AllPairs (λ a b. a ≢ b) (outputs plan.statements)
+  pub defaults : All (λ d. Contains (outputs plan.statements) d) plan.defaults
+
+-- what keeps a plan from being written; numbers are those of statements, from 0
+pub data Trouble : Type 0 where
+  no_output : ℕ → Trouble
+  bad_name : List ℕ → Trouble
+  bad_command : ℕ → Trouble
+  repeated : List ℕ → Trouble
+  not_an_output : List ℕ → Trouble
+
+-- of a statement: its first name that can't be written, or its command
+abbrev pub trouble_of_statement : ℕ → Statement → Option Trouble
+trouble_of_statement number s =
+    option_or (option_map bad_name (find (λ n. not (is_name n)) (names_of s))) (if is_made s.made then None else Some (bad_command number))
+
+-- of statements in order, the first of which has this number
+abbrev pub trouble_of_statements : ℕ → List Statement → Option Trouble
+trouble_of_statements number [] = None
+trouble_of_statements number (s ∷ ss) = option_or (trouble_of_statement number s) (trouble_of_statements (number + 1) ss)
+
+-- the first name of a list that is among those before it, or among these
+abbrev pub repeated_after : List (List ℕ) → List (List ℕ) → Option (List ℕ)
+repeated_after before [] = None
+repeated_after before (n ∷ ns) = if is_among before n then Some n else repeated_after (before ++ n ∷ []) ns
+
+-- the first default target that is no output
+abbrev pub not_made : List (List ℕ) → List (List ℕ) → Option (List ℕ)
+not_made outs defaults = find (λ d. not (is_among outs d)) defaults
+
+-- the first trouble of a plan: a statement without output, then names and commands, statement by statement, then an
+-- output that stands twice, then a default target that is no output
+abbrev pub first_trouble : Plan → Option Trouble
+first_trouble plan =
+    option_or (option_map no_output (position_from (λ s. is_empty s.outs) 0 plan.statements))
+    (option_or (trouble_of_statements 0 plan.statements)
+    (option_or (option_map repeated (repeated_after [] (outputs plan.statements)))
+    (option_map not_an_output (not_made (outputs plan.statements) plan.defaults))))
+
+-- what an answer tells
+abbrev pub told_trouble : Unwritable → Trouble
+told_trouble (told.NoOutput number) = no_output number
+told_trouble (told.BadName name) = bad_name name.now
+told_trouble (told.BadCommand number) = bad_command number
+told_trouble (told.Repeated name) = repeated name.now
+told_trouble (told.NotAnOutput name) = not_an_output name.now
+
+abbrev pub trouble_in : Result (Unit {0}) Unwritable → Option Trouble
+trouble_in (Ok _) = None
+trouble_in (Err e) = Some (told_trouble e)

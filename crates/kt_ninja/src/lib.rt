@@ -1,0 +1,17 @@
+//! Build plans, and their text as a Ninja file.
+#![tactic(auto)]
+
+mod block;
+mod checking;
+mod escapes;
+mod memory;
+mod plan;
+mod printer;
+mod sink;
+
+
+pub use memory::MemSink;
+pub use plan::{Made, Name, Plan, Statement};
+pub use printer::write_plan;
+pub use sink::{Sink, SinkFault, WriteFault, put};
+pub use checking::{Unwritable, writable};
