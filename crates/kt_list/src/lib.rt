@@ -1,9 +1,11 @@
-//! The list type of kati's public data: a vector that contracts see as a plain list.
+//! The list types of kati's public data: contracts see each as a plain list.
 #![tactic(auto)]
 
 mod sequence;
+mod shared;
 
 pub use sequence::Sequence;
+pub use shared::Shared;
 
 #[cfg(test)]
 mod tests;

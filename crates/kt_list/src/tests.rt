@@ -1,5 +1,5 @@
-//! What a list gives back is what it was made from.
-use crate::Sequence;
+//! A list gives back what it was made from.
+use crate::{Sequence, Shared};
 use std::test::Fail;
 
 #[test]
@@ -7,5 +7,14 @@ fn keeps_its_items(rt: HostRuntime) -> Result<(), Fail> {
     let list = Sequence::from(vec![in rt.alloc(); 3u8, 1, 2]?);
     assert_eq!(rt; list.as_slice(), [3, 1, 2].as_slice());
     assert_eq!(rt; list.into_vec().as_slice(), [3, 1, 2].as_slice());
+    Ok(())
+}
+
+#[test]
+fn shares_its_items(rt: HostRuntime) -> Result<(), Fail> {
+    let list = Shared::from_vec(vec![in rt.alloc(); 3u8, 1, 2]?)?;
+    let again = list.share()?;
+    assert_eq!(rt; again.as_slice(), [3, 1, 2].as_slice());
+    assert_eq!(rt; list.as_slice(), [3, 1, 2].as_slice());
     Ok(())
 }

@@ -1,7 +1,7 @@
 -- A plan can be written exactly where it has no trouble.
-use Rattle.std.proofs.Common.{◌≡◌, ◌≢◌, ◌∙◌, ℕ, ◌+◌, ◌<◌, List, [], ◌∷◌, ◌++◌, length, refl, sym, ap, subst, arith, zero, suc}
-use Rattle.std.specs.Prelude.{Bool, true, false, not, ◌&&◌, ◌||◌, nat_eq, Option, Some, None, option_map, Result, Ok, Err, IsOk, find, All, AllPairs, Contains, slice_index, if◌then◌else◌, ◌↔◌}
-use Rattle.std.specs.List.{list_all, list_any, position_from, IsDistinct, AllByRecursion, slice_index_or}
+use Rattle.std.proofs.Common.{◌≡◌, ◌≢◌, ◌∙◌, ℕ, ◌+◌, List, [], ◌∷◌, ◌++◌, refl, sym, ap, arith, zero, suc}
+use Rattle.std.specs.Prelude.{Bool, true, false, not, ◌&&◌, ◌||◌, nat_eq, Option, Some, None, option_map, Result, Ok, Err, IsOk, find, All, Contains, if◌then◌else◌, ◌↔◌}
+use Rattle.std.specs.List.{list_all, position_from, IsDistinct, AllByRecursion}
 use Rattle.std.specs.Bool.{Decides}
 use Rattle.std.specs.Option.{option_or}
 use Rattle.std.specs.Cmp.Lexicographic.{pointwise, same_text, other_text}
@@ -13,7 +13,7 @@ use Rattle.kt_ninja.specs.declared.plan.Plan.{Plan}
 use Rattle.kt_ninja.specs.declared.plan.Statement.{Statement}
 use Rattle.kt_ninja.specs.declared.checking.Unwritable.{Unwritable}
 use Rattle.kt_ninja.specs.Plan.{names_of, outputs}
-use Rattle.kt_ninja.specs.Writable.{IsWritable, Trouble, no_output, bad_name, bad_command, repeated, not_an_output, first_trouble, is_among, is_empty, is_made, is_name, not_made, repeated_after, told_trouble, trouble_in, trouble_of_statement, trouble_of_statements}
+use Rattle.kt_ninja.specs.Writable.{IsWritable, Trouble, no_output, bad_name, bad_command, repeated, not_an_output, first_trouble, is_among, is_empty, is_made, is_name, not_made, repeated_after, trouble_in, trouble_of_statement, trouble_of_statements}
 
 -- ---- a list all of whose elements pass has no first that fails
 
@@ -98,25 +98,25 @@ fine_from_none : (n : ℕ) (s : Statement) → trouble_of_statement n s ≡ None
 fine_from_none n s e =
     let names = find (λ x. not (is_name x)) (names_of s) in
     both_true (list_all is_name (names_of s)) (is_made s.made)
-        (pass_from_find is_name (names_of s) (map_none bad_name names (or_first (option_map bad_name names) _ e)))
-        (made_true (is_made s.made) (bad_command n) (or_second (option_map bad_name names) _ e))
+    (pass_from_find is_name (names_of s) (map_none bad_name names (or_first (option_map bad_name names) _ e)))
+    (made_true (is_made s.made) (bad_command n) (or_second (option_map bad_name names) _ e))
 
 none_from_fine : (n : ℕ) (s : Statement) → fine s ≡ true → trouble_of_statement n s ≡ None
 none_from_fine n s e =
     or_none _ _ (ap (option_map bad_name) (find_from_pass is_name (names_of s) (first_true (list_all is_name (names_of s)) (is_made s.made) e)))
-        (made_none (is_made s.made) (bad_command n) (second_true (list_all is_name (names_of s)) (is_made s.made) e))
+    (made_none (is_made s.made) (bad_command n) (second_true (list_all is_name (names_of s)) (is_made s.made) e))
 
 all_fine : (n : ℕ) (ss : List Statement) → trouble_of_statements n ss ≡ None → list_all fine ss ≡ true
 all_fine n [] e = refl
 all_fine n (s ∷ ss) e =
     both_true (fine s) (list_all fine ss) (fine_from_none n s (or_first (trouble_of_statement n s) _ e))
-        (all_fine (n + 1) ss (or_second (trouble_of_statement n s) _ e))
+    (all_fine (n + 1) ss (or_second (trouble_of_statement n s) _ e))
 
 no_trouble : (n : ℕ) (ss : List Statement) → list_all fine ss ≡ true → trouble_of_statements n ss ≡ None
 no_trouble n [] e = refl
 no_trouble n (s ∷ ss) e =
     or_none (trouble_of_statement n s) _ (none_from_fine n s (first_true (fine s) (list_all fine ss) e))
-        (no_trouble (n + 1) ss (second_true (fine s) (list_all fine ss) e))
+    (no_trouble (n + 1) ss (second_true (fine s) (list_all fine ss) e))
 
 -- ---- outputs
 
@@ -167,15 +167,17 @@ apart_less : (before : List (List ℕ)) (x : List ℕ) (xs : List (List ℕ)) �
 apart_less before x [] apart = (tt, tt)
 apart_less before x (y ∷ ys) apart =
     let here = sym (among_more before x y) ∙ apart.0 in
-    let later = apart_less before x ys apart.1 in
-    ((false_first (is_among before y) (pointwise nat_eq y x) here, later.0),
-    (other_way x y (false_second (is_among before y) (pointwise nat_eq y x) here), later.1))
+    let later = apart_less before x ys apart.1 in (
+      (false_first (is_among before y) (pointwise nat_eq y x) here, later.0),
+      (other_way x y (false_second (is_among before y) (pointwise nat_eq y x) here), later.1),
+    )
 
 apart_more : (before : List (List ℕ)) (x : List ℕ) (xs : List (List ℕ)) → Apart before xs → Other x xs → Apart (before ++ x ∷ []) xs
 apart_more before x [] apart other = tt
-apart_more before x (y ∷ ys) apart other =
-    (among_more before x y ∙ or_false (is_among before y) (pointwise nat_eq y x) apart.0 (other_way y x other.0),
-    apart_more before x ys apart.1 other.1)
+apart_more before x (y ∷ ys) apart other = (
+  among_more before x y ∙ or_false (is_among before y) (pointwise nat_eq y x) apart.0 (other_way y x other.0),
+  apart_more before x ys apart.1 other.1,
+)
 
 here_false : (here : Bool) (x : List ℕ) (later : Option (List ℕ)) → (if here then Some x else later) ≡ None → here ≡ false
 here_false true x later e = absurd (cc e)
@@ -231,7 +233,7 @@ pass_from_all : (outs names : List (List ℕ)) → All (λ d. Contains outs d) n
 pass_from_all outs [] all = refl
 pass_from_all outs (n ∷ ns) all =
     both_true (is_among outs n) (list_all (is_among outs) ns) (among_from_contains outs n (all 0 n (omega arith)))
-        (pass_from_all outs ns (λ k d below. all (suc k) d (omega arith)))
+    (pass_from_all outs ns (λ k d below. all (suc k) d (omega arith)))
 
 -- ---- the plan
 

@@ -1,5 +1,5 @@
 -- A text with escapes, cut at its first special byte.
-use Rattle.std.proofs.Common.{◌≡◌, ◌<◌, ◌≤◌, ℕ, zero, suc, ◌+◌, List, [], ◌∷◌, ◌++◌, take, drop, length, refl, sym, ap, subst, ◌∙◌, arith, add-one}
+use Rattle.std.proofs.Common.{◌≡◌, ◌<◌, ℕ, zero, suc, ◌+◌, List, [], ◌∷◌, ◌++◌, take, drop, length, refl, sym, ap, ◌∙◌, arith, add-one}
 use Rattle.std.specs.Prelude.{Bool, true, false, slice_index, codes, if◌then◌else◌}
 use Rattle.memchr.specs.Find.{Nowhere, NoneBefore, Passes}
 use Rattle.kt_ninja.specs.Text.{escaped}

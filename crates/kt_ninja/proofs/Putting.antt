@@ -1,7 +1,7 @@
 -- How texts that are put into a block follow one another.
-use Rattle.std.proofs.Common.{◌≡◌, ℕ, ◌+◌, ◌≤◌, List, [], ◌++◌, refl, sym, ap, subst, ◌∙◌, append_assoc, append-nil, arith, ◌<◌, ◌∷◌, length, drop, get_or, add-one}
+use Rattle.std.proofs.Common.{◌≡◌, ℕ, ◌+◌, List, [], ◌++◌, refl, sym, ap, subst, ◌∙◌, append_assoc, append-nil, arith, ◌<◌, ◌∷◌, length, drop, get_or, add-one}
 use Rattle.std.proofs.Math.Seq.{drop-cons}
-use Rattle.std.specs.Prelude.{Option, Some, None, Bool, true, false}
+use Rattle.std.specs.Prelude.{Option, Bool, true, false}
 use Rattle.kt_ninja.specs.declared.block.Block.{Block}
 use Rattle.kt_ninja.specs.Written.{appended, GrowsByFront}
 use Rattle.kt_ninja.specs.Blocks.{Moves, PutsBy, Counts, Puts, PrintsBy, Prints}
@@ -86,10 +86,6 @@ pub record PutsUpTo {S : Type 0} (written : S → Option (List ℕ)) (failures :
   pub cut : whole ≡ done ++ left
   pub puts : Puts written failures old new done
 
-pub up_to_none : {S : Type 0} {written : S → Option (List ℕ)} {failures : S → ℕ} (way : Block S) (whole : List ℕ)
-    → PutsUpTo written failures way way whole whole
-up_to_none way whole = record { done = []; cut = refl; puts = puts_none way }
-
 -- the next text of those that are left is put
 pub up_to_more : {S : Type 0} {written : S → Option (List ℕ)} {failures : S → ℕ} {old middle new : Block S} {whole : List ℕ} (left next rest : List ℕ)
     → left ≡ next ++ rest → PutsUpTo written failures old middle whole left → Puts written failures middle new next
@@ -133,9 +129,9 @@ printed {S} {written} {failures} {text} old middle new a b one flush flushed emp
     let P : Bool → List ℕ → List ℕ → Type 0 = λ f v w. PutsBy f new.failed (written old.sink.now) v (written new.sink.now) w text in
     let C : Bool → Type 0 = λ f. Counts f new.failed (failures old.sink.now) (failures new.sink.now) in
     let now = subst (λ (f : Bool). P f [] []) fresh
-        (subst (λ (v : List ℕ). P old.failed v []) empty (subst (λ (w : List ℕ). P old.failed old.waiting.items w) flushed puts.puts)) in
+    (subst (λ (v : List ℕ). P old.failed v []) empty (subst (λ (w : List ℕ). P old.failed old.waiting.items w) flushed puts.puts)) in
     let here : PrintsBy new.failed (written old.sink.now) (written new.sink.now) text =
-        by_end new.failed (written old.sink.now) (written new.sink.now) text now in
+    by_end new.failed (written old.sink.now) (written new.sink.now) text now in
     let counts : Counts false new.failed (failures old.sink.now) (failures new.sink.now) = subst C fresh puts.counts in
     record {
       prints = subst (λ (s : S). PrintsBy new.failed (written a) (written s) text) last

@@ -1,7 +1,7 @@
 -- What keeps a plan from being written, along its lists.
-use Rattle.std.proofs.Common.{◌≡◌, ◌∙◌, ℕ, ◌+◌, ◌<◌, List, [], ◌∷◌, ◌++◌, length, take, drop, get_or, refl, sym, ap, append_assoc, append-nil, add-one}
-use Rattle.std.specs.Prelude.{Bool, true, false, ◌||◌, not, nat_eq, Option, Some, None, find, if◌then◌else◌}
-use Rattle.std.specs.List.{list_any, flat_map}
+use Rattle.std.proofs.Common.{◌≡◌, ◌∙◌, ℕ, ◌+◌, ◌<◌, List, [], ◌∷◌, ◌++◌, length, take, drop, get_or, refl, sym, ap, append_assoc, append-nil}
+use Rattle.std.specs.Prelude.{Bool, true, false, ◌||◌, not, nat_eq, Option, Some, find, if◌then◌else◌}
+use Rattle.std.specs.List.{list_any}
 use Rattle.std.specs.Option.{option_or}
 use Rattle.std.specs.Cmp.Lexicographic.{pointwise}
 use Rattle.std.proofs.lemmas.List.{take_more}
@@ -39,7 +39,7 @@ repeated_after-append before [] ys = ap (λ b. repeated_after b ys) (sym (append
 repeated_after-append before (x ∷ xs) ys =
     let first = repeated_after (before ++ x ∷ []) xs in
     ap (λ o. if is_among before x then Some x else o)
-        (repeated_after-append (before ++ x ∷ []) xs ys ∙ ap (λ b. option_or first (repeated_after b ys)) (append_assoc before (x ∷ []) xs))
+    (repeated_after-append (before ++ x ∷ []) xs ys ∙ ap (λ b. option_or first (repeated_after b ys)) (append_assoc before (x ∷ []) xs))
     ∙ or_cases (is_among before x) x first (repeated_after (before ++ x ∷ xs) ys)
 
 -- from the statement at i on
@@ -51,7 +51,7 @@ repeated_after-next ss i s below is =
     let rest = outputs (drop (i + 1) ss) in
     let next : drop i ss ≡ s ∷ drop (i + 1) ss = drop_next ss i s below ∙ ap (λ t. t ∷ drop (i + 1) ss) (sym is) in
     let upto : outputs (take (i + 1) ss) ≡ before ++ s.outs =
-        ap outputs (take_more ss i s below ∙ ap (λ t. take i ss ++ t ∷ []) (sym is))
-        ∙ flat_map-append (λ (t : Statement). t.outs) (take i ss) (s ∷ []) ∙ ap (λ t. before ++ t) (append-nil s.outs) in
+    ap outputs (take_more ss i s below ∙ ap (λ t. take i ss ++ t ∷ []) (sym is))
+    ∙ flat_map-append (λ (t : Statement). t.outs) (take i ss) (s ∷ []) ∙ ap (λ t. before ++ t) (append-nil s.outs) in
     ap (λ t. repeated_after before (outputs t)) next ∙ repeated_after-append before s.outs rest
     ∙ ap (λ b. option_or (repeated_after before s.outs) (repeated_after b rest)) (sym upto)

@@ -1,6 +1,7 @@
 -- Text on its way to a sink, through a block of bytes.
 use Rattle.std.specs.Prelude.{◌≡◌, ℕ, ◌≤◌, List, ◌++◌, Option, Bool, true, false}
-use Rattle.kt_ninja.specs.Written.{appended, GrowsByFront, Rises}
+use Rattle.kt_list.specs.Counters.{Rises}
+use Rattle.kt_ninja.specs.Written.{appended, GrowsByFront}
 use Rattle.kt_ninja.specs.declared.block.Block.{Block}
 
 -- where no write failed: what the sink took since, and what waits now, are what waited before and the text

@@ -4,3 +4,4 @@ pub mod Writable
 pub mod Written
 pub mod Blocks
 pub mod Memory
+pub mod Escaping

@@ -1,7 +1,6 @@
 -- A sink over memory.
-use Rattle.std.specs.Prelude.{◌≡◌, ◌≢◌, ℕ, ◌+◌, ◌-◌, ◌^◌, ◌<◌, min, List, [], ◌++◌, length, take, Result, Ok, Err}
-use Rattle.kt_ninja.specs.declared.sink.SinkFault.{SinkFault}
-use Rattle.kt_ninja.specs.Written.{Rises}
+use Rattle.std.specs.Prelude.{ℕ, ◌-◌, min, List, ◌++◌, length}
+use Rattle.kt_list.specs.Counters.{one_more}
 
 -- what it holds, how much it can hold, how much it takes in a call, how often it failed, and how often it was called
 pub record Memory : Type 0 where
@@ -10,10 +9,6 @@ pub record Memory : Type 0 where
   pub step : ℕ
   pub failures : ℕ
   pub calls : ℕ
-
--- one more, up to the greatest number of 64 bits
-abbrev pub one_more : ℕ → ℕ
-one_more count = min (count + 1) (2 ^ 64 - 1)
 
 -- how many bytes of a piece it takes: what the piece, the step and the room allow
 abbrev pub taken_of : Memory → List ℕ → ℕ

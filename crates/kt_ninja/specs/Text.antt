@@ -2,8 +2,6 @@
 -- and the order of lines, are kati's own.
 use Rattle.std.specs.Prelude.{ℕ, ◌+◌, ◌==◌, ◌||◌, Bool, List, [], ◌∷◌, ◌++◌, codes, decimal, if◌then◌else◌}
 use Rattle.std.specs.List.{concat, flat_map}
-use Rattle.kt_ninja.specs.declared.escapes.Escapes.{Escapes}
-use Rattle.kt_ninja.specs.declared.escapes.Escapes.TheVariants.{InName, InCommand}
 use Rattle.kt_ninja.specs.declared.plan.Made.{Made}
 use Rattle.kt_ninja.specs.declared.plan.Made.TheVariants.{Command, Phony}
 use Rattle.kt_ninja.specs.declared.plan.Statement.{Statement}
@@ -13,13 +11,16 @@ use Rattle.kt_ninja.specs.declared.plan.Plan.{Plan}
 abbrev pub escaped : (ℕ → Bool) → List ℕ → List ℕ
 escaped test bytes = flat_map (λ b. if test b then codes "$" ++ b ∷ [] else b ∷ []) bytes
 
--- what Ninja reads as more than a byte of its own: in a name dollar, space and colon, in a command the dollar alone
-abbrev pub is_special : Escapes → ℕ → Bool
-is_special InName b = b == 36 || b == 32 || b == 58
-is_special InCommand b = b == 36
+-- what begins an escape or ends a name: dollar, space, colon. (A bar or a newline would end it too, and has no escape.)
+abbrev pub is_special_in_name : ℕ → Bool
+is_special_in_name b = b == 36 || b == 32 || b == 58
+
+-- what begins an escape or a variable in a value: the dollar
+abbrev pub is_special_in_command : ℕ → Bool
+is_special_in_command b = b == 36
 
 abbrev pub name_text : List ℕ → List ℕ
-name_text name = escaped (is_special InName) name
+name_text name = escaped is_special_in_name name
 
 -- Ninja drops spaces before a value, so that a first one stands behind a dollar too
 abbrev pub lead_text : List ℕ → List ℕ
@@ -27,7 +28,7 @@ lead_text [] = []
 lead_text (b ∷ bs) = if b == 32 then codes "$" else []
 
 abbrev pub command_text : List ℕ → List ℕ
-command_text command = lead_text command ++ escaped (is_special InCommand) command
+command_text command = lead_text command ++ escaped is_special_in_command command
 
 -- each name behind one space
 abbrev pub names_text : List (List ℕ) → List ℕ

@@ -1,4 +1,5 @@
--- Which plans can be written (Ninja manual, "Lexical syntax" and "Build statements"; which bytes are refused is kati's own).
+-- Which plans can be written (Ninja manual, "Lexical syntax", and for defaults "Default target statements"; which bytes
+-- are refused, and that no output stands twice, is kati's own).
 use Rattle.std.specs.Prelude.{◌≡◌, ◌≢◌, ℕ, ◌+◌, Bool, true, false, not, ◌==◌, ◌&&◌, ◌||◌, nat_eq, List, [], ◌∷◌, ◌++◌, All, AllPairs, Contains, Option, Some, None, option_map, Result, Ok, Err, find, if◌then◌else◌}
 use Rattle.std.specs.List.{list_all, list_any, position_from}
 use Rattle.std.specs.Option.{option_or}

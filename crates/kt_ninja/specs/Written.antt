@@ -1,5 +1,5 @@
--- What a sink has taken, and what it counts.
-use Rattle.std.specs.Prelude.{◌≡◌, ℕ, ◌+◌, ◌-◌, ◌^◌, ◌≤◌, min, List, ◌++◌, Option, option_map}
+-- What a sink has taken.
+use Rattle.std.specs.Prelude.{◌≡◌, ℕ, List, ◌++◌, Option, option_map}
 
 -- the bytes taken with these behind them, where they are known
 abbrev pub appended : Option (List ℕ) → List ℕ → Option (List ℕ)
@@ -11,7 +11,3 @@ pub record GrowsByFront (old new : Option (List ℕ)) (text : List ℕ) : Type 0
   pub rest : List ℕ
   pub cut : text ≡ front ++ rest
   pub taken : new ≡ appended old front
-
--- the count rose, or it stands at the greatest number of 64 bits
-abbrev pub Rises : ℕ → ℕ → Type 0
-Rises old new = min (old + 1) (2 ^ 64 - 1) ≤ new

@@ -1,7 +1,7 @@
 //! Bytes on their way to a sink, handed over a block at a time.
 ghost use Rattle.std.specs.Prelude.{◌≡◌, ◌≤◌, ◌<◌, ◌+◌, [], take, drop, length};
-ghost use Rattle.memchr.specs.Find.{IsFirstByte};
-ghost use Rattle.kt_ninja.specs.Text.{escaped, is_special};
+ghost use Rattle.kt_ninja.specs.Escaping.{is_special};
+ghost use Rattle.kt_ninja.specs.Text.{escaped};
 
 use crate::escapes::Escapes;
 use crate::sink::{Sink, WriteFault, put};

@@ -1,15 +1,15 @@
 //! Which plans can be written.
-ghost use Rattle.std.specs.Prelude.{◌≡◌, ◌↔◌, ◌+◌, ◌≤◌, [], not, find, option_map, IsOk};
+ghost use Rattle.std.specs.Prelude.{◌≡◌, ◌↔◌, [], not, find, IsOk};
 ghost use Rattle.std.specs.List.{list_all, list_any, position_from};
-ghost use Rattle.std.specs.Option.{option_copied, option_or};
+ghost use Rattle.std.specs.Option.{option_copied};
 ghost use Rattle.kt_ninja.specs.Plan.{names_of, outputs};
-ghost use Rattle.kt_ninja.specs.Writable.{IsWritable, bad_name, first_trouble, is_among, is_command, is_command_byte, is_empty, is_made, is_name, is_name_byte, not_made, repeated_after, trouble_in, trouble_of_statement, trouble_of_statements};
+ghost use Rattle.kt_ninja.specs.Writable.{IsWritable, first_trouble, is_among, is_command_byte, is_empty, is_made, is_name, is_name_byte, not_made, repeated_after, trouble_in, trouble_of_statement, trouble_of_statements};
 
 use crate::plan::{Made, Name, Plan, Statement};
 use thiserror::Error;
 
 /// What keeps a plan from being written. Numbers are those of the plan's statements, from 0.
-#[derive(Debug, Drop, Clone, Copy, Error)]
+#[derive(Debug, Drop, Clone, Copy, PartialEq, Eq, Error)]
 pub enum Unwritable<'a> {
     #[error("a statement has no output")]
     NoOutput(usize),
@@ -87,7 +87,9 @@ fn makes_nothing(statement: &Statement) -> bool
 fn first_without_output(statements: &[Statement]) -> Option<usize>
     ensures { result ≡ position_from (λ s. is_empty s.outs) 0 statements.now }
 {
-    statements.iter().position(|statement| makes_nothing(statement))
+    statements
+        .iter()
+        .position(|statement| makes_nothing(statement))
 }
 
 fn holds(names: &[Name], name: &[u8]) -> bool

@@ -1,7 +1,7 @@
 //! Where Ninja wants a dollar before a byte.
 ghost use Rattle.std.specs.Prelude.{◌<◌, IfSome, length};
 ghost use Rattle.memchr.specs.Find.{IsFirstByte};
-ghost use Rattle.kt_ninja.specs.Text.{is_special};
+ghost use Rattle.kt_ninja.specs.Escaping.{is_special};
 
 use memchr::{memchr, memchr3};
 

@@ -9,9 +9,11 @@ mod plan;
 mod printer;
 mod sink;
 
-
+pub use checking::{Unwritable, writable};
 pub use memory::MemSink;
 pub use plan::{Made, Name, Plan, Statement};
 pub use printer::write_plan;
 pub use sink::{Sink, SinkFault, WriteFault, put};
-pub use checking::{Unwritable, writable};
+
+#[cfg(test)]
+mod tests;

@@ -60,9 +60,10 @@ impl MemSink {
 }
 
 impl Sink for MemSink {
-    ghost use Rattle.std.specs.Prelude.{◌≡◌, ◌≢◌, ◌≤◌, ◌<◌, Some, Ok, [], IfOk, OnErr, IsErr, length, take};
-    ghost use Rattle.kt_ninja.specs.Written.{appended, GrowsByFront, Rises};
-    ghost use Rattle.kt_ninja.specs.Memory.{called, one_more, taken_of};
+    ghost use Rattle.std.specs.Prelude.{◌≡◌, ◌≤◌, ◌<◌, Some, Ok, [], IfOk, OnErr, IsErr, length, take};
+    ghost use Rattle.kt_list.specs.Counters.{one_more, Rises};
+    ghost use Rattle.kt_ninja.specs.Written.{appended, GrowsByFront};
+    ghost use Rattle.kt_ninja.specs.Memory.{called, taken_of};
 
     ghost written = { λ s. Some s.bytes };
 
@@ -88,7 +89,11 @@ impl Sink for MemSink {
         let count = piece.len().min(self.step).min(self.room - self.bytes.len());
         if count == 0 && !piece.is_empty() {
             self.failures = self.failures.saturating_add(1);
-            return if self.step == 0 { Ok(0) } else { Err(SinkFault) };
+            return if self.step == 0 {
+                Ok(0)
+            } else {
+                Err(SinkFault)
+            };
         }
         self.bytes.extend_from_slice(&piece[..count]).unwrap();
         Ok(count)

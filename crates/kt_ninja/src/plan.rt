@@ -13,7 +13,7 @@ pub enum Made {
     Phony,
 }
 
-/// A build statement (Ninja manual, "Build statements" and "Types of dependencies").
+/// A build statement (Ninja manual, "Build statements", "Build outputs" and "Build dependencies").
 #[derive(Debug, Drop)]
 pub struct Statement {
     /// What one run of the command makes.

@@ -1,9 +1,10 @@
 //! The text of a plan as a Ninja file.
-ghost use Rattle.std.specs.Prelude.{◌≡◌, ◌≤◌, OnOk, OnErr, false, codes, decimal};
+ghost use Rattle.std.specs.Prelude.{◌≡◌, ◌≤◌, OnOk, OnErr, false, decimal};
+ghost use Rattle.kt_list.specs.Counters.{Rises};
 ghost use Rattle.kt_ninja.specs.Blocks.{Prints, Puts};
 ghost use Rattle.kt_ninja.specs.Text.{build_text, command_text, defaults_text, lead_text, marked_text, names_text, plan_text, rule_count, rule_name_text, rule_text, statement_text, statements_text};
 ghost use Rattle.kt_ninja.specs.Writable.{IsWritable};
-ghost use Rattle.kt_ninja.specs.Written.{appended, GrowsByFront, Rises};
+ghost use Rattle.kt_ninja.specs.Written.{appended, GrowsByFront};
 
 use crate::block::Block;
 use crate::escapes::Escapes;
@@ -154,6 +155,7 @@ fn print<W: Sink>(plan: &Plan, sink: &mut W) -> bool
         waiting: _,
         failed,
     } = block;
+    // A read ties the sink's last value to the block's, for the proof.
     let _ = &*sink;
     failed
 }

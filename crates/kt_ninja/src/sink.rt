@@ -1,6 +1,7 @@
 //! Where text goes.
 ghost use Rattle.std.specs.Prelude.{◌≡◌, ℕ, List, Option, ◌≤◌, ◌<◌, length, take, IfOk, OnOk, OnErr};
-ghost use Rattle.kt_ninja.specs.Written.{appended, GrowsByFront, Rises};
+ghost use Rattle.kt_list.specs.Counters.{Rises};
+ghost use Rattle.kt_ninja.specs.Written.{appended, GrowsByFront};
 
 use thiserror::Error;
 

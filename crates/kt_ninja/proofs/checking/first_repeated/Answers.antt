@@ -1,5 +1,5 @@
-use Rattle.std.proofs.Common.{◌∙◌, ◌≡◌, ◌+◌, ℕ, List, take, drop, sym, ap}
-use Rattle.std.specs.Prelude.{Option, Some, None}
+use Rattle.std.proofs.Common.{◌∙◌, ◌≡◌, ◌+◌, take, drop, sym, ap}
+use Rattle.std.specs.Prelude.{Some, None}
 use Rattle.std.specs.Option.{option_or}
 use Rattle.kt_ninja.specs.Plan.{outputs}
 use Rattle.kt_ninja.specs.Writable.{repeated_after}

@@ -1,4 +1,4 @@
-use Rattle.std.proofs.Common.{◌≡◌, ◌+◌, ◌++◌, List, ℕ, take, drop, arith, sym, ap, subst, ◌∙◌}
+use Rattle.std.proofs.Common.{List, ℕ, arith, sym, subst}
 use Rattle.std.proofs.Math.Seq.{take-add}
 use Rattle.std.proofs.lemmas.List.{take_rest}
 use Rattle.kt_ninja.specs.Blocks.{Puts}
@@ -9,7 +9,7 @@ pub loop-done-preserved : goal.loop-done-preserved
 loop-done-preserved g c = record {
   within = grind arith;
   puts =
-    let P : List ℕ → Type 0 = λ t. Puts g.W.Sink.written g.W.Sink.failed c.args.self.now c.fill-done.new.self t in
-    subst P (sym (take-add c.loop-done.done c.fill-done.result c.args.piece.now))
-    (puts_then _ _ c.loop-done.invariant.puts (rw take_rest at c.fill-done.ensures.puts));
+      let P : List ℕ → Type 0 = λ t. Puts g.W.Sink.written g.W.Sink.failed c.args.self.now c.fill-done.new.self t in
+      subst P (sym (take-add c.loop-done.done c.fill-done.result c.args.piece.now))
+      (puts_then _ _ c.loop-done.invariant.puts (rw take_rest at c.fill-done.ensures.puts));
 }

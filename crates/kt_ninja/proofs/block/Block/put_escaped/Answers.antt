@@ -1,6 +1,7 @@
-use Rattle.std.proofs.Common.{◌≡◌, ℕ, List, [], ◌∷◌, ◌++◌, take, refl, sym, subst}
+use Rattle.std.proofs.Common.{ℕ, List, [], ◌∷◌, ◌++◌, take, refl, sym, subst}
 use Rattle.std.specs.Prelude.{slice_index}
-use Rattle.kt_ninja.specs.Text.{escaped, is_special}
+use Rattle.kt_ninja.specs.Text.{escaped}
+use Rattle.kt_ninja.specs.Escaping.{is_special}
 use Rattle.kt_ninja.specs.Blocks.{Puts}
 use Rattle.kt_ninja.proofs.Putting.{up_to_more, up_to_all}
 use Rattle.kt_ninja.proofs.Escaping.{escaped-first, escaped-none}
@@ -13,8 +14,8 @@ loop-at-preserved g c =
     let special : List ℕ = 36 ∷ slice_index rest c.in-Some.at ∷ [] in
     let left : List ℕ = escaped test c.after-rest.result.now in
     let plain = up_to_more _ (take c.in-Some.at rest) (special ++ left)
-        (escaped-first test rest c.in-Some.at c.after-rest.result.now c.in-Some.ensures.first c.after-rest.ensures)
-        c.loop-at.invariant c.put.ensures in
+    (escaped-first test rest c.in-Some.at c.after-rest.result.now c.in-Some.ensures.first c.after-rest.ensures)
+    c.loop-at.invariant c.put.ensures in
     up_to_more _ special left refl plain c.put-in-Some.ensures
 
 pub returns : goal.returns

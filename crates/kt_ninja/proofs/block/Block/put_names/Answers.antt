@@ -1,4 +1,4 @@
-use Rattle.std.proofs.Common.{◌∙◌, ◌≡◌, ◌+◌, ◌++◌, codes, drop, sym, ap, append_assoc, refl}
+use Rattle.std.proofs.Common.{◌∙◌, ◌≡◌, ◌+◌, ◌++◌, codes, drop, sym, ap}
 use Rattle.kt_ninja.specs.Text.{names_text, name_text}
 use Rattle.kt_ninja.proofs.Putting.{puts_then, up_to_more, up_to_end, drop_next}
 use Rattle.std.proofs.lemmas.List.{drop_all}

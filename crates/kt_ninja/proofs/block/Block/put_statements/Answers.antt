@@ -11,7 +11,7 @@ loop-statement-preserved g c =
     let rest = drop (i + 1) c.args.statements.now in
     let made = c.statement-item.result.made in
     let next : statements_text number (drop i c.args.statements.now)
-        ≡ statement_text number c.statement-item.result ++ statements_text (number + rule_count made) rest =
+    ≡ statement_text number c.statement-item.result ++ statements_text (number + rule_count made) rest =
     ap (λ t. statements_text number t) (drop_next c.args.statements.now i c.statement-item.result c.loop-statement-test.true)
     ∙ ap (λ s. statement_text number s ++ statements_text (number + rule_count s.made) rest) (sym c.statement-item.is) in
     let count : number + rule_count made ≡ number + c.rules_of-number.result = ap (λ k. number + k) (sym c.rules_of-number.ensures.count) in

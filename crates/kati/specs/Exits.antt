@@ -1,0 +1,26 @@
+-- The exit status of the program (kati's own).
+use Rattle.std.specs.Prelude.{ℕ, Result, Ok, Err}
+use Rattle.kati.specs.declared.faults.RunFault.{RunFault}
+use Rattle.kati.specs.declared.faults.RunFault.TheVariants as faults
+use Rattle.kati.specs.declared.status.Status.{Status}
+use Rattle.kati.specs.declared.status.Status.TheVariants as statuses
+
+-- of a run that came to its end: written, or a makefile's fault
+abbrev pub code_of : Status → ℕ
+code_of statuses.Done = 0
+code_of statuses.Fault = 2
+
+-- of a run that was kept from it: by a device, or by want of memory
+abbrev pub fault_code : RunFault → ℕ
+fault_code (faults.Read name) = 3
+fault_code faults.WriteOut = 3
+fault_code faults.WriteErr = 3
+fault_code faults.Memory = 4
+
+-- of words that are no command line
+abbrev pub usage_code : ℕ
+usage_code = 64
+
+abbrev pub exit_code : Result Status RunFault → ℕ
+exit_code (Ok status) = code_of status
+exit_code (Err fault) = fault_code fault

@@ -1,0 +1,9 @@
+pub mod Args
+pub mod Cutting
+pub mod Exits
+pub mod Headline
+pub mod Meaning
+pub mod OneReading
+pub mod OneRule
+pub mod Planned
+pub mod Reading

@@ -1,0 +1,45 @@
+//! What keeps a run from its end.
+ghost use Rattle.std.specs.Prelude.{◌≡◌};
+ghost use Rattle.kati.specs.declared.faults.RunFault.TheVariants.{Memory};
+
+use std::alloc::AllocError;
+use thiserror::Error;
+
+/// What kept a run from its end.
+#[derive(Debug, Drop, Error)]
+pub enum RunFault {
+    /// The device of this file failed.
+    #[error("kati: cannot read {0}")]
+    Read(String),
+    /// The output failed.
+    #[error("kati: cannot write")]
+    WriteOut,
+    /// The error output failed.
+    #[error("kati: cannot write")]
+    WriteErr,
+    #[error("kati: no memory")]
+    Memory,
+}
+
+impl From<AllocError> for RunFault {
+    ghost from_gives = { λ _ e. e ≡ Memory };
+
+    fn from(_: AllocError) -> RunFault {
+        RunFault::Memory
+    }
+}
+
+impl RunFault {
+    ghost use Rattle.std.specs.Prelude.{◌≡◌};
+    ghost use Rattle.kati.specs.Exits.{fault_code};
+
+    /// The exit status: 3 after a device's failure, 4 where memory was refused.
+    pub fn exit_code(&self) -> u8
+        ensures { result ≡ fault_code self.now }
+    {
+        match self {
+            RunFault::Read(_) | RunFault::WriteOut | RunFault::WriteErr => 3,
+            RunFault::Memory => 4,
+        }
+    }
+}

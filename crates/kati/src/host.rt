@@ -1,0 +1,153 @@
+//! The host's files and outputs. No contract tells what they hold.
+ghost use Rattle.std.specs.Prelude.{◌≡◌, ◌<◌, ◌≤◌, ◌↔◌, [], None, map, string_bytes, IfErr, IfOk, IfSome, IsNone, IsOk, length, vec_len};
+
+use kt_eval::{FileFault, Files};
+use kt_ninja::{Sink, SinkFault};
+use std::fs;
+use std::io::{ErrorKind, Read, Write};
+
+/// The most bytes, and the most calls, that reading one file takes. With it every read of a file ends.
+const MOST: usize = 1_073_741_824;
+
+/// One of the process's outputs. Each write is flushed.
+#[derive(Drop)]
+pub struct HostSink<W: Write + Drop> {
+    output: W,
+    failures: u64,
+}
+
+impl<W: Write + Drop> HostSink<W> {
+    pub fn new(output: W) -> HostSink<W>
+        ensures { result.failures ≡ 0 }
+    {
+        HostSink {
+            output,
+            failures: 0,
+        }
+    }
+}
+
+/// Writes and flushes; `None` where either fails, or nothing was taken.
+fn send<W: Write>(output: &mut W, piece: &[u8]) -> Option<usize>
+    ensures { IfSome result (λ n. (0 < n) × (n ≤ length piece.now)) }
+{
+    let count = output.write(piece).ok()?;
+    output.flush().ok()?;
+    if count > 0 { Some(count) } else { None }
+}
+
+impl<W: Write + Drop> Sink for HostSink<W> {
+    ghost written = { λ _. None };
+
+    ghost failed = { λ s. s.failures };
+
+    fn write(&mut self, piece: &[u8]) -> Result<usize, SinkFault> {
+        if piece.is_empty() {
+            return Ok(0);
+        }
+        match send(&mut self.output, piece) {
+            Some(count) => Ok(count),
+            None => {
+                self.failures = self.failures.saturating_add(1);
+                Err(SinkFault)
+            }
+        }
+    }
+
+    fn failures(&self) -> u64 {
+        self.failures
+    }
+}
+
+/// The host's files, by paths from the current folder.
+#[derive(Drop)]
+pub struct HostFiles<'a> {
+    rt: &'a HostRuntime,
+    asked: Vec<String>,
+    failures: u64,
+}
+
+impl<'a> HostFiles<'a> {
+    pub fn new(rt: &'a HostRuntime) -> HostFiles<'a>
+        ensures asked { result.asked.items ≡ [] }
+        ensures failures { result.failures ≡ 0 }
+    {
+        HostFiles {
+            rt,
+            asked: Vec::new(rt.alloc()),
+            failures: 0,
+        }
+    }
+}
+
+/// The bytes that the reader has up to its end, which are no more than the bound.
+fn read_to_end<R: Read>(rt: &HostRuntime, reader: &mut R) -> Result<Vec<u8>, FileFault>
+    ensures { IfOk result (λ bytes. vec_len bytes ≤ MOST) }
+{
+    let mut bytes = Vec::new(rt.alloc());
+    let mut block = [0u8; 65536];
+    for _ in 0..MOST {
+        let count = reader.read(&mut block).map_err(|_| FileFault::Device)?;
+        if count == 0 {
+            return Ok(bytes);
+        }
+        if MOST.saturating_sub(bytes.len()) < count {
+            return Err(FileFault::Device);
+        }
+        bytes
+            .extend_from_slice(&block[..count])
+            .map_err(|_| FileFault::Memory)?;
+    }
+    Err(FileFault::Device)
+}
+
+/// What it means that a file can't be opened: it isn't there, or the device failed.
+fn unopened(kind: ErrorKind) -> Result<Option<Vec<u8>>, FileFault>
+    ensures absent { IsOk result ↔ (kind ≡ ErrorKind.NotFound) }
+    ensures none { IfOk result IsNone }
+    ensures device { IfErr result (λ e. e ≡ FileFault.Device) }
+{
+    match kind {
+        ErrorKind::NotFound => Ok(None),
+        _ => Err(FileFault::Device),
+    }
+}
+
+/// The bytes of the file, or `None` where nothing is there.
+fn read_file(rt: &HostRuntime, name: &str) -> Result<Option<Vec<u8>>, FileFault> {
+    match fs::open(rt, name) {
+        Ok(mut file) => Ok(Some(read_to_end(rt, &mut file)?)),
+        Err(error) => unopened(error.kind()),
+    }
+}
+
+impl<'a> Files for HostFiles<'a> {
+    ghost known = { λ _. None };
+
+    ghost names = { λ s. map string_bytes s.asked.items };
+
+    ghost failed = { λ s. s.failures };
+
+    fn read(&mut self, name: &str) -> Result<Option<Vec<u8>>, FileFault> {
+        let copy = match name.to_string(self.rt.alloc()) {
+            Ok(copy) => copy,
+            Err(_) => return Err(FileFault::Memory),
+        };
+        let found = read_file(self.rt, name);
+        if matches!(found, Err(FileFault::Memory)) || self.asked.push(copy).is_err() {
+            return Err(FileFault::Memory);
+        }
+        if found.is_err() {
+            self.failures = self.failures.saturating_add(1);
+        }
+        found
+    }
+
+    fn asked(&self) -> &[String] {
+        self.asked.as_slice()
+    }
+
+    fn failures(&self) -> u64 {
+        self.failures
+    }
+}

@@ -1,0 +1,3 @@
+//! Tests of the crate, by what they call.
+mod recognising;
+mod runs;

@@ -1,0 +1,29 @@
+//! A place in a makefile.
+ghost use Rattle.std.specs.Prelude.{◌≡◌, ◌++◌, OnOk};
+
+use itoa::Buffer;
+use kt_list::Shared;
+use std::alloc::AllocError;
+
+/// A logical line of a file.
+#[derive(Debug, Drop)]
+pub struct Place {
+    /// The file's name as it was asked for.
+    pub file: Shared<u8>,
+    /// The number of the logical line's first physical line, from 1.
+    pub line: u64,
+}
+
+impl Place {
+    ghost use Rattle.kt_rules.specs.Places.{place_text};
+
+    /// Appends `FILE:LINE`. Where memory is refused, the text holds a beginning of it more.
+    pub fn append_to(&self, text: &mut Vec<u8>) -> Result<(), AllocError>
+        ensures { OnOk result (text.new.items ≡ text.old.items ++ place_text self.now) }
+    {
+        let mut buffer = Buffer::new();
+        text.extend_from_slice(self.file.as_slice())?;
+        text.push(b':')?;
+        text.extend_from_slice(buffer.format(self.line).as_bytes())
+    }
+}
