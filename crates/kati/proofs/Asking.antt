@@ -1,7 +1,6 @@
 -- Names that are asked for, one behind the other.
-use Rattle.std.proofs.Common.{◌≡◌, ◌∙◌, ◌<◌, ◌≤◌, ℕ, List, [], ◌∷◌, ◌++◌, length, refl, sym, ap, subst, append_assoc, arith, codes}
-use Rattle.std.specs.Prelude.{Contains, string_bytes, Result, Ok, Err, IfErr}
-use Rattle.kt_list.specs.Counters.{Rises}
+use Rattle.std.proofs.Common.{◌≡◌, ◌∙◌, ◌≤◌, ℕ, List, [], ◌∷◌, ◌++◌, refl, sym, ap, subst, append_assoc, arith, codes}
+use Rattle.std.specs.Prelude.{Contains, string_bytes}
 use Rattle.kati.specs.declared.faults.RunFault.{RunFault}
 use Rattle.kati.specs.declared.faults.RunFault.TheVariants as faults
 use Rattle.kati.specs.Headline.{AsksUpTo, ReadBlames}
@@ -30,9 +29,10 @@ blames_first faults.WriteErr asked asked' old new blames = blames
 pub blames_second : (e : RunFault) (asked middle asked' : List (List ℕ)) (old between new : ℕ)
     → middle ≡ asked ++ codes "makefile" ∷ [] → old ≤ between
     → FileBlames e (codes "Makefile") middle asked' between new → ReadBlames e asked asked' old new
-blames_second (faults.Read copy) asked middle asked' old between new first counts blames =
-    (omega (arith, blames.2),
-    up_to asked asked' (codes "Makefile") (string_bytes copy) blames.0 (1, omega arith, refl) (asked_twice asked middle asked' (codes "makefile") (codes "Makefile") first blames.1))
+blames_second (faults.Read copy) asked middle asked' old between new first counts blames = (
+  omega (arith, blames.2),
+  up_to asked asked' (codes "Makefile") (string_bytes copy) blames.0 (1, omega arith, refl) (asked_twice asked middle asked' (codes "makefile") (codes "Makefile") first blames.1),
+)
 blames_second faults.Memory asked middle asked' old between new first counts blames = tt
 blames_second faults.WriteOut asked middle asked' old between new first counts blames = blames
 blames_second faults.WriteErr asked middle asked' old between new first counts blames = blames

@@ -1,10 +1,10 @@
 -- What stands before the first NUL of a text.
-use Rattle.std.proofs.Common.{◌≡◌, ◌∙◌, ◌<◌, ◌≤◌, ℕ, zero, suc, ◌+◌, List, [], ◌∷◌, ◌++◌, take, length, refl, sym, ap, arith}
-use Rattle.std.specs.Prelude.{Bool, true, false, not, slice_index, take_while, ◌==◌, if◌then◌else◌}
+use Rattle.std.proofs.Common.{◌≡◌, ◌∙◌, ◌<◌, ℕ, zero, suc, ◌+◌, List, [], ◌∷◌, take, length, refl, ap, arith}
+use Rattle.std.specs.Prelude.{Bool, true, false, not, slice_index, take_while}
 use Rattle.std.specs.List.{prefix_len}
 use Rattle.std.specs.Prelude.{cond}
 use Rattle.std.proofs.lemmas.List.{take_all}
-use Rattle.memchr.specs.Find.{Nowhere, NoneBefore, Passes, is_byte}
+use Rattle.memchr.specs.Find.{Nowhere, Passes}
 
 later : (test : ℕ → Bool) (b : ℕ) (bs : List ℕ) (k : ℕ) → Nowhere (Passes test (b ∷ bs)) 0 (suc k) → Nowhere (Passes test bs) 0 k
 later test b bs k none j low below = none (suc j) (omega arith) (omega arith)

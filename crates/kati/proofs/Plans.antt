@@ -1,10 +1,9 @@
 -- The plan of one rule can be written.
-use Rattle.std.proofs.Common.{◌≡◌, ◌≢◌, ◌∙◌, ℕ, ◌<◌, List, [], ◌∷◌, ◌++◌, refl, sym, ap, arith, codes, append-nil, eqb-true, get_or, zero, suc}
-use Rattle.std.specs.Prelude.{Bool, true, false, not, ◌==◌, ◌&&◌, ◌||◌, Option, Some, None, Result, Ok, Err, IfOk, All, AllPairs, Contains}
+use Rattle.std.proofs.Common.{◌≡◌, ◌∙◌, ℕ, ◌<◌, List, [], ◌∷◌, ◌++◌, refl, sym, ap, arith, codes, append-nil, eqb-true, get_or, zero, suc}
+use Rattle.std.specs.Prelude.{Bool, true, false, not, ◌==◌, ◌&&◌, ◌||◌, Option, Some, None, IfOk}
 use Rattle.std.specs.List.{list_all}
 use Rattle.std.proofs.lemmas.List.Folds.{list_all-append}
-use Rattle.kt_ninja.specs.Plan.{names_of, outputs}
-use Rattle.kt_ninja.specs.Writable.{IsWritable, is_command, is_command_byte, is_empty, is_made, is_name, is_name_byte}
+use Rattle.kt_ninja.specs.Writable.{IsWritable, is_command, is_command_byte, is_name, is_name_byte}
 use Rattle.kati.specs.declared.one_rule.OneRule.{OneRule}
 use Rattle.kati.specs.OneRule.{IsOneRule, Recognises, is_letter_or_digit, is_line_byte, is_plain_byte, is_plain_line, is_plain_name, is_prefix_byte}
 use Rattle.kati.specs.Meaning.{rule_result}
@@ -53,15 +52,15 @@ plain_is_name : (name : List ℕ) → is_plain_name name ≡ true → is_name na
 plain_is_name [] e = e
 plain_is_name (b ∷ bs) e =
     both (is_name_byte b) (list_all is_name_byte bs)
-        (name_byte is_letter_or_digit b (first_true (is_letter_or_digit b) (list_all is_plain_byte bs) e) refl refl refl refl)
-        (all_of is_plain_byte is_name_byte (λ x h. name_byte is_plain_byte x h refl refl refl refl) bs
-            (second_true (is_letter_or_digit b) (list_all is_plain_byte bs) e))
+    (name_byte is_letter_or_digit b (first_true (is_letter_or_digit b) (list_all is_plain_byte bs) e) refl refl refl refl)
+    (all_of is_plain_byte is_name_byte (λ x h. name_byte is_plain_byte x h refl refl refl refl) bs
+    (second_true (is_letter_or_digit b) (list_all is_plain_byte bs) e))
 
 line_bytes : (line : List ℕ) → is_plain_line line ≡ true → list_all is_command_byte line ≡ true
 line_bytes [] e = refl
 line_bytes (b ∷ bs) e =
     all_of is_line_byte is_command_byte (λ x h. command_byte is_line_byte x h refl refl refl) (b ∷ bs)
-        (second_true (not (is_prefix_byte b)) (list_all is_line_byte (b ∷ bs)) e)
+    (second_true (not (is_prefix_byte b)) (list_all is_line_byte (b ∷ bs)) e)
 
 command_writable : (line : List ℕ) → is_plain_line line ≡ true → is_command (shell_command line) ≡ true
 command_writable line e =
@@ -76,9 +75,9 @@ rule_writable text r is = record {
   made = refl;
   texts = both (list_all is_name (r.target ∷ (r.prerequisites ++ [])) && is_command (shell_command r.line)) true
       (both (list_all is_name (r.target ∷ (r.prerequisites ++ []))) (is_command (shell_command r.line))
-          (both (is_name r.target) (list_all is_name (r.prerequisites ++ [])) (plain_is_name r.target is.target)
-              (ap (list_all is_name) (append-nil r.prerequisites) ∙ all_of is_plain_name is_name plain_is_name r.prerequisites is.prerequisites))
-          (command_writable r.line is.line))
+      (both (is_name r.target) (list_all is_name (r.prerequisites ++ [])) (plain_is_name r.target is.target)
+      (ap (list_all is_name) (append-nil r.prerequisites) ∙ all_of is_plain_name is_name plain_is_name r.prerequisites is.prerequisites))
+      (command_writable r.line is.line))
       refl;
   different = λ i j d below within. absurd (omega arith);
   defaults = λ k d below. (k, below, only r.target k d _ below);

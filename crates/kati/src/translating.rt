@@ -9,9 +9,9 @@ ghost use Rattle.kati.specs.Meaning.{TextMeans, FileMeans, fault_at, fault_nowhe
 ghost use Rattle.kati.specs.Planned.{plan_of_rule, shell_command};
 
 use crate::args::Args;
+use crate::faults::RunFault;
 use crate::one_rule::{OneRule, recognise};
 use crate::outcome::Outcome;
-use crate::faults::RunFault;
 use kt_eval::{Fault, FileFault, Files};
 use kt_list::{Sequence, Shared};
 use kt_ninja::{Made, Plan, Statement};
@@ -170,11 +170,7 @@ fn read_fault(alloc: Global, name: &str) -> RunFault
     }
 }
 
-fn read<F: Files>(
-    alloc: Global,
-    files: &mut F,
-    name: &str,
-) -> Result<Option<Vec<u8>>, RunFault>
+fn read<F: Files>(alloc: Global, files: &mut F, name: &str) -> Result<Option<Vec<u8>>, RunFault>
     ensures found { IfSome (F.known files.old) (λ store. IfOk result (λ found. option_map (λ v. v.items) found ≡ look store name.now)) }
     ensures keeps { F.known files.new ≡ F.known files.old }
     ensures asked { OnOk result (F.names files.new ≡ F.names files.old ++ name.now ∷ []) }
@@ -227,11 +223,7 @@ fn find_makefile<F: Files>(alloc: Global, files: &mut F) -> Result<Option<Found>
 ///
 /// So far a makefile of one rule has a plan; of the others, those that are absent, too large, empty or hold a NUL have
 /// the faults that they keep, and the rest is a fault of number 0.
-pub fn translate<F: Files>(
-    alloc: Global,
-    args: &Args,
-    files: &mut F,
-) -> Result<Outcome, RunFault>
+pub fn translate<F: Files>(alloc: Global, args: &Args, files: &mut F) -> Result<Outcome, RunFault>
     ensures means { IfSome (F.known files.old) (λ store. IfOk result (λ o. Translates args.now store o (F.names files.old) (F.names files.new))) }
     ensures writable { IfOk result (λ o. IfOk o.result IsWritable) }
     ensures keeps { F.known files.new ≡ F.known files.old }

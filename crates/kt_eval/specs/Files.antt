@@ -1,5 +1,5 @@
 -- What files hold, and what a read leaves.
-use Rattle.std.specs.Prelude.{◌≡◌, ℕ, List, [], ◌∷◌, ◌++◌, Bool, nat_eq, Option, Some, None, Result, Ok, Err, if◌then◌else◌}
+use Rattle.std.specs.Prelude.{◌≡◌, ℕ, List, [], ◌∷◌, ◌++◌, nat_eq, Option, Some, None, Result, Ok, Err, if◌then◌else◌}
 use Rattle.std.specs.Cmp.Lexicographic.{pointwise}
 use Rattle.kt_eval.specs.declared.files.FileFault.{FileFault}
 use Rattle.kt_eval.specs.declared.files.FileFault.TheVariants.{Device, Memory}

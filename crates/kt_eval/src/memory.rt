@@ -24,11 +24,11 @@ impl Model for MemFiles {
     ghost Value = { Memory };
 
     ghost view = { λ s. record {
-        store = map (λ p. (string_bytes p.0, p.1.items)) s.pairs.items;
-        asked = map string_bytes s.asked.items;
-        nth = s.nth;
-        reads = s.reads;
-        failures = s.failures;
+      store = map (λ p. (string_bytes p.0, p.1.items)) s.pairs.items;
+      asked = map string_bytes s.asked.items;
+      nth = s.nth;
+      reads = s.reads;
+      failures = s.failures;
     } };
 }
 
@@ -40,7 +40,12 @@ impl MemFiles {
     /// with 0 none does.
     pub fn new(alloc: Global, pairs: Vec<(String, Vec<u8>)>, nth: u64) -> MemFiles
         ensures { result ≡ record {
-            store = map (λ p. (string_bytes p.0, p.1.items)) pairs.items; asked = []; nth = nth; reads = 0; failures = 0 } }
+          store = map (λ p. (string_bytes p.0, p.1.items)) pairs.items;
+          asked = [];
+          nth = nth;
+          reads = 0;
+          failures = 0;
+        } }
     {
         MemFiles {
             alloc,

@@ -17,7 +17,11 @@ fn reads_what_is_there(rt: HostRuntime) -> Result<(), Fail> {
     assert!(rt; matches!(files.read("Makefile"), Err(FileFault::Device)));
     assert_eq!(rt; files.failures(), 1);
     assert_eq!(rt; files.asked().len(), 3);
-    for (asked, name) in files.asked().iter().zip(["makefile", "Makefile", "Makefile"]) {
+    for (asked, name) in files
+        .asked()
+        .iter()
+        .zip(["makefile", "Makefile", "Makefile"])
+    {
         assert_eq!(rt; asked.as_str(), name);
     }
     assert!(rt; matches!(files.read("Makefile"), Ok(Some(_))));

@@ -69,7 +69,14 @@ fn looks_for_makefile_first(rt: HostRuntime) -> Result<(), Fail> {
     check_makefile(&rt, alloc, &mut files, 0, ONE_RULE_TEXT, b"")?;
     assert_eq!(rt; files.asked().len(), 1);
     let mut files = one_file(alloc, "GNUmakefile", ONE_RULE, 0)?;
-    check_makefile(&rt, alloc, &mut files, 2, b"", b"kati: *** no makefile [E03]\n")?;
+    check_makefile(
+        &rt,
+        alloc,
+        &mut files,
+        2,
+        b"",
+        b"kati: *** no makefile [E03]\n",
+    )?;
     Ok(())
 }
 
@@ -215,6 +222,7 @@ fn names_the_file_that_failed(rt: HostRuntime) -> Result<(), Fail> {
         return Err(Fail::from("no fault of reading"));
     };
     assert_eq!(rt; name.as_str(), "Makefile");
+    assert_eq!(rt; files.asked().len(), 2);
     assert_eq!(rt; files.failures(), 1);
     assert!(rt; out.as_slice().is_empty());
     assert!(rt; err.as_slice().is_empty());

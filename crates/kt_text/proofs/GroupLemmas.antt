@@ -1,0 +1,51 @@
+-- The groups of physical lines that make logical ones.
+use Rattle.std.proofs.Common.{◌≡◌, Bool, true, false, List, [], ◌∷◌, refl, sym, length, arith}
+use Rattle.std.proofs.lemmas.Bool.{false≢true}
+use Rattle.std.specs.List.{onto_first}
+use Rattle.bstr.specs.Text.{lines_of}
+use Rattle.bstr.proofs.lemmas.LineLemmas.{lines-nil, lines-step}
+use Rattle.kt_text.specs.Words.{Text, is_nonempty}
+use Rattle.kt_text.specs.Lines.{is_continued, groups}
+
+pub groups-ended : (line : Text) (lines : List Text) → is_continued line ≡ false → groups (line ∷ lines) ≡ (line ∷ []) ∷ groups lines
+unfolding groups
+groups-ended line lines h = rw h refl
+
+pub groups-continued : (line : Text) (lines : List Text) → is_continued line ≡ true → groups (line ∷ lines) ≡ onto_first line (groups lines)
+unfolding groups
+groups-continued line lines h = rw h refl
+
+-- the first group begins with the first line
+pub record BeginsWith (line : Text) (found : List (List Text)) : Type 0 where
+  pub others : List Text
+  pub later : List (List Text)
+  pub are : found ≡ (line ∷ others) ∷ later
+
+begins_onto : (line : Text) (found : List (List Text)) → BeginsWith line (onto_first line found)
+begins_onto line [] = record { others = []; later = []; are = refl }
+begins_onto line (group ∷ found) = record { others = group; later = found; are = refl }
+
+begins_by : (continued : Bool) (line : Text) (lines : List Text) → is_continued line ≡ continued → BeginsWith line (groups (line ∷ lines))
+begins_by true line lines h = rw (groups-continued line lines h) (begins_onto line (groups lines))
+begins_by false line lines h = rw (groups-ended line lines h) (record { others = []; later = groups lines; are = refl })
+
+pub groups-begins : (line : Text) (lines : List Text) → BeginsWith line (groups (line ∷ lines))
+groups-begins line lines = begins_by (is_continued line) line lines refl
+
+-- lines of a text that has bytes
+pub record HasLine (found : List Text) : Type 0 where
+  pub line : Text
+  pub lines : List Text
+  pub are : found ≡ line ∷ lines
+
+pub lines-some : (text : Text) → is_nonempty text ≡ true → HasLine (lines_of text)
+lines-some [] h = absurd (false≢true h)
+lines-some (byte ∷ text) h = record { line = _; lines = _; are = lines-step (byte ∷ text) (omega arith) }
+
+pub lines-none : (text : Text) → is_nonempty text ≡ false → lines_of text ≡ []
+lines-none [] h = lines-nil
+lines-none (byte ∷ text) h = absurd (false≢true (sym h))
+
+pub lines-empty : (text : Text) → length text ≡ 0 → lines_of text ≡ []
+lines-empty [] h = lines-nil
+lines-empty (byte ∷ text) h = absurd (omega arith)

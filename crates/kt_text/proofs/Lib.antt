@@ -1,0 +1,10 @@
+pub mod CondensedLemmas
+pub mod GroupLemmas
+pub mod ListLemmas
+pub mod LogicalLemmas
+pub mod MatchLemmas
+pub mod NameLemmas
+pub mod PatternLemmas
+pub mod PhysicalLemmas
+pub mod PlaceLemmas
+pub mod WordLemmas

@@ -1,0 +1,51 @@
+-- Where a byte stands first, as the searches of `memchr` answer it and as std's words on lists say it.
+use Rattle.std.proofs.Common.{◌≡◌, ℕ, ◌+◌, ◌-◌, ◌≤◌, Bool, true, List, [], ◌∷◌, Option, None, Some, length, get_or, add-sub_cancel, drop, refl, sym, ◌∙◌, ap, unwrap_or, is_some, not, ltb, position, ⊎_elim, arith}
+use Rattle.std.proofs.lemmas.Bool.{ltb-false, cases_Bool, false_from_ne_true}
+use Rattle.std.specs.List.{position_or_len, prefix_len, suffix_len}
+use Rattle.std.proofs.lemmas.List.Sums.{position_or_len_is, suffix_len_is, prefix_len-le-length}
+use Rattle.memchr.specs.Find.{IsFirstByte, IsLastByte, FindsNeedle, first_of, matches}
+use Rattle.memchr.proofs.lemmas.ValueLemmas.{FindsNeedle-value}
+use Rattle.kt_text.specs.Words.{is_nonempty}
+use Rattle.kt_text.specs.Functions.{occurs}
+
+-- the answer of a search for the first byte that passes, with the length where there is none
+pub first_byte_place : (test : ℕ → Bool) (text : List ℕ) (found : Option ℕ) → IsFirstByte test text found → unwrap_or found (length text) ≡ position_or_len test text
+first_byte_place test text None h =
+    sym (position_or_len_is test text (length text) 0 (omega arith) (λ k l. false_from_ne_true _ (h k (omega arith) l)) (λ l. absurd (omega arith)))
+first_byte_place test text (Some place) h =
+    let low : place ≤ length text = omega (arith, h.0.high) in
+    sym (position_or_len_is test text place 0 low (λ k l. false_from_ne_true _ (h.0.before k (omega arith) l)) (λ l. h.1))
+
+-- a front of passing bytes, one byte at a time
+pub drop-prefix_len : (test : ℕ → Bool) (byte : ℕ) (text : List ℕ) → test byte ≡ true → drop (prefix_len test (byte ∷ text)) (byte ∷ text) ≡ drop (prefix_len test text) text
+drop-prefix_len test byte text h = rw h (grind arith)
+
+-- the same of `position`
+pub unwrap_or-position : (test : ℕ → Bool) (text : List ℕ) → unwrap_or (position test text) (length text) ≡ position_or_len test text
+unwrap_or-position test text =
+    let place = position_or_len test text in
+    let bound : place ≤ length text = prefix_len-le-length (λ x. not (test x)) text in
+    ⊎_elim (λ h. rw h refl) (λ h. let far = ltb-false place (length text) h in rw h (omega arith)) (cases_Bool (ltb place (length text)))
+
+-- an answer of a search for a needle says whether there is a match
+is_some-first_of : (places : List ℕ) → is_some (first_of places) ≡ is_nonempty places
+unfolding first_of
+is_some-first_of [] = refl
+is_some-first_of (place ∷ places) = refl
+
+pub occurs_found : (text needle : List ℕ) (found : Option ℕ) → FindsNeedle text needle 0 found → is_some found ≡ occurs needle text
+occurs_found text needle found h = ap is_some (FindsNeedle-value text needle found h) ∙ is_some-first_of (matches text needle 0)
+
+-- how many bytes at the end don't pass, by the last that does
+pub last_found : (test : ℕ → Bool) (text : List ℕ) (place : ℕ) → IsLastByte test text (Some place)
+    → suffix_len (λ byte. not (test byte)) text ≡ length text - (place + 1)
+last_found test text place found =
+    suffix_len_is (λ byte. not (test byte)) text (place + 1) 0 (omega (arith, found.0.high))
+    (λ k l m. rw (false_from_ne_true _ (found.0.after k l m)) refl)
+    (λ l. ap (λ n. not (test (get_or text n 0))) (add-sub_cancel place 1) ∙ rw found.1 refl)
+
+pub none_found_last : (test : ℕ → Bool) (text : List ℕ) → IsLastByte test text None → suffix_len (λ byte. not (test byte)) text ≡ length text
+none_found_last test text found =
+    suffix_len_is (λ byte. not (test byte)) text 0 0 (omega arith)
+    (λ k l m. rw (false_from_ne_true _ (found k l m)) refl)
+    (λ l. absurd (omega arith)) ∙ omega arith

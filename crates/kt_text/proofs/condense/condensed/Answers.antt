@@ -1,0 +1,10 @@
+use Rattle.std.proofs.Common.{◌≡◌, length, arith}
+use Rattle.std.proofs.lemmas.Bool.Decides.{nat_tests}
+use Rattle.kt_text.proofs.CondensedLemmas.{condensed_end}
+use Rattle.kt_text.specs.Lines.{condensed_of}
+use Rattle.kt_text.proofs.condense.condensed.Goals as goal
+
+pub returns : goal.returns
+returns c =
+    let none : length c.loop-rest.rest.now ≡ 0 = grind (arith, nat_tests) in
+    condensed_end c.loop-rest.continued c.loop-rest.rest.now (condensed_of c.args.text.now) c.loop-rest.out.items none c.loop-rest.invariant

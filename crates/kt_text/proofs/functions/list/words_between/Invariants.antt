@@ -1,0 +1,8 @@
+use Rattle.std.proofs.Common.{◌≡◌}
+use Rattle.std.specs.List.{slice_range}
+use Rattle.kt_text.specs.Words.{words_of, list_text}
+use Rattle.kt_text.proofs.ListLemmas.{put_words}
+use Rattle.kt_text.proofs.functions.list.words_between.Given as goal
+
+abbrev pub invariant-loop-word : goal.invariant-loop-word
+invariant-loop-word l = put_words l.selected.items (slice_range l.word-iterator l.skipped l.left) ≡ list_text (slice_range (words_of l.text) l.start l.end)

@@ -1,0 +1,8 @@
+use Rattle.std.proofs.Common.{◌≡◌, map}
+use Rattle.kt_text.specs.Words.{words_of, list_text}
+use Rattle.kt_text.specs.Functions.{dir_part}
+use Rattle.kt_text.proofs.ListLemmas.{put_words}
+use Rattle.kt_text.proofs.functions.names.dir.Given as goal
+
+abbrev pub invariant-loop-word : goal.invariant-loop-word
+invariant-loop-word l = put_words l.directories.items (map dir_part l.word-iterator) ≡ list_text (map dir_part (words_of l.names))

@@ -1,0 +1,14 @@
+//! The text functions that expand nothing, over texts that are expanded already.
+//!
+//! GNU make manual, "Functions for String Substitution and Analysis" and "Functions for File
+//! Names". Each has the name that it has there.
+
+mod list;
+mod names;
+mod number;
+mod patterns;
+mod substitution;
+
+pub use list::{firstword, join, lastword, sort, strip, word, wordlist, words};
+pub use names::{addprefix, addsuffix, basename, dir, notdir, suffix};
+pub use substitution::{filter, filter_out, findstring, patsubst, subst};

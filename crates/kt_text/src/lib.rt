@@ -1,0 +1,26 @@
+//! Lines, words, patterns and the text functions of the makefile language, over bytes.
+#![tactic(auto)]
+
+mod blanks;
+mod condense;
+mod cut;
+mod fault;
+pub mod functions;
+pub mod laws;
+mod line;
+mod logical;
+mod output;
+mod pattern;
+mod physical;
+mod word_runs;
+
+pub use condense::condensed;
+pub use cut::words;
+pub use fault::TextFault;
+pub use line::{Line, LineFault};
+pub use logical::logical_lines;
+pub use pattern::match_pattern;
+pub use word_runs::Words;
+
+#[cfg(test)]
+mod tests;

@@ -1,0 +1,66 @@
+//! Patterns with a percent sign.
+ghost use Rattle.std.specs.Prelude.{◌≡◌, ◌+◌, ◌-◌, ◌≤◌, ℕ, false, length, true, IfNone, IfSome, MatchOption, option_map};
+ghost use Rattle.std.specs.List.{slice_range};
+ghost use Rattle.kt_text.specs.Words.{Text};
+ghost use Rattle.kt_text.specs.Match.{Match, has_percent, is_between, pattern_back, pattern_front, stem_span};
+
+use memchr::memchr;
+use std::ops::Range;
+
+/// The place of the stem: of the part of `word` for which the first `%` of `pattern` stands.
+///
+/// A pattern without `%` matches no word here. Takes no memory. GNU make manual, "Introduction
+/// to Pattern Rules".
+#[tactic(auto, using(crate::proofs::MatchLemmas::match_facts))]
+pub fn match_pattern(pattern: &[u8], word: &[u8]) -> Option<Range<usize>>
+    ensures place { option_map (λ stem. (stem.start, stem.end)) result ≡ stem_span pattern.now word.now }
+    ensures bounds { IfSome result (λ stem. (stem.start ≤ stem.end) × (stem.end ≤ length word.now)) }
+    ensures matches { IfSome result (λ stem. Match pattern.now word.now (slice_range word.now stem.start stem.end)) }
+    ensures no_match { IfNone result ((stem : Text) → ¬ Match pattern.now word.now stem) }
+{
+    match cut_pattern(pattern) {
+        None => None,
+        Some((front, back)) => stem_place(front, back, word),
+    }
+}
+
+// The place of what stands between the front and the back of a word.
+fn stem_place(front: &[u8], back: &[u8], word: &[u8]) -> Option<Range<usize>>
+    ensures { MatchOption result (is_between front.now back.now word.now ≡ false)
+        (λ stem. (is_between front.now back.now word.now ≡ true) × (stem.start ≡ length front.now) × (stem.end ≡ length word.now - length back.now) × (stem.start ≤ stem.end)) }
+{
+    if is_between(front, back, word) {
+        Some(front.len()..word.len() - back.len())
+    } else {
+        None
+    }
+}
+
+// What stands before the first percent sign and after it.
+#[tactic(auto, using(crate::proofs::MatchLemmas::match_facts))]
+pub(crate) fn cut_pattern(pattern: &[u8]) -> Option<(&[u8], &[u8])>
+    ensures { MatchOption result (has_percent pattern.now ≡ false)
+        (λ parts. (has_percent pattern.now ≡ true) × (parts.0.now ≡ pattern_front pattern.now) × (parts.1.now ≡ pattern_back pattern.now)) }
+{
+    let percent = memchr(b'%', pattern)?;
+    Some((&pattern[..percent], &pattern[percent + 1..]))
+}
+
+// Whether there is a percent sign.
+pub(crate) fn has_percent(pattern: &[u8]) -> bool
+    ensures { result ≡ has_percent pattern.now }
+{
+    cut_pattern(pattern).is_some()
+}
+
+// Whether the word begins with one text and ends with the other, without sharing a byte.
+#[tactic(auto, unfolding(crate::specs::Match::is_between))]
+fn is_between(front: &[u8], back: &[u8], word: &[u8]) -> bool
+    ensures value { result ≡ is_between front.now back.now word.now }
+    ensures fits { result ≡ true → length front.now + length back.now ≤ length word.now }
+{
+    front.len() <= word.len()
+        && back.len() <= word.len() - front.len()
+        && word.starts_with(front)
+        && word.ends_with(back)
+}

@@ -1,0 +1,77 @@
+//! Physical lines.
+ghost use Rattle.std.specs.Prelude.{◌≡◌, ◌<◌, ◌≤◌, ◌∷◌, ◌++◌, ◌&&◌, ◌+◌, ◌==◌, length, true};
+ghost use Rattle.std.specs.List.{suffix_len};
+ghost use Rattle.bstr.specs.Text.{line_len, lines_of, without_terminator};
+ghost use Rattle.kt_text.specs.Words.{is_nonempty};
+ghost use Rattle.kt_text.specs.Lines.{is_continued, is_continued_text};
+
+use memchr::memchr;
+
+// The first physical line, with its newline, and the rest of the text.
+#[tactic(auto, using(crate::proofs::PhysicalLemmas::line_sizes))]
+pub(crate) fn first_line(text: &[u8]) -> (&[u8], &[u8])
+    requires { 0 < length text.now }
+    ensures cut { lines_of text.now ≡ result.0.now ∷ lines_of result.1.now }
+    ensures whole { length result.0.now + length result.1.now ≡ length text.now }
+    ensures some { 0 < length result.0.now }
+{
+    text.split_at(line_size(text))
+}
+
+// How many bytes the first physical line takes.
+#[tactic(auto, using(crate::proofs::PhysicalLemmas::line_sizes))]
+fn line_size(text: &[u8]) -> usize
+    ensures value { result ≡ line_len text.now }
+    ensures some { 0 < length text.now → 0 < result }
+    ensures bound { result ≤ length text.now }
+{
+    match memchr(b'\n', text) {
+        Some(place) => place + 1,
+        None => text.len(),
+    }
+}
+
+// A physical line without its newline and the carriage return before that.
+pub(crate) fn line_content(line: &[u8]) -> &[u8]
+    ensures value { result.now ≡ without_terminator line.now }
+    ensures bound { length result.now ≤ length line.now }
+{
+    match line {
+        [front @ .., b'\r', b'\n'] | [front @ .., b'\n'] => front,
+        _ => line,
+    }
+}
+
+// Whether the line ends in an odd number of backslashes.
+#[tactic(auto, unfolding(crate::specs::Lines::is_continued))]
+pub(crate) fn is_continued(line: &[u8]) -> bool
+    ensures value { result ≡ is_continued line.now }
+    ensures some { result ≡ true → 0 < length (without_terminator line.now) }
+{
+    has_odd_backslashes(line_content(line))
+}
+
+// Whether the line is continued and text follows it.
+pub(crate) fn goes_on(line: &[u8], after: &[u8]) -> bool
+    ensures { result ≡ is_continued line.now && is_nonempty after.now }
+{
+    is_continued(line) && !after.is_empty()
+}
+
+fn has_odd_backslashes(content: &[u8]) -> bool
+    ensures value { result ≡ is_continued_text content.now }
+    ensures some { result ≡ true → 0 < length content.now }
+{
+    trailing_backslashes(content) % 2 == 1
+}
+
+fn trailing_backslashes(content: &[u8]) -> usize
+    ensures value { result ≡ suffix_len (λ byte. byte == 92) content.now }
+    ensures bound { result ≤ length content.now }
+{
+    content
+        .iter()
+        .rev()
+        .take_while(|byte| **byte == b'\\')
+        .count()
+}

@@ -1,0 +1,70 @@
+//! Times of the text layer over long lists of words and lines.
+//!
+//! With no argument it does nothing; with the argument `run` it prints the times.
+#![tactic(auto)]
+
+use anyhow::Result;
+use kt_text::{functions, logical_lines};
+use std::alloc::{AllocError, Global};
+use std::env;
+use std::rt::Runtime;
+use std::time::Instant;
+
+fn main(rt: HostRuntime) -> Result<()> {
+    for argument in env::args(&rt)?.skip(1) {
+        if argument.as_str() == "run" {
+            print_times(&rt, rt.alloc(), 100_000)?;
+            print_times(&rt, rt.alloc(), 1_000_000)?;
+        }
+    }
+    Ok(())
+}
+
+// The times of each call over a list of so many words, and over so many lines.
+fn print_times(rt: &impl Runtime, alloc: Global, count: u32) -> Result<()> {
+    let words = list(alloc, count, b' ')?;
+    let lines = list(alloc, count, b'\n')?;
+    let patterns = list(alloc, 10_000, b' ')?;
+
+    let start = Instant::now(rt)?;
+    let sorted = functions::sort(alloc, words.as_slice())?;
+    report(rt, "sort", count, start, sorted.len())?;
+
+    let start = Instant::now(rt)?;
+    let kept = functions::filter(alloc, patterns.as_slice(), words.as_slice())?;
+    report(rt, "filter", count, start, kept.len())?;
+
+    let start = Instant::now(rt)?;
+    let replaced = functions::patsubst(alloc, b"%0", b"%1", words.as_slice())?;
+    report(rt, "patsubst", count, start, replaced.len())?;
+
+    let start = Instant::now(rt)?;
+    let cut = logical_lines(alloc, lines.as_slice())?;
+    report(rt, "logical_lines", count, start, cut.len())
+}
+
+// One line of the table.
+fn report(rt: &impl Runtime, call: &str, count: u32, start: Instant, size: usize) -> Result<()> {
+    let micros = start.elapsed(rt)?.as_micros();
+    println!(rt; "{call:<14} {count:>8} {micros:>10} us, result {size}")?;
+    Ok(())
+}
+
+// So many words of ten bytes, drawn from 50,000 names by a generator with a fixed seed: in long lists of a makefile
+// names come again and again.
+fn list(alloc: Global, count: u32, separator: u8) -> Result<Vec<u8>, AllocError> {
+    let mut text = Vec::new(alloc);
+    let mut state: u64 = 1;
+    for _ in 0..count {
+        state = state
+            .wrapping_mul(6_364_136_223_846_793_005)
+            .wrapping_add(1_442_695_040_888_963_407);
+        let mut rest = (state >> 33) % 50_000;
+        for _ in 0..10 {
+            text.push(b'0' + (rest % 10) as u8)?;
+            rest /= 10;
+        }
+        text.push(separator)?;
+    }
+    Ok(text)
+}
