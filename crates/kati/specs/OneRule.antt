@@ -1,5 +1,5 @@
 -- A makefile of one rule with one recipe line: the texts that kati reads so far. Their spelling is part of that of
--- POSIX.1-2024, make, "Makefile Syntax"; which names and lines are plain is kati's own.
+-- POSIX.1-2024, make, "Target Rules"; which names and lines are plain is kati's own.
 use Rattle.std.specs.Prelude.{◌≡◌, ◌≢◌, AllPairs, ℕ, Bool, true, false, not, ◌==◌, ◌&&◌, ◌||◌, nat_le, List, [], ◌∷◌, ◌++◌, Option, Some, None, codes}
 use Rattle.std.specs.List.{concat, flat_map, list_all}
 use Rattle.kati.specs.declared.one_rule.OneRule.{OneRule}

@@ -21,7 +21,7 @@ pub struct OneRule {
 /// The text is the target, a colon, each prerequisite behind one space, a newline, a tab, the
 /// recipe line and a newline. Names are made of ASCII letters, digits, `_`, `.` and `-`, begin with a
 /// letter or digit, and all differ. The line isn't empty, is printable ASCII without `$`, `\` and
-/// `'`, and begins with no space, `@`, `-` or `+`. POSIX.1-2024 make, "Makefile Syntax".
+/// `'`, and begins with no space, `@`, `-` or `+`. POSIX.1-2024 make, "Target Rules".
 pub fn recognise(alloc: Global, text: &[u8]) -> Result<Option<OneRule>, AllocError>
     ensures { IfOk result (λ found. Recognises text.now found) }
 {
