@@ -1,10 +1,11 @@
 -- A text condensed physical line by physical line.
-use Rattle.std.proofs.Common.{◌≡◌, Bool, true, false, List, [], ◌∷◌, ◌++◌, ◌&&◌, refl, sym, ◌∙◌, ap, append_assoc, append-nil, length}
+use Rattle.std.proofs.Common.{◌≡◌, ℕ, Bool, true, false, List, [], ◌∷◌, ◌++◌, ◌&&◌, ◌==◌, refl, sym, ◌∙◌, ap, append_assoc, append-nil, length, if◌then◌else◌, ⊎_elim, arith}
+use Rattle.std.proofs.lemmas.Bool.{cases_Bool}
+use Rattle.std.proofs.lemmas.List.{nil_from_length}
 use Rattle.std.specs.List.{onto_first, flat_map}
-use Rattle.bstr.specs.Text.{lines_of}
-use Rattle.kt_text.specs.Words.{Text, is_nonempty}
-use Rattle.kt_text.specs.Lines.{is_continued, groups, condensed_line, condensed_rest, condensed_group, condensed_of}
-use Rattle.kt_text.proofs.GroupLemmas.{groups-ended, groups-continued, groups-begins, lines-some, lines-none, lines-empty}
+use Rattle.kt_text.specs.Words.{Text}
+use Rattle.kt_text.specs.Lines.{is_continued, is_ended, groups, pieces_of, condensed_line, condensed_rest, condensed_group, condensed_of}
+use Rattle.kt_text.proofs.GroupLemmas.{groups-ended, groups-continued, groups-begins}
 
 -- the text of groups of which the first may have begun before
 pub left_text : Bool → List (List Text) → Text
@@ -50,34 +51,69 @@ step_next continued line next lines h =
     ∙ followed continued line next begins.others begins.later
     ∙ ap (λ found. condensed_line continued true line ++ left_text true found) (sym begins.are)
 
-by_cases : (more some : Bool) (continued : Bool) (line after : Text) → is_continued line ≡ more → is_nonempty after ≡ some
-    → left_text continued (groups (line ∷ lines_of after)) ≡ condensed_line continued (more && some) line ++ left_text (more && some) (groups (lines_of after))
-by_cases false some continued line after h n = step_ended continued line (lines_of after) h
-by_cases true false continued line after h n = rw (lines-none after n) (step_last continued line h)
-by_cases true true continued line after h n =
-    let first = lines-some after n in
-    rw first.are (step_next continued line first.line first.lines h)
+-- an empty last piece that nothing continues to adds nothing
+after_last : left_text false (groups (pieces_of [])) ≡ []
+unfolding left_text groups pieces_of is_continued is_ended condensed_group condensed_line
+after_last = refl
+
+-- pieces of which there is a first
+pub record HasPiece (found : List Text) : Type 0 where
+  pub piece : Text
+  pub pieces : List Text
+  pub are : found ≡ piece ∷ pieces
+
+-- a byte put before pieces makes a first one
+onto_piece : (byte : ℕ) (found : List Text) → HasPiece (onto_first byte found)
+onto_piece byte [] = record { piece = _; pieces = _; are = refl }
+onto_piece byte (piece ∷ pieces) = record { piece = _; pieces = _; are = refl }
+
+-- a text has a piece
+pieces-some : (text : Text) → HasPiece (pieces_of text)
+unfolding pieces_of
+pieces-some [] = record { piece = _; pieces = _; are = refl }
+pieces-some (byte ∷ text) =
+    ⊎_elim (λ h. rw h (record { piece = _; pieces = _; are = refl })) (λ h. rw h (onto_piece byte (pieces_of text))) (cases_Bool (byte == 10))
+
+-- a last line without newline
+unended : (more : Bool) (continued : Bool) (line : Text) → is_continued line ≡ more
+    → left_text continued (groups (line ∷ [])) ≡ condensed_line continued (more && false) line ++ left_text (more && false) (groups (pieces_of []))
+unfolding groups left_text
+unended false continued line h = step_ended continued line [] h ∙ ap (λ t. condensed_line continued false line ++ t) (sym after_last)
+unended true continued line h = step_last continued line h ∙ ap (λ t. condensed_line continued false line ++ t) (sym after_last)
+
+-- a line with newline
+ended : (more : Bool) (continued : Bool) (line after : Text) → is_continued line ≡ more
+    → left_text continued (groups (line ∷ pieces_of after)) ≡ condensed_line continued (more && true) line ++ left_text (more && true) (groups (pieces_of after))
+ended false continued line after h = step_ended continued line (pieces_of after) h
+ended true continued line after h =
+    let first = pieces-some after in
+    rw first.are (step_next continued line first.piece first.pieces h)
 
 -- one physical line more
-pub left_text-step : (continued : Bool) (line after : Text) → left_text continued (groups (line ∷ lines_of after))
-    ≡ condensed_line continued (is_continued line && is_nonempty after) line ++ left_text (is_continued line && is_nonempty after) (groups (lines_of after))
-left_text-step continued line after = by_cases (is_continued line) (is_nonempty after) continued line after refl refl
+pub left_text-step : (continued : Bool) (line after : Text) → (is_ended line ≡ false → length after ≡ 0)
+    → left_text continued (groups (line ∷ (if is_ended line then pieces_of after else [])))
+    ≡ condensed_line continued (is_continued line && is_ended line) line ++ left_text (is_continued line && is_ended line) (groups (pieces_of after))
+left_text-step continued line after last =
+    ⊎_elim (λ h. rw h (ended (is_continued line) continued line after refl))
+    (λ h. rw (nil_from_length after (last h)) (rw h (unended (is_continued line) continued line refl))) (cases_Bool (is_ended line))
 
-pub condensed_of-start : (text : Text) → left_text false (groups (lines_of text)) ≡ condensed_of text
+pub condensed_of-start : (text : Text) → left_text false (groups (pieces_of text)) ≡ condensed_of text
 unfolding condensed_of
-condensed_of-start text = left_text-false (groups (lines_of text))
+condensed_of-start text = left_text-false (groups (pieces_of text))
 
 -- the loop's step: what is added and what is left
-pub condensed_more : (continued continues : Bool) (line after whole out : Text) (left : List Text) → continues ≡ is_continued line && is_nonempty after
-    → left ≡ line ∷ lines_of after → out ++ left_text continued (groups left) ≡ whole
-    → (out ++ condensed_line continued continues line) ++ left_text continues (groups (lines_of after)) ≡ whole
-condensed_more continued continues line after whole out left on cut before =
-    append_assoc out (condensed_line continued continues line) (left_text continues (groups (lines_of after)))
-    ∙ ap (λ t. out ++ t) (rw on (sym (left_text-step continued line after)) ∙ ap (λ found. left_text continued (groups found)) (sym cut)) ∙ before
+pub condensed_more : (continued continues : Bool) (line after whole out : Text) (left : List Text) → continues ≡ is_continued line && is_ended line
+    → (is_ended line ≡ false → length after ≡ 0) → left ≡ line ∷ (if is_ended line then pieces_of after else []) → out ++ left_text continued (groups left) ≡ whole
+    → (out ++ condensed_line continued continues line) ++ left_text continues (groups (pieces_of after)) ≡ whole
+condensed_more continued continues line after whole out left on last cut before =
+    append_assoc out (condensed_line continued continues line) (left_text continues (groups (pieces_of after)))
+    ∙ ap (λ t. out ++ t) (rw on (sym (left_text-step continued line after last)) ∙ ap (λ found. left_text continued (groups found)) (sym cut)) ∙ before
 
-pub condensed_end : (continued : Bool) (rest whole out : Text) → length rest ≡ 0 → out ++ left_text continued (groups (lines_of rest)) ≡ whole → out ≡ whole
-unfolding groups
-condensed_end continued rest whole out none before =
-    sym (append-nil out) ∙ ap (λ t. out ++ t) (sym (ap (λ found. left_text continued (groups found)) (lines-empty rest none) ∙ left_text-nil continued)) ∙ before
+-- and its end: the piece behind the last newline
+pub condensed_end : (continued : Bool) (rest whole out : Text) → length rest ≡ 0 → out ++ left_text continued (groups (pieces_of rest)) ≡ whole → out ++ condensed_line continued false [] ≡ whole
+unfolding groups pieces_of left_text is_continued condensed_group condensed_rest
+condensed_end true [] whole out none before = ap (λ t. out ++ t) (sym (append-nil _)) ∙ before
+condensed_end false [] whole out none before = ap (λ t. out ++ t) (sym (append-nil _)) ∙ before
+condensed_end continued (byte ∷ rest) whole out none before = absurd (omega arith)
 
 pub ruleset condensed_steps = (condensed_of-start, condensed_more, condensed_end)

@@ -7,4 +7,5 @@ pub mod NameLemmas
 pub mod PatternLemmas
 pub mod PhysicalLemmas
 pub mod PlaceLemmas
+pub mod SortLemmas
 pub mod WordLemmas

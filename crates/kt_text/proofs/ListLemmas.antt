@@ -1,12 +1,6 @@
 -- A list of words that is written one after another.
 use Rattle.std.proofs.Common.{◌≡◌, ℕ, suc, List, [], ◌∷◌, ◌++◌, refl, sym, ◌∙◌, ap, filter, append_assoc, append-nil, unwrap_or, length, ◌-◌, ◌<◌, arith, map, take, drop, zero}
-use Rattle.std.specs.Ordering.{match_ordering}
-use Rattle.std.specs.declared.cmp.Ordering.TheVariants.{Less, Equal, Greater}
 use Rattle.std.specs.List.{join_with_byte, slice_get, slice_range}
-use Rattle.std.specs.BTreeSet.{insert_key}
-use Rattle.std.specs.Borrow.{Bor}
-use Rattle.std.specs.Ordering.{nat_cmp}
-use Rattle.std.specs.Cmp.Lexicographic.{slice_cmp}
 use Rattle.std.proofs.lemmas.List.{drop_all, take_all}
 use Rattle.kt_text.specs.Words.{Text, is_nonempty, list_text, put_word}
 use Rattle.kt_text.specs.Functions.{word_at, joined_pairs}
@@ -70,20 +64,6 @@ pub range_empty : (start end : ℕ) → slice_range {X = Text} [] start end ≡ 
 range_empty start end = ap (take (end - start)) (drop_all start [] (omega arith)) ∙ take_all (end - start) [] (omega arith)
 
 pub ruleset range_steps = (range_none, range_past, range_taken, range_empty)
-
--- an insertion into a set of borrowed texts, as one into the set of the texts
-pub insert_key-now : (keys : List (Bor Text)) (key : Bor Text)
-    → map (λ text. text.now) (insert_key (λ x y. slice_cmp nat_cmp x.now y.now) keys key) ≡ insert_key (slice_cmp nat_cmp) (map (λ text. text.now) keys) key.now
-insert_key-now [] key = refl
-insert_key-now (first ∷ keys) key =
-    elim (slice_cmp nat_cmp key.now first.now) as (λ o. map (λ text. text.now) (match_ordering o (key ∷ first ∷ keys) (first ∷ keys) (first ∷ insert_key (λ x y. slice_cmp nat_cmp x.now y.now) keys key))
-    ≡ match_ordering o (key.now ∷ first.now ∷ map (λ text. text.now) keys) (first.now ∷ map (λ text. text.now) keys) (first.now ∷ insert_key (slice_cmp nat_cmp) (map (λ text. text.now) keys) key.now)) [
-      | Less ↦ refl
-      | Equal ↦ refl
-      | Greater ↦ ap (λ rest. first.now ∷ rest) (insert_key-now keys key)
-    ]
-
-pub ruleset set_steps = (insert_key-now)
 
 -- pairs of words, pair by pair
 pub pairs_none : (seconds : List Text) → joined_pairs [] seconds ≡ seconds

@@ -1,11 +1,13 @@
 -- The physical lines of a text.
-use Rattle.std.proofs.Common.{◌≡◌, ℕ, ◌+◌, true, false, List, length, take, ◌∙◌, ap, arith, Some, None, ◌==◌}
-use Rattle.std.proofs.lemmas.Bool.{lt-ltb, le-ltb, eqb-true, eq-eqb}
+use Rattle.std.proofs.Common.{◌≡◌, ℕ, suc, ◌+◌, ◌-◌, ◌<◌, Bool, true, false, List, [], ◌∷◌, length, take, drop, length-take-le, refl, sym, ◌∙◌, ap, arith, Some, None, ◌==◌, if◌then◌else◌, ⊎_elim}
+use Rattle.std.proofs.lemmas.Bool.{lt-ltb, le-ltb, eqb-true, eq-eqb, cases_Bool, false≢true}
+use Rattle.std.specs.Prelude.{slice_index}
 use Rattle.std.specs.List.{list_any, before_first, position_or_len}
 use Rattle.kt_text.proofs.PlaceLemmas.{first_byte_place}
 use Rattle.kt_text.proofs.MatchLemmas.{list_any-place}
 use Rattle.memchr.specs.Find.{IsFirstByte, is_byte}
 use Rattle.bstr.specs.Text.{line_len}
+use Rattle.kt_text.specs.Lines.{is_ended, pieces_of}
 use Rattle.bstr.proofs.lemmas.LineLemmas.{line_len-at, line_len-none, line_len-bounds, lines-step, lines-nil}
 
 -- the size of the first line, by where its newline stands
@@ -16,7 +18,51 @@ line_len-found text place found =
 pub line_len-not_found : (text : List ℕ) → IsFirstByte (is_byte 10) text None → line_len text ≡ length text
 line_len-not_found text found = line_len-none text (λ k l e. found k (omega arith) l (eq-eqb _ _ e))
 
-pub ruleset line_sizes = (line_len-found, line_len-not_found, lines-step)
+-- a byte before a line changes nothing at its end
+last-after : (byte : ℕ) (line : List ℕ) → 0 < length line → slice_index (byte ∷ line) (length (byte ∷ line) - 1) ≡ slice_index line (length line - 1)
+last-after byte [] some = absurd (omega arith)
+last-after byte (next ∷ line) some =
+    let at : length (byte ∷ next ∷ line) - 1 ≡ suc (length line) = omega arith in
+    let there : length (next ∷ line) - 1 ≡ length line = omega arith in
+    rw (at, there) refl
+
+-- so it keeps its newline
+is_ended-after : (byte : ℕ) (line : List ℕ) → 0 < length line → is_ended (byte ∷ line) ≡ is_ended line
+unfolding is_ended
+is_ended-after byte [] some = absurd (omega arith)
+is_ended-after byte (next ∷ line) some = ap (λ b. b == 10) (last-after byte (next ∷ line) some)
+
+-- a line that another byte comes before
+longer : (byte next : ℕ) (text : List ℕ) → is_ended (byte ∷ take (line_len (next ∷ text)) (next ∷ text)) ≡ is_ended (take (line_len (next ∷ text)) (next ∷ text))
+longer byte next text =
+    let bounds = line_len-bounds (next ∷ text) (omega arith) in
+    is_ended-after byte (take (line_len (next ∷ text)) (next ∷ text)) (rw (length-take-le (line_len (next ∷ text)) (next ∷ text) bounds.1) bounds.0)
+
+-- a line of one byte
+ended_alone : (byte : ℕ) (ended : Bool) → (byte == 10) ≡ ended → is_ended (byte ∷ []) ≡ ended
+unfolding is_ended
+ended_alone byte ended h = h
+
+-- the first piece of a text is its first line
+pub pieces-step : (text : List ℕ) → 0 < length text
+    → pieces_of text ≡ take (line_len text) text ∷ (if is_ended (take (line_len text) text) then pieces_of (drop (line_len text) text) else [])
+unfolding pieces_of line_len
+pieces-step [] some = absurd (omega arith)
+pieces-step (byte ∷ []) some =
+    ⊎_elim (λ h. rw h (rw (ended_alone byte true h) refl)) (λ h. rw h (rw (ended_alone byte false h) refl)) (cases_Bool (byte == 10))
+pieces-step (byte ∷ next ∷ text) some =
+    let inner = pieces-step (next ∷ text) (omega arith) in
+    ⊎_elim (λ h. rw h (rw (ended_alone byte true h) refl)) (λ h. rw h (rw (longer byte next text, inner) refl)) (cases_Bool (byte == 10))
+
+-- a first line without newline is the whole text
+pub last-line : (text : List ℕ) → is_ended (take (line_len text) text) ≡ false → length (drop (line_len text) text) ≡ 0
+unfolding line_len
+last-line [] unended = refl
+last-line (byte ∷ []) unended = ⊎_elim (λ h. rw h refl) (λ h. rw h refl) (cases_Bool (byte == 10))
+last-line (byte ∷ next ∷ text) unended =
+    ⊎_elim (λ h. absurd (false≢true (sym (rw h at unended) ∙ ended_alone byte true h))) (λ h. rw h (last-line (next ∷ text) (rw (h, longer byte next text) at unended))) (cases_Bool (byte == 10))
+
+pub ruleset line_sizes = (line_len-found, line_len-not_found, lines-step, pieces-step, last-line)
 
 -- the first NUL, as a search of `memchr` finds it
 pub nul_found : (text : List ℕ) (place : ℕ) → IsFirstByte (is_byte 0) text (Some place)

@@ -57,9 +57,18 @@ nul_line text =
     if list_any (λ byte. byte == 0) text then Some (count_by (λ byte. byte == 10) (before_first (λ byte. byte == 0) text) + 1)
     else None
 
--- the newline at the end of a physical line, if it has one
+-- a text cut after each newline; the last piece has none, and may be empty
+unfoldable pub pieces_of : Text → List Text
+pieces_of [] = [] ∷ []
+pieces_of (byte ∷ text) = if byte == 10 then (byte ∷ []) ∷ pieces_of text else onto_first byte (pieces_of text)
+
+-- whether a physical line has a newline at its end
+unfoldable pub is_ended : Text → Bool
+is_ended line = slice_index line (length line - 1) == 10
+
+-- that newline, if it has one
 abbrev pub newline_of : Text → Text
-newline_of line = if slice_index line (length line - 1) == 10 then 10 ∷ [] else []
+newline_of line = if is_ended line then 10 ∷ [] else []
 
 -- a continued line without its last backslash
 abbrev pub before_backslash : Text → Text
@@ -102,9 +111,10 @@ condensed_group [] = []
 condensed_group (line ∷ []) = condensed_line false false line
 condensed_group (line ∷ next ∷ lines) = condensed_line false true line ++ condensed_rest (next ∷ lines)
 
--- a text with its continuations condensed (GNU make manual, "Splitting Long Lines"); carriage returns before newlines go
+-- a text with its continuations condensed (GNU make manual, "Splitting Long Lines"); carriage returns before newlines go.
+-- A continuation at the end of the text is one too: an empty piece follows it (kati's own)
 unfoldable pub condensed_of : Text → Text
-condensed_of text = flat_map condensed_group (groups (lines_of text))
+condensed_of text = flat_map condensed_group (groups (pieces_of text))
 
 -- the fault of a text with a NUL has that line; want of memory is excused
 abbrev pub NulFault : Option ℕ → LineFault → Type 0

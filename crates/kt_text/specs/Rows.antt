@@ -18,6 +18,7 @@ pub record RowsOfLines : Type 0 where
   pub even : logical_lines_of (97 ∷ 92 ∷ 92 ∷ 10 ∷ 98 ∷ []) ≡ line 0 3 1 ∷ line 4 5 2 ∷ []
   pub nul : nul_line (97 ∷ 10 ∷ 0 ∷ []) ≡ Some 2
   pub condensed : condensed_of (codes "x " ++ (92 ∷ 10 ∷ 92 ∷ 10 ∷ codes "y")) ≡ codes "x y"
+  pub continued_end : condensed_of (120 ∷ 92 ∷ 10 ∷ []) ≡ codes "x "
 
 -- text functions
 pub record RowsOfFunctions : Type 0 where

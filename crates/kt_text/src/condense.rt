@@ -3,13 +3,14 @@ ghost use Rattle.std.specs.Prelude.{◌≡◌, ◌++◌, ◌-◌, length, take, 
 ghost use Rattle.kt_text.specs.Lines.{condensed_line, condensed_of, newline_after, space_before, trimmed_line};
 
 use crate::blanks::{trim_end, trim_start};
-use crate::physical::{first_line, goes_on, line_content};
+use crate::physical::{first_line, joins_next, line_content};
 use std::alloc::{AllocError, Global};
 
 /// `text` with each continuation, with the blanks on both sides, as one space.
 ///
-/// Continuations with only blanks between them are one. A carriage return before a newline is
-/// dropped. A backslash at the end of the text stays. GNU make manual, "Splitting Long Lines".
+/// Continuations with only blanks between them are one. One at the end of the text is a space too.
+/// A carriage return before a newline is dropped. A backslash at the end of the text, with no
+/// newline after it, stays. GNU make manual, "Splitting Long Lines".
 #[tactic(auto, using(crate::proofs::CondensedLemmas::condensed_steps))]
 pub fn condensed(alloc: Global, text: &[u8]) -> Result<Vec<u8>, AllocError>
     ensures { IfOk result (λ condensed. condensed.items ≡ condensed_of text.now) }
@@ -19,11 +20,13 @@ pub fn condensed(alloc: Global, text: &[u8]) -> Result<Vec<u8>, AllocError>
     let mut continued = false;
     while !rest.is_empty() {
         let (line, after) = first_line(rest);
-        let continues = goes_on(line, after);
+        let continues = joins_next(line);
         add_line(&mut out, line, continued, continues)?;
         continued = continues;
         rest = after;
     }
+    // Behind the last newline stands an empty line.
+    add_line(&mut out, b"", continued, false)?;
     Ok(out)
 }
 
@@ -78,6 +81,7 @@ fn before_last(text: &[u8]) -> &[u8]
 }
 
 // The newline at the end of a line that isn't continued, if it has one.
+#[tactic(auto, unfolding(crate::specs::Lines::is_ended))]
 fn newline_after(continues: bool, line: &[u8]) -> &'static [u8]
     ensures { result.now ≡ newline_after continues line.now }
 {

@@ -7,8 +7,10 @@ mod list;
 mod names;
 mod number;
 mod patterns;
+mod sorting;
 mod substitution;
 
-pub use list::{firstword, join, lastword, sort, strip, word, wordlist, words};
+pub use list::{firstword, join, lastword, strip, word, wordlist, words};
 pub use names::{addprefix, addsuffix, basename, dir, notdir, suffix};
+pub use sorting::sort;
 pub use substitution::{filter, filter_out, findstring, patsubst, subst};

@@ -1,9 +1,9 @@
 //! Physical lines.
-ghost use Rattle.std.specs.Prelude.{◌≡◌, ◌<◌, ◌≤◌, ◌∷◌, ◌++◌, ◌&&◌, ◌+◌, ◌==◌, length, true};
+ghost use Rattle.std.specs.Prelude.{◌≡◌, ◌<◌, ◌≤◌, ◌∷◌, ◌++◌, ◌&&◌, ◌+◌, ◌==◌, [], length, true, false, if◌then◌else◌};
 ghost use Rattle.std.specs.List.{suffix_len};
 ghost use Rattle.bstr.specs.Text.{line_len, lines_of, without_terminator};
 ghost use Rattle.kt_text.specs.Words.{is_nonempty};
-ghost use Rattle.kt_text.specs.Lines.{is_continued, is_continued_text};
+ghost use Rattle.kt_text.specs.Lines.{is_continued, is_continued_text, is_ended, pieces_of};
 
 use memchr::memchr;
 
@@ -14,6 +14,8 @@ pub(crate) fn first_line(text: &[u8]) -> (&[u8], &[u8])
     ensures cut { lines_of text.now ≡ result.0.now ∷ lines_of result.1.now }
     ensures whole { length result.0.now + length result.1.now ≡ length text.now }
     ensures some { 0 < length result.0.now }
+    ensures pieces { pieces_of text.now ≡ result.0.now ∷ (if is_ended result.0.now then pieces_of result.1.now else []) }
+    ensures last { is_ended result.0.now ≡ false → length result.1.now ≡ 0 }
 {
     text.split_at(line_size(text))
 }
@@ -56,6 +58,20 @@ pub(crate) fn goes_on(line: &[u8], after: &[u8]) -> bool
     ensures { result ≡ is_continued line.now && is_nonempty after.now }
 {
     is_continued(line) && !after.is_empty()
+}
+
+// Whether the line has a newline that is continued, perhaps by nothing.
+pub(crate) fn joins_next(line: &[u8]) -> bool
+    ensures { result ≡ is_continued line.now && is_ended line.now }
+{
+    is_continued(line) && is_ended(line)
+}
+
+#[tactic(auto, unfolding(crate::specs::Lines::is_ended))]
+fn is_ended(line: &[u8]) -> bool
+    ensures { result ≡ is_ended line.now }
+{
+    matches!(line, [.., b'\n'])
 }
 
 fn has_odd_backslashes(content: &[u8]) -> bool

@@ -33,13 +33,14 @@ fn patterns_match(rt: HostRuntime) {
 #[test]
 fn lines_are_joined(rt: HostRuntime) -> Result<(), Fail> {
     // a text, and of its lines place, end, number and tab
-    let rows: [(&[u8], &[(usize, usize, u64, bool)]); 9] = [
+    let rows: [(&[u8], &[(usize, usize, u64, bool)]); 10] = [
         (b"", &[]),
         (b"\n", &[(0, 0, 1, false)]),
         (b"a\\\nb\nc\n", &[(0, 4, 1, false), (5, 6, 3, false)]),
         (b"a\\\\\nb\n", &[(0, 3, 1, false), (4, 5, 2, false)]),
         (b"\tx\r\ny", &[(0, 2, 1, true), (4, 5, 2, false)]),
         (b"x\\\n", &[(0, 1, 1, false)]),
+        (b"x\\\n\ny", &[(0, 3, 1, false), (4, 5, 3, false)]),
         (b"x\\\\\\", &[(0, 3, 1, false)]),
         (b"a\\\r\n b\r\n", &[(0, 6, 1, false)]),
         (b"x\\\r\r\ny\r", &[(0, 3, 1, false), (5, 7, 2, false)]),
@@ -70,7 +71,7 @@ fn a_nul_has_its_line(rt: HostRuntime) {
 
 #[test]
 fn continuations_are_condensed(rt: HostRuntime) -> Result<(), Fail> {
-    let rows: [(&[u8], &[u8]); 12] = [
+    let rows: [(&[u8], &[u8]); 15] = [
         (b"x \\\n\\\ny", b"x y"),
         (b"a \\\n \t b", b"a b"),
         (b"a\\\nb\n", b"a b\n"),
@@ -78,7 +79,10 @@ fn continuations_are_condensed(rt: HostRuntime) -> Result<(), Fail> {
         (b"a\\\\\nb", b"a\\\\\nb"),
         (b"a\\\\\\\nb", b"a\\\\ b"),
         (b"a\\\r\n b\r\nc\r", b"a b\nc\r"),
-        (b"x\\\n", b"x\\\n"),
+        (b"x\\\n", b"x "),
+        (b"x \\\n\\\n", b"x "),
+        (b"x\\\r\n", b"x "),
+        (b"x\\\\\n", b"x\\\\\n"),
         (b"x\\", b"x\\"),
         (b"\\\ny", b" y"),
         (b"x\\\n ", b"x "),
@@ -208,6 +212,22 @@ fn lists_are_read(rt: HostRuntime) {
         assert_text(&rt, functions::words(rt.alloc(), text), count);
         assert_text(&rt, functions::firstword(rt.alloc(), text), first);
         assert_text(&rt, functions::lastword(rt.alloc(), text), last);
+    }
+}
+
+#[test]
+fn words_are_sorted(rt: HostRuntime) {
+    let rows: [(&[u8], &[u8]); 4] = [
+        (b"aa a A a.c a", b"A a a.c aa"),
+        (
+            b"abcdefghj abcdefghi abcdefgh abcdefghi abcdefg",
+            b"abcdefg abcdefgh abcdefghi abcdefghj",
+        ),
+        (b"\xc3\xa9 z", b"z \xc3\xa9"),
+        (b"a\0 a", b"a a\0"),
+    ];
+    for (text, wanted) in rows {
+        assert_text(&rt, functions::sort(rt.alloc(), text), wanted);
     }
 }
 

@@ -1,16 +1,15 @@
 //! Functions on a list of words.
-ghost use Rattle.std.specs.Prelude.{◌≡◌, ◌∷◌, ◌++◌, ◌-◌, List, length, map, IfOk, Some};
+ghost use Rattle.std.specs.Prelude.{◌≡◌, ◌∷◌, ◌++◌, ◌-◌, List, length, Some};
 ghost use Rattle.std.specs.List.{slice_range};
 ghost use Rattle.kt_text.specs.Words.{Text, list_text, words_of};
-ghost use Rattle.kt_text.specs.Functions.{Answers, joined_pairs, word_at, word_set, strip_of, sort_of, word_of, wordlist_of, words_count_of, firstword_of, lastword_of, join_of};
+ghost use Rattle.kt_text.specs.Functions.{Answers, joined_pairs, word_at, strip_of, word_of, wordlist_of, words_count_of, firstword_of, lastword_of, join_of};
 
 use crate::cut::words as words_of_text;
 use crate::fault::TextFault;
 use crate::functions::number::{number, place};
 use crate::output::{add_parts, add_word, copied};
 use crate::word_runs::Words;
-use std::alloc::{AllocError, Global};
-use std::collections::BTreeSet;
+use std::alloc::Global;
 
 /// `$(strip TEXT)`.
 #[tactic(auto, using(crate::proofs::ListLemmas::put_words_is), unfolding(crate::specs::Functions::strip_of))]
@@ -22,31 +21,6 @@ pub fn strip(alloc: Global, text: &[u8]) -> Result<Vec<u8>, TextFault>
         add_word(&mut stripped, word)?;
     }
     Ok(stripped)
-}
-
-/// `$(sort LIST)`.
-#[tactic(auto, using(crate::proofs::ListLemmas::put_words_is), unfolding(crate::specs::Functions::sort_of))]
-pub fn sort(alloc: Global, text: &[u8]) -> Result<Vec<u8>, TextFault>
-    ensures { Answers result (Some (sort_of text.now)) }
-{
-    let set = word_set(alloc, text)?;
-    let mut sorted = Vec::new(alloc);
-    for word in &set {
-        add_word(&mut sorted, *word)?;
-    }
-    Ok(sorted)
-}
-
-// The words as a set, which keeps them in byte order.
-#[tactic(auto, using(crate::proofs::ListLemmas::set_steps), unfolding(crate::specs::Functions::word_set))]
-fn word_set(alloc: Global, text: &[u8]) -> Result<BTreeSet<&[u8]>, AllocError>
-    ensures { IfOk result (λ set. map (λ word. word.now) set.keys ≡ word_set (words_of text.now)) }
-{
-    let mut set = BTreeSet::new(alloc);
-    for word in words_of_text(text) {
-        set.insert(word)?;
-    }
-    Ok(set)
 }
 
 /// `$(word AT,TEXT)`; places are counted from 1.

@@ -7,4 +7,4 @@ use Rattle.kt_text.proofs.condense.condensed.Goals as goal
 pub returns : goal.returns
 returns c =
     let none : length c.loop-rest.rest.now ≡ 0 = grind (arith, nat_tests) in
-    condensed_end c.loop-rest.continued c.loop-rest.rest.now (condensed_of c.args.text.now) c.loop-rest.out.items none c.loop-rest.invariant
+    rw c.in_ok-add_line-2.ensures (condensed_end c.loop-rest.continued c.loop-rest.rest.now (condensed_of c.args.text.now) c.loop-rest.out.items none c.loop-rest.invariant)

@@ -1,11 +1,10 @@
 use Rattle.std.proofs.Common.{◌≡◌, ◌++◌, length}
-use Rattle.bstr.specs.Text.{lines_of}
-use Rattle.kt_text.specs.Lines.{groups, condensed_of}
+use Rattle.kt_text.specs.Lines.{groups, pieces_of, condensed_of}
 use Rattle.kt_text.proofs.CondensedLemmas.{left_text}
 use Rattle.kt_text.proofs.condense.condensed.Given as goal
 
 abbrev pub invariant-loop-rest : goal.invariant-loop-rest
-invariant-loop-rest l = l.out.items ++ left_text l.continued (groups (lines_of l.rest)) ≡ condensed_of l.text
+invariant-loop-rest l = l.out.items ++ left_text l.continued (groups (pieces_of l.rest)) ≡ condensed_of l.text
 
 abbrev pub decreases-loop-rest : goal.decreases-loop-rest
 decreases-loop-rest l = length l.rest

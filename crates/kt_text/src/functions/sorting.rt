@@ -1,0 +1,127 @@
+//! Words in byte order.
+ghost use Rattle.std.specs.Prelude.{◌≡◌, ◌<◌, All, Some, IfOk, List, ℕ, nat_eq, refl, slice_index};
+ghost use Rattle.std.specs.Ordering.{nat_cmp};
+ghost use Rattle.std.specs.Cmp.{partial_equiv_from_equiv};
+ghost use Rattle.std.specs.Cmp.Lexicographic.{slice_cmp, pointwise, nat_list_cmp_total, nat_list_eq_equiv, texts_po, texts_ties};
+ghost use Rattle.kt_text.specs.Words.{words_of};
+ghost use Rattle.kt_text.specs.Functions.{Answers, word_set, sort_of};
+ghost use Rattle.kt_text.specs.Sorted.{front_number};
+
+use crate::cut::words;
+use crate::fault::TextFault;
+use crate::output::add_word;
+use std::alloc::{AllocError, Global};
+use std::cmp::Ordering;
+use std::marker::Model;
+
+/// `$(sort LIST)`.
+#[tactic(auto, using(crate::proofs::ListLemmas::put_words_is), unfolding(crate::specs::Functions::sort_of))]
+pub fn sort(alloc: Global, text: &[u8]) -> Result<Vec<u8>, TextFault>
+    ensures { Answers result (Some (sort_of text.now)) }
+{
+    let keys = sorted_keys(alloc, text)?;
+    let mut sorted = Vec::new(alloc);
+    for key in &keys {
+        add_word(&mut sorted, key.word)?;
+    }
+    Ok(sorted)
+}
+
+// The words in byte order, each once.
+fn sorted_keys(alloc: Global, text: &[u8]) -> Result<Vec<SortKey<'_>>, AllocError>
+    ensures { IfOk result (λ keys. keys.items ≡ word_set (words_of text.now)) }
+{
+    let mut keys = Vec::new(alloc);
+    for word in words(text) {
+        keys.push(SortKey::new(word))?;
+    }
+    keys.sort_unstable();
+    keys.dedup();
+    Ok(keys)
+}
+
+// A word with its first bytes as a number, by which most words are told apart without a look at
+// their text: long lists don't fit the caches.
+#[derive(Drop)]
+struct SortKey<'a> {
+    front: u64,
+    word: &'a [u8],
+}
+
+impl<'a> Model for SortKey<'a> {
+    ghost Value = { List ℕ };
+
+    ghost view = { λ key. key.word.now };
+
+    ghost invariant = { λ key. (key.front ≡ front_number 8 key.word.now) × All (λ byte. byte < 256) key.word.now };
+}
+
+impl<'a> SortKey<'a> {
+    fn new(word: &'a [u8]) -> SortKey<'a>
+        ensures { result ≡ word.now }
+    {
+        SortKey {
+            front: front_number(word),
+            word,
+        }
+    }
+}
+
+impl<'a> PartialEq for SortKey<'a> {
+    ghost eq = { pointwise nat_eq };
+
+    ghost laws = { partial_equiv_from_equiv nat_list_eq_equiv };
+
+    fn eq(&self, other: &SortKey<'a>) -> bool {
+        self.front == other.front && self.word == other.word
+    }
+}
+
+impl<'a> Eq for SortKey<'a> {
+    ghost laws = { nat_list_eq_equiv };
+}
+
+impl<'a> PartialOrd for SortKey<'a> {
+    ghost partial_cmp = { λ key other. Some (slice_cmp nat_cmp key other) };
+
+    ghost laws = { texts_po };
+
+    fn partial_cmp(&self, other: &SortKey<'a>) -> Option<Ordering> {
+        Some(self.cmp(other))
+    }
+}
+
+impl<'a> Ord for SortKey<'a> {
+    ghost cmp = { slice_cmp nat_cmp };
+
+    ghost total = { nat_list_cmp_total };
+
+    ghost matches_partial_cmp = { λ key other. refl };
+
+    ghost matches_eq = { texts_ties };
+
+    fn cmp(&self, other: &SortKey<'a>) -> Ordering {
+        match self.front.cmp(&other.front) {
+            Ordering::Equal => self.word.cmp(other.word),
+            decided => decided,
+        }
+    }
+}
+
+// The first eight bytes as a number, the first one the highest.
+fn front_number(word: &[u8]) -> u64
+    ensures { result ≡ front_number 8 word.now }
+{
+    let mut front = 0;
+    for i in 0..8 {
+        front = front * 256 + u64::from(byte_at(word, i));
+    }
+    front
+}
+
+// The byte at a place, or 0 behind the end.
+fn byte_at(word: &[u8], i: usize) -> u8
+    ensures { result ≡ slice_index word.now i }
+{
+    word.get(i).copied().unwrap_or(0)
+}
