@@ -125,7 +125,7 @@ decided true a b same differ = (λ _. same refl, λ _. refl)
 decided false a b same differ = (λ e. absurd (cc e), λ e. absurd (differ refl e))
 
 -- the test of two names tells whether they are one
-names_decide : (a b : List ℕ) → Decides (pointwise nat_eq a b) (a ≡ b)
+pub names_decide : (a b : List ℕ) → Decides (pointwise nat_eq a b) (a ≡ b)
 names_decide a b = decided (pointwise nat_eq a b) a b (same_text a b) (other_text a b)
 
 flip_false : (r : Bool) (a b : List ℕ) → Decides r (a ≡ b) → pointwise nat_eq b a ≡ false → r ≡ false
@@ -196,7 +196,7 @@ distinct_from_none before (x ∷ xs) e =
     let less = apart_less before x xs later.0 in
     ((here_false (is_among before x) x rest e, less.0), (less.1, later.1))
 
-none_from_distinct : (before xs : List (List ℕ)) → Apart before xs → IsDistinct (pointwise nat_eq) xs → repeated_after before xs ≡ None
+pub none_from_distinct : (before xs : List (List ℕ)) → Apart before xs → IsDistinct (pointwise nat_eq) xs → repeated_after before xs ≡ None
 unfolding IsDistinct
 none_from_distinct before [] apart distinct = refl
 none_from_distinct before (x ∷ xs) apart distinct =
@@ -204,7 +204,7 @@ none_from_distinct before (x ∷ xs) apart distinct =
     ap (λ b. if b then Some x else rest) apart.0
     ∙ none_from_distinct (before ++ x ∷ []) xs (apart_more before x xs apart.1 distinct.0) distinct.1
 
-apart_from_none : (xs : List (List ℕ)) → Apart [] xs
+pub apart_from_none : (xs : List (List ℕ)) → Apart [] xs
 apart_from_none [] = tt
 apart_from_none (x ∷ xs) = (refl, apart_from_none xs)
 
@@ -229,7 +229,7 @@ all_from_pass outs (n ∷ ns) e (suc k) d below =
 among_from_contains : (names : List (List ℕ)) (name : List ℕ) → Contains names name → is_among names name ≡ true
 among_from_contains names name within = list_any-from_Contains nat_list_eq_equiv name names within
 
-pass_from_all : (outs names : List (List ℕ)) → All (λ d. Contains outs d) names → list_all (is_among outs) names ≡ true
+pub pass_from_all : (outs names : List (List ℕ)) → All (λ d. Contains outs d) names → list_all (is_among outs) names ≡ true
 pass_from_all outs [] all = refl
 pass_from_all outs (n ∷ ns) all =
     both_true (is_among outs n) (list_all (is_among outs) ns) (among_from_contains outs n (all 0 n (omega arith)))

@@ -4,3 +4,9 @@ pub mod Escaping
 pub mod Marks
 pub mod Troubles
 pub mod Deciding
+pub mod PrintedPieces
+pub mod PrintedNames
+pub mod PrintedForms
+pub mod PrintedLines
+pub mod PrintedParts
+pub mod PrintThenRead

@@ -5,3 +5,9 @@ pub mod Written
 pub mod Blocks
 pub mod Memory
 pub mod Escaping
+pub mod JoinedLines
+pub mod Pieces
+pub mod Forms
+pub mod Scopes
+pub mod NinjaRead
+pub mod Rows

@@ -1,7 +1,8 @@
 -- The text of a plan as a Ninja file (Ninja manual, "Ninja file reference" and "Lexical syntax"). Names of rules,
 -- and the order of lines, are kati's own.
-use Rattle.std.specs.Prelude.{ℕ, ◌+◌, ◌==◌, ◌||◌, Bool, List, [], ◌∷◌, ◌++◌, codes, decimal, if◌then◌else◌}
+use Rattle.std.specs.Prelude.{ℕ, ◌+◌, ◌==◌, ◌||◌, Bool, List, [], ◌∷◌, ◌++◌, map, codes, if◌then◌else◌}
 use Rattle.std.specs.List.{concat, flat_map}
+use Rattle.std.specs.Int.Digits.{digits_of}
 use Rattle.kt_ninja.specs.declared.plan.Made.{Made}
 use Rattle.kt_ninja.specs.declared.plan.Made.TheVariants.{Command, Phony}
 use Rattle.kt_ninja.specs.declared.plan.Statement.{Statement}
@@ -39,14 +40,18 @@ abbrev pub marked_text : List ℕ → List (List ℕ) → List ℕ
 marked_text mark [] = []
 marked_text mark (n ∷ ns) = mark ++ names_text (n ∷ ns)
 
+-- a number in decimal digits, as many as it takes
+unfoldable pub number_text : ℕ → List ℕ
+number_text n = if n == 0 then codes "0" else map (λ d. 48 + d) (digits_of 10 n)
+
 -- the two lines of the rule that runs the command
 abbrev pub rule_text : ℕ → Made → List ℕ
-rule_text number (Command c) = concat (codes "rule r" ∷ decimal number ∷ codes "\n command = " ∷ command_text c ∷ codes "\n" ∷ [])
+rule_text number (Command c) = concat (codes "rule r" ∷ number_text number ∷ codes "\n command = " ∷ command_text c ∷ codes "\n" ∷ [])
 rule_text number Phony = []
 
 -- the name of the rule
 abbrev pub rule_name_text : ℕ → Made → List ℕ
-rule_name_text number (Command c) = concat (codes "r" ∷ decimal number ∷ [])
+rule_name_text number (Command c) = concat (codes "r" ∷ number_text number ∷ [])
 rule_name_text number Phony = codes "phony"
 
 -- how many rules a statement takes

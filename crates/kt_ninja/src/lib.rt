@@ -4,7 +4,10 @@
 mod block;
 mod checking;
 mod escapes;
+mod joined;
+pub mod laws;
 mod memory;
+mod piece;
 mod plan;
 mod printer;
 mod sink;

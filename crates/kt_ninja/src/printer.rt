@@ -1,8 +1,8 @@
 //! The text of a plan as a Ninja file.
-ghost use Rattle.std.specs.Prelude.{◌≡◌, ◌≤◌, OnOk, OnErr, false, decimal};
+ghost use Rattle.std.specs.Prelude.{◌≡◌, ◌≤◌, OnOk, OnErr, false};
 ghost use Rattle.kt_list.specs.Counters.{Rises};
 ghost use Rattle.kt_ninja.specs.Blocks.{Prints, Puts};
-ghost use Rattle.kt_ninja.specs.Text.{build_text, command_text, defaults_text, lead_text, marked_text, names_text, plan_text, rule_count, rule_name_text, rule_text, statement_text, statements_text};
+ghost use Rattle.kt_ninja.specs.Text.{build_text, command_text, defaults_text, lead_text, marked_text, names_text, number_text, plan_text, rule_count, rule_name_text, rule_text, statement_text, statements_text};
 ghost use Rattle.kt_ninja.specs.Writable.{IsWritable};
 ghost use Rattle.kt_ninja.specs.Written.{appended, GrowsByFront};
 
@@ -44,7 +44,7 @@ impl<'a, W: Sink> Block<'a, W> {
     }
 
     fn put_number(&mut self, number: usize)
-        ensures { Puts W.written W.failed self.old self.new (decimal number) }
+        ensures { Puts W.written W.failed self.old self.new (number_text number) }
     {
         let mut buffer = Buffer::new();
         self.put(buffer.format(number).as_bytes());

@@ -1,0 +1,22 @@
+//! Laws of the definitions. These functions do nothing: their contracts are what counts.
+ghost use Rattle.std.specs.Prelude.{◌≡◌, Ok};
+ghost use Rattle.kt_ninja.specs.declared.plan.Plan.{Plan};
+ghost use Rattle.kt_ninja.specs.NinjaRead.{ninja_read};
+ghost use Rattle.kt_ninja.specs.Text.{plan_text};
+ghost use Rattle.kt_ninja.specs.Writable.{IsWritable};
+ghost use Rattle.kt_ninja.specs.Rows.{RowsOfFaults, RowsOfPlans};
+
+/// Worked texts that have a reading.
+pub fn rows_of_plans()
+    ensures { RowsOfPlans }
+{}
+
+/// Worked texts that have none.
+pub fn rows_of_faults()
+    ensures { RowsOfFaults }
+{}
+
+/// A plan that can be written is what its text says.
+pub fn what_is_printed_is_read()
+    ensures { (plan : Plan) → IsWritable plan → ninja_read (plan_text plan) ≡ Ok plan }
+{}
