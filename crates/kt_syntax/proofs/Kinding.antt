@@ -1,0 +1,54 @@
+-- Kinds of lines from the places of their parts.
+use Rattle.std.proofs.Common.{◌≡◌, ◌≤◌, ◌-◌, ◌+◌, ◌==◌, ℕ, Bool, true, false, length, take, drop, refl, sym, ap, ◌∙◌, Option, Some}
+use Rattle.std.proofs.lemmas.Bool.{eq-eqb, false_from_ne_true, eqb-true}
+use Rattle.std.proofs.lemmas.List.{take_rest}
+use Rattle.std.specs.List.{slice_range}
+use Rattle.kt_text.specs.Words.{Text}
+use Rattle.kt_syntax.specs.declared.form.Operator.{Operator}
+use Rattle.kt_syntax.specs.declared.form.Directive.{Directive}
+use Rattle.kt_syntax.specs.Mask.{mask_of}
+use Rattle.kt_syntax.specs.Kinds.{Parts, blank, directive, comment_place, past_blanks, past_word, operator_of, name_end, parts_at, parts_after, assignment_parts, directive_of, kind_by_word, kind_by_parts, worded, kind_within, kind_of}
+use Rattle.kt_syntax.proofs.Masking.{length-front}
+
+pub parts_found : (text mask : Text) (begin name place : ℕ) (found : Operator × ℕ) (value : ℕ) → Some name ≡ name_end begin (drop begin mask) (drop begin text)
+    → place ≡ past_blanks name mask → Some found ≡ operator_of (take (length text - place) (drop place text)) → value ≡ past_blanks (place + found.1) (mask_of text)
+    → Some (record { name = name; operator = found.0; value = value }) ≡ assignment_parts text mask begin
+unfolding assignment_parts
+parts_found text mask begin name place found value n p o v =
+    ap (λ (x : ℕ). Some (record { name = name; operator = found.0; value = x })) v
+    ∙ ap (parts_at text name place) (o ∙ ap operator_of (take_rest text place))
+    ∙ ap (λ (x : ℕ). parts_at text name x (operator_of (drop x text))) p
+    ∙ ap (parts_after text mask) n
+
+pub worded_directive : (tab : Bool) (text mask : Text) (begin after rest : ℕ) (found : Directive) → after ≡ past_word begin mask
+    → Some found ≡ directive_of tab (slice_range text begin after) → rest ≡ past_blanks after (mask_of text)
+    → directive found (take (length text - rest) (drop rest text)) ≡ worded tab text mask begin
+unfolding worded
+worded_directive tab text mask begin after rest found a d r =
+    ap (directive found) (take_rest text rest) ∙ ap (λ (x : ℕ). directive found (drop x text)) r
+    ∙ ap (λ (x : Option Directive). kind_by_word x (slice_range text begin after) (drop (past_blanks after (mask_of text)) text)) d
+    ∙ ap (λ (x : ℕ). kind_by_word (directive_of tab (slice_range text begin x)) (slice_range text begin x) (drop (past_blanks x (mask_of text)) text)) a
+
+-- the front of a line before its comment
+within_comment : (text : Text) (tab : Bool) (end begin : ℕ) → end ≡ comment_place text → begin ≡ past_blanks 0 (take end (mask_of text))
+    → kind_within tab text (take end (mask_of text)) begin ≡ kind_of text tab
+unfolding kind_of
+within_comment text tab end begin e b =
+    ap (kind_within tab text (take end (mask_of text))) b
+    ∙ ap (λ (x : ℕ). kind_within tab text (take x (mask_of text)) (past_blanks 0 (take x (mask_of text)))) e
+
+pub kind_blank : (text : Text) (tab : Bool) (end begin : ℕ) → end ≡ comment_place text → end ≤ length text → begin ≡ past_blanks 0 (take end (mask_of text)) → begin ≡ end
+    → blank ≡ kind_of text tab
+unfolding kind_within
+kind_blank text tab end begin e within b same =
+    let at_end : (begin == length (take end (mask_of text))) ≡ true = eq-eqb begin (length (take end (mask_of text))) (same ∙ sym (length-front text end within)) in
+    sym (rw at_end refl) ∙ within_comment text tab end begin e b
+
+pub kind_other : (text : Text) (tab : Bool) (end begin : ℕ) (parts : Option Parts) → end ≡ comment_place text → end ≤ length text → begin ≡ past_blanks 0 (take end (mask_of text))
+    → (begin ≡ end → ⊥) → parts ≡ assignment_parts text (take end (mask_of text)) begin
+    → kind_by_parts tab text (take end (mask_of text)) begin parts ≡ kind_of text tab
+unfolding kind_within
+kind_other text tab end begin parts e within b other p =
+    let not_end : (begin == length (take end (mask_of text))) ≡ false =
+    false_from_ne_true (begin == length (take end (mask_of text))) (λ h. other (eqb-true begin (length (take end (mask_of text))) h ∙ length-front text end within)) in
+    ap (kind_by_parts tab text (take end (mask_of text)) begin) p ∙ sym (rw not_end refl) ∙ within_comment text tab end begin e b

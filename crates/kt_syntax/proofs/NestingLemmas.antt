@@ -1,0 +1,98 @@
+-- One line more in the passes over the lines of a text.
+use Rattle.std.proofs.Common.{◌≡◌, ◌≤◌, ◌<◌, ◌+◌, ℕ, zero, suc, arith, List, [], ◌∷◌, ◌++◌, drop, length, Option, Some, None, refl, sym, ap, ◌∙◌, append_assoc, append-nil, get_or, add-one}
+use Rattle.std.proofs.Math.Seq.{drop-cons}
+use Rattle.std.proofs.lemmas.List.{drop_all}
+use Rattle.kt_text.specs.declared.line.Line.{Line}
+use Rattle.kt_syntax.specs.declared.part.OpenDefine.{OpenDefine}
+use Rattle.kt_syntax.specs.declared.part.OpenConditional.{OpenConditional}
+use Rattle.kt_syntax.specs.declared.part.Part.{Part}
+use Rattle.kt_syntax.specs.declared.role.Head.{Head}
+use Rattle.kt_syntax.specs.declared.role.Role.{Role}
+use Rattle.kt_syntax.specs.declared.role.Role.TheVariants as role
+use Rattle.kt_syntax.specs.declared.step.Step.{Step}
+use Rattle.kt_text.specs.Words.{Text}
+use Rattle.kt_syntax.specs.Roles.{head_of, heads_of}
+use Rattle.kt_syntax.specs.Parts.{Open, after, define_after, depth_of, open_at_end, part_of, parts_from}
+use Rattle.kt_syntax.specs.Steps.{Ahead, ahead_of, places_after, step_of, steps_from}
+
+-- the lines from a place on, the first of them apart
+heads-cons : (text : Text) (lines : List Line) (place : ℕ) (other : Line) (head : Head) → place < length lines → head ≡ head_of text (get_or lines place other)
+    → heads_of text (drop place lines) ≡ head ∷ heads_of text (drop (place + 1) lines)
+heads-cons text lines place other head within e =
+    let cut : drop place lines ≡ get_or lines place other ∷ drop (place + 1) lines = rw add-one (drop-cons lines place other within) in
+    ap (heads_of text) cut ∙ ap (λ (x : Head). x ∷ heads_of text (drop (place + 1) lines)) (sym e)
+
+-- a line more is scanned
+pub parts_more : (done more : List Part) (scan next : Open) (text : Text) (lines : List Line) (place : ℕ) (other : Line) (head : Head) (found : Part) (whole : List Part)
+    → place < length lines → head ≡ head_of text (get_or lines place other) → found ≡ part_of scan head.role → next ≡ after scan head → more ≡ done ++ found ∷ []
+    → done ++ parts_from scan (heads_of text (drop place lines)) ≡ whole → more ++ parts_from next (heads_of text (drop (place + 1) lines)) ≡ whole
+unfolding parts_from
+parts_more done more scan next text lines place other head found whole within e p n m h =
+    let rest : List Head = heads_of text (drop (place + 1) lines) in
+    let first : found ∷ parts_from next rest ≡ parts_from scan (head ∷ rest) = rw (p, n) refl in
+    ap (λ (x : List Part). x ++ parts_from next rest) m ∙ append_assoc done (found ∷ []) (parts_from next rest)
+    ∙ ap (λ (x : List Part). done ++ x) (first ∙ ap (parts_from scan) (sym (heads-cons text lines place other head within e))) ∙ h
+
+pub scanned_more : (scan next whole : Open) (text : Text) (lines : List Line) (place : ℕ) (other : Line) (head : Head)
+    → place < length lines → head ≡ head_of text (get_or lines place other) → next ≡ after scan head
+    → open_at_end scan (heads_of text (drop place lines)) ≡ whole → open_at_end next (heads_of text (drop (place + 1) lines)) ≡ whole
+unfolding open_at_end
+scanned_more scan next whole text lines place other head within e n h =
+    ap (λ (x : Open). open_at_end x (heads_of text (drop (place + 1) lines))) n
+    ∙ ap (open_at_end scan) (sym (heads-cons text lines place other head within e)) ∙ h
+
+-- after the last line
+pub parts_ended : (done : List Part) (scan : Open) (text : Text) (lines : List Line) (place : ℕ) (whole : List Part)
+    → length lines ≤ place → done ++ parts_from scan (heads_of text (drop place lines)) ≡ whole → done ≡ whole
+unfolding parts_from
+parts_ended done scan text lines place whole beyond h =
+    let ended : parts_from scan (heads_of text (drop place lines)) ≡ [] = rw (drop_all place lines beyond) refl in
+    sym (append-nil done) ∙ ap (λ (x : List Part). done ++ x) (sym ended) ∙ h
+
+pub scanned_ended : (scan whole : Open) (text : Text) (lines : List Line) (place : ℕ)
+    → length lines ≤ place → open_at_end scan (heads_of text (drop place lines)) ≡ whole → scan ≡ whole
+unfolding open_at_end
+scanned_ended scan whole text lines place beyond h =
+    let ended : open_at_end scan (heads_of text (drop place lines)) ≡ scan = rw (drop_all place lines beyond) refl in
+    sym ended ∙ h
+
+-- a line opens at most one define more
+pub depth-after : (define : Option OpenDefine) (conditionals : List OpenConditional) (line : Role) (number : ℕ)
+    → depth_of (after (record { define = define; conditionals = conditionals }) (record { role = line; number = number }))
+    ≤ depth_of (record { define = define; conditionals = conditionals }) + 1
+unfolding after
+depth-after (Some define) conditionals line number = in_body define.number define.depth line
+  where
+    in_body : (opened depth : ℕ) (line : Role) → depth_of (record { define = define_after opened depth line; conditionals = [] }) ≤ depth + 1
+    in_body opened depth role.Ordinary = omega arith
+    in_body opened depth role.Conditional = omega arith
+    in_body opened depth (role.Else condition) = omega arith
+    in_body opened depth role.Endif = omega arith
+    in_body opened depth role.Define = omega arith
+    in_body opened zero role.Endef = omega arith
+    in_body opened (suc depth) role.Endef = omega arith
+depth-after None conditionals role.Ordinary number = omega arith
+depth-after None conditionals role.Define number = omega arith
+depth-after None conditionals role.Endef number = omega arith
+depth-after None conditionals role.Conditional number = omega arith
+depth-after None conditionals (role.Else condition) number = omega arith
+depth-after None [] role.Endif number = omega arith
+depth-after None (innermost ∷ outer) role.Endif number = omega arith
+
+-- a line more is placed, from the end
+pub steps_more : (place : ℕ) (found : Part) (lines : List Part) (ahead : Ahead) (step : Step) (steps : List Step)
+    → ahead ≡ ahead_of (place + 1) lines → step ≡ step_of ahead found → steps ≡ steps_from (place + 1) lines
+    → step ∷ steps ≡ steps_from place (found ∷ lines)
+unfolding steps_from
+steps_more place found lines ahead step steps a s r = rw (s, r, a) refl
+
+pub ahead_more : (place : ℕ) (found : Part) (lines : List Part) (ahead next : Ahead)
+    → ahead ≡ ahead_of (place + 1) lines → next ≡ places_after ahead found place → next ≡ ahead_of place (found ∷ lines)
+unfolding ahead_of
+ahead_more place found lines ahead next a n = n ∙ ap (λ (x : Ahead). places_after x found place) a
+
+-- a part for each line
+pub length-parts : (heads : List Head) (scan : Open) → length (parts_from scan heads) ≡ length heads
+unfolding parts_from
+length-parts [] scan = refl
+length-parts (head ∷ heads) scan = ap suc (length-parts heads (after scan head))

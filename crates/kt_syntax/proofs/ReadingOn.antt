@@ -1,0 +1,326 @@
+-- The steps of a text's lines can be read one after another.
+use Rattle.std.proofs.Common.{◌≡◌, ◌≤◌, ℕ, zero, suc, ◌+◌, arith, List, [], ◌∷◌, drop, length, Some, refl, sym, ap, subst, ◌∙◌, zero-add}
+use Rattle.std.specs.List.{slice_get}
+use Rattle.kt_syntax.specs.declared.part.Part.{Part}
+use Rattle.kt_syntax.specs.declared.part.Part.TheVariants as part
+use Rattle.kt_syntax.specs.declared.part.Stray.TheVariants as stray
+use Rattle.kt_syntax.specs.declared.step.Exits.{Exits}
+use Rattle.kt_syntax.specs.declared.step.Step.{Step}
+use Rattle.kt_syntax.specs.Steps.{Ahead, ahead_of, exits_of, places_after, step_of, steps_from}
+use Rattle.kt_syntax.specs.Blocks.{Items, Level, none, line, definition, conditional, innermost, levels_from, levels_with, outer}
+use Rattle.kt_syntax.specs.Reading.{AreReadable, AreTried, IsAhead, ReadsOn, after_branches, append, left_at, left_of}
+
+-- what is left of the innermost block and of those round it
+left-split : (levels : List Level) → left_of levels ≡ append (innermost levels).items (after_branches (innermost levels).others (left_of (outer levels)))
+left-split [] = refl
+left-split (level ∷ levels) = refl
+
+-- exits are those of the branches of a block
+abbrev Leads : List Step → Exits → List Level → Type 0
+Leads steps exits levels =
+    (left_at steps exits.after ≡ after_branches (innermost levels).others (left_of (outer levels)))
+    × AreTried steps (innermost levels).others exits.next exits.after
+
+-- and those of all open conditionals
+abbrev Lead : List Step → ℕ → List Exits → List Level → Type 0
+Lead steps end [] levels = Leads steps (record { next = end; after = end }) levels × (outer levels ≡ [])
+Lead steps end (exits ∷ others) levels = Leads steps exits levels × Lead steps end others (outer levels)
+
+-- what is known ahead of a place agrees with what is left there
+record Agrees (steps : List Step) (ahead : Ahead) (levels : List Level) : Type 0 where
+  lead : Lead steps ahead.end ahead.conditionals levels
+  ended : left_at steps ahead.end ≡ none
+  body : left_at steps ahead.body_end ≡ left_of levels
+
+first_leads : (steps : List Step) (end body_end : ℕ) (conditionals : List Exits) (levels : List Level) → Lead steps end conditionals levels
+    → Leads steps (exits_of (record { end = end; body_end = body_end; conditionals = conditionals })) levels
+first_leads steps end body_end [] levels h = h.0
+first_leads steps end body_end (exits ∷ others) levels h = h.0
+
+others_lead : (steps : List Step) (end : ℕ) (conditionals : List Exits) (levels : List Level) → left_at steps end ≡ none → Lead steps end conditionals levels
+    → Lead steps end (drop 1 conditionals) (outer levels)
+unfolding AreTried
+others_lead steps end [] levels n h =
+    let P : List Level → Type 0 = λ levels. Lead steps end [] levels in
+    subst P (sym h.1) ((n, refl), refl)
+others_lead steps end (exits ∷ others) levels n h = h.1
+
+-- more items change no exit
+items_lead : (steps : List Step) (end : ℕ) (conditionals : List Exits) (levels : List Level) (items : Items) → Lead steps end conditionals levels
+    → Lead steps end conditionals (record { items = items; others = (innermost levels).others } ∷ outer levels)
+items_lead steps end [] levels items h = h
+items_lead steps end (exits ∷ others) levels items h = h
+
+-- a line more, before those ahead
+record OneMore (steps : List Step) (ahead : Ahead) (levels : List Level) (place : ℕ) (found : Part) : Type 0 where
+  agrees : Agrees steps (places_after ahead found place) (levels_with place (step_of ahead found) levels)
+  reads : ReadsOn steps place (step_of ahead found)
+
+one_more : (found : Part) (steps : List Step) (ahead : Ahead) (levels : List Level) (place : ℕ)
+    → left_at steps place ≡ left_of (levels_with place (step_of ahead found) levels) → left_at steps (place + 1) ≡ left_of levels
+    → slice_get steps place ≡ Some (step_of ahead found) → Agrees steps ahead levels → OneMore steps ahead levels place found
+unfolding places_after step_of AreTried
+one_more part.Line steps ahead levels place here next got a = record {
+  agrees = record { lead = items_lead steps ahead.end ahead.conditionals levels _ a.lead; ended = a.ended; body = here };
+  reads = here ∙ ap (line place) (sym (next ∙ left-split levels));
+}
+one_more part.Body steps ahead levels place here next got a = record { agrees = a; reads = here ∙ sym next }
+one_more part.Define steps ahead levels place here next got a = record {
+  agrees = record { lead = items_lead steps ahead.end ahead.conditionals levels _ a.lead; ended = a.ended; body = here };
+  reads = here ∙ ap (definition place ahead.body_end) (sym (a.body ∙ left-split levels));
+}
+one_more part.Endef steps ahead levels place here next got a = record {
+  agrees = record { lead = a.lead; ended = a.ended; body = here };
+  reads = here ∙ sym next;
+}
+one_more part.Conditional steps ahead levels place here next got a =
+    let top = first_leads steps ahead.end ahead.body_end ahead.conditionals levels a.lead in
+    record {
+      agrees = record {
+        lead = items_lead steps ahead.end (drop 1 ahead.conditionals) (outer levels) _ (others_lead steps ahead.end ahead.conditionals levels a.ended a.lead);
+        ended = a.ended;
+        body = here;
+      };
+      reads = record {
+        first = (innermost levels).items;
+        others = (innermost levels).others;
+        rest = left_of (outer levels);
+        left = here ∙ ap (conditional place (innermost levels).items (innermost levels).others) (sym (left-split (outer levels)));
+        inside = next ∙ left-split levels ∙ ap (append (innermost levels).items) (sym top.0);
+        behind = top.0;
+        tried = top.1;
+      };
+    }
+one_more (part.Branch condition) steps ahead levels place here next got a =
+    let top = first_leads steps ahead.end ahead.body_end ahead.conditionals levels a.lead in
+    record {
+      agrees = record {
+        lead = (
+          (top.0, (refl, next ∙ left-split levels ∙ ap (append (innermost levels).items) (sym top.0), ((exits_of ahead).next, got, top.1))),
+          others_lead steps ahead.end ahead.conditionals levels a.ended a.lead,
+        );
+        ended = a.ended;
+        body = here;
+      };
+      reads = here ∙ sym top.0;
+    }
+one_more part.Endif steps ahead levels place here next got a = record {
+  agrees = record { lead = ((here, refl), a.lead); ended = a.ended; body = here };
+  reads = here ∙ sym next;
+}
+one_more (part.Stray stray.LateElse) steps ahead levels place here next got a = record {
+  agrees = record {
+    lead = ((here, refl), others_lead steps ahead.end ahead.conditionals levels a.ended a.lead);
+    ended = a.ended;
+    body = here;
+  };
+  reads = (left_of (outer levels), here);
+}
+one_more (part.Stray stray.Else) steps ahead levels place here next got a = record {
+  agrees = record { lead = items_lead steps ahead.end ahead.conditionals levels _ a.lead; ended = a.ended; body = here };
+  reads = (_, here);
+}
+one_more (part.Stray stray.Endif) steps ahead levels place here next got a = record {
+  agrees = record { lead = items_lead steps ahead.end ahead.conditionals levels _ a.lead; ended = a.ended; body = here };
+  reads = (_, here);
+}
+one_more (part.Stray stray.Endef) steps ahead levels place here next got a = record {
+  agrees = record { lead = items_lead steps ahead.end ahead.conditionals levels _ a.lead; ended = a.ended; body = here };
+  reads = (_, here);
+}
+
+-- exits lie between a place and the end
+abbrev AreWithin : (place end : ℕ) → List Exits → Type 0
+AreWithin place end [] = Unit {0}
+AreWithin place end (exits ∷ others) = ((place ≤ exits.next) × (exits.next ≤ exits.after) × (exits.after ≤ end)) × AreWithin place end others
+
+record Within (place : ℕ) (ahead : Ahead) : Type 0 where
+  low : place ≤ ahead.end
+  body_low : place ≤ ahead.body_end
+  body_high : ahead.body_end ≤ ahead.end
+  exits : AreWithin place ahead.end ahead.conditionals
+
+widen : (place end : ℕ) (exits : List Exits) → AreWithin (place + 1) end exits → AreWithin place end exits
+widen place end [] h = tt
+widen place end (exits ∷ others) h = ((omega (arith, h.0.0), h.0.1, h.0.2), widen place end others h.1)
+
+others_within : (place end : ℕ) (exits : List Exits) → AreWithin place end exits → AreWithin place end (drop 1 exits)
+others_within place end [] h = tt
+others_within place end (exits ∷ others) h = h.1
+
+first_within : (place end body_end : ℕ) (exits : List Exits) → place ≤ end → AreWithin place end exits
+    → let first = exits_of (record { end = end; body_end = body_end; conditionals = exits }) in (place ≤ first.next) × (first.next ≤ first.after) × (first.after ≤ end)
+first_within place end body_end [] l h = (l, omega arith, omega arith)
+first_within place end body_end (exits ∷ others) l h = h.0
+
+record OneWithin (ahead : Ahead) (place : ℕ) (found : Part) : Type 0 where
+  within : Within place (places_after ahead found place)
+  ahead_is : IsAhead place ahead.end (step_of ahead found)
+  end_is : (places_after ahead found place).end ≡ ahead.end
+
+one_within : (found : Part) (ahead : Ahead) (place : ℕ) → Within (place + 1) ahead → OneWithin ahead place found
+unfolding places_after step_of
+one_within part.Line ahead place w = record {
+  within = record { low = omega (arith, w.low); body_low = omega arith; body_high = omega (arith, w.low); exits = widen place ahead.end ahead.conditionals w.exits };
+  ahead_is = tt;
+  end_is = refl;
+}
+one_within part.Body ahead place w = record {
+  within = record { low = omega (arith, w.low); body_low = omega (arith, w.body_low); body_high = w.body_high; exits = widen place ahead.end ahead.conditionals w.exits };
+  ahead_is = tt;
+  end_is = refl;
+}
+one_within part.Define ahead place w = record {
+  within = record { low = omega (arith, w.low); body_low = omega arith; body_high = omega (arith, w.low); exits = widen place ahead.end ahead.conditionals w.exits };
+  ahead_is = (omega (arith, w.body_low), w.body_high);
+  end_is = refl;
+}
+one_within part.Endef ahead place w = record {
+  within = record { low = omega (arith, w.low); body_low = omega arith; body_high = omega (arith, w.low); exits = widen place ahead.end ahead.conditionals w.exits };
+  ahead_is = tt;
+  end_is = refl;
+}
+one_within part.Conditional ahead place w =
+    let first = first_within (place + 1) ahead.end ahead.body_end ahead.conditionals w.low w.exits in
+    record {
+      within = record {
+        low = omega (arith, w.low);
+        body_low = omega arith;
+        body_high = omega (arith, w.low);
+        exits = others_within place ahead.end ahead.conditionals (widen place ahead.end ahead.conditionals w.exits);
+      };
+      ahead_is = (omega (arith, first.0), first.1, first.2);
+      end_is = refl;
+    }
+one_within (part.Branch condition) ahead place w =
+    let first = first_within (place + 1) ahead.end ahead.body_end ahead.conditionals w.low w.exits in
+    record {
+      within = record {
+        low = omega (arith, w.low);
+        body_low = omega arith;
+        body_high = omega (arith, w.low);
+        exits = ((omega arith, omega (arith, first.0, first.1), first.2), others_within place ahead.end ahead.conditionals (widen place ahead.end ahead.conditionals w.exits));
+      };
+      ahead_is = (omega (arith, first.0), first.1, first.2);
+      end_is = refl;
+    }
+one_within part.Endif ahead place w = record {
+  within = record {
+    low = omega (arith, w.low);
+    body_low = omega arith;
+    body_high = omega (arith, w.low);
+    exits = ((omega arith, omega arith, omega (arith, w.low)), widen place ahead.end ahead.conditionals w.exits);
+  };
+  ahead_is = tt;
+  end_is = refl;
+}
+one_within (part.Stray stray.LateElse) ahead place w = record {
+  within = record {
+    low = omega (arith, w.low);
+    body_low = omega arith;
+    body_high = omega (arith, w.low);
+    exits = ((omega arith, omega arith, omega (arith, w.low)), others_within place ahead.end ahead.conditionals (widen place ahead.end ahead.conditionals w.exits));
+  };
+  ahead_is = tt;
+  end_is = refl;
+}
+one_within (part.Stray stray.Else) ahead place w = record {
+  within = record { low = omega (arith, w.low); body_low = omega arith; body_high = omega (arith, w.low); exits = widen place ahead.end ahead.conditionals w.exits };
+  ahead_is = tt;
+  end_is = refl;
+}
+one_within (part.Stray stray.Endif) ahead place w = record {
+  within = record { low = omega (arith, w.low); body_low = omega arith; body_high = omega (arith, w.low); exits = widen place ahead.end ahead.conditionals w.exits };
+  ahead_is = tt;
+  end_is = refl;
+}
+one_within (part.Stray stray.Endef) ahead place w = record {
+  within = record { low = omega (arith, w.low); body_low = omega arith; body_high = omega (arith, w.low); exits = widen place ahead.end ahead.conditionals w.exits };
+  ahead_is = tt;
+  end_is = refl;
+}
+
+-- a list from a place on
+drop-next : {X : Type 0} (xs : List X) (place : ℕ) (x : X) (rest : List X) → drop place xs ≡ x ∷ rest → drop (suc place) xs ≡ rest
+drop-next [] zero x rest e = absurd (cc)
+drop-next [] (suc place) x rest e = absurd (cc)
+drop-next (y ∷ xs) zero x rest e = cc
+drop-next (y ∷ xs) (suc place) x rest e = drop-next xs place x rest e
+
+get-at : {X : Type 0} (xs : List X) (place : ℕ) (x : X) (rest : List X) → drop place xs ≡ x ∷ rest → slice_get xs place ≡ Some x
+get-at [] zero x rest e = absurd (cc)
+get-at [] (suc place) x rest e = absurd (cc)
+get-at (y ∷ xs) zero x rest e = cc
+get-at (y ∷ xs) (suc place) x rest e = get-at xs place x rest e
+
+-- what holds of the first element and of those after it holds of all
+at-each : (P : ℕ → Step → Type 0) (place : ℕ) (first : Step) (others : List Step) → P place first
+    → ((more : ℕ) (found : Step) → slice_get others more ≡ Some found → P (place + 1 + more) found)
+    → (more : ℕ) (found : Step) → slice_get (first ∷ others) more ≡ Some found → P (place + more) found
+at-each P place first others here after zero found h =
+    let same : first ≡ found = cc in
+    let at : place ≡ place + 0 = omega arith in
+    let Q : ℕ → Type 0 = λ k. P k found in
+    subst Q at (subst (P place) same here)
+at-each P place first others here after (suc more) found h =
+    let at : place + 1 + more ≡ place + suc more = omega arith in
+    let Q : ℕ → Type 0 = λ k. P k found in
+    subst Q at (after more found h)
+
+-- all from a place on
+record Readable (steps : List Step) (place : ℕ) (lines : List Part) : Type 0 where
+  agrees : Agrees steps (ahead_of place lines) (levels_from place (steps_from place lines))
+  within : Within place (ahead_of place lines)
+  end_is : (ahead_of place lines).end ≡ place + length lines
+  reads : (more : ℕ) (found : Step) → slice_get (steps_from place lines) more ≡ Some found → ReadsOn steps (place + more) found
+  ahead : (more : ℕ) (found : Step) → slice_get (steps_from place lines) more ≡ Some found → IsAhead (place + more) (ahead_of place lines).end found
+
+readable : (lines : List Part) (steps : List Step) (place : ℕ) → drop place steps ≡ steps_from place lines → Readable steps place lines
+unfolding steps_from ahead_of levels_from left_at AreTried
+readable [] steps place e =
+    let nothing : left_at steps place ≡ none = ap (λ (x : List Step). left_of (levels_from place x)) e in
+    record {
+      agrees = record { lead = ((nothing, refl), refl); ended = nothing; body = nothing };
+      within = record { low = omega arith; body_low = omega arith; body_high = omega arith; exits = tt };
+      end_is = omega arith;
+      reads = λ more found h. absurd (cc);
+      ahead = λ more found h. absurd (cc);
+    }
+readable (found ∷ lines) steps place e =
+    let A : Ahead = ahead_of (place + 1) lines in
+    let others : List Step = steps_from (place + 1) lines in
+    let levels : List Level = levels_from (place + 1) others in
+    let step : Step = step_of A found in
+    let one : place + 1 ≡ suc place = omega arith in
+    let e-next : drop (place + 1) steps ≡ others = ap (λ (x : ℕ). drop x steps) one ∙ drop-next steps place step others e in
+    let r = readable lines steps (place + 1) e-next in
+    let here : left_at steps place ≡ left_of (levels_with place step levels) = ap (λ (x : List Step). left_of (levels_from place x)) e in
+    let next : left_at steps (place + 1) ≡ left_of levels = ap (λ (x : List Step). left_of (levels_from (place + 1) x)) e-next in
+    let m = one_more found steps A levels place here next (get-at steps place step others e) r.agrees in
+    let w = one_within found A place r.within in
+    let P : ℕ → Step → Type 0 = λ at s. IsAhead at A.end s in
+    let Q : ℕ → Type 0 = λ end. (more : ℕ) (s : Step) → slice_get (step ∷ others) more ≡ Some s → IsAhead (place + more) end s in
+    record {
+      agrees = m.agrees;
+      within = w.within;
+      end_is = w.end_is ∙ r.end_is ∙ omega arith;
+      reads = at-each (ReadsOn steps) place step others m.reads r.reads;
+      ahead = subst Q (sym w.end_is) (at-each P place step others w.ahead_is r.ahead);
+    }
+
+-- a step for each line
+pub length-steps : (lines : List Part) (place : ℕ) → length (steps_from place lines) ≡ length lines
+unfolding steps_from
+length-steps [] place = refl
+length-steps (found ∷ lines) place = ap suc (length-steps lines (place + 1))
+
+pub steps_are_readable : (lines : List Part) → AreReadable (steps_from 0 lines)
+steps_are_readable lines =
+    let steps : List Step = steps_from 0 lines in
+    let r = readable lines steps 0 refl in
+    let end : (ahead_of 0 lines).end ≡ length steps = r.end_is ∙ zero-add (length lines) ∙ sym (length-steps lines 0) in
+    record {
+      reads = λ place found h. let P : ℕ → Type 0 = λ at. ReadsOn steps at found in subst P (zero-add place) (r.reads place found h);
+      ahead = λ place found h. let P : ℕ → Type 0 = λ at. IsAhead at (length steps) found in let Q : ℕ → Type 0 = λ e. IsAhead (0 + place) e found in
+          subst P (zero-add place) (subst Q end (r.ahead place found h));
+    }

@@ -1,0 +1,61 @@
+-- Runs of bytes without a dollar.
+use Rattle.std.proofs.Common.{◌≡◌, ◌==◌, ◌≤◌, ℕ, suc, Bool, true, false, List, [], ◌∷◌, ◌++◌, Option, Some, None, length, take, drop, refl, sym, ap, subst, ◌∙◌, arith, unwrap_or, ⊎_elim}
+use Rattle.std.proofs.lemmas.Bool.{cases_Bool, eqb-true, eq-eqb, false_from_ne_true}
+use Rattle.std.specs.List.{position_or_len}
+use Rattle.std.proofs.lemmas.List.Sums.{position_or_len_is}
+use Rattle.memchr.specs.Find.{IsFirstByte}
+use Rattle.kt_text.specs.Words.{Text}
+use Rattle.kt_syntax.specs.Terms.{count_of, EndsRun}
+use Rattle.kt_syntax.proofs.Closing.{count_yes, count_no, count_nil}
+
+-- the answer of a search for the first byte that passes, with the length where there is none
+pub first_byte_place : (test : ℕ → Bool) (text : List ℕ) (found : Option ℕ) → IsFirstByte test text found → unwrap_or found (length text) ≡ position_or_len test text
+first_byte_place test text None h =
+    sym (position_or_len_is test text (length text) 0 (omega arith) (λ k l. false_from_ne_true _ (h k (omega arith) l)) (λ l. absurd (omega arith)))
+first_byte_place test text (Some place) h =
+    let low : place ≤ length text = omega (arith, h.0.high) in
+    sym (position_or_len_is test text place 0 low (λ k l. false_from_ne_true _ (h.0.before k (omega arith) l)) (λ l. h.1))
+
+-- how many bytes stand before the first dollar
+abbrev pub run : Text → ℕ
+run text = position_or_len (λ b. b == 36) text
+
+run-yes : (byte : ℕ) (text : Text) → (byte == 36) ≡ true → run (byte ∷ text) ≡ 0
+run-yes byte text h = rw h refl
+
+run-no : (byte : ℕ) (text : Text) → (byte == 36) ≡ false → run (byte ∷ text) ≡ suc (run text)
+run-no byte text h = rw h (omega arith)
+
+pub run_within : (text : Text) → run text ≤ length text
+run_within [] = omega arith
+run_within (byte ∷ text) =
+    ⊎_elim (λ h. let e = run-yes byte text h in omega arith)
+    (λ h. let e = run-no byte text h in let l = run_within text in omega arith)
+    (cases_Bool (byte == 36))
+
+pub run_free : (text : Text) → count_of 36 (take (run text) text) ≡ 0
+run_free [] = count_nil 36
+run_free (byte ∷ text) =
+    ⊎_elim (λ h. ap (λ n. count_of 36 (take n (byte ∷ text))) (run-yes byte text h) ∙ count_nil 36)
+    (λ h. ap (λ n. count_of 36 (take n (byte ∷ text))) (run-no byte text h) ∙ count_no 36 byte (take (run text) text) h ∙ run_free text)
+    (cases_Bool (byte == 36))
+
+pub run_ends : (text : Text) → EndsRun (drop (run text) text)
+run_ends [] = tt
+run_ends (byte ∷ text) =
+    ⊎_elim (λ h. subst (λ n. EndsRun (drop n (byte ∷ text))) (sym (run-yes byte text h)) (eqb-true byte 36 h))
+    (λ h. subst (λ n. EndsRun (drop n (byte ∷ text))) (sym (run-no byte text h)) (run_ends text))
+    (cases_Bool (byte == 36))
+
+pub no_dollar : (byte : ℕ) (bytes : Text) → count_of 36 (byte ∷ bytes) ≡ 0 → ((byte == 36) ≡ false) × (count_of 36 bytes ≡ 0)
+no_dollar byte bytes e =
+    ⊎_elim (λ h. let c = count_yes 36 byte bytes h in absurd (omega arith))
+    (λ h. (h, sym (count_no 36 byte bytes h) ∙ e))
+    (cases_Bool (byte == 36))
+
+pub run_length : (bytes rest : Text) → count_of 36 bytes ≡ 0 → EndsRun rest → run (bytes ++ rest) ≡ length bytes
+run_length [] [] e ends = refl
+run_length [] (byte ∷ rest) e ends = run-yes byte rest (eq-eqb byte 36 ends)
+run_length (byte ∷ bytes) rest e ends =
+    let n = no_dollar byte bytes e in
+    run-no byte (bytes ++ rest) n.0 ∙ ap (λ k. suc k) (run_length bytes rest n.1 ends)

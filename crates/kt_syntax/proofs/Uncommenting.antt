@@ -1,0 +1,51 @@
+-- Texts without their comments, one symbol at a time.
+use Rattle.std.proofs.Common.{◌≡◌, ◌<◌, ◌+◌, ◌/◌, ◌%◌, ◌==◌, ℕ, false, List, [], ◌∷◌, ◌++◌, length, get_or, drop, refl, sym, ap, ◌∙◌, arith, append_assoc}
+use Rattle.std.proofs.lemmas.Bool.{eq-eqb, false_from_ne_true, eqb-true}
+use Rattle.std.proofs.lemmas.List.{drop_more, append-nil}
+use Rattle.kt_text.specs.Words.{Text}
+use Rattle.kt_syntax.specs.Comments.{backslashes, uncommented}
+
+not_equal : (a b : ℕ) → (a ≡ b → ⊥) → (a == b) ≡ false
+not_equal a b h = false_from_ne_true (a == b) (λ e. h (eqb-true a b e))
+
+abbrev step : ℕ → ℕ → List ℕ → ℕ → Text → Text
+step run symbol mask byte rest = uncommented run (symbol ∷ mask) (byte ∷ rest)
+
+at_place : (text : Text) (run symbol place : ℕ) (mask : List ℕ) → place < length text
+    → uncommented run (symbol ∷ mask) (drop place text) ≡ uncommented run (symbol ∷ mask) (get_or text place 0 ∷ drop (place + 1) text)
+at_place text run symbol place mask h = ap (uncommented run (symbol ∷ mask)) (drop_more text place 0 h)
+
+-- a backslash
+pub uncommented-backslash : (text : Text) (run symbol place : ℕ) (mask : List ℕ) → place < length text → symbol ≡ 92
+    → uncommented run (symbol ∷ mask) (drop place text) ≡ uncommented (run + 1) mask (drop (place + 1) text)
+unfolding uncommented
+uncommented-backslash text run symbol place mask h e = at_place text run symbol place mask h ∙ rw (eq-eqb symbol 92 e) refl
+
+-- a number sign after an odd run
+pub uncommented-literal : (text plain : Text) (run symbol place : ℕ) (mask : List ℕ) → place < length text → (symbol ≡ 92 → ⊥) → symbol ≡ 35 → run % 2 ≡ 1
+    → plain ++ uncommented run (symbol ∷ mask) (drop place text) ≡ ((plain ++ backslashes (run / 2)) ++ 35 ∷ []) ++ uncommented 0 mask (drop (place + 1) text)
+unfolding uncommented
+uncommented-literal text plain run symbol place mask h n e odd =
+    ap (λ x. plain ++ x) (at_place text run symbol place mask h ∙ rw (not_equal symbol 92 n, eq-eqb symbol 35 e, eq-eqb (run % 2) 1 odd) refl)
+    ∙ sym (append_assoc plain (backslashes (run / 2)) (35 ∷ uncommented 0 mask (drop (place + 1) text)))
+    ∙ sym (append_assoc (plain ++ backslashes (run / 2)) (35 ∷ []) (uncommented 0 mask (drop (place + 1) text)))
+
+-- the begin of the comment
+pub uncommented-comment : (text plain : Text) (run symbol place : ℕ) (mask : List ℕ) → place < length text → (symbol ≡ 92 → ⊥) → symbol ≡ 35 → run % 2 ≡ 0
+    → plain ++ uncommented run (symbol ∷ mask) (drop place text) ≡ plain ++ backslashes (run / 2)
+unfolding uncommented
+uncommented-comment text plain run symbol place mask h n e even =
+    ap (λ x. plain ++ x) (at_place text run symbol place mask h ∙ rw (not_equal symbol 92 n, eq-eqb symbol 35 e, not_equal (run % 2) 1 (λ o. omega arith)) (append-nil (backslashes (run / 2))))
+
+-- any other byte
+pub uncommented-other : (text plain : Text) (run symbol place : ℕ) (mask : List ℕ) → place < length text → (symbol ≡ 92 → ⊥) → (symbol ≡ 35 → ⊥)
+    → plain ++ uncommented run (symbol ∷ mask) (drop place text) ≡ ((plain ++ backslashes run) ++ get_or text place 0 ∷ []) ++ uncommented 0 mask (drop (place + 1) text)
+unfolding uncommented
+uncommented-other text plain run symbol place mask h n o =
+    ap (λ x. plain ++ x) (at_place text run symbol place mask h ∙ rw (not_equal symbol 92 n, not_equal symbol 35 o) refl)
+    ∙ sym (append_assoc plain (backslashes run) (get_or text place 0 ∷ uncommented 0 mask (drop (place + 1) text)))
+    ∙ sym (append_assoc (plain ++ backslashes run) (get_or text place 0 ∷ []) (uncommented 0 mask (drop (place + 1) text)))
+
+pub uncommented-nil : (run : ℕ) (text : Text) → uncommented run [] text ≡ backslashes run
+unfolding uncommented
+uncommented-nil run text = refl

@@ -1,0 +1,18 @@
+use Rattle.std.proofs.Common.{◌≡◌, ◌+◌, length, drop, take, ap, ◌∙◌, List, ℕ, arith}
+use Rattle.kt_syntax.specs.Mask.{mask_of}
+use Rattle.kt_syntax.proofs.Masking.{dropped, length-between}
+use Rattle.kt_syntax.proofs.mask.Mask.between.Goals as goal
+
+pub loop-place-preserved : goal.loop-place-preserved
+loop-place-preserved c =
+    dropped c.loop-place.mask c.next.new.self (take c.args.end (mask_of c.args.text.now)) c.loop-place.place c.next.result c.next.ensures.steps c.loop-place.invariant
+
+pub returns : goal.returns
+returns c =
+    let all : c.loop-place.place ≡ c.args.from = omega arith in
+    let value : c.loop-place.mask ≡ drop c.args.from (take c.args.end (mask_of c.args.text.now)) =
+    c.loop-place.invariant ∙ ap (λ n. drop n (take c.args.end (mask_of c.args.text.now))) all in
+    record {
+      value = value;
+      size = λ order within. ap (λ (mask : List ℕ). c.args.from + length mask) value ∙ length-between c.args.text.now c.args.from c.args.end order within;
+    }

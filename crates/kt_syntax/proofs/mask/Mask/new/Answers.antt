@@ -1,0 +1,16 @@
+use Rattle.std.proofs.Common.{refl}
+use Rattle.kt_syntax.specs.Mask.{mask_of}
+use Rattle.kt_syntax.proofs.Masking.{length-front, whole_mask}
+use Rattle.kt_syntax.proofs.mask.Mask.new.Goals as goal
+
+pub returns-clause-value : goal.returns-clause-value
+unfolding mask_of
+returns-clause-value c = refl
+
+pub returns-clause-size : goal.returns-clause-size
+unfolding mask_of
+returns-clause-size c = length-front c.args.text.now c.args.left
+
+pub returns-clause-whole : goal.returns-clause-whole
+unfolding mask_of
+returns-clause-whole c = whole_mask c.args.text.now c.args.left

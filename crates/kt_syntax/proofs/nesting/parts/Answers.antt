@@ -1,0 +1,25 @@
+use Rattle.std.proofs.Common.{◌≤◌, length, ap, ◌∙◌, arith}
+use Rattle.kt_syntax.specs.Parts.{missing_in}
+use Rattle.kt_syntax.proofs.NestingLemmas.{depth-after, parts_ended, parts_more, scanned_ended, scanned_more}
+use Rattle.kt_syntax.proofs.nesting.parts.Goals as goal
+
+pub loop-line-preserved : goal.loop-line-preserved
+loop-line-preserved c = record {
+  found = parts_more _ _ _ _ c.args.text.now c.args.lines.now c.loop-line.line-index _ c.head_of.result _ _ c.loop-line-test.true c.head_of.ensures
+      c.in_ok-advance.ensures.part c.in_ok-advance.ensures.scan c.in_ok-push.ensures.items c.loop-line.invariant.found;
+  scanned = scanned_more _ _ _ c.args.text.now c.args.lines.now c.loop-line.line-index _ c.head_of.result c.loop-line-test.true c.head_of.ensures
+      c.in_ok-advance.ensures.scan c.loop-line.invariant.scanned;
+  shallow =
+      let deeper = depth-after c.loop-line.scan.define c.loop-line.scan.conditionals c.head_of.result.role c.head_of.result.number in
+      rw c.in_ok-advance.ensures.scan (omega (arith, deeper, c.loop-line.invariant.shallow));
+}
+
+pub returns-clause-parts : goal.returns-clause-parts
+returns-clause-parts c =
+    let beyond : length c.args.lines.now ≤ c.loop-line.line-index = omega arith in
+    parts_ended _ _ c.args.text.now c.args.lines.now c.loop-line.line-index _ beyond c.loop-line.invariant.found
+
+pub returns-clause-missing : goal.returns-clause-missing
+returns-clause-missing c =
+    let beyond : length c.args.lines.now ≤ c.loop-line.line-index = omega arith in
+    c.missing-missing.ensures ∙ ap missing_in (scanned_ended _ _ c.args.text.now c.args.lines.now c.loop-line.line-index beyond c.loop-line.invariant.scanned)

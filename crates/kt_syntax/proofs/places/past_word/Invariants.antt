@@ -1,0 +1,13 @@
+use Rattle.std.proofs.Common.{◌≡◌, ◌≤◌, ◌+◌, length, not, take}
+use Rattle.std.specs.List.{prefix_len}
+use Rattle.kt_text.specs.Words.{is_blank}
+use Rattle.kt_syntax.specs.Kinds.{past_word}
+use Rattle.kt_syntax.specs.Mask.{mask_of}
+use Rattle.kt_syntax.proofs.places.past_word.Given as goal
+
+abbrev pub invariant-loop-symbol : goal.invariant-loop-symbol
+invariant-loop-symbol l = record {
+  low : l.from ≤ l.place;
+  size : l.place + length l.symbol-iterator ≡ l.end;
+  value : l.place + prefix_len (λ symbol. not (is_blank symbol)) l.symbol-iterator ≡ past_word l.from (take l.end (mask_of l.text));
+}

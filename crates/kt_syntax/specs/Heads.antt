@@ -1,0 +1,74 @@
+-- The parts of a rule line (POSIX.1-2024 make, "Target Rules"), as it stands in the file, and target-specific macros, which
+-- are refused (GNU make manual, "Target-specific Variable Values").
+use Rattle.std.specs.Prelude.{ℕ, zero, suc, ◌+◌, Bool, false, not, ◌==◌, ◌&&◌, ◌||◌, nat_eq, nat_lt, List, [], ◌∷◌, length, take, drop, codes, Option, Some, None, option_map, Result, Ok, Err, is_some, if◌then◌else◌}
+use Rattle.std.specs.List.{starts_with, position_or_len, slice_range}
+use Rattle.std.specs.Str.{bytes_eq}
+use Rattle.kt_text.specs.Words.{Text}
+use Rattle.kt_syntax.specs.declared.rule_line.RuleParts.{RuleParts}
+use Rattle.kt_syntax.specs.declared.rule_line.TargetSpecific.{TargetSpecific}
+use Rattle.kt_syntax.specs.Mask.{mask_of}
+use Rattle.kt_syntax.specs.Kinds.{assignment_parts, comment_place, past_blanks, past_word}
+
+-- the head of a rule line, and its first recipe line if there is one
+pub record RuleTexts : Type 0 where
+  pub head : Text
+  pub recipe : Option Text
+
+abbrev pub texts_told : Result RuleParts TargetSpecific → Option RuleTexts
+texts_told (Ok parts) = Some (record { head = parts.head.now; recipe = option_map (λ recipe. recipe.now) parts.recipe })
+texts_told (Err fault) = None
+
+-- where the head ends: at the first semicolon outside references, or where the comment begins
+unfoldable pub head_end : Text → ℕ
+head_end text = position_or_len (λ symbol. symbol == 59) (take (comment_place text) (mask_of text))
+
+-- where the first colon stands that has no backslash directly before it; the symbol before the mask is given
+unfoldable pub colon_place : ℕ → ℕ → List ℕ → Option ℕ
+colon_place place previous [] = None
+colon_place place previous (symbol ∷ mask) =
+    if symbol == 58 && not (previous == 92) then Some place else colon_place (place + 1) symbol mask
+
+-- a second colon directly after it belongs to it
+abbrev pub after_colon : List ℕ → ℕ → ℕ
+after_colon mask place = if starts_with nat_eq (drop (place + 1) mask) (58 ∷ []) then place + 2 else place + 1
+
+-- the words that may stand before a target-specific macro [GNU make manual, "Target-specific Variable Values"]
+unfoldable pub is_modifier : Text → Bool
+is_modifier word = bytes_eq word (codes "override") || (bytes_eq word (codes "export") || bytes_eq word (codes "private"))
+
+-- the place after a word, if it is such a word and a blank comes after it
+abbrev pub modifier_at : Text → List ℕ → ℕ → ℕ → Option ℕ
+modifier_at text mask begin end = if is_modifier (slice_range text begin end) && nat_lt end (length mask) then Some end else None
+
+-- the place after such a word, if one comes next
+unfoldable pub after_modifier : Text → List ℕ → ℕ → Option ℕ
+after_modifier text mask from = modifier_at text mask (past_blanks from mask) (past_word (past_blanks from mask) mask)
+
+abbrev pub found_or : ℕ → (ℕ → ℕ) → Option ℕ → ℕ
+found_or from further None = from
+found_or from further (Some end) = further end
+
+-- the place after all such words, of which there are at most as many as is said
+unfoldable pub after_modifiers : ℕ → Text → List ℕ → ℕ → ℕ
+after_modifiers zero text mask from = from
+after_modifiers (suc most) text mask from = found_or from (λ end. after_modifiers most text mask end) (after_modifier text mask from)
+
+-- whether what follows so many bytes of a head is of assignment form, with such words before it or not
+abbrev pub assigns_after : Text → List ℕ → Option ℕ → Bool
+assigns_after text mask None = false
+assigns_after text mask (Some colon) =
+    is_some (assignment_parts text mask (past_blanks (after_modifiers (length mask) text mask (after_colon mask colon)) mask))
+
+-- whether the head, of which this is the mask, assigns a target-specific macro
+unfoldable pub is_target_specific : Text → List ℕ → Bool
+is_target_specific text mask = assigns_after text mask (colon_place 0 0 mask)
+
+-- the parts of a rule line whose head ends at a place: without a semicolon the head keeps its comment
+abbrev pub parts_of : Text → ℕ → RuleTexts
+parts_of text end =
+    if end == comment_place text then record { head = text; recipe = None }
+    else record { head = take end text; recipe = Some (drop (past_blanks (end + 1) (mask_of text)) text) }
+
+-- the parts of a rule line, or none where it assigns a target-specific macro
+unfoldable pub rule_texts : Text → Option RuleTexts
+rule_texts text = if is_target_specific text (take (head_end text) (mask_of text)) then None else Some (parts_of text (head_end text))

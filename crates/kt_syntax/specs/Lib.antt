@@ -1,0 +1,15 @@
+pub mod Assignments
+pub mod BlockRows
+pub mod Blocks
+pub mod Comments
+pub mod Grammar
+pub mod Heads
+pub mod Kinds
+pub mod Mask
+pub mod Parts
+pub mod Reading
+pub mod Recipes
+pub mod Roles
+pub mod Rows
+pub mod Steps
+pub mod Terms

@@ -1,0 +1,68 @@
+-- The text of a recipe line, from its physical lines (GNU make manual, "Splitting Recipe Lines"; what a continuation
+-- becomes is kati's own).
+use Rattle.std.specs.Prelude.{ℕ, ◌-◌, ◌==◌, List, [], ◌∷◌, ◌++◌, length, drop, slice_index, if◌then◌else◌}
+use Rattle.bstr.specs.Text.{without_terminator}
+use Rattle.kt_text.specs.Words.{Text, trimmed_start, trimmed_end}
+use Rattle.kt_text.specs.Lines.{before_backslash, is_continued, pieces_of}
+use Rattle.kt_syntax.specs.declared.recipe.Joint.{Joint}
+use Rattle.kt_syntax.specs.declared.recipe.Joint.TheVariants.{Edge, Newline, Outside, Inside}
+use Rattle.kt_syntax.specs.Mask.{inside, mask_of}
+
+-- what the newline at the end of a physical line is: its symbol in the mask says whether it is inside a reference
+unfoldable pub joint_of : ℕ → Text → Joint
+joint_of symbol line = if is_continued line then (if symbol == inside then Inside else Outside) else Newline
+
+-- a physical line without what joins it to the next
+abbrev pub content : Joint → Text → Text
+content Edge line = line
+content Newline line = without_terminator line
+content Outside line = before_backslash line
+content Inside line = before_backslash line
+
+-- without a tab at its begin
+abbrev pub without_tab : Text → Text
+without_tab [] = []
+without_tab (byte ∷ text) = if byte == 9 then text else byte ∷ text
+
+-- what is left after the joint before it: a continuation takes one tab with it, and inside a reference all blanks
+abbrev pub begun : Joint → Text → Text
+begun Edge text = text
+begun Newline text = text
+begun Outside text = without_tab text
+begun Inside text = trimmed_start text
+
+-- what is left before the joint after it
+abbrev pub ended : Joint → Text → Text
+ended Edge text = text
+ended Newline text = text
+ended Outside text = text
+ended Inside text = trimmed_end text
+
+-- the space of a continuation inside a reference; of several with nothing but blanks between them the last has it
+abbrev pub space_before : Joint → Joint → Text → Text
+space_before Inside Inside [] = []
+space_before Inside after text = 32 ∷ []
+space_before before after text = []
+
+-- the newline of a line that isn't continued
+abbrev pub newline_after : Joint → Text
+newline_after Newline = 10 ∷ []
+newline_after after = []
+
+-- what a physical line becomes between two joints
+unfoldable pub recipe_line : Joint → Joint → Text → Text
+recipe_line before after line =
+    let text = ended after (begun before (content after line)) in space_before before after text ++ (text ++ newline_after after)
+
+-- what physical lines become, with their masks, of which the last has no newline
+unfoldable pub recipe_lines : Joint → List ℕ → List Text → Text
+recipe_lines before mask [] = []
+recipe_lines before mask (line ∷ []) = recipe_line before Edge line
+recipe_lines before mask (line ∷ next ∷ lines) =
+    let after = joint_of (slice_index mask (length line - 1)) line in
+    recipe_line before after line ++ recipe_lines after (drop (length line) mask) (next ∷ lines)
+
+-- the text of a recipe line: a continuation is dropped with one tab after it; inside a reference continuations with the
+-- blanks round them are one space
+unfoldable pub recipe_of : Text → Text
+recipe_of text = recipe_lines Edge (mask_of text) (pieces_of text)

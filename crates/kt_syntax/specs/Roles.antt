@@ -1,0 +1,70 @@
+-- What lines are to the blocks round them (GNU make manual, "Syntax of Conditionals" and "Defining Multi-Line Variables"),
+-- by their kinds alone.
+use Rattle.std.specs.Prelude.{Bool, true, false, ◌&&◌, List, [], length, take, map, Option, Some, None, leb, if◌then◌else◌}
+use Rattle.std.specs.List.{slice_range}
+use Rattle.kt_text.specs.declared.line.Line.{Line}
+use Rattle.kt_syntax.specs.declared.form.Directive.{Directive}
+use Rattle.kt_syntax.specs.declared.form.Directive.TheVariants as word
+use Rattle.kt_syntax.specs.declared.role.Head.{Head}
+use Rattle.kt_syntax.specs.declared.role.Role.{Role}
+use Rattle.kt_syntax.specs.declared.role.Role.TheVariants.{Ordinary, Conditional, Else, Endif, Define, Endef}
+use Rattle.kt_text.specs.Words.{Text}
+use Rattle.kt_syntax.specs.Mask.{mask_of}
+use Rattle.kt_syntax.specs.Kinds.{Kind, blank, assignment, directive, refused, rule, block_word, comment_place, kind_of, past_word}
+
+-- the first word of a text that begins with no blank, before its comment
+unfoldable pub first_word : Text → Text
+first_word text = slice_range text 0 (past_word 0 (take (comment_place text) (mask_of text)))
+
+-- the four words of conditions
+abbrev pub opens_conditional : Option Directive → Bool
+opens_conditional None = false
+opens_conditional (Some word.Ifdef) = true
+opens_conditional (Some word.Ifndef) = true
+opens_conditional (Some word.Ifeq) = true
+opens_conditional (Some word.Ifneq) = true
+opens_conditional (Some word.Else) = false
+opens_conditional (Some word.Endif) = false
+opens_conditional (Some word.Define) = false
+opens_conditional (Some word.Endef) = false
+opens_conditional (Some word.Include) = false
+opens_conditional (Some word.OptionalInclude) = false
+
+-- whether a condition follows an `else`: of the text after it only the first word counts (kati's own)
+unfoldable pub starts_condition : Text → Bool
+starts_condition rest = opens_conditional (block_word (first_word rest))
+
+-- the role of a directive, with the text after it
+unfoldable pub role_by_word : Directive → Text → Role
+role_by_word word.Ifdef rest = Conditional
+role_by_word word.Ifndef rest = Conditional
+role_by_word word.Ifeq rest = Conditional
+role_by_word word.Ifneq rest = Conditional
+role_by_word word.Else rest = Else (starts_condition rest)
+role_by_word word.Endif rest = Endif
+role_by_word word.Define rest = Define
+role_by_word word.Endef rest = Endef
+role_by_word word.Include rest = Ordinary
+role_by_word word.OptionalInclude rest = Ordinary
+
+-- the role of a line of a kind
+unfoldable pub role_of : Kind → Role
+role_of blank = Ordinary
+role_of (assignment name operator value) = Ordinary
+role_of (directive word rest) = role_by_word word rest
+role_of (refused word) = Ordinary
+role_of rule = Ordinary
+
+-- the bytes of a line, which are none where its place isn't one of the text
+abbrev pub line_text : Text → Line → Text
+line_text text line =
+    if leb line.span.start line.span.end && leb line.span.end (length text) then slice_range text line.span.start line.span.end
+    else []
+
+-- a line's role and number
+abbrev pub head_of : Text → Line → Head
+head_of text line = record { role = role_of (kind_of (line_text text line) line.tab); number = line.number }
+
+-- the roles and numbers of a text's lines
+abbrev pub heads_of : Text → List Line → List Head
+heads_of text lines = map (head_of text) lines

@@ -1,0 +1,125 @@
+-- The terms of a text (POSIX.1-2024 make, "Macros"; GNU make manual, "Basics of Variable References").
+use Rattle.std.specs.Prelude.{◌≡◌, ℕ, zero, suc, ◌+◌, ◌-◌, ◌<◌, ◌≤◌, Bool, true, not, ◌==◌, ◌||◌, nat_eq, List, [], ◌∷◌, ◌++◌, length, take, count_by, Option, Some, None, Result, Ok, Err, ◌⊎◌, if◌then◌else◌}
+use Rattle.std.specs.List.{list_all, starts_with, position_or_len}
+use Rattle.kt_text.specs.Words.{Text}
+use Rattle.kt_syntax.specs.declared.term.Mark.{Mark}
+use Rattle.kt_syntax.specs.declared.term.Mark.TheVariants.{Byte, Parentheses, Braces}
+use Rattle.kt_syntax.specs.declared.term.Term.{Term}
+use Rattle.kt_syntax.specs.declared.term.Term.TheVariants.{Lit, Dollar, Ref}
+use Rattle.kt_syntax.specs.declared.term.Unterminated.{Unterminated}
+
+-- a term: text that stands for itself, one dollar, a reference, or one without its closing mark
+pub data Piece : Type 0 where
+  literal : (bytes : Text) → Piece
+  dollar : Piece
+  reference : (mark : Mark) (body : Text) → Piece
+  unclosed : Piece
+
+-- what an item says
+abbrev pub piece_of : Result Term Unterminated → Piece
+piece_of (Ok (Lit bytes)) = literal bytes.now
+piece_of (Ok Dollar) = dollar
+piece_of (Ok (Ref mark body)) = reference mark body.now
+piece_of (Err fault) = unclosed
+
+-- how often a byte stands in a text
+unfoldable pub count_of : ℕ → Text → ℕ
+count_of byte text = count_by (λ b. b == byte) text
+
+-- no front of the text has more closing than opening marks, and the whole has as many of both (kati's own: only marks of
+-- the reference's own kind count)
+pub record IsBalanced (opener closer : ℕ) (text : Text) : Type 0 where
+  pub fronts : (n : ℕ) → count_of closer (take n text) ≤ count_of opener (take n text)
+  pub even : count_of closer text ≡ count_of opener text
+
+-- no balanced text with a closing mark after it begins here
+abbrev pub IsUnclosed : ℕ → ℕ → Text → Type 0
+IsUnclosed opener closer text = (body rest : Text) → text ≡ body ++ closer ∷ rest → ¬ IsBalanced opener closer body
+
+-- how many bytes stand for one at the begin of a text: a backslash and a newline, with a carriage return between them or
+-- not, are a continuation, which counts as one blank (kati's own)
+abbrev pub unit_length : Text → ℕ
+unit_length text =
+    if starts_with nat_eq text (92 ∷ 10 ∷ []) then 2
+    else (if starts_with nat_eq text (92 ∷ 13 ∷ 10 ∷ []) then 3 else 1)
+
+-- a dollar, or a mark that opens a longer reference
+abbrev pub is_special : ℕ → Bool
+is_special byte = byte == 36 || (byte == 40 || byte == 123)
+
+-- whether the text is empty or begins with a dollar
+abbrev pub EndsRun : Text → Type 0
+EndsRun [] = Unit {0}
+EndsRun (byte ∷ rest) = byte ≡ 36
+
+-- the text is a byte that is no mark, or a continuation, before the rest
+pub record IsSingle (body rest : Text) : Type 0 where
+  pub some : 0 < length body
+  pub unit : length body ≡ unit_length (body ++ rest)
+  pub plain : list_all (λ byte. not (is_special byte)) (take 1 body) ≡ true
+
+-- how a term is spelled before the rest of a text: a literal is a maximal run without dollar, and the one without bytes is
+-- a dollar at the end (kati's own)
+abbrev pub IsTerm : Piece → Text → Text → Type 0
+IsTerm (literal []) spelled rest = (spelled ≡ 36 ∷ []) × (rest ≡ [])
+IsTerm (literal (byte ∷ bytes)) spelled rest = (spelled ≡ byte ∷ bytes) × (count_of 36 spelled ≡ 0) × EndsRun rest
+IsTerm dollar spelled rest = spelled ≡ 36 ∷ 36 ∷ []
+IsTerm (reference Byte body) spelled rest = (spelled ≡ 36 ∷ body) × IsSingle body rest
+IsTerm (reference Parentheses body) spelled rest = (spelled ≡ 36 ∷ 40 ∷ (body ++ 41 ∷ [])) × IsBalanced 40 41 body
+IsTerm (reference Braces body) spelled rest = (spelled ≡ 36 ∷ 123 ∷ (body ++ 125 ∷ [])) × IsBalanced 123 125 body
+IsTerm unclosed spelled rest =
+    (rest ≡ []) × ((tail : Text) × (((spelled ≡ 36 ∷ 40 ∷ tail) × IsUnclosed 40 41 tail) ⊎ ((spelled ≡ 36 ∷ 123 ∷ tail) × IsUnclosed 123 125 tail)))
+
+-- the text is the spellings of these terms put together
+abbrev pub IsSplitting : Text → List Piece → Type 0
+IsSplitting text [] = text ≡ []
+IsSplitting text (piece ∷ pieces) =
+    (spelled : Text) × (rest : Text) × (text ≡ spelled ++ rest) × IsTerm piece spelled rest × IsSplitting rest pieces
+
+-- each text has exactly one splitting, which `terms_of` computes
+abbrev pub OneSplitting : (Text → List Piece) → Type 0
+OneSplitting terms_of = (text : Text) → IsSplitting text (terms_of text) × ((pieces : List Piece) → IsSplitting text pieces → pieces ≡ terms_of text)
+
+-- where the mark stands that closes the text, counted from a place on and with so many open
+unfoldable pub closing : ℕ → ℕ → ℕ → ℕ → Text → Option ℕ
+closing opener closer at depth [] = None
+closing opener closer at depth (byte ∷ text) =
+    if byte == opener then closing opener closer (at + 1) (depth + 1) text
+    else (if byte == closer then (if depth == 0 then Some at else closing opener closer (at + 1) (depth - 1) text)
+    else closing opener closer (at + 1) depth text)
+
+-- the reference with this body, and how many bytes it takes after the dollar
+abbrev pub referred : Mark → Text → Option ℕ → Piece × ℕ
+referred mark text None = (unclosed, 1 + length text)
+referred mark text (Some place) = (reference mark (take place text), place + 2)
+
+-- the one-byte reference, and how many bytes it takes
+abbrev pub single : Text → Piece × ℕ
+single text = (reference Byte (take (unit_length text) text), unit_length text)
+
+-- the term behind a dollar, and how many bytes it takes there
+unfoldable pub behind_dollar : Text → Piece × ℕ
+behind_dollar [] = (literal [], 0)
+behind_dollar (byte ∷ text) =
+    if byte == 36 then (dollar, 1)
+    else (if byte == 40 then referred Parentheses text (closing 40 41 0 0 text)
+    else (if byte == 123 then referred Braces text (closing 123 125 0 0 text)
+    else single (byte ∷ text)))
+
+-- the literal that begins with this byte, and how many more bytes it takes
+abbrev pub literal_run : ℕ → Text → Piece × ℕ
+literal_run byte text = let more = position_or_len (λ b. b == 36) text in (literal (byte ∷ take more text), more)
+
+-- the first term of a text that begins with this byte, and how many more bytes it takes
+unfoldable pub first_term : ℕ → Text → Piece × ℕ
+first_term byte text = if byte == 36 then behind_dollar text else literal_run byte text
+
+-- the terms of what follows so many bytes
+unfoldable pub terms_after : ℕ → Text → List Piece
+terms_after skip [] = []
+terms_after (suc skip) (byte ∷ text) = terms_after skip text
+terms_after zero (byte ∷ text) = (first_term byte text).0 ∷ terms_after (first_term byte text).1 text
+
+-- the terms of a text, from left to right
+unfoldable pub terms_of : Text → List Piece
+terms_of text = terms_after 0 text

@@ -1,0 +1,58 @@
+//! Texts without their comments.
+ghost use Rattle.std.specs.Prelude.{◌≡◌, ◌++◌, IfOk, replicate};
+ghost use Rattle.kt_syntax.specs.Comments.{backslashes, plain_of, uncommented_of};
+
+use crate::mask::Mask;
+use kt_text::condensed;
+use std::alloc::{AllocError, Global};
+
+/// The text of a part of a line, as the part stands in the file: without its comment, and with each
+/// continuation as one space.
+///
+/// A number sign after an odd run of backslashes is itself, and so is one inside a reference; of the
+/// run half stay. Carriage returns before newlines are dropped. GNU make manual, "What Makefiles
+/// Contain" and "Splitting Long Lines".
+pub fn plain(alloc: Global, part: &[u8]) -> Result<Vec<u8>, AllocError>
+    ensures { IfOk result (λ plain. plain.items ≡ plain_of part.now) }
+{
+    let text = condensed(alloc, part)?;
+    uncommented(alloc, text.as_slice())
+}
+
+// A text without continuations, without its comment.
+#[tactic(auto, unfolding(crate::specs::Comments::uncommented_of))]
+fn uncommented(alloc: Global, text: &[u8]) -> Result<Vec<u8>, AllocError>
+    ensures { IfOk result (λ plain. plain.items ≡ uncommented_of text.now) }
+{
+    let mut plain = Vec::new(alloc);
+    let mut run = 0;
+    let mut place = 0;
+    for symbol in Mask::new(text, text.len()) {
+        if symbol == u16::from(b'\\') {
+            run += 1;
+        } else if symbol == u16::from(b'#') {
+            put_backslashes(&mut plain, run / 2)?;
+            if run % 2 == 0 {
+                return Ok(plain);
+            }
+            plain.push(b'#')?;
+            run = 0;
+        } else {
+            put_backslashes(&mut plain, run)?;
+            plain.push(text[place])?;
+            run = 0;
+        }
+        place += 1;
+    }
+    put_backslashes(&mut plain, run)?;
+    Ok(plain)
+}
+
+fn put_backslashes(text: &mut Vec<u8>, count: usize) -> Result<(), AllocError>
+    ensures { IfOk result (λ _. text.new.items ≡ text.old.items ++ backslashes count) }
+{
+    for _place in 0..count {
+        text.push(b'\\')?;
+    }
+    Ok(())
+}

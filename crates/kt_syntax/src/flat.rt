@@ -1,0 +1,55 @@
+//! The blocks of a text, as a flat list.
+ghost use Rattle.std.specs.Prelude.{◌≡◌, length, slice_get, IfSome};
+ghost use Rattle.kt_syntax.specs.Reading.{AreReadable, IsAhead, ReadsOn};
+
+use crate::part::Missing;
+use crate::step::Step;
+use std::collections::VecDeque;
+use std::marker::Model;
+
+/// The blocks of a text: a step for each of its lines, and the end that is missing, if one is.
+///
+/// They are read from the first line on, by a place that only grows; contracts see the tree that
+/// the steps stand for by `tree_of`.
+#[derive(Debug, Drop)]
+pub struct Blocks {
+    steps: VecDeque<Step>,
+    missing: Option<Missing>,
+}
+
+impl Model for Blocks {
+    ghost use Rattle.kt_syntax.specs.Blocks.{Flat};
+
+    ghost Value = { Flat };
+
+    ghost view = { λ blocks. record { steps = blocks.steps.items; missing = blocks.missing } };
+
+    ghost use Rattle.kt_syntax.specs.Reading.{AreReadable};
+
+    ghost invariant = { λ blocks. AreReadable blocks.steps.items };
+}
+
+impl Blocks {
+    pub(crate) fn new(steps: VecDeque<Step>, missing: Option<Missing>) -> Blocks
+        requires { AreReadable steps.items }
+        ensures { result ≡ record { steps = steps.items; missing = missing } }
+    {
+        Blocks { steps, missing }
+    }
+
+    /// The step of a line, counted from 0; none behind the last one.
+    pub fn get(&self, line: usize) -> Option<Step>
+        ensures value { result ≡ slice_get self.now.steps line }
+        ensures reads { IfSome result (ReadsOn self.now.steps line) }
+        ensures ahead { IfSome result (IsAhead line (length self.now.steps)) }
+    {
+        self.steps.get(line).copied()
+    }
+
+    /// The end that is missing, which is met at the end of the text, once an open rule is closed.
+    pub fn missing(&self) -> Option<Missing>
+        ensures { result ≡ self.now.missing }
+    {
+        self.missing
+    }
+}

@@ -1,0 +1,186 @@
+//! Lines told apart.
+ghost use Rattle.std.specs.Prelude.{◌≡◌, ◌≤◌, ◌+◌, drop, length, take, true, is_some, IfSome, option_map, MatchOption};
+ghost use Rattle.std.specs.Str.{bytes_eq};
+ghost use Rattle.kt_syntax.specs.Kinds.{assignment_parts, block_word, directive_of, ends_name, include_word, is_refused_word, kind_of, kind_told, name_end, operator_of, worded};
+ghost use Rattle.kt_syntax.specs.Mask.{mask_of};
+
+use crate::form::{Directive, Form, Operator};
+use crate::mask::{INSIDE, Mask};
+use crate::places::{comment_place, is_blank, past_blanks, past_line_blanks, past_word};
+
+/// The kind of a line, as the line stands in the file; `tab` says whether it begins with a tab.
+///
+/// Takes no memory. POSIX.1-2024 make, "Makefile Syntax"; GNU make manual, "What Makefiles
+/// Contain".
+#[tactic(auto, unfolding(crate::specs::Kinds::kind_of, crate::specs::Kinds::kind_within))]
+pub fn classify(text: &[u8], tab: bool) -> Form<'_>
+    ensures { kind_told result ≡ kind_of text.now tab }
+{
+    let end = comment_place(text);
+    let begin = past_blanks(text, 0, end);
+    if begin == end {
+        return Form::Blank;
+    }
+    match assignment(text, begin, end) {
+        Some((name, operator, value)) => {
+            Form::Assignment(&text[begin..name], operator, &text[value..])
+        }
+        None => worded(text, begin, end, tab),
+    }
+}
+
+// Where the name of an assignment ends, its operator, and where its value begins.
+#[tactic(auto, unfolding(crate::specs::Kinds::assignment_parts))]
+pub(crate) fn assignment(text: &[u8], begin: usize, end: usize) -> Option<(usize, Operator, usize)>
+    requires order { begin ≤ end }
+    requires within { end ≤ length text.now }
+    ensures value { option_map (λ parts. record { name = parts.0; operator = parts.1; value = parts.2 }) result ≡ assignment_parts text.now (take end (mask_of text.now)) begin }
+    ensures bounds { IfSome result (λ parts. (begin ≤ parts.0) × (parts.0 ≤ length text.now) × (parts.2 ≤ length text.now)) }
+{
+    let name = name_end(text, begin, end)?;
+    let place = past_blanks(text, name, end);
+    let (operator, size) = operator_of(&text[place..])?;
+    Some((name, operator, past_line_blanks(text, place + size)))
+}
+
+// Where the name of an assignment ends, if an operator may follow it.
+#[tactic(auto, unfolding(crate::specs::Kinds::name_end))]
+fn name_end(text: &[u8], begin: usize, end: usize) -> Option<usize>
+    requires order { begin ≤ end }
+    requires within { end ≤ length text.now }
+    ensures value { result ≡ name_end begin (drop begin (take end (mask_of text.now))) (drop begin text.now) }
+    ensures bounds { IfSome result (λ place. (begin ≤ place) × (place ≤ end)) }
+{
+    let mut place = begin;
+    for symbol in Mask::between(text, begin, end) {
+        if ends_name(symbol, &text[place..]) {
+            return Some(place);
+        }
+        if symbol == u16::from(b':') {
+            return None;
+        }
+        place += 1;
+    }
+    Some(place)
+}
+
+// Whether the name of an assignment ends at this symbol.
+fn ends_name(symbol: u16, text: &[u8]) -> bool
+    ensures { result ≡ ends_name symbol text.now }
+{
+    is_blank(symbol) || symbol != INSIDE && may_begin_operator(text) && operator_of(text).is_some()
+}
+
+// Whether the first byte is one that operators begin with: few are, and the test is a quick one.
+#[tactic(auto, unfolding(crate::specs::Kinds::operator_of))]
+fn may_begin_operator(text: &[u8]) -> bool
+    ensures { is_some (operator_of text.now) ≡ true → result ≡ true }
+{
+    matches!(text, [b'=' | b':' | b'?' | b'+' | b'!', ..])
+}
+
+// The operator that a text begins with, and its length.
+#[tactic(auto, unfolding(crate::specs::Kinds::operator_of))]
+fn operator_of(text: &[u8]) -> Option<(Operator, usize)>
+    ensures value { result ≡ operator_of text.now }
+    ensures bounds { IfSome result (λ found. found.1 ≤ length text.now) }
+{
+    match text {
+        [b'=', ..] => Some((Operator::Deferred, 1)),
+        [b':', b'=', ..] => Some((Operator::Immediate, 2)),
+        [b':', b':', b'=', ..] => Some((Operator::Immediate, 3)),
+        [b':', b':', b':', b'=', ..] => Some((Operator::Escaped, 4)),
+        [b'?', b'=', ..] => Some((Operator::Conditional, 2)),
+        [b'+', b'=', ..] => Some((Operator::Append, 2)),
+        [b'!', b'=', ..] => Some((Operator::Shell, 2)),
+        _ => None,
+    }
+}
+
+// The kind of a line by its first word.
+#[tactic(auto, unfolding(crate::specs::Kinds::worded))]
+fn worded(text: &[u8], begin: usize, end: usize, tab: bool) -> Form<'_>
+    requires order { begin ≤ end }
+    requires within { end ≤ length text.now }
+    ensures { kind_told result ≡ worded tab text.now (take end (mask_of text.now)) begin }
+{
+    let after = past_word(text, begin, end);
+    let word = &text[begin..after];
+    let rest = past_line_blanks(text, after);
+    match directive_of(tab, word) {
+        Some(directive) => Form::Directive(directive, &text[rest..]),
+        None if is_refused_word(word) => Form::Refused(word),
+        None => Form::Rule,
+    }
+}
+
+#[tactic(auto, unfolding(crate::specs::Kinds::directive_of))]
+fn directive_of(tab: bool, word: &[u8]) -> Option<Directive>
+    ensures { result ≡ directive_of tab word.now }
+{
+    if tab {
+        return include_word(word);
+    }
+    match block_word(word) {
+        Some(directive) => Some(directive),
+        None => include_word(word),
+    }
+}
+
+#[tactic(auto, unfolding(crate::specs::Kinds::block_word))]
+pub(crate) fn block_word(word: &[u8]) -> Option<Directive>
+    ensures { result ≡ block_word word.now }
+{
+    if is_word(word, b"ifdef") {
+        Some(Directive::Ifdef)
+    } else if is_word(word, b"ifndef") {
+        Some(Directive::Ifndef)
+    } else if is_word(word, b"ifeq") {
+        Some(Directive::Ifeq)
+    } else if is_word(word, b"ifneq") {
+        Some(Directive::Ifneq)
+    } else if is_word(word, b"else") {
+        Some(Directive::Else)
+    } else if is_word(word, b"endif") {
+        Some(Directive::Endif)
+    } else if is_word(word, b"define") {
+        Some(Directive::Define)
+    } else if is_word(word, b"endef") {
+        Some(Directive::Endef)
+    } else {
+        None
+    }
+}
+
+#[tactic(auto, unfolding(crate::specs::Kinds::include_word))]
+fn include_word(word: &[u8]) -> Option<Directive>
+    ensures { result ≡ include_word word.now }
+{
+    if is_word(word, b"include") {
+        Some(Directive::Include)
+    } else if is_word(word, b"-include") || is_word(word, b"sinclude") {
+        Some(Directive::OptionalInclude)
+    } else {
+        None
+    }
+}
+
+#[tactic(auto, unfolding(crate::specs::Kinds::is_refused_word))]
+fn is_refused_word(word: &[u8]) -> bool
+    ensures { result ≡ is_refused_word word.now }
+{
+    is_word(word, b"override")
+        || is_word(word, b"export")
+        || is_word(word, b"unexport")
+        || is_word(word, b"undefine")
+        || is_word(word, b"private")
+        || is_word(word, b"vpath")
+        || is_word(word, b"load")
+        || is_word(word, b"-load")
+}
+
+pub(crate) fn is_word(word: &[u8], name: &[u8]) -> bool
+    ensures { result ≡ bytes_eq word.now name.now }
+{
+    word == name
+}

@@ -1,0 +1,47 @@
+//! Laws of the definitions. These functions do nothing: their contracts are what counts.
+ghost use Rattle.std.specs.Prelude.{◌≡◌, List, Option};
+ghost use Rattle.kt_syntax.specs.declared.part.Missing.{Missing};
+ghost use Rattle.kt_syntax.specs.declared.role.Head.{Head};
+ghost use Rattle.kt_syntax.specs.Assignments.{AssignmentLaw};
+ghost use Rattle.kt_syntax.specs.BlockRows.{RowsOfBlocks};
+ghost use Rattle.kt_syntax.specs.Blocks.{Items, blocks_of, tree_of};
+ghost use Rattle.kt_syntax.specs.Grammar.{IsTreeOf};
+ghost use Rattle.kt_syntax.specs.Rows.{RowsOfKinds, RowsOfRules, RowsOfTerms, RowsOfTexts};
+
+/// By the grammar of blocks lines have exactly one tree and one missing end or none: the tree that
+/// the steps of their blocks stand for, and the end that is missing there.
+pub fn blocks_are_a_tree()
+    ensures some { (heads : List Head) → IsTreeOf (tree_of (blocks_of heads).steps) (blocks_of heads).missing heads }
+    ensures one { (heads : List Head) (items : Items) (missing : Option Missing) → IsTreeOf items missing heads → (items ≡ tree_of (blocks_of heads).steps) × (missing ≡ (blocks_of heads).missing) }
+{}
+
+/// Worked values of blocks.
+pub fn rows_of_blocks()
+    ensures { RowsOfBlocks }
+{}
+
+/// Worked values of terms.
+pub fn rows_of_terms()
+    ensures { RowsOfTerms }
+{}
+
+/// Worked values of kinds of lines.
+pub fn rows_of_kinds()
+    ensures { RowsOfKinds }
+{}
+
+/// Worked values of the parts of rule lines.
+pub fn rows_of_rules()
+    ensures { RowsOfRules }
+{}
+
+/// Worked values of plain texts and of recipe lines.
+pub fn rows_of_texts()
+    ensures { RowsOfTexts }
+{}
+
+/// A line has at most one reading as an assignment: a name, then blanks, then an operator. The one
+/// that `classify` gives is that one, and where it gives none there is none.
+pub fn law_of_assignments()
+    ensures { AssignmentLaw }
+{}

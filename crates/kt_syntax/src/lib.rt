@@ -1,0 +1,40 @@
+//! The syntax of makefiles: terms of a text, kinds of lines, blocks of lines.
+#![tactic(auto)]
+
+mod blanks;
+mod comment;
+mod cut;
+mod flat;
+mod form;
+mod kind;
+pub mod laws;
+mod mask;
+mod nesting;
+mod next_term;
+mod part;
+mod physical;
+mod places;
+mod recipe;
+mod role;
+mod rule_line;
+mod step;
+mod term;
+mod term_list;
+
+pub use comment::plain;
+pub use cut::terms;
+pub use flat::Blocks;
+pub use form::{Directive, Form, Operator};
+pub use kind::classify;
+pub use nesting::blocks;
+pub use part::{Missing, Stray};
+pub use recipe::recipe_text;
+pub use rule_line::{RuleParts, TargetSpecific, rule_parts};
+pub use step::Step;
+pub use term::{Mark, Term, Unterminated};
+pub use term_list::Terms;
+
+#[cfg(test)]
+mod block_tests;
+#[cfg(test)]
+mod tests;

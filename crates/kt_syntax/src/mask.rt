@@ -1,0 +1,142 @@
+//! A line with its references and continuations masked.
+ghost use Rattle.std.specs.Prelude.{◌≡◌, ◌<◌, ◌≤◌, ◌∷◌, ◌+◌, List, ℕ, length, drop, take, slice_index};
+ghost use Rattle.std.specs.Iterator.{YieldsFirst, item_count};
+ghost use Rattle.kt_syntax.specs.Mask.{goes_odd, mask_byte, mask_from, mask_of, more_masked};
+
+use crate::next_term::behind_dollar;
+use std::marker::Model;
+
+/// What stands for a byte of a reference.
+pub(crate) const INSIDE: u16 = 256;
+
+// A blank.
+const BLANK: u16 = 32;
+
+/// The bytes of a line, those of references as `INSIDE` and those of continuations as spaces.
+#[derive(Drop)]
+pub(crate) struct Mask<'a> {
+    rest: &'a [u8],
+    skip: usize,
+    symbol: u16,
+    odd: bool,
+    left: usize,
+}
+
+impl<'a> Model for Mask<'a> {
+    ghost Value = { List ℕ };
+
+    ghost view = { λ mask. take mask.left (mask_from mask.skip mask.symbol mask.odd mask.rest.now) };
+}
+
+impl<'a> Mask<'a> {
+    // The first symbols of a line.
+    #[tactic(auto, unfolding(crate::specs::Mask::mask_of))]
+    pub(crate) fn new(text: &'a [u8], left: usize) -> Mask<'a>
+        ensures value { result ≡ take left (mask_of text.now) }
+        ensures size { left ≤ length text.now → length result ≡ left }
+        ensures whole { left ≡ length text.now → result ≡ mask_of text.now }
+    {
+        Mask {
+            rest: text,
+            skip: 0,
+            symbol: 0,
+            odd: false,
+            left,
+        }
+    }
+
+    // The symbols of a line from a place up to another.
+    pub(crate) fn between(text: &'a [u8], from: usize, end: usize) -> Mask<'a>
+        ensures value { result ≡ drop from (take end (mask_of text.now)) }
+        ensures size { from ≤ end → end ≤ length text.now → from + length result ≡ end }
+    {
+        let mut mask = Mask::new(text, end);
+        for place in 0..from {
+            let _ = mask.next();
+        }
+        mask
+    }
+
+    // The symbol after so many others, or 0 past the end; those are taken.
+    pub(crate) fn symbol_after(&mut self, count: usize) -> u16
+        ensures symbol { result ≡ slice_index self.old count }
+        ensures rest { self.new ≡ drop (count + 1) self.old }
+    {
+        for _place in 0..count {
+            let _ = self.next();
+        }
+        self.next().unwrap_or(0)
+    }
+}
+
+impl<'a> Iterator for Mask<'a> {
+    type Item = u16;
+
+    ghost next_gives = { YieldsFirst (λ rest. rest) };
+
+    ghost remaining = { item_count (λ rest. rest) };
+
+    fn next(&mut self) -> Option<u16> {
+        if self.left == 0 {
+            return None;
+        }
+        let (byte, text) = self.rest.split_first()?;
+        let (symbol, skip) = first_symbol(self.skip, self.symbol, self.odd, *byte, text);
+        self.skip = skip;
+        self.symbol = symbol;
+        self.odd = goes_odd(self.odd, *byte);
+        self.rest = text;
+        self.left -= 1;
+        Some(symbol)
+    }
+}
+
+// What stands for the first byte, and how many more bytes are masked by the same.
+fn first_symbol(skip: usize, symbol: u16, odd: bool, byte: u8, text: &[u8]) -> (u16, usize)
+    ensures { mask_from skip symbol odd (byte ∷ text.now) ≡ result.0 ∷ mask_from result.1 result.0 (goes_odd odd byte) text.now }
+{
+    if skip > 0 {
+        return (symbol, skip - 1);
+    }
+    let more = more_masked(odd, byte, text);
+    (mask_byte(byte, more), more)
+}
+
+// Whether an odd number of backslashes stands before the next byte.
+fn goes_odd(odd: bool, byte: u8) -> bool
+    ensures { result ≡ goes_odd odd byte }
+{
+    byte == b'\\' && !odd
+}
+
+// How many more bytes a dollar or a backslash takes with it.
+#[tactic(auto, unfolding(crate::specs::Mask::more_masked))]
+fn more_masked(odd: bool, byte: u8, text: &[u8]) -> usize
+    ensures value { result ≡ more_masked odd byte text.now }
+    ensures bound { result ≤ length text.now }
+{
+    if byte == b'$' {
+        return behind_dollar(text).1;
+    }
+    if !goes_odd(odd, byte) {
+        return 0;
+    }
+    match text {
+        [b'\n', ..] => 1,
+        [b'\r', b'\n', ..] => 2,
+        _ => 0,
+    }
+}
+
+// What stands for a byte that takes so many more with it.
+fn mask_byte(byte: u8, more: usize) -> u16
+    ensures { result ≡ mask_byte byte more }
+{
+    if byte == b'$' {
+        INSIDE
+    } else if more == 0 {
+        u16::from(byte)
+    } else {
+        BLANK
+    }
+}

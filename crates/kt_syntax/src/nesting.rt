@@ -1,0 +1,58 @@
+//! The blocks of a text found, by one pass over its lines and one back over their parts.
+ghost use Rattle.std.specs.Prelude.{◌≡◌, length, IfOk};
+ghost use Rattle.kt_syntax.specs.Blocks.{blocks_of, tree_of};
+ghost use Rattle.kt_syntax.specs.Grammar.{IsTreeOf};
+ghost use Rattle.kt_syntax.specs.Parts.{missing_end, parts_of};
+ghost use Rattle.kt_syntax.specs.Roles.{heads_of};
+ghost use Rattle.kt_syntax.specs.Steps.{steps_from};
+
+use crate::flat::Blocks;
+use crate::part::{Missing, Part, Scan};
+use crate::role::head_of;
+use crate::step::{Places, Step};
+use kt_text::Line;
+use std::alloc::{AllocError, Global};
+use std::collections::VecDeque;
+
+/// The blocks of a text with these lines.
+///
+/// GNU make manual, "Syntax of Conditionals" and "Defining Multi-Line Variables".
+pub fn blocks(alloc: Global, text: &[u8], lines: &[Line]) -> Result<Blocks, AllocError>
+    ensures flat { IfOk result (λ blocks. blocks ≡ blocks_of (heads_of text.now lines.now)) }
+    ensures tree { IfOk result (λ blocks. IsTreeOf (tree_of blocks.steps) blocks.missing (heads_of text.now lines.now)) }
+    ensures lines { IfOk result (λ blocks. length blocks.steps ≡ length lines.now) }
+{
+    let (parts, missing) = parts(alloc, text, lines)?;
+    let steps = steps(alloc, parts)?;
+    Ok(Blocks::new(steps, missing))
+}
+
+// The parts of the lines, and the end that is missing.
+fn parts(
+    alloc: Global,
+    text: &[u8],
+    lines: &[Line],
+) -> Result<(Vec<Part>, Option<Missing>), AllocError>
+    ensures parts { IfOk result (λ found. found.0.items ≡ parts_of (heads_of text.now lines.now)) }
+    ensures missing { IfOk result (λ found. found.1 ≡ missing_end (heads_of text.now lines.now)) }
+{
+    let mut parts = Vec::new(alloc);
+    let mut scan = Scan::new(alloc);
+    for line in lines {
+        parts.push(scan.advance(head_of(text, line))?)?;
+    }
+    let missing = scan.missing();
+    Ok((parts, missing))
+}
+
+// The steps of lines with these parts.
+fn steps(alloc: Global, mut parts: Vec<Part>) -> Result<VecDeque<Step>, AllocError>
+    ensures { IfOk result (λ steps. steps.items ≡ steps_from 0 parts.items) }
+{
+    let mut steps = VecDeque::new(alloc);
+    let mut places = Places::at_end(alloc, parts.len());
+    while let Some(part) = parts.pop() {
+        steps.push_front(places.step(part, parts.len())?)?;
+    }
+    Ok(steps)
+}

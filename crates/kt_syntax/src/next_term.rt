@@ -1,0 +1,114 @@
+//! The first term of a text.
+ghost use Rattle.std.specs.Prelude.{◌≡◌, ◌==◌, ◌+◌, ◌^◌, ◌∷◌, ◌<◌, ◌≤◌, [], length, MatchOption, IfSome};
+ghost use Rattle.std.specs.List.{position_or_len};
+ghost use Rattle.kt_syntax.specs.Terms.{behind_dollar, closing, first_term, piece_of, referred, terms_of, unit_length};
+
+use crate::term::{Mark, Term, Unterminated};
+use memchr::memchr;
+
+/// The first term, and what stands after it.
+pub(crate) fn next_term(text: &[u8]) -> Option<(Result<Term<'_>, Unterminated>, &[u8])>
+    ensures { MatchOption result (terms_of text.now ≡ [])
+        (λ cut. terms_of text.now ≡ piece_of cut.0 ∷ terms_of cut.1.now) }
+{
+    let (first, rest) = text.split_first()?;
+    let (term, taken) = first_term(*first, text, rest);
+    Some((term, &rest[taken..]))
+}
+
+// The term that begins with a byte, and how many bytes it takes after that.
+#[tactic(auto, unfolding(crate::specs::Terms::first_term))]
+fn first_term<'a>(
+    first: u8,
+    text: &'a [u8],
+    rest: &'a [u8],
+) -> (Result<Term<'a>, Unterminated>, usize)
+    requires { text.now ≡ first ∷ rest.now }
+    ensures term { piece_of result.0 ≡ (first_term first rest.now).0 }
+    ensures taken { result.1 ≡ (first_term first rest.now).1 }
+    ensures within { result.1 ≤ length rest.now }
+{
+    if first == b'$' {
+        return behind_dollar(rest);
+    }
+    let run = literal_length(rest);
+    (Ok(Term::Lit(&text[..run + 1])), run)
+}
+
+// How many bytes stand before the first dollar.
+fn literal_length(text: &[u8]) -> usize
+    ensures value { result ≡ position_or_len (λ byte. byte == 36) text.now }
+    ensures bound { result ≤ length text.now }
+{
+    memchr(b'$', text).unwrap_or(text.len())
+}
+
+// The term behind a dollar, and how many bytes it takes there.
+#[tactic(auto, unfolding(crate::specs::Terms::behind_dollar))]
+pub(crate) fn behind_dollar(text: &[u8]) -> (Result<Term<'_>, Unterminated>, usize)
+    ensures term { piece_of result.0 ≡ (behind_dollar text.now).0 }
+    ensures taken { result.1 ≡ (behind_dollar text.now).1 }
+    ensures within { result.1 ≤ length text.now }
+{
+    match text {
+        [] => (Ok(Term::Lit(text)), 0),
+        [b'$', ..] => (Ok(Term::Dollar), 1),
+        [b'(', rest @ ..] => reference(Mark::Parentheses, rest, closing(b'(', b')', rest)),
+        [b'{', rest @ ..] => reference(Mark::Braces, rest, closing(b'{', b'}', rest)),
+        _ => {
+            let size = unit_length(text);
+            (Ok(Term::Ref(Mark::Byte, &text[..size])), size)
+        }
+    }
+}
+
+// The reference that is closed at a place, and how many bytes it takes from its opening mark on.
+fn reference(
+    mark: Mark,
+    text: &[u8],
+    place: Option<usize>,
+) -> (Result<Term<'_>, Unterminated>, usize)
+    requires room { length text.now < 2 ^ 63 }
+    requires within { IfSome place (λ p. p < length text.now) }
+    ensures term { piece_of result.0 ≡ (referred mark text.now place).0 }
+    ensures taken { result.1 ≡ (referred mark text.now place).1 }
+    ensures within { result.1 ≤ length text.now + 1 }
+{
+    match place {
+        None => (Err(Unterminated), text.len() + 1),
+        Some(place) => (Ok(Term::Ref(mark, &text[..place])), place + 2),
+    }
+}
+
+// How many bytes stand for one: those of a continuation, or one.
+fn unit_length(text: &[u8]) -> usize
+    requires { 0 < length text.now }
+    ensures value { result ≡ unit_length text.now }
+    ensures bound { result ≤ length text.now }
+{
+    match text {
+        [b'\\', b'\n', ..] => 2,
+        [b'\\', b'\r', b'\n', ..] => 3,
+        _ => 1,
+    }
+}
+
+// Where the mark stands that closes the text.
+#[tactic(auto, unfolding(crate::specs::Terms::closing))]
+fn closing(opener: u8, closer: u8, text: &[u8]) -> Option<usize>
+    ensures place { result ≡ closing opener closer 0 0 text.now }
+    ensures within { IfSome result (λ place. place < length text.now) }
+{
+    let mut depth: usize = 0;
+    for (place, byte) in text.iter().enumerate() {
+        if *byte == opener {
+            depth += 1;
+        } else if *byte == closer {
+            if depth == 0 {
+                return Some(place);
+            }
+            depth -= 1;
+        }
+    }
+    None
+}

@@ -1,0 +1,84 @@
+//! Places in a line.
+ghost use Rattle.std.specs.Prelude.{◌≡◌, ◌≤◌, ◌+◌, ◌||◌, drop, false, length, not, take, true, IfSome};
+ghost use Rattle.std.specs.List.{prefix_len};
+ghost use Rattle.kt_text.specs.Words.{is_blank};
+ghost use Rattle.kt_syntax.specs.Kinds.{before_comment, comment_place, past_blanks, past_word};
+ghost use Rattle.kt_syntax.specs.Mask.{mask_of};
+
+use crate::mask::Mask;
+
+// Where the comment of a line begins, or the line's end.
+#[tactic(auto, unfolding(crate::specs::Kinds::before_comment))]
+pub(crate) fn comment_place(text: &[u8]) -> usize
+    ensures value { result ≡ comment_place text.now }
+    ensures bound { result ≤ length text.now }
+{
+    let mut place = 0;
+    let mut odd = false;
+    for symbol in Mask::new(text, text.len()) {
+        if symbol == u16::from(b'#') && !odd {
+            return place;
+        }
+        odd = symbol == u16::from(b'\\') && !odd;
+        place += 1;
+    }
+    place
+}
+
+// The first place where no blank stands, or the end.
+#[tactic(auto, using(crate::proofs::Masking::no_blanks_left))]
+pub(crate) fn past_blanks(text: &[u8], from: usize, end: usize) -> usize
+    requires order { from ≤ end }
+    requires within { end ≤ length text.now }
+    ensures value { result ≡ past_blanks from (take end (mask_of text.now)) }
+    ensures low { from ≤ result }
+    ensures bound { result ≤ end }
+{
+    // The mask is only walked up to where something is left of the line.
+    if from == end {
+        return end;
+    }
+    let mut place = from;
+    for symbol in Mask::between(text, from, end) {
+        if !is_blank(symbol) {
+            return place;
+        }
+        place += 1;
+    }
+    place
+}
+
+// The first place where no blank stands in the whole line, or its end.
+#[tactic(auto, using(crate::proofs::Masking::whole_mask))]
+pub(crate) fn past_line_blanks(text: &[u8], from: usize) -> usize
+    requires { from ≤ length text.now }
+    ensures value { result ≡ past_blanks from (mask_of text.now) }
+    ensures bound { result ≤ length text.now }
+{
+    past_blanks(text, from, text.len())
+}
+
+// The first place where a blank stands, or the end.
+pub(crate) fn past_word(text: &[u8], from: usize, end: usize) -> usize
+    requires order { from ≤ end }
+    requires within { end ≤ length text.now }
+    ensures value { result ≡ past_word from (take end (mask_of text.now)) }
+    ensures low { from ≤ result }
+    ensures bound { result ≤ end }
+{
+    let mut place = from;
+    for symbol in Mask::between(text, from, end) {
+        if is_blank(symbol) {
+            return place;
+        }
+        place += 1;
+    }
+    place
+}
+
+#[tactic(auto, unfolding(kt_text::specs::Words::is_blank))]
+pub(crate) fn is_blank(symbol: u16) -> bool
+    ensures { result ≡ is_blank symbol }
+{
+    symbol == 32 || symbol == 9
+}

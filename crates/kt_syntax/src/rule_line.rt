@@ -1,0 +1,147 @@
+//! Rule lines cut into head and recipe.
+ghost use Rattle.std.specs.Prelude.{◌≡◌, ◌≤◌, ◌<◌, ◌+◌, ◌==◌, ◌||◌, drop, length, take, true, IfSome, MatchOption};
+ghost use Rattle.std.specs.List.{position_or_len};
+ghost use Rattle.kt_syntax.specs.Kinds.{comment_place};
+ghost use Rattle.kt_syntax.specs.Heads.{after_colon, after_modifiers, colon_place, head_end, is_modifier, is_target_specific, rule_texts, texts_told};
+ghost use Rattle.kt_syntax.specs.Mask.{mask_of};
+
+use crate::kind::{assignment, is_word};
+use crate::mask::Mask;
+use crate::places::{comment_place, is_blank, past_blanks, past_line_blanks};
+use thiserror::Error;
+
+/// The parts of a rule line, as they stand in the file.
+#[derive(Clone, Copy, Debug)]
+pub struct RuleParts<'a> {
+    /// What stands before the first `;`; without one, the whole line with its comment.
+    pub head: &'a [u8],
+    /// The first recipe line without its leading blanks; it keeps its `#`.
+    pub recipe: Option<&'a [u8]>,
+}
+
+/// The line assigns a target-specific macro.
+#[derive(Clone, Copy, Debug, PartialEq, Eq, Error)]
+#[error("target-specific macro")]
+pub struct TargetSpecific;
+
+/// The head and the recipe of a rule line, as the line stands in the file.
+///
+/// Takes no memory. POSIX.1-2024 make, "Target Rules"; GNU make manual, "Target-specific Variable
+/// Values".
+pub fn rule_parts(text: &[u8]) -> Result<RuleParts<'_>, TargetSpecific>
+    ensures { texts_told result ≡ rule_texts text.now }
+{
+    let comment = comment_place(text);
+    let end = head_end(text, comment);
+    if is_target_specific(text, end) {
+        return Err(TargetSpecific);
+    }
+    if end == comment {
+        return Ok(RuleParts {
+            head: text,
+            recipe: None,
+        });
+    }
+    let recipe = past_line_blanks(text, end + 1);
+    Ok(RuleParts {
+        head: &text[..end],
+        recipe: Some(&text[recipe..]),
+    })
+}
+
+// Where the head of a rule line ends.
+#[tactic(auto, unfolding(crate::specs::Heads::head_end))]
+fn head_end(text: &[u8], comment: usize) -> usize
+    requires before { comment ≡ comment_place text.now }
+    requires within { comment ≤ length text.now }
+    ensures value { result ≡ head_end text.now }
+    ensures bound { result ≤ comment }
+{
+    let mut place = 0;
+    for symbol in Mask::between(text, 0, comment) {
+        if symbol == u16::from(b';') {
+            return place;
+        }
+        place += 1;
+    }
+    place
+}
+
+// Whether the head of a line, up to a place, assigns a target-specific macro.
+#[tactic(auto, unfolding(crate::specs::Heads::is_target_specific))]
+fn is_target_specific(text: &[u8], end: usize) -> bool
+    requires { end ≤ length text.now }
+    ensures { result ≡ is_target_specific text.now (take end (mask_of text.now)) }
+{
+    match colon_place(text, end) {
+        None => false,
+        Some(colon) => {
+            let from = after_modifiers(text, after_colon(text, colon, end), end);
+            assignment(text, past_blanks(text, from, end), end).is_some()
+        }
+    }
+}
+
+// Where the first colon stands that has no backslash before it.
+#[tactic(auto, unfolding(crate::specs::Heads::colon_place))]
+fn colon_place(text: &[u8], end: usize) -> Option<usize>
+    requires { end ≤ length text.now }
+    ensures value { result ≡ colon_place 0 0 (take end (mask_of text.now)) }
+    ensures bound { IfSome result (λ place. place < end) }
+{
+    let mut place = 0;
+    let mut previous = 0;
+    for symbol in Mask::between(text, 0, end) {
+        if symbol == u16::from(b':') && previous != u16::from(b'\\') {
+            return Some(place);
+        }
+        previous = symbol;
+        place += 1;
+    }
+    None
+}
+
+// Where the text after a colon, or after two of them, begins.
+fn after_colon(text: &[u8], colon: usize, end: usize) -> usize
+    requires order { colon < end }
+    requires within { end ≤ length text.now }
+    ensures value { result ≡ after_colon (take end (mask_of text.now)) colon }
+    ensures bound { result ≤ end }
+{
+    match Mask::between(text, colon + 1, end).next() {
+        Some(58) => colon + 2,
+        _ => colon + 1,
+    }
+}
+
+// The place after the words that may stand before a target-specific macro, each ended by a blank.
+fn after_modifiers(text: &[u8], from: usize, end: usize) -> usize
+    requires order { from ≤ end }
+    requires within { end ≤ length text.now }
+    ensures value { result ≡ after_modifiers end text.now (take end (mask_of text.now)) from }
+    ensures bound { result ≤ end }
+{
+    let mut found = from;
+    let mut begin = from;
+    let mut place = from;
+    for symbol in Mask::between(text, from, end) {
+        if is_blank(symbol) {
+            if begin < place && !is_modifier(&text[begin..place]) {
+                return found;
+            }
+            if begin < place {
+                found = place;
+            }
+            begin = place + 1;
+        }
+        place += 1;
+    }
+    found
+}
+
+#[tactic(auto, unfolding(crate::specs::Heads::is_modifier))]
+fn is_modifier(word: &[u8]) -> bool
+    ensures { result ≡ is_modifier word.now }
+{
+    is_word(word, b"override") || is_word(word, b"export") || is_word(word, b"private")
+}
