@@ -1,9 +1,25 @@
-//! The rules of a makefile. So far: the places in makefiles that messages and faults name.
+//! The rules of a makefile.
 #![tactic(auto)]
 
+mod checking;
+mod cutting;
+mod entry;
+mod fault;
+mod head;
+pub mod laws;
+mod line;
+mod name;
 mod place;
+mod reading;
+mod refusal;
+mod refused;
+mod written;
 
+pub use entry::{Entry, Kind, Name, Needs, RecipeLine, Stemmed, Target};
+pub use fault::RuleFault;
+pub use name::without_dots;
 pub use place::Place;
+pub use reading::read_rule;
 
 #[cfg(test)]
 mod tests;

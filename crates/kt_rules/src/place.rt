@@ -1,5 +1,5 @@
 //! A place in a makefile.
-ghost use Rattle.std.specs.Prelude.{◌≡◌, ◌++◌, OnOk};
+ghost use Rattle.std.specs.Prelude.{◌≡◌, ◌++◌, IfOk, OnOk};
 
 use itoa::Buffer;
 use kt_list::Shared;
@@ -16,6 +16,16 @@ pub struct Place {
 
 impl Place {
     ghost use Rattle.kt_rules.specs.Places.{place_text};
+
+    /// The same place; the file's name isn't copied.
+    pub fn share(&self) -> Result<Place, AllocError>
+        ensures { IfOk result (λ place. place ≡ self.now) }
+    {
+        Ok(Place {
+            file: self.file.share()?,
+            line: self.line,
+        })
+    }
 
     /// Appends `FILE:LINE`. Where memory is refused, the text holds a beginning of it more.
     pub fn append_to(&self, text: &mut Vec<u8>) -> Result<(), AllocError>

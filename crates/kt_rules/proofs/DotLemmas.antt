@@ -1,0 +1,50 @@
+-- Names without leading `./`.
+use Rattle.std.proofs.Common.{◌≡◌, ℕ, ◌-◌, Bool, true, false, [], ◌∷◌, length, drop, take, refl, sym, ◌∙◌, ap, ⊎_elim}
+use Rattle.std.specs.Prelude.{◌&&◌, ◌==◌, nat_eq}
+use Rattle.std.specs.List.{prefix_len}
+use Rattle.std.specs.Cmp.Lexicographic.{pointwise}
+use Rattle.std.proofs.lemmas.Bool.{cases_Bool, false≢true}
+use Rattle.std.proofs.lemmas.List.{take_rest}
+use Rattle.kt_text.proofs.PlaceLemmas.{drop-prefix_len}
+use Rattle.kt_text.specs.Words.{Text}
+use Rattle.kt_rules.specs.Names.{after_dots}
+
+-- a last test that passes changes nothing
+both : (a b v : Bool) → (a && (b && true)) ≡ v → (a && b) ≡ v
+both true true v h = h
+both true false v h = h
+both false b v h = h
+
+-- a name that doesn't begin with `./` stays
+pub no_dots : (name : Text) → pointwise nat_eq (take 2 name) (46 ∷ 47 ∷ []) ≡ false → after_dots false name ≡ name
+unfolding after_dots
+no_dots [] h = refl
+no_dots (byte ∷ []) h = refl
+no_dots (byte ∷ next ∷ text) h = rw (both (byte == 46) (next == 47) false h) refl
+
+-- one that fails decides
+false_right : (a : Bool) → (a && false) ≡ false
+false_right true = refl
+false_right false = refl
+
+-- a `./` in front is removed with the slashes behind it
+pub one_dot : (name : Text) → pointwise nat_eq (take 2 name) (46 ∷ 47 ∷ []) ≡ true → after_dots false name ≡ after_dots true (drop 2 name)
+unfolding after_dots
+one_dot [] h = absurd (false≢true h)
+one_dot (byte ∷ []) h = absurd (false≢true (sym (false_right (byte == 46)) ∙ h))
+one_dot (byte ∷ next ∷ text) h = rw (both (byte == 46) (next == 47) true h) refl
+
+-- slashes in front go
+pub no_slashes : (text : Text) → after_dots true text ≡ after_dots false (drop (prefix_len (λ byte. byte == 47) text) text)
+unfolding after_dots
+no_slashes [] = refl
+no_slashes (byte ∷ []) = ⊎_elim (λ h. rw h refl) (λ h. rw h refl) (cases_Bool (byte == 47))
+no_slashes (byte ∷ next ∷ text) =
+    ⊎_elim (λ h. rw (drop-prefix_len (λ b. b == 47) byte (next ∷ text) h) (rw h (no_slashes (next ∷ text)))) (λ h. rw h refl) (cases_Bool (byte == 47))
+
+-- a `./` in front is removed with the slashes behind it, so many as stand there
+pub past_slashes : (name after : Text) (slashes : ℕ) → pointwise nat_eq (take 2 name) (46 ∷ 47 ∷ []) ≡ true → after ≡ drop 2 name
+    → slashes ≡ prefix_len (λ byte. byte == 47) after → after_dots false name ≡ after_dots false (take (length after - slashes) (drop slashes after))
+past_slashes name after slashes h a s =
+    one_dot name h ∙ ap (after_dots true) (sym a) ∙ no_slashes after ∙ ap (λ n. after_dots false (drop n after)) (sym s)
+    ∙ ap (after_dots false) (sym (take_rest after slashes))

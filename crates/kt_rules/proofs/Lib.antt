@@ -1,0 +1,5 @@
+mod WrittenLemmas
+mod DotLemmas
+mod ReadingLemmas
+mod SeparationLemmas
+mod TestingLemmas

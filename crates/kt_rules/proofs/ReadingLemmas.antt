@@ -1,0 +1,44 @@
+-- The rule of a line, by what the steps of its reading told.
+use Rattle.std.proofs.Common.{◌≡◌, Bool, true, false, length, refl, sym, ◌∙◌, ap}
+use Rattle.std.specs.Prelude.{◌==◌, if◌then◌else◌, Option, Some, None, Result, Ok, Err}
+use Rattle.kt_text.specs.Words.{Text, words_of}
+use Rattle.kt_rules.specs.declared.fault.RuleFault.{RuleFault}
+use Rattle.kt_rules.specs.declared.fault.RuleFault.TheVariants.{Memory, Refused}
+use Rattle.kt_rules.specs.declared.line.Line.{Line}
+use Rattle.kt_rules.specs.declared.place.Place.{Place}
+use Rattle.kt_rules.specs.Refusals.{Refusal, Fault, Answers, Tells, fault_at}
+use Rattle.kt_rules.specs.RuleLine.{Head, head_of, line_of, line_refusal}
+use Rattle.kt_rules.specs.Entry.{Rule, empty_line, is_nil, read_line, rule_of, rule_with}
+
+-- a fault that is told answers where it is expected
+pub told_fault : {A : Type 0} (told : RuleFault) (fault : Fault) (expected : Result A Fault)
+    → Tells told fault → expected ≡ Err fault → Answers (Err told) expected
+told_fault Memory fault expected tells is = tt
+told_fault (Refused number place words) fault expected tells is = is ∙ ap Err (sym tells)
+
+module _ (text : Text) (recipe : Option Text) (place : Place) where
+  -- a head without a word
+  pub blank_rule : (line : Line) (rule : Rule) → is_nil (words_of text) ≡ true → line ≡ empty_line → rule ≡ rule_with line recipe place
+      → rule_of text recipe place ≡ Ok rule
+  unfolding rule_of read_line
+  blank_rule line rule blank empty is = rw blank (ap Ok (sym (is ∙ ap (λ l. rule_with l recipe place) empty)))
+
+  -- a head that is refused
+  pub head_fault : (refusal : Refusal) → is_nil (words_of text) ≡ false → Err refusal ≡ head_of text
+      → rule_of text recipe place ≡ Err (fault_at place refusal)
+  unfolding rule_of read_line
+  head_fault refusal filled head = rw (filled, ← head) refl
+
+  -- names that are refused
+  pub line_fault : (head : Head) (line : Line) (refusal : Refusal) → is_nil (words_of text) ≡ false → Ok head ≡ head_of text → line ≡ line_of head
+      → Some refusal ≡ line_refusal line → rule_of text recipe place ≡ Err (fault_at place refusal)
+  unfolding rule_of read_line
+  line_fault head line refusal filled cut named told = rw (filled, ← cut, ← named, ← told) refl
+
+  -- a line that is taken
+  pub line_rule : (head : Head) (line kept : Line) (rule : Rule) (is_empty : Bool) → is_nil (words_of text) ≡ false → Ok head ≡ head_of text
+      → line ≡ line_of head → None ≡ line_refusal line → (length line.targets == 0) ≡ is_empty
+      → kept ≡ (if is_empty then empty_line else line) → rule ≡ rule_with kept recipe place → rule_of text recipe place ≡ Ok rule
+  unfolding rule_of read_line
+  line_rule head line kept rule is_empty filled cut named told size keeps is =
+      rw (filled, ← cut, ← named, ← told, size) (ap Ok (sym (is ∙ ap (λ l. rule_with l recipe place) keeps)))

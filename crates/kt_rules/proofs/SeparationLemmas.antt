@@ -1,0 +1,67 @@
+-- Prerequisites before and behind the bar, and targets without repeats.
+use Rattle.std.proofs.Common.{◌≡◌, ℕ, Bool, true, false, List, [], ◌∷◌, ◌++◌, map, refl, sym, ◌∙◌, ap, arith, ⊎_elim, append_assoc, append-nil}
+use Rattle.std.specs.Prelude.{nat_eq, if◌then◌else◌, ◌||◌}
+use Rattle.std.specs.List.{after_first, before_first, list_any}
+use Rattle.std.specs.Cmp.Lexicographic.{pointwise}
+use Rattle.std.specs.declared.vec.Vec.{Vec}
+use Rattle.std.specs.declared.alloc.Global.{Global}
+use Rattle.std.proofs.lemmas.Bool.{cases_Bool}
+use Rattle.std.proofs.lemmas.List.{map-append}
+use Rattle.indexmap.specs.IndexSet.{insert_key}
+use Rattle.kt_text.specs.Words.{Text}
+use Rattle.kt_rules.specs.declared.entry.Needs.{Needs}
+use Rattle.kt_rules.specs.Names.{name_of, with_name}
+use Rattle.kt_rules.specs.RuleLine.{is_bar, needs_of}
+
+-- what words are needs behind some that were read: the bar was met or not
+unfoldable pub needs_from : Bool → List Text → List Text → List Text → Needs
+needs_from behind before after [] = record { prerequisites = before; order_only = after }
+needs_from true before after (word ∷ words) = needs_from true before (after ++ name_of word ∷ []) words
+needs_from false before after (word ∷ words) =
+    if is_bar word then needs_from true before after words else needs_from false (before ++ name_of word ∷ []) after words
+
+-- behind the bar all is order-only
+behind_all : (before after words : List Text) → needs_from true before after words ≡ record { prerequisites = before; order_only = after ++ map name_of words }
+unfolding needs_from
+behind_all before after [] = ap (λ l. record { prerequisites = before; order_only = l }) (sym (append-nil after))
+behind_all before after (word ∷ words) =
+    behind_all before (after ++ name_of word ∷ []) words
+    ∙ ap (λ l. record { prerequisites = before; order_only = l }) (append_assoc after (name_of word ∷ []) (map name_of words))
+
+-- a word that is no bar stands before it
+before-cons : (word : Text) (words : List Text) → is_bar word ≡ false → before_first is_bar (word ∷ words) ≡ word ∷ before_first is_bar words
+before-cons word words h = rw h (grind arith)
+
+-- and not behind it
+after-cons : (word : Text) (words : List Text) → is_bar word ≡ false → after_first is_bar (word ∷ words) ≡ after_first is_bar words
+after-cons word words h = rw h (grind arith)
+
+-- before the bar was met
+before_all : (before words : List Text) → needs_from false before [] words ≡ record { prerequisites = before ++ map name_of (before_first is_bar words); order_only = map name_of (after_first is_bar words) }
+unfolding needs_from
+before_all before [] = ap (λ l. record { prerequisites = l; order_only = [] }) (sym (append-nil before))
+before_all before (word ∷ words) =
+    ⊎_elim (λ h. rw h (behind_all before [] words ∙ ap (λ l. record { prerequisites = l; order_only = map name_of words }) (sym (append-nil before))))
+    (λ h. rw (before-cons word words h, after-cons word words h) (rw h (before_all (before ++ name_of word ∷ []) words
+    ∙ ap (λ l. record { prerequisites = l; order_only = map name_of (after_first is_bar words) }) (append_assoc before (name_of word ∷ []) (map name_of (before_first is_bar words))))))
+    (cases_Bool (is_bar word))
+
+-- read from the begin they are the needs of the words
+pub needs_from_start : (words : List Text) → needs_from false [] [] words ≡ needs_of words
+unfolding needs_of
+needs_from_start words = before_all [] words
+
+-- a search of vectors, by what they hold
+any_items : (keys : List (Vec ℕ Global)) (name : Vec ℕ Global)
+    → list_any (λ v. pointwise nat_eq name.items v.items) keys ≡ list_any (pointwise nat_eq name.items) (map (λ v. v.items) keys)
+any_items [] name = refl
+any_items (key ∷ keys) name = ap (λ b. pointwise nat_eq name.items key.items || b) (any_items keys name)
+
+-- a name that is inserted into a set of vectors is one more name behind the others, if it isn't among them
+pub insert_key_items : (keys : List (Vec ℕ Global)) (name : Vec ℕ Global)
+    → map (λ v. v.items) (insert_key (λ x y. pointwise nat_eq x.items y.items) keys name) ≡ with_name (map (λ v. v.items) keys) name.items
+insert_key_items keys name = rw (any_items keys name) (by (list_any (pointwise nat_eq name.items) (map (λ v. v.items) keys)))
+  where
+    by : (b : Bool) → map (λ v. v.items) (if b then keys else keys ++ name ∷ []) ≡ (if b then map (λ v. v.items) keys else map (λ v. v.items) keys ++ name.items ∷ [])
+    by true = refl
+    by false = map-append (λ v. v.items) keys (name ∷ [])

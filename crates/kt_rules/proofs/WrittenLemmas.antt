@@ -1,0 +1,89 @@
+-- The words of a rule line, word by word.
+use Rattle.std.proofs.Common.{◌≡◌, ℕ, zero, suc, ◌<◌, Bool, true, false, List, [], ◌∷◌, length, drop, take, filter, refl, sym, ◌∙◌, ap, arith, ⊎_elim}
+use Rattle.std.specs.Prelude.{◌==◌, if◌then◌else◌}
+use Rattle.std.specs.List.{onto_first}
+use Rattle.std.proofs.lemmas.Bool.{cases_Bool, false≢true}
+use Rattle.kt_text.proofs.PlaceLemmas.{drop-prefix_len}
+use Rattle.kt_text.specs.Words.{Text, is_nonempty, is_separator}
+use Rattle.kt_rules.specs.declared.cutting.Cut.{Cut}
+use Rattle.kt_rules.specs.declared.cutting.Cut.TheVariants.{Separator}
+use Rattle.kt_rules.specs.Names.{cuts, cut_place, pieces_of, written_words, begun}
+
+-- the pieces behind the first
+pieces_behind : Cut → Bool → Text → List Text
+pieces_behind cut behind_backslash [] = []
+pieces_behind cut behind_backslash (byte ∷ text) =
+    if cuts cut behind_backslash byte then pieces_of cut false text else pieces_behind cut (byte == 92) text
+
+-- the first piece ends at the first cut
+pieces_first : (cut : Cut) (behind : Bool) (text : Text)
+    → pieces_of cut behind text ≡ take (cut_place cut behind text) text ∷ pieces_behind cut behind text
+unfolding pieces_of cut_place pieces_behind
+pieces_first cut behind [] = refl
+pieces_first cut behind (byte ∷ text) =
+    ⊎_elim (λ h. rw h refl) (λ h. rw h (ap (onto_first byte) (pieces_first cut (byte == 92) text)))
+    (cases_Bool (cuts cut behind byte))
+
+-- a byte that cuts a text into words is a separator
+separator_cuts : (behind : Bool) (byte : ℕ) → cuts Separator behind byte ≡ true → is_separator byte ≡ true
+separator_cuts behind byte h =
+    ⊎_elim (λ yes. yes) (λ no. absurd (false≢true (rw no at h)))
+    (cases_Bool (is_separator byte))
+
+-- a separator in front of a text makes no word
+written_words-skip : (byte : ℕ) (text : Text) → is_separator byte ≡ true → written_words (byte ∷ text) ≡ written_words text
+unfolding pieces_of written_words
+written_words-skip byte text h = rw h refl
+
+-- the pieces behind the first that have a byte are the words of the text from the first cut on
+behind_first : (behind : Bool) (text : Text)
+    → filter is_nonempty (pieces_behind Separator behind text) ≡ written_words (drop (cut_place Separator behind text) text)
+unfolding pieces_of cut_place pieces_behind written_words
+behind_first behind [] = refl
+behind_first behind (byte ∷ text) =
+    ⊎_elim (λ h. rw h (sym (written_words-skip byte text (separator_cuts behind byte h))))
+    (λ h. rw h (behind_first (byte == 92) text))
+    (cases_Bool (cuts Separator behind byte))
+
+-- separators in front of a text make no word
+pub written_words-begun : (text : Text) → written_words (begun text) ≡ written_words text
+unfolding written_words
+written_words-begun [] = refl
+written_words-begun (byte ∷ text) =
+    ⊎_elim (λ h. ap written_words (drop-prefix_len is_separator byte text h) ∙ written_words-begun text ∙ sym (written_words-skip byte text h)) (λ h. rw h refl)
+    (cases_Bool (is_separator byte))
+
+-- a text without leading separators begins with a word
+begun_place : (text : Text) → 0 < length (begun text) → 0 < cut_place Separator false (begun text)
+unfolding cut_place
+begun_place [] some = some
+begun_place (byte ∷ text) some =
+    ⊎_elim (λ h. let skip = drop-prefix_len is_separator byte text h in rw skip (begun_place text (rw skip at some))) (λ h. rw h (rw h (omega arith)))
+    (cases_Bool (is_separator byte))
+
+-- a word with a byte is kept
+filter_nonempty : (word : Text) (rest : List Text) → 0 < length word → filter is_nonempty (word ∷ rest) ≡ word ∷ filter is_nonempty rest
+filter_nonempty [] rest h = absurd (omega arith)
+filter_nonempty (byte ∷ word) rest h = refl
+
+-- some first bytes of a text that has one are some
+take_some : (n : ℕ) (text : Text) → 0 < n → 0 < length text → 0 < length (take n text)
+take_some n [] h some = absurd (omega arith)
+take_some zero (byte ∷ text) h some = absurd (omega arith)
+take_some (suc n) (byte ∷ text) h some = omega arith
+
+-- the first word of a text that has one, and what stands after it
+pub first_written : (text words : Text) → words ≡ begun text → 0 < length words
+    → written_words text ≡ take (cut_place Separator false words) words ∷ written_words (drop (cut_place Separator false words) words)
+unfolding written_words
+first_written text words e some =
+    let place : 0 < cut_place Separator false words = rw e (begun_place text (rw e at some)) in
+    sym (written_words-begun text) ∙ ap written_words (sym e) ∙ ap (filter is_nonempty) (pieces_first Separator false words)
+    ∙ filter_nonempty (take (cut_place Separator false words) words) (pieces_behind Separator false words) (take_some (cut_place Separator false words) words place some)
+    ∙ ap (λ rest. take (cut_place Separator false words) words ∷ rest) (behind_first false words)
+
+-- a text of separators alone has no word
+pub none_written : (text words : Text) → words ≡ begun text → length words ≡ 0 → written_words text ≡ []
+unfolding written_words pieces_of
+none_written text [] e none = sym (written_words-begun text) ∙ ap written_words (sym e)
+none_written text (byte ∷ words) e none = absurd (omega arith)

@@ -1,0 +1,12 @@
+use Rattle.std.proofs.Common.{arith, length-drop}
+use Rattle.std.proofs.lemmas.List.{length-take}
+use Rattle.kt_rules.proofs.DotLemmas.{no_dots, past_slashes}
+use Rattle.kt_rules.proofs.name.past_dot.Goals as goal
+
+pub returns-in-None : goal.returns-in-None
+returns-in-None c = no_dots c.args.name.now c.in-None.ensures.cases
+
+pub returns-in-Some : goal.returns-in-Some
+returns-in-Some c =
+    let cut = c.in-Some.ensures.cases in
+    (past_slashes c.args.name.now c.in-Some.after.now c.leading_slashes.result cut.0 cut.1 c.leading_slashes.ensures.value, grind (arith, length-take, length-drop))

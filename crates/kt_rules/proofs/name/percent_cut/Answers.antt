@@ -1,0 +1,13 @@
+use Rattle.std.proofs.Common.{◌+◌, ◌∙◌}
+use Rattle.std.proofs.lemmas.List.{take_rest}
+use Rattle.kt_text.proofs.MatchLemmas.{percent_found, no_percent_found}
+use Rattle.kt_rules.proofs.name.percent_cut.Goals as goal
+
+pub returns-in_err-percent : goal.returns-in_err-percent
+returns-in_err-percent c =
+    rw c.from_residual.ensures (no_percent_found c.args.pattern.now c.in_err-percent.ensures)
+
+pub returns : goal.returns
+returns c =
+    let parts = percent_found c.args.pattern.now c.in_ok-percent.percent c.in_ok-percent.ensures in
+    (parts.0, parts.1, take_rest c.args.pattern.now (c.in_ok-percent.percent + 1) ∙ parts.2)

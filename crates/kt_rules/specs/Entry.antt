@@ -1,0 +1,141 @@
+-- What an entry of the book says (POSIX.1-2024 make, "Target Rules"; GNU make manual, "Rule Syntax").
+use Rattle.std.specs.Prelude.{Bool, true, false, ◌==◌, List, [], ◌∷◌, ◌++◌, length, map, Option, Some, None, option_map, Result, Ok, Err, if◌then◌else◌}
+use Rattle.std.specs.List.{list_any, slice_range}
+use Rattle.std.specs.Option.{option_and_then}
+use Rattle.kt_text.specs.Words.{Text, words_of}
+use Rattle.kt_text.specs.Match.{has_percent, stem_span}
+use Rattle.kt_text.specs.Functions.{with_stem}
+use Rattle.kt_rules.specs.declared.entry.Kind.{Kind}
+use Rattle.kt_rules.specs.declared.entry.Kind.TheVariants.{SingleColon, DoubleColon, Group, Pattern, TerminalPattern}
+use Rattle.kt_rules.specs.declared.entry.Needs.{Needs}
+use Rattle.kt_rules.specs.declared.entry.Stemmed.{Stemmed}
+use Rattle.kt_rules.specs.declared.entry.Target.{Target}
+use Rattle.kt_rules.specs.declared.entry.RecipeLine.{RecipeLine}
+use Rattle.kt_rules.specs.declared.head.Separator.{Separator}
+use Rattle.kt_rules.specs.declared.head.Separator.TheVariants.{Single, Double, Grouped}
+use Rattle.kt_rules.specs.declared.line.Line.{Line}
+use Rattle.kt_rules.specs.declared.place.Place.{Place}
+use Rattle.kt_rules.specs.Refusals.{Refusal, Fault, faults_at}
+use Rattle.kt_rules.specs.Names.{without_dots}
+use Rattle.kt_rules.specs.RuleLine.{Head, head_of, line_of, line_refusal}
+
+-- how the targets are made, the targets, what those need that no static pattern gives anything, the recipe and the place
+-- of the rule line
+pub record Rule : Type 0 where
+  pub kind : Kind
+  pub targets : List Target
+  pub needs : Needs
+  pub recipe : Option (List RecipeLine)
+  pub place : Place
+
+-- what is given by a static pattern, or else what the other targets need
+abbrev pub needs_or : Needs → Option Stemmed → Needs
+needs_or needs None = needs
+needs_or needs (Some stemmed) = stemmed.needs
+
+-- what a target of a rule needs
+abbrev pub needs_for : Rule → Target → Needs
+needs_for rule target = needs_or rule.needs target.stemmed
+
+-- a recipe with one more line
+abbrev pub line_added : Option (List RecipeLine) → RecipeLine → List RecipeLine
+line_added None line = line ∷ []
+line_added (Some lines) line = lines ++ line ∷ []
+
+-- the rule with one more line of recipe
+abbrev pub with_line : Rule → RecipeLine → Rule
+with_line rule line = record rule { recipe = Some (line_added rule.recipe line) }
+
+-- how a line makes its targets, by what stands behind them and whether one has a percent sign
+abbrev pub kind_of : Separator → Bool → Kind
+kind_of Single false = SingleColon
+kind_of Single true = Pattern
+kind_of Double false = DoubleColon
+kind_of Double true = TerminalPattern
+kind_of Grouped has_percent = Group
+
+-- nothing is needed
+abbrev pub no_needs : Needs
+no_needs = record { prerequisites = []; order_only = [] }
+
+-- names with the stem in place of the first percent sign of each, and then without leading `./` (GNU make manual, "Static Pattern Rules")
+unfoldable pub stemmed_names : Text → List Text → List Text
+stemmed_names stem names = map (λ name. without_dots (with_stem name stem)) names
+
+-- what a static pattern gives for a stem
+abbrev pub stemmed : Needs → Text → Stemmed
+stemmed needs stem = record {
+  stem = stem;
+  needs = record {
+    prerequisites = stemmed_names stem needs.prerequisites;
+    order_only = stemmed_names stem needs.order_only;
+  };
+}
+
+-- what a static pattern, if there is one, gives to a target that it matches
+unfoldable pub stemmed_of : Option Text → Needs → Text → Option Stemmed
+stemmed_of pattern needs target =
+    option_and_then (λ text. option_map (λ place. stemmed needs (slice_range target place.0 place.1)) (stem_span text target)) pattern
+
+-- a target of a line
+abbrev pub target_of : Option Text → Needs → Text → Target
+target_of pattern needs name = record { name = name; stemmed = stemmed_of pattern needs name }
+
+-- what the targets of a line without static pattern need
+abbrev pub shared_needs : Option Text → Needs → Needs
+shared_needs None needs = needs
+shared_needs (Some pattern) needs = no_needs
+
+-- the recipe that a rule line has itself: the text behind its semicolon
+abbrev pub recipe_of : Option Text → Place → Option (List RecipeLine)
+recipe_of recipe place = option_map (λ text. record { text = text; place = place } ∷ []) recipe
+
+-- the rule of a line
+abbrev pub rule_with : Line → Option Text → Place → Rule
+rule_with line recipe place = record {
+  kind = kind_of line.separator (list_any has_percent line.targets);
+  targets = map (target_of line.pattern line.needs) line.targets;
+  needs = shared_needs line.pattern line.needs;
+  recipe = recipe_of recipe place;
+  place = place;
+}
+
+-- a line that names nothing
+abbrev pub empty_line : Line
+empty_line = record { separator = Single; targets = []; pattern = None; needs = no_needs }
+
+-- a line without targets names nothing (POSIX.1-2024 make, "Target Rules", has no such line; this is kati's own)
+abbrev pub kept_line : Line → Line
+kept_line line = if length line.targets == 0 then empty_line else line
+
+-- the line, unless something is refused of it
+abbrev pub line_unless : Option Refusal → Line → Result Line Refusal
+line_unless None line = Ok (kept_line line)
+line_unless (Some refusal) line = Err refusal
+
+-- the line, once its names are tested
+abbrev pub tested_line : Line → Result Line Refusal
+tested_line line = line_unless (line_refusal line) line
+
+-- the line of a head that was cut
+abbrev pub line_behind : Result Head Refusal → Result Line Refusal
+line_behind (Ok head) = tested_line (line_of head)
+line_behind (Err refusal) = Err refusal
+
+-- whether there is no word
+abbrev pub is_nil : List Text → Bool
+is_nil [] = true
+is_nil (word ∷ words) = false
+
+-- the line that an expanded head is, or what is refused of it; a head without a word names nothing
+unfoldable pub read_line : Text → Result Line Refusal
+read_line text = if is_nil (words_of text) then Ok empty_line else line_behind (head_of text)
+
+-- the rule of a line that was read
+abbrev pub rules_with : Result Line Refusal → Option Text → Place → Result Rule Refusal
+rules_with (Ok line) recipe place = Ok (rule_with line recipe place)
+rules_with (Err refusal) recipe place = Err refusal
+
+-- the rule of an expanded head, with the recipe behind its semicolon, if there is one, or its fault
+unfoldable pub rule_of : Text → Option Text → Place → Result Rule Fault
+rule_of text recipe place = faults_at place (rules_with (read_line text) recipe place)

@@ -1,0 +1,124 @@
+-- The names of a rule line: how they are cut, quoted and spelled, and which are refused (POSIX.1-2024 make, "Target Rules";
+-- GNU make manual, "Using Wildcard Characters in File Names" on quoting).
+use Rattle.std.specs.Prelude.{ℕ, suc, ◌+◌, ◌-◌, Bool, true, false, not, ◌==◌, ◌&&◌, ◌||◌, nat_eq, List, [], ◌∷◌, ◌++◌, length, take, drop, filter, fold, codes, slice_index, if◌then◌else◌}
+use Rattle.std.specs.List.{list_any, onto_first, prefix_len, suffix_len, starts_with, ends_with}
+use Rattle.std.specs.Cmp.Lexicographic.{pointwise}
+use Rattle.kt_text.specs.Words.{Text, is_nonempty, is_separator}
+use Rattle.kt_text.specs.Functions.{quotes_percent}
+use Rattle.kt_rules.specs.declared.cutting.Cut.{Cut}
+use Rattle.kt_rules.specs.declared.cutting.Cut.TheVariants.{Colon, Separator}
+
+-- a byte that a backslash directly before it quotes: a space or a colon (kati's own)
+abbrev pub is_quotable : ℕ → Bool
+is_quotable byte = byte == 32 || byte == 58
+
+-- the bytes that texts are cut at: colons or separators
+abbrev pub is_cut : Cut → ℕ → Bool
+is_cut Colon byte = byte == 58
+is_cut Separator byte = is_separator byte
+
+-- whether a text is cut at a byte that has a backslash directly before it or not: quoted, it stays
+abbrev pub cuts : Cut → Bool → ℕ → Bool
+cuts cut behind_backslash byte = is_cut cut byte && not (behind_backslash && is_quotable byte)
+
+-- how many bytes stand before the first cut, or in the text without one; a backslash may stand directly before the text
+unfoldable pub cut_place : Cut → Bool → Text → ℕ
+cut_place cut behind_backslash [] = 0
+cut_place cut behind_backslash (byte ∷ text) =
+    if cuts cut behind_backslash byte then 0 else suc (cut_place cut (byte == 92) text)
+
+-- the pieces of a text that is cut
+unfoldable pub pieces_of : Cut → Bool → Text → List Text
+pieces_of cut behind_backslash [] = [] ∷ []
+pieces_of cut behind_backslash (byte ∷ text) =
+    if cuts cut behind_backslash byte then [] ∷ pieces_of cut false text
+    else onto_first byte (pieces_of cut (byte == 92) text)
+
+-- the words as they are written: the maximal runs without an unquoted separator
+unfoldable pub written_words : Text → List Text
+written_words text = filter is_nonempty (pieces_of Separator false text)
+
+-- how many of a text's first bytes stand before the separators at its end, of which the first may be quoted
+abbrev pub end_place : Text → ℕ
+end_place text =
+    let end = length text - suffix_len is_separator text in
+    if slice_index text (end - 1) == 92 && slice_index text end == 32 then end + 1 else end
+
+-- without the separators at its begin
+abbrev pub begun : Text → Text
+begun text = drop (prefix_len is_separator text) text
+
+-- without the unquoted separators round it
+unfoldable pub without_outer_separators : Text → Text
+without_outer_separators text = take (end_place (begun text)) (begun text)
+
+-- whether a text begins with a byte that a backslash quotes
+abbrev pub begins_quotable : Text → Bool
+begins_quotable [] = false
+begins_quotable (byte ∷ text) = is_quotable byte
+
+-- without the backslashes that quote a byte; all other backslashes stay (kati's own)
+unfoldable pub unquoted : Text → Text
+unquoted [] = []
+unquoted (byte ∷ text) = if byte == 92 && begins_quotable text then unquoted text else byte ∷ unquoted text
+
+-- without each leading `./` and the slashes behind it, again and again; slashes before the first may be dropped, too
+unfoldable pub after_dots : Bool → Text → Text
+after_dots drops_slashes [] = []
+after_dots drops_slashes (byte ∷ []) = if drops_slashes && byte == 47 then [] else byte ∷ []
+after_dots drops_slashes (byte ∷ next ∷ text) =
+    if drops_slashes && byte == 47 then after_dots true (next ∷ text)
+    else (if byte == 46 && next == 47 then after_dots true text else byte ∷ next ∷ text)
+
+-- a name without its leading `./`; where that is the whole name it is `./` (kati's own; GNU make removes it, too)
+unfoldable pub without_dots : Text → Text
+without_dots name =
+    let left = after_dots false name in
+    if length left == 0 && not (length name == 0) then 46 ∷ 47 ∷ [] else left
+
+-- the name that a word spells
+unfoldable pub name_of : Text → Text
+name_of word = without_dots (unquoted word)
+
+-- whether a name is among others
+abbrev pub is_among : List Text → Text → Bool
+is_among names name = list_any (pointwise nat_eq name) names
+
+-- a name behind others, if it isn't among them
+abbrev pub with_name : List Text → Text → List Text
+with_name names name = if is_among names name then names else names ++ name ∷ []
+
+-- names without repeats, each at its first place
+unfoldable pub without_repeats : List Text → List Text
+without_repeats names = fold with_name [] names
+
+-- a byte of file name patterns (GNU make manual, "Using Wildcard Characters in File Names")
+unfoldable pub is_wildcard : ℕ → Bool
+is_wildcard byte = byte == 42 || (byte == 63 || byte == 91)
+
+-- `LIBRARY(MEMBER)` (GNU make manual, "Archive Members as Targets")
+unfoldable pub is_member : Text → Bool
+is_member name = ends_with nat_eq name (41 ∷ []) && list_any (λ byte. byte == 40) (drop 1 name)
+
+-- a name that kati doesn't take: with a file name pattern, with `\%`, of a home folder, or a member of an archive
+unfoldable pub is_refused_name : Text → Bool
+is_refused_name name =
+    list_any is_wildcard name || (quotes_percent name || (starts_with nat_eq name (126 ∷ []) || is_member name))
+
+-- a special target that is accepted and does nothing (GNU make manual, "Special Built-in Target Names")
+unfoldable pub is_without_effect : Text → Bool
+is_without_effect name =
+    is_among (codes ".POSIX" ∷ codes ".PRECIOUS" ∷ codes ".SECONDARY" ∷ codes ".INTERMEDIATE" ∷ codes ".SILENT" ∷ codes ".DELETE_ON_ERROR" ∷ codes ".NOTPARALLEL" ∷ []) name
+
+-- a special target, which acts by its name (GNU make manual, "Special Built-in Target Names")
+unfoldable pub is_special : Text → Bool
+is_special name = is_among (codes ".PHONY" ∷ codes ".SUFFIXES" ∷ []) name || is_without_effect name
+
+-- the order of prerequisites is set by this name, which kati refuses (GNU make manual, "Parallel Disable")
+abbrev pub wait_name : Text
+wait_name = codes ".WAIT"
+
+-- a special target that kati doesn't take (GNU make manual, "Special Built-in Target Names"; "Parallel Disable")
+unfoldable pub is_refused_target : Text → Bool
+is_refused_target name =
+    is_among (codes ".SECONDEXPANSION" ∷ codes ".ONESHELL" ∷ codes ".DEFAULT" ∷ codes ".IGNORE" ∷ wait_name ∷ codes ".EXPORT_ALL_VARIABLES" ∷ []) name

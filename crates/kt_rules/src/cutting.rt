@@ -1,0 +1,67 @@
+//! Texts cut at colons and separators that aren't quoted.
+ghost use Rattle.std.specs.Prelude.{◌≡◌, ◌≤◌, false, length, option_map};
+ghost use Rattle.kt_text.specs.Words.{is_separator};
+ghost use Rattle.kt_rules.specs.Names.{cut_place, is_cut, is_quotable};
+ghost use Rattle.kt_rules.specs.RuleLine.{colon_cut};
+
+/// What a text is cut at, where no backslash stands directly before it.
+#[derive(Clone, Copy, Debug, PartialEq, Eq)]
+pub(crate) enum Cut {
+    /// At colons.
+    Colon,
+    /// At spaces, tabs and newlines. A backslash before a tab or newline quotes nothing.
+    Separator,
+}
+
+// What stands before the first colon that isn't quoted, and after it.
+#[tactic(auto, unfolding(crate::specs::RuleLine::colon_cut))]
+pub(crate) fn colon_cut(text: &[u8]) -> Option<(&[u8], &[u8])>
+    ensures { option_map (λ cut. (cut.0.now, cut.1.now)) result ≡ colon_cut text.now }
+{
+    let place = cut_place(text, Cut::Colon);
+    if place == text.len() {
+        return None;
+    }
+    Some((&text[..place], &text[place + 1..]))
+}
+
+// How many bytes stand before the first cut, or in a text without one.
+#[tactic(auto, unfolding(crate::specs::Names::cut_place))]
+pub(crate) fn cut_place(text: &[u8], cut: Cut) -> usize
+    ensures value { result ≡ cut_place cut false text.now }
+    ensures bound { result ≤ length text.now }
+{
+    let mut place = 0;
+    let mut behind_backslash = false;
+    for byte in text {
+        if is_cut(cut, *byte) && !(behind_backslash && is_quotable(*byte)) {
+            return place;
+        }
+        behind_backslash = *byte == b'\\';
+        place += 1;
+    }
+    place
+}
+
+fn is_cut(cut: Cut, byte: u8) -> bool
+    ensures { result ≡ is_cut cut byte }
+{
+    match cut {
+        Cut::Colon => byte == b':',
+        Cut::Separator => is_separator(byte),
+    }
+}
+
+#[tactic(auto, unfolding(kt_text::specs::Words::is_separator))]
+pub(crate) fn is_separator(byte: u8) -> bool
+    ensures { result ≡ is_separator byte }
+{
+    matches!(byte, b' ' | b'\t' | b'\n')
+}
+
+// Whether a backslash directly before it quotes the byte.
+pub(crate) fn is_quotable(byte: u8) -> bool
+    ensures { result ≡ is_quotable byte }
+{
+    matches!(byte, b' ' | b':')
+}

@@ -1,0 +1,133 @@
+//! The expanded head of a rule line, cut into its parts.
+ghost use Rattle.std.specs.Prelude.{◌≡◌, List, ℕ, option_map};
+ghost use Rattle.kt_rules.specs.Names.{written_words};
+ghost use Rattle.kt_rules.specs.RuleLine.{behind_double, colon_cut, group_head, group_targets, head_behind, head_of, head_round, heads_told, pattern_word};
+
+use crate::cutting::colon_cut;
+use crate::name::has_percent;
+use crate::refusal::Refusal;
+use crate::written::{WrittenWords, without_outer_separators};
+
+/// What stands between the targets of a rule line and what they need.
+#[derive(Clone, Copy, Debug, PartialEq, Eq)]
+pub(crate) enum Separator {
+    /// `:`
+    Single,
+    /// `::`
+    Double,
+    /// `&:`
+    Grouped,
+}
+
+/// The parts of a head, as they are written.
+#[derive(Clone, Copy)]
+pub(crate) struct Head<'a> {
+    pub(crate) separator: Separator,
+    pub(crate) targets: &'a [u8],
+    /// The word of a static pattern.
+    pub(crate) pattern: Option<&'a [u8]>,
+    pub(crate) needs: &'a [u8],
+}
+
+// The parts of a head, or what is refused of it.
+#[tactic(auto, unfolding(crate::specs::RuleLine::head_of))]
+pub(crate) fn cut_head(text: &[u8]) -> Result<Head<'_>, Refusal<'_>>
+    ensures { heads_told result ≡ head_of text.now }
+{
+    match colon_cut(text) {
+        None => Err(Refusal::MissingSeparator),
+        Some((before, after)) => head_round(before, after),
+    }
+}
+
+// By what stands before the separator and after its first colon.
+fn head_round<'a>(before: &'a [u8], after: &'a [u8]) -> Result<Head<'a>, Refusal<'a>>
+    ensures { heads_told result ≡ head_round before.now after.now }
+{
+    match (group_targets(before), behind_double(after)) {
+        (None, None) => head_behind(Separator::Single, before, after),
+        (None, Some(rest)) => head_behind(Separator::Double, before, rest),
+        (Some(targets), None) => group_head(targets, after),
+        (Some(_), Some(_)) => Err(Refusal::BadGroup),
+    }
+}
+
+// What stands before the mark of a group.
+#[tactic(auto, unfolding(crate::specs::RuleLine::group_targets))]
+fn group_targets(before: &[u8]) -> Option<&[u8]>
+    ensures { option_map (λ targets. targets.now) result ≡ group_targets before.now }
+{
+    if before.ends_with(b"&") {
+        Some(&before[..before.len() - 1])
+    } else {
+        None
+    }
+}
+
+// What stands behind the second colon of two.
+#[tactic(auto, unfolding(crate::specs::RuleLine::behind_double))]
+fn behind_double(after: &[u8]) -> Option<&[u8]>
+    ensures { option_map (λ rest. rest.now) result ≡ behind_double after.now }
+{
+    if after.starts_with(b":") {
+        Some(&after[1..])
+    } else {
+        None
+    }
+}
+
+// A group: no further colon is allowed.
+fn group_head<'a>(targets: &'a [u8], rest: &'a [u8]) -> Result<Head<'a>, Refusal<'a>>
+    ensures { heads_told result ≡ group_head targets.now rest.now }
+{
+    if colon_cut(rest).is_some() {
+        return Err(Refusal::BadGroup);
+    }
+    Ok(Head {
+        separator: Separator::Grouped,
+        targets,
+        pattern: None,
+        needs: rest,
+    })
+}
+
+// By what stands behind the separator: one more colon divides off a static pattern.
+fn head_behind<'a>(
+    separator: Separator,
+    targets: &'a [u8],
+    rest: &'a [u8],
+) -> Result<Head<'a>, Refusal<'a>>
+    ensures { heads_told result ≡ head_behind separator targets.now rest.now (colon_cut rest.now) }
+{
+    let Some((part, needs)) = colon_cut(rest) else {
+        return Ok(Head {
+            separator,
+            targets,
+            pattern: None,
+            needs: rest,
+        });
+    };
+    if colon_cut(needs).is_some() {
+        return Err(Refusal::MissingSeparator);
+    }
+    match pattern_word(part) {
+        None => Err(Refusal::BadStaticPattern(without_outer_separators(part))),
+        Some(word) => Ok(Head {
+            separator,
+            targets,
+            pattern: Some(word),
+            needs,
+        }),
+    }
+}
+
+// The word of a static pattern's part, if it has just one, with a percent sign.
+fn pattern_word(part: &[u8]) -> Option<&[u8]>
+    ensures { option_map (λ word. word.now) result ≡ pattern_word (written_words part.now) }
+{
+    let mut words = WrittenWords::of(part);
+    match (words.next(), words.next()) {
+        (Some(word), None) if has_percent(word) => Some(word),
+        _ => None,
+    }
+}

@@ -1,0 +1,110 @@
+//! The names of a rule line.
+ghost use Rattle.std.specs.Prelude.{◌≡◌, map, option_map, IfOk};
+ghost use Rattle.kt_rules.specs.Names.{name_of, without_repeats, written_words};
+ghost use Rattle.kt_rules.specs.Entry.{empty_line};
+ghost use Rattle.kt_rules.specs.RuleLine.{head_told, is_bar, line_of, needs_of};
+
+use crate::entry::{Name, Needs};
+use crate::head::{Head, Separator};
+use crate::name::name_of;
+use crate::refused::are_same;
+use crate::written::WrittenWords;
+use indexmap::IndexSet;
+use kt_list::Sequence;
+use std::alloc::{AllocError, Global};
+
+/// The names of a head, unquoted and without leading `./`.
+#[derive(Drop)]
+pub(crate) struct Line {
+    pub(crate) separator: Separator,
+    /// Without repeats.
+    pub(crate) targets: Sequence<Name>,
+    /// A static pattern.
+    pub(crate) pattern: Option<Name>,
+    pub(crate) needs: Needs,
+}
+
+impl Line {
+    /// A line that names nothing.
+    pub(crate) fn empty(alloc: Global) -> Line
+        ensures { result ≡ empty_line }
+    {
+        Line {
+            separator: Separator::Single,
+            targets: Sequence::from(Vec::new(alloc)),
+            pattern: None,
+            needs: Needs::none(alloc),
+        }
+    }
+
+    /// The names of a head.
+    pub(crate) fn of(alloc: Global, head: &Head<'_>) -> Result<Line, AllocError>
+        ensures { IfOk result (λ line. line ≡ line_of (head_told head.now)) }
+    {
+        Ok(Line {
+            separator: head.separator,
+            targets: targets(alloc, head.targets)?,
+            pattern: pattern(alloc, head.pattern)?,
+            needs: needs(alloc, head.needs)?,
+        })
+    }
+}
+
+// The names of words, each at its first place.
+#[tactic(auto, using(crate::proofs::SeparationLemmas::insert_key_items), unfolding(crate::specs::Names::without_repeats))]
+fn targets(alloc: Global, text: &[u8]) -> Result<Sequence<Name>, AllocError>
+    ensures { IfOk result (λ names. names ≡ without_repeats (map name_of (written_words text.now))) }
+{
+    let mut names = IndexSet::new(alloc);
+    for word in WrittenWords::of(text) {
+        names.insert(name_of(alloc, word)?)?;
+    }
+    listed(alloc, names)
+}
+
+fn listed(alloc: Global, names: IndexSet<Vec<u8>>) -> Result<Sequence<Name>, AllocError>
+    ensures { IfOk result (λ list. list ≡ map (λ name. name.items) names.keys) }
+{
+    let list: Vec<Name> = names.into_iter().map(Sequence::from).collect(alloc)?;
+    Ok(Sequence::from(list))
+}
+
+// The name of a static pattern.
+fn pattern(alloc: Global, word: Option<&[u8]>) -> Result<Option<Name>, AllocError>
+    ensures { IfOk result (λ name. name ≡ option_map (λ text. name_of text.now) word.entry) }
+{
+    match word {
+        None => Ok(None),
+        Some(word) => Ok(Some(Sequence::from(name_of(alloc, word)?))),
+    }
+}
+
+// The names of prerequisites, those behind the first word `|` order-only.
+#[tactic(auto, using(crate::proofs::SeparationLemmas::needs_from_start), unfolding(crate::proofs::SeparationLemmas::needs_from))]
+fn needs(alloc: Global, text: &[u8]) -> Result<Needs, AllocError>
+    ensures { IfOk result (λ needs. needs ≡ needs_of (written_words text.now)) }
+{
+    let mut prerequisites = Vec::new(alloc);
+    let mut order_only = Vec::new(alloc);
+    let mut behind_bar = false;
+    for word in WrittenWords::of(text) {
+        if behind_bar {
+            order_only.push(Sequence::from(name_of(alloc, word)?))?;
+        } else if is_bar(word) {
+            behind_bar = true;
+        } else {
+            prerequisites.push(Sequence::from(name_of(alloc, word)?))?;
+        }
+    }
+    Ok(Needs {
+        prerequisites: Sequence::from(prerequisites),
+        order_only: Sequence::from(order_only),
+    })
+}
+
+#[tactic(auto, unfolding(crate::specs::RuleLine::is_bar))]
+fn is_bar(word: &[u8]) -> bool
+    ensures { result ≡ is_bar word.now }
+{
+    are_same(word, b"|")
+}

@@ -1,0 +1,142 @@
+//! Names as words spell them.
+ghost use Rattle.std.specs.Prelude.{◌≡◌, ◌≤◌, ◌<◌, ◌==◌, false, true, length, IfOk, MatchOption};
+ghost use Rattle.std.specs.List.{prefix_len};
+ghost use Rattle.kt_text.specs.Functions.{with_stem};
+ghost use Rattle.kt_text.specs.Match.{has_percent, pattern_back, pattern_front};
+ghost use Rattle.kt_rules.specs.Names.{after_dots, begins_quotable, name_of, unquoted, without_dots};
+
+use crate::cutting::is_quotable;
+use memchr::memchr;
+use std::alloc::{AllocError, Global};
+
+/// The name without its leading `./`.
+///
+/// Slashes behind a `./` go with it, and this again and again. A name of which nothing is left is
+/// `./`. Takes no memory.
+#[tactic(auto, unfolding(crate::specs::Names::without_dots))]
+pub fn without_dots(name: &[u8]) -> &[u8]
+    ensures { result.now ≡ without_dots name.now }
+{
+    let left = after_dots(name);
+    if left.is_empty() && !name.is_empty() {
+        b"./"
+    } else {
+        left
+    }
+}
+
+// What is left of a name without its leading `./`.
+fn after_dots(name: &[u8]) -> &[u8]
+    ensures { result.now ≡ after_dots false name.now }
+{
+    let mut left = name;
+    while let Some(rest) = past_dot(left) {
+        left = rest;
+    }
+    left
+}
+
+// What stands behind one leading `./` and the slashes after it.
+fn past_dot(name: &[u8]) -> Option<&[u8]>
+    ensures { MatchOption result (after_dots false name.now ≡ name.now)
+        (λ rest. (after_dots false name.now ≡ after_dots false rest.now) × (length rest.now < length name.now)) }
+{
+    match name.strip_prefix(b"./") {
+        None => None,
+        Some(after) => Some(&after[leading_slashes(after)..]),
+    }
+}
+
+fn leading_slashes(text: &[u8]) -> usize
+    ensures value { result ≡ prefix_len (λ byte. byte == 47) text.now }
+    ensures bound { result ≤ length text.now }
+{
+    text.iter().take_while(|byte| **byte == b'/').count()
+}
+
+// The name that a word spells.
+#[tactic(auto, unfolding(crate::specs::Names::name_of))]
+pub(crate) fn name_of(alloc: Global, word: &[u8]) -> Result<Vec<u8>, AllocError>
+    ensures { IfOk result (λ name. name.items ≡ name_of word.now) }
+{
+    dotless(alloc, unquoted(alloc, word)?)
+}
+
+// The text without its leading `./`.
+#[tactic(auto, unfolding(crate::specs::Names::without_dots))]
+pub(crate) fn dotless(alloc: Global, text: Vec<u8>) -> Result<Vec<u8>, AllocError>
+    ensures { IfOk result (λ name. name.items ≡ without_dots text.items) }
+{
+    if past_dot(text.as_slice()).is_none() {
+        return Ok(text);
+    }
+    Vec::from_slice(alloc, without_dots(text.as_slice()))
+}
+
+// The word without the backslashes that quote a byte.
+#[tactic(auto, unfolding(crate::specs::Names::unquoted))]
+fn unquoted(alloc: Global, word: &[u8]) -> Result<Vec<u8>, AllocError>
+    ensures { IfOk result (λ text. text.items ≡ unquoted word.now) }
+{
+    let mut text = Vec::with_capacity(alloc, word.len())?;
+    let mut left = word;
+    while let [byte, after @ ..] = left {
+        if *byte != b'\\' || !begins_quotable(after) {
+            text.push(*byte)?;
+        }
+        left = after;
+    }
+    Ok(text)
+}
+
+// Whether a backslash before the text quotes a byte.
+fn begins_quotable(text: &[u8]) -> bool
+    ensures { result ≡ begins_quotable text.now }
+{
+    match text {
+        [byte, ..] => is_quotable(*byte),
+        [] => false,
+    }
+}
+
+// The name that a prerequisite of a static pattern is for a stem.
+pub(crate) fn stemmed_name(
+    alloc: Global,
+    pattern: &[u8],
+    stem: &[u8],
+) -> Result<Vec<u8>, AllocError>
+    ensures { IfOk result (λ name. name.items ≡ without_dots (with_stem pattern.now stem.now)) }
+{
+    dotless(alloc, with_stem(alloc, pattern, stem)?)
+}
+
+// The text with the stem in place of its first percent sign.
+fn with_stem(alloc: Global, pattern: &[u8], stem: &[u8]) -> Result<Vec<u8>, AllocError>
+    ensures { IfOk result (λ text. text.items ≡ with_stem pattern.now stem.now) }
+{
+    let Some((front, back)) = percent_cut(pattern) else {
+        return Vec::from_slice(alloc, pattern);
+    };
+    let mut text = Vec::with_capacity(alloc, pattern.len())?;
+    text.extend_from_slice(front)?;
+    text.extend_from_slice(stem)?;
+    text.extend_from_slice(back)?;
+    Ok(text)
+}
+
+// What stands before the first percent sign, and after it.
+#[tactic(auto, using(kt_text::proofs::MatchLemmas::match_facts))]
+fn percent_cut(pattern: &[u8]) -> Option<(&[u8], &[u8])>
+    ensures { MatchOption result (has_percent pattern.now ≡ false)
+        (λ cut. (has_percent pattern.now ≡ true) × (cut.0.now ≡ pattern_front pattern.now) × (cut.1.now ≡ pattern_back pattern.now)) }
+{
+    let percent = memchr(b'%', pattern)?;
+    Some((&pattern[..percent], &pattern[percent + 1..]))
+}
+
+// Whether there is a percent sign.
+pub(crate) fn has_percent(name: &[u8]) -> bool
+    ensures { result ≡ has_percent name.now }
+{
+    percent_cut(name).is_some()
+}

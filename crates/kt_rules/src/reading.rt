@@ -1,0 +1,179 @@
+//! Rule lines read as entries.
+ghost use Rattle.std.specs.Prelude.{◌≡◌, ◌==◌, false, true, map, option_map, IfOk};
+ghost use Rattle.kt_text.specs.Words.{words_of};
+ghost use Rattle.kt_rules.specs.Refusals.{Answers};
+ghost use Rattle.kt_rules.specs.Entry.{empty_line, is_nil, kind_of, recipe_of, rule_of, rule_with, shared_needs, stemmed, stemmed_names, stemmed_of, target_of};
+
+use crate::checking::{any_percent, line_refusal};
+use crate::entry::{Entry, Kind, Name, Needs, RecipeLine, Stemmed, Target, first_line};
+use crate::fault::RuleFault;
+use crate::head::{Separator, cut_head};
+use crate::line::Line;
+use crate::name::stemmed_name;
+use crate::place::Place;
+use kt_list::Sequence;
+use kt_text::{match_pattern, words};
+use std::alloc::{AllocError, Global};
+
+/// The entry of a rule line.
+///
+/// `text` is the expanded head and `recipe` the unexpanded text behind the first `;`, if there is
+/// one. A line without targets is an entry without targets. POSIX.1-2024 make, "Target Rules"; GNU
+/// make manual, "Rule Syntax".
+///
+/// Refused are a line without `:` or with too many, or with targets some of which are patterns
+/// (5); names that kati doesn't take (20, 22); a bad static pattern, or a target that it doesn't
+/// match (21); and a group of special targets or patterns, by two colons or with a static pattern
+/// (35).
+pub fn read_rule(
+    alloc: Global,
+    text: &[u8],
+    recipe: Option<Sequence<u8>>,
+    place: Place,
+) -> Result<Entry, RuleFault>
+    ensures { Answers result (rule_of text.now recipe place) }
+{
+    if is_blank(text) {
+        return Ok(entry(alloc, Line::empty(alloc), recipe, place)?);
+    }
+    let head = match cut_head(text) {
+        Ok(head) => head,
+        Err(refusal) => return Err(refusal.at(alloc, place)),
+    };
+    let line = Line::of(alloc, &head)?;
+    if let Some(refusal) = line_refusal(&line) {
+        return Err(refusal.at(alloc, place));
+    }
+    if line.targets.as_slice().is_empty() {
+        return Ok(entry(alloc, Line::empty(alloc), recipe, place)?);
+    }
+    Ok(entry(alloc, line, recipe, place)?)
+}
+
+// Whether the text has no word.
+fn is_blank(text: &[u8]) -> bool
+    ensures { result ≡ is_nil (words_of text.now) }
+{
+    words(text).next().is_none()
+}
+
+// The entry of a line.
+fn entry(
+    alloc: Global,
+    line: Line,
+    recipe: Option<Sequence<u8>>,
+    place: Place,
+) -> Result<Entry, AllocError>
+    ensures { IfOk result (λ entry. entry ≡ rule_with line recipe place) }
+{
+    let kind = kind_of(line.separator, any_percent(line.targets.as_slice()));
+    let recipe = recipe_of(alloc, recipe, &place)?;
+    let Line {
+        separator: _,
+        targets: names,
+        pattern,
+        needs,
+    } = line;
+    let targets = targets(alloc, names, &pattern, &needs)?;
+    let shared = shared_needs(alloc, &pattern, needs);
+    Ok(Entry::new(alloc, kind, targets, shared, recipe, place))
+}
+
+// How a line makes its targets.
+fn kind_of(separator: Separator, has_percent: bool) -> Kind
+    ensures { result ≡ kind_of separator has_percent }
+{
+    match (separator, has_percent) {
+        (Separator::Single, false) => Kind::SingleColon,
+        (Separator::Single, true) => Kind::Pattern,
+        (Separator::Double, false) => Kind::DoubleColon,
+        (Separator::Double, true) => Kind::TerminalPattern,
+        (Separator::Grouped, _) => Kind::Group,
+    }
+}
+
+// The recipe that begins behind the semicolon of the rule line.
+fn recipe_of(
+    alloc: Global,
+    recipe: Option<Sequence<u8>>,
+    place: &Place,
+) -> Result<Option<Vec<RecipeLine>>, AllocError>
+    ensures { IfOk result (λ lines. option_map (λ v. v.items) lines ≡ recipe_of recipe place.now) }
+{
+    let Some(text) = recipe else {
+        return Ok(None);
+    };
+    let place = place.share()?;
+    Ok(Some(first_line(alloc, RecipeLine { text, place })?))
+}
+
+// The targets, with what a static pattern gives them.
+fn targets(
+    alloc: Global,
+    names: Sequence<Name>,
+    pattern: &Option<Name>,
+    needs: &Needs,
+) -> Result<Vec<Target>, AllocError>
+    ensures { IfOk result (λ targets. targets.items ≡ map (target_of pattern.now needs.now) names) }
+{
+    let mut targets = Vec::new(alloc);
+    for name in names.into_vec() {
+        let stemmed = stemmed_of(alloc, pattern, needs, name.as_slice())?;
+        targets.push(Target { name, stemmed })?;
+    }
+    Ok(targets)
+}
+
+// What a static pattern, if there is one, gives to a target that it matches.
+#[tactic(auto, unfolding(crate::specs::Entry::stemmed_of))]
+fn stemmed_of(
+    alloc: Global,
+    pattern: &Option<Name>,
+    needs: &Needs,
+    target: &[u8],
+) -> Result<Option<Stemmed>, AllocError>
+    ensures { IfOk result (λ stemmed. stemmed ≡ stemmed_of pattern.now needs.now target.now) }
+{
+    let Some(pattern) = pattern else {
+        return Ok(None);
+    };
+    match match_pattern(pattern.as_slice(), target) {
+        None => Ok(None),
+        Some(stem) => Ok(Some(stemmed(alloc, needs, &target[stem])?)),
+    }
+}
+
+// What a static pattern gives for a stem.
+fn stemmed(alloc: Global, needs: &Needs, stem: &[u8]) -> Result<Stemmed, AllocError>
+    ensures { IfOk result (λ given. given ≡ stemmed needs.now stem.now) }
+{
+    Ok(Stemmed {
+        stem: Sequence::from(Vec::from_slice(alloc, stem)?),
+        needs: Needs {
+            prerequisites: stemmed_names(alloc, stem, needs.prerequisites.as_slice())?,
+            order_only: stemmed_names(alloc, stem, needs.order_only.as_slice())?,
+        },
+    })
+}
+
+// The names with the stem put in.
+#[tactic(auto, unfolding(crate::specs::Entry::stemmed_names))]
+fn stemmed_names(alloc: Global, stem: &[u8], names: &[Name]) -> Result<Sequence<Name>, AllocError>
+    ensures { IfOk result (λ list. list ≡ stemmed_names stem.now names.now) }
+{
+    let mut list = Vec::new(alloc);
+    for name in names {
+        list.push(Sequence::from(stemmed_name(alloc, name.as_slice(), stem)?))?;
+    }
+    Ok(Sequence::from(list))
+}
+
+// What the targets need that a static pattern gives nothing.
+fn shared_needs(alloc: Global, pattern: &Option<Name>, needs: Needs) -> Needs
+    ensures { result ≡ shared_needs pattern.now needs }
+{
+    match pattern {
+        None => needs,
+        Some(_) => Needs::none(alloc),
+    }
+}

@@ -1,0 +1,97 @@
+//! Names that are refused or special.
+ghost use Rattle.std.specs.Prelude.{◌≡◌, ◌==◌, nat_eq};
+ghost use Rattle.std.specs.List.{list_any};
+ghost use Rattle.std.specs.Cmp.Lexicographic.{pointwise};
+ghost use Rattle.kt_text.specs.Functions.{quotes_percent};
+ghost use Rattle.kt_rules.specs.Names.{is_member, is_refused_name, is_refused_target, is_special, is_wildcard, is_without_effect};
+
+use memchr::memmem;
+
+/// The name that orders prerequisites in GNU make, which kati doesn't take.
+pub(crate) const WAIT: &[u8] = b".WAIT";
+
+// Whether kati doesn't take the name.
+#[tactic(auto, unfolding(crate::specs::Names::is_refused_name))]
+pub(crate) fn is_refused_name(name: &[u8]) -> bool
+    ensures { result ≡ is_refused_name name.now }
+{
+    has_wildcard(name) || quotes_percent(name) || name.starts_with(b"~") || is_member(name)
+}
+
+fn has_wildcard(name: &[u8]) -> bool
+    ensures { result ≡ list_any is_wildcard name.now }
+{
+    name.iter().any(|byte| is_wildcard(*byte))
+}
+
+#[tactic(auto, unfolding(crate::specs::Names::is_wildcard))]
+fn is_wildcard(byte: u8) -> bool
+    ensures { result ≡ is_wildcard byte }
+{
+    matches!(byte, b'*' | b'?' | b'[')
+}
+
+// Whether a quoted percent sign stands in the name.
+fn quotes_percent(name: &[u8]) -> bool
+    ensures { result ≡ quotes_percent name.now }
+{
+    memmem::find(name, b"\\%").is_some()
+}
+
+// Whether the name is that of a member of an archive.
+#[tactic(auto, unfolding(crate::specs::Names::is_member))]
+fn is_member(name: &[u8]) -> bool
+    ensures { result ≡ is_member name.now }
+{
+    match name {
+        [_, rest @ ..] => name.ends_with(b")") && has_parenthesis(rest),
+        [] => false,
+    }
+}
+
+fn has_parenthesis(name: &[u8]) -> bool
+    ensures { result ≡ list_any (λ byte. byte == 40) name.now }
+{
+    name.iter().any(|byte| *byte == b'(')
+}
+
+// Whether the special target is accepted and does nothing.
+#[tactic(auto, unfolding(crate::specs::Names::is_without_effect))]
+pub(crate) fn is_without_effect(name: &[u8]) -> bool
+    ensures { result ≡ is_without_effect name.now }
+{
+    are_same(name, b".POSIX")
+        || are_same(name, b".PRECIOUS")
+        || are_same(name, b".SECONDARY")
+        || are_same(name, b".INTERMEDIATE")
+        || are_same(name, b".SILENT")
+        || are_same(name, b".DELETE_ON_ERROR")
+        || are_same(name, b".NOTPARALLEL")
+}
+
+// Whether the name is that of a special target that is accepted.
+#[tactic(auto, unfolding(crate::specs::Names::is_special))]
+pub(crate) fn is_special(name: &[u8]) -> bool
+    ensures { result ≡ is_special name.now }
+{
+    are_same(name, b".PHONY") || are_same(name, b".SUFFIXES") || is_without_effect(name)
+}
+
+// Whether the name is that of a special target that kati doesn't take.
+#[tactic(auto, unfolding(crate::specs::Names::is_refused_target))]
+pub(crate) fn is_refused_target(name: &[u8]) -> bool
+    ensures { result ≡ is_refused_target name.now }
+{
+    are_same(name, b".SECONDEXPANSION")
+        || are_same(name, b".ONESHELL")
+        || are_same(name, b".DEFAULT")
+        || are_same(name, b".IGNORE")
+        || are_same(name, WAIT)
+        || are_same(name, b".EXPORT_ALL_VARIABLES")
+}
+
+pub(crate) fn are_same(name: &[u8], other: &[u8]) -> bool
+    ensures { result ≡ pointwise nat_eq name.now other.now }
+{
+    name == other
+}

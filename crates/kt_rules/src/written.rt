@@ -1,0 +1,102 @@
+//! The words of a rule line as they are written.
+ghost use Rattle.std.specs.Prelude.{◌≡◌, List, ℕ, [], ◌∷◌, MatchOption, ◌≤◌, length};
+ghost use Rattle.std.specs.List.{prefix_len, suffix_len};
+ghost use Rattle.std.specs.Iterator.{YieldsFirstRef};
+ghost use Rattle.kt_text.specs.Words.{is_separator};
+ghost use Rattle.kt_rules.specs.Names.{begun, end_place, without_outer_separators, written_words};
+ghost use Rattle.std.specs.Iterator.{item_count};
+
+use crate::cutting::{Cut, cut_place, is_separator};
+use std::marker::Model;
+
+/// The words of a text, cut at separators that aren't quoted. Each borrows the text.
+#[derive(Drop)]
+pub(crate) struct WrittenWords<'a> {
+    rest: &'a [u8],
+}
+
+impl<'a> Model for WrittenWords<'a> {
+    ghost Value = { List (List ℕ) };
+
+    ghost view = { λ words. written_words words.rest.now };
+}
+
+impl<'a> WrittenWords<'a> {
+    pub(crate) fn of(text: &'a [u8]) -> WrittenWords<'a>
+        ensures { result ≡ written_words text.now }
+    {
+        WrittenWords { rest: text }
+    }
+}
+
+impl<'a> Iterator for WrittenWords<'a> {
+    type Item = &'a [u8];
+
+    ghost next_gives = { YieldsFirstRef (λ rest. rest) };
+
+    ghost remaining = { item_count (λ rest. rest) };
+
+    fn next(&mut self) -> Option<&'a [u8]> {
+        let (word, rest) = first_word(self.rest)?;
+        self.rest = rest;
+        Some(word)
+    }
+}
+
+// The first word and what stands after it.
+fn first_word(text: &[u8]) -> Option<(&[u8], &[u8])>
+    ensures { MatchOption result (written_words text.now ≡ [])
+        (λ cut. written_words text.now ≡ cut.0.now ∷ written_words cut.1.now) }
+{
+    let words = begun(text);
+    if words.is_empty() {
+        return None;
+    }
+    Some(words.split_at(cut_place(words, Cut::Separator)))
+}
+
+// The text without the separators at its begin.
+fn begun(text: &[u8]) -> &[u8]
+    ensures { result.now ≡ begun text.now }
+{
+    &text[leading_separators(text)..]
+}
+
+fn leading_separators(text: &[u8]) -> usize
+    ensures value { result ≡ prefix_len is_separator text.now }
+    ensures bound { result ≤ length text.now }
+{
+    text.iter().take_while(|byte| is_separator(**byte)).count()
+}
+
+fn trailing_separators(text: &[u8]) -> usize
+    ensures value { result ≡ suffix_len is_separator text.now }
+    ensures bound { result ≤ length text.now }
+{
+    text.iter()
+        .rev()
+        .take_while(|byte| is_separator(**byte))
+        .count()
+}
+
+// The text without the separators round it that aren't quoted.
+#[tactic(auto, unfolding(crate::specs::Names::without_outer_separators))]
+pub(crate) fn without_outer_separators(text: &[u8]) -> &[u8]
+    ensures { result.now ≡ without_outer_separators text.now }
+{
+    let words = begun(text);
+    &words[..end_place(words)]
+}
+
+// How many bytes stand before the separators at the end, of which the first may be quoted.
+fn end_place(text: &[u8]) -> usize
+    ensures value { result ≡ end_place text.now }
+    ensures bound { result ≤ length text.now }
+{
+    let end = text.len() - trailing_separators(text);
+    if end > 0 && end < text.len() && text[end - 1] == b'\\' && text[end] == b' ' {
+        end + 1
+    } else {
+        end
+    }
+}
