@@ -4,7 +4,8 @@
 #![tactic(auto)]
 
 use anyhow::Result;
-use kt_syntax::{classify, plain, recipe_text, rule_parts, terms};
+use kt_syntax::{blocks, classify, plain, recipe_text, rule_parts, terms};
+use kt_text::logical_lines;
 use std::alloc::{AllocError, Global};
 use std::env;
 use std::rt::Runtime;
@@ -36,6 +37,16 @@ fn print_all(rt: &impl Runtime, alloc: Global) -> Result<()> {
         let text = repeated(alloc, front, unit)?;
         print_times(rt, alloc, name, text.as_slice())?;
     }
+    let lines: [(&str, &[u8]); 4] = [
+        ("plain lines", b"a: b c\n"),
+        ("nested", b"ifdef X\n"),
+        ("side by side", b"ifdef X\nelse\nendif\n"),
+        ("defines", b"define X\nendef\n"),
+    ];
+    for (name, unit) in lines {
+        let text = repeated(alloc, b"", unit)?;
+        print_block_times(rt, alloc, name, text.as_slice())?;
+    }
     Ok(())
 }
 
@@ -60,6 +71,18 @@ fn print_times(rt: &impl Runtime, alloc: Global, name: &str, text: &[u8]) -> Res
     let start = Instant::now(rt)?;
     let found = recipe_text(alloc, text)?;
     report(rt, name, "recipe_text", start, found.len())
+}
+
+// The times of cutting a text into lines and of finding their blocks.
+fn print_block_times(rt: &impl Runtime, alloc: Global, name: &str, text: &[u8]) -> Result<()> {
+    let start = Instant::now(rt)?;
+    let lines = logical_lines(alloc, text)?;
+    report(rt, name, "lines", start, lines.len())?;
+
+    let start = Instant::now(rt)?;
+    let found = blocks(alloc, text, lines.as_slice())?;
+    let size = usize::from(found.missing().is_some());
+    report(rt, name, "blocks", start, size)
 }
 
 // One line of the table.
