@@ -1,5 +1,5 @@
 -- Words in byte order (GNU make manual, "Functions for String Substitution and Analysis", on `sort`).
-use Rattle.std.specs.Prelude.{◌≡◌, ℕ, zero, suc, ◌+◌, ◌*◌, ◌^◌, ◌↔◌, List, [], ◌∷◌}
+use Rattle.std.specs.Prelude.{◌≡◌, ℕ, zero, suc, ◌+◌, ◌*◌, ◌^◌, ◌≤◌, ◌↔◌, List, [], ◌∷◌, length, take}
 use Rattle.std.specs.List.{Contains}
 use Rattle.std.specs.List.Sorted.{IsStrictlySortedBy}
 use Rattle.std.specs.Ordering.{nat_cmp}
@@ -22,3 +22,7 @@ unfoldable pub front_number : ℕ → Text → ℕ
 front_number zero text = 0
 front_number (suc n) [] = 0
 front_number (suc n) (byte ∷ text) = byte * 256 ^ n + front_number n text
+
+-- a text that fits is what the head begins with (kati's own)
+abbrev pub IsHead : List ℕ → Text → Type 0
+IsHead head text = length text ≤ 16 → take (length text) head ≡ text

@@ -3,15 +3,17 @@ ghost use Rattle.std.specs.Prelude.{◌≡◌, ◌≤◌, length};
 ghost use Rattle.std.specs.List.{prefix_len, suffix_len};
 ghost use Rattle.kt_text.specs.Words.{is_blank, trimmed_start, trimmed_end};
 
-// Without the spaces and tabs at its begin.
-pub(crate) fn trim_start(text: &[u8]) -> &[u8]
+/// The text without the spaces and tabs that it begins with (POSIX.1-2024 make, "Makefile Syntax",
+/// on blanks).
+pub fn trim_start(text: &[u8]) -> &[u8]
     ensures { result.now ≡ trimmed_start text.now }
 {
     &text[leading_blanks(text)..]
 }
 
-// Without the spaces and tabs at its end.
-pub(crate) fn trim_end(text: &[u8]) -> &[u8]
+/// The text without the spaces and tabs that it ends with (POSIX.1-2024 make, "Makefile Syntax", on
+/// blanks).
+pub fn trim_end(text: &[u8]) -> &[u8]
     ensures { result.now ≡ trimmed_end text.now }
 {
     &text[..text.len() - trailing_blanks(text)]

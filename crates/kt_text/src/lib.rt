@@ -14,12 +14,14 @@ mod pattern;
 mod physical;
 mod word_runs;
 
+pub use blanks::{trim_end, trim_start};
 pub use condense::condensed;
 pub use cut::words;
 pub use fault::TextFault;
 pub use line::{Line, LineFault};
 pub use logical::logical_lines;
 pub use pattern::match_pattern;
+pub use physical::{is_continued, line_content};
 pub use word_runs::Words;
 
 #[cfg(test)]

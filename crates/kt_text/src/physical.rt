@@ -33,8 +33,9 @@ fn line_size(text: &[u8]) -> usize
     }
 }
 
-// A physical line without its newline and the carriage return before that.
-pub(crate) fn line_content(line: &[u8]) -> &[u8]
+/// A physical line without its newline and the carriage return before that, which is kati's own to
+/// drop.
+pub fn line_content(line: &[u8]) -> &[u8]
     ensures value { result.now ≡ without_terminator line.now }
     ensures bound { length result.now ≤ length line.now }
 {
@@ -44,9 +45,10 @@ pub(crate) fn line_content(line: &[u8]) -> &[u8]
     }
 }
 
-// Whether the line ends in an odd number of backslashes.
+/// Whether a physical line ends in an odd number of backslashes, its newline aside (GNU make manual,
+/// "Splitting Long Lines").
 #[tactic(auto, unfolding(crate::specs::Lines::is_continued))]
-pub(crate) fn is_continued(line: &[u8]) -> bool
+pub fn is_continued(line: &[u8]) -> bool
     ensures value { result ≡ is_continued line.now }
     ensures some { result ≡ true → 0 < length (without_terminator line.now) }
 {

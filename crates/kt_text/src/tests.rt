@@ -1,5 +1,8 @@
 //! Worked values of each call, by the manuals and by GNU make.
-use crate::{LineFault, TextFault, condensed, functions, logical_lines, match_pattern, words};
+use crate::{
+    LineFault, TextFault, condensed, functions, is_continued, line_content, logical_lines,
+    match_pattern, trim_end, trim_start, words,
+};
 use std::process::Abort;
 use std::test::Fail;
 
@@ -28,6 +31,24 @@ fn patterns_match(rt: HostRuntime) {
         let stem = match_pattern(pattern, word).map(|stem| (stem.start, stem.end));
         assert_eq!(rt; stem, wanted);
     }
+}
+
+#[test]
+fn blanks_are_trimmed(rt: HostRuntime) {
+    assert_eq!(rt; trim_start(b"\t a \n "), b"a \n ".as_slice());
+    assert_eq!(rt; trim_end(b" \n a\t "), b" \n a".as_slice());
+}
+
+#[test]
+fn line_ends_are_cut_off(rt: HostRuntime) {
+    assert_eq!(rt; line_content(b"a\r\n"), b"a".as_slice());
+    assert_eq!(rt; line_content(b"a\r"), b"a\r".as_slice());
+}
+
+#[test]
+fn odd_backslashes_continue(rt: HostRuntime) {
+    assert_eq!(rt; is_continued(b"a\\\r\n"), true);
+    assert_eq!(rt; is_continued(b"a\\\\\n"), false);
 }
 
 #[test]

@@ -5,7 +5,7 @@ ghost use Rattle.std.specs.Cmp.{partial_equiv_from_equiv};
 ghost use Rattle.std.specs.Cmp.Lexicographic.{slice_cmp, pointwise, nat_list_cmp_total, nat_list_eq_equiv, texts_po, texts_ties};
 ghost use Rattle.kt_text.specs.Words.{words_of};
 ghost use Rattle.kt_text.specs.Functions.{Answers, word_set, sort_of};
-ghost use Rattle.kt_text.specs.Sorted.{front_number};
+ghost use Rattle.kt_text.specs.Sorted.{IsHead, front_number};
 
 use crate::cut::words;
 use crate::fault::TextFault;
@@ -22,7 +22,7 @@ pub fn sort(alloc: Global, text: &[u8]) -> Result<Vec<u8>, TextFault>
     let keys = sorted_keys(alloc, text)?;
     let mut sorted = Vec::new(alloc);
     for key in &keys {
-        add_word(&mut sorted, key.word)?;
+        add_word(&mut sorted, key.text())?;
     }
     Ok(sorted)
 }
@@ -45,6 +45,8 @@ fn sorted_keys(alloc: Global, text: &[u8]) -> Result<Vec<SortKey<'_>>, AllocErro
 #[derive(Drop)]
 struct SortKey<'a> {
     front: u64,
+    // A short word's bytes, so that writing it needs no look at its text either.
+    head: [u8; HEAD],
     word: &'a [u8],
 }
 
@@ -53,7 +55,7 @@ impl<'a> Model for SortKey<'a> {
 
     ghost view = { λ key. key.word.now };
 
-    ghost invariant = { λ key. (key.front ≡ front_number 8 key.word.now) × All (λ byte. byte < 256) key.word.now };
+    ghost invariant = { λ key. (key.front ≡ front_number 8 key.word.now) × (IsHead key.head key.word.now × All (λ byte. byte < 256) key.word.now) };
 }
 
 impl<'a> SortKey<'a> {
@@ -62,8 +64,16 @@ impl<'a> SortKey<'a> {
     {
         SortKey {
             front: front_number(word),
+            head: head(word),
             word,
         }
+    }
+
+    // The word.
+    fn text(&self) -> &[u8]
+        ensures { result.now ≡ self.now }
+    {
+        self.head.get(..self.word.len()).unwrap_or(self.word)
     }
 }
 
@@ -73,7 +83,7 @@ impl<'a> PartialEq for SortKey<'a> {
     ghost laws = { partial_equiv_from_equiv nat_list_eq_equiv };
 
     fn eq(&self, other: &SortKey<'a>) -> bool {
-        self.front == other.front && self.word == other.word
+        self.front == other.front && self.text() == other.text()
     }
 }
 
@@ -102,10 +112,24 @@ impl<'a> Ord for SortKey<'a> {
 
     fn cmp(&self, other: &SortKey<'a>) -> Ordering {
         match self.front.cmp(&other.front) {
-            Ordering::Equal => self.word.cmp(other.word),
+            Ordering::Equal => self.text().cmp(other.text()),
             decided => decided,
         }
     }
+}
+
+// A word of so many bytes is held in its key.
+const HEAD: usize = 16;
+
+// The bytes of a short word, with zeros behind them.
+fn head(word: &[u8]) -> [u8; HEAD]
+    ensures { IsHead result word.now }
+{
+    let mut head = [0; HEAD];
+    if word.len() <= HEAD {
+        head[..word.len()].copy_from_slice(word);
+    }
+    head
 }
 
 // The first eight bytes as a number, the first one the highest.
