@@ -2,12 +2,14 @@ pub mod AssignmentLemmas
 pub mod Closing
 pub mod HeadLemmas
 pub mod Kinding
+pub mod MaskLaw
 pub mod Masking
 pub mod ModifierLemmas
 pub mod NestingLemmas
 pub mod ReadingOn
 pub mod RecipeLemmas
 pub mod Runs
+pub mod SignLemmas
 pub mod Sound
 pub mod Splitting
 pub mod Uncommenting

@@ -1,11 +1,15 @@
 -- Masks of lines, one byte at a time.
-use Rattle.std.proofs.Common.{◌≡◌, ◌≤◌, ◌<◌, ◌-◌, ◌+◌, ℕ, zero, suc, Bool, Option, Some, None, List, [], ◌∷◌, length, take, drop, unwrap_or, refl, sym, ap, ◌∙◌, arith}
+use Rattle.std.proofs.Common.{◌≡◌, ◌≤◌, ◌<◌, ◌-◌, ◌+◌, true, false, ℕ, zero, suc, Bool, Option, Some, None, List, [], ◌∷◌, length, take, drop, unwrap_or, refl, sym, ap, ◌∙◌, arith}
 use Rattle.std.proofs.lemmas.List.{length-take-le, length-drop, take_all, drop-drop, get_or-drop}
 use Rattle.std.proofs.lemmas.List.Sums.{prefix_len-le-length}
-use Rattle.std.specs.Prelude.{slice_index}
+use Rattle.std.proofs.lemmas.Bool.Decides.{Decides-eqb}
+use Rattle.std.proofs.lemmas.Slice.Eq.{starts_is}
+use Rattle.std.specs.Prelude.{nat_eq, slice_index}
+use Rattle.std.specs.List.{starts_with}
 use Rattle.std.specs.Iterator.{YieldsFirst}
 use Rattle.kt_text.specs.Words.{Text, is_blank}
 use Rattle.kt_syntax.specs.Kinds.{past_blanks}
+use Rattle.kt_syntax.specs.Terms.{kept, dropped, behind_dollar}
 use Rattle.kt_syntax.specs.Mask.{goes_odd, mask_byte, more_masked, mask_from, mask_of}
 
 pub mask_from-nil : (skip symbol : ℕ) (odd : Bool) → mask_from skip symbol odd [] ≡ []
@@ -76,10 +80,10 @@ no_blanks_left text from end e within =
     omega arith
 
 -- one more symbol taken
-pub dropped : (before after whole : List ℕ) (place : ℕ) (taken : Option ℕ) → YieldsFirst (λ (rest : List ℕ). rest) before taken after → before ≡ drop place whole
+pub one_taken : (before after whole : List ℕ) (place : ℕ) (taken : Option ℕ) → YieldsFirst (λ (rest : List ℕ). rest) before taken after → before ≡ drop place whole
     → after ≡ drop (place + 1) whole
-dropped before after whole place None y e = y.1 ∙ sym (ap (drop 1) y.0) ∙ ap (drop 1) e ∙ drop-drop 1 place whole
-dropped before after whole place (Some symbol) y e = sym (ap (drop 1) y) ∙ ap (drop 1) e ∙ drop-drop 1 place whole
+one_taken before after whole place None y e = y.1 ∙ sym (ap (drop 1) y.0) ∙ ap (drop 1) e ∙ drop-drop 1 place whole
+one_taken before after whole place (Some symbol) y e = sym (ap (drop 1) y) ∙ ap (drop 1) e ∙ drop-drop 1 place whole
 
 first_dropped : (whole : List ℕ) (place : ℕ) → slice_index (drop place whole) 0 ≡ slice_index whole place
 first_dropped whole place = get_or-drop place whole 0 0 ∙ ap (slice_index whole) at
@@ -92,3 +96,15 @@ pub symbol_at : (before after whole : List ℕ) (place : ℕ) (taken : Option �
     → unwrap_or taken 0 ≡ slice_index whole place
 symbol_at before after whole place None y e = ap (λ m. slice_index m 0) (sym y.0 ∙ e) ∙ first_dropped whole place
 symbol_at before after whole place (Some symbol) y e = ap (λ m. slice_index m 0) (sym y ∙ e) ∙ first_dropped whole place
+
+-- what a dollar takes with it where a carriage return may stand in a continuation
+pub behind-return : (text : Text) → starts_with nat_eq text (92 ∷ 13 ∷ 10 ∷ []) ≡ true → 3 ≡ (behind_dollar kept text).1
+unfolding behind_dollar
+behind-return text h =
+    let begins : text ≡ 92 ∷ 13 ∷ 10 ∷ drop 3 text = (starts_is Decides-eqb text (92 ∷ 13 ∷ 10 ∷ []) true (sym h)).0 refl in
+    sym (ap (λ t. (behind_dollar kept t).1) begins)
+
+pub behind-other : (text : Text) → starts_with nat_eq text (92 ∷ 13 ∷ 10 ∷ []) ≡ false → behind_dollar dropped text ≡ behind_dollar kept text
+unfolding behind_dollar
+behind-other [] h = refl
+behind-other (byte ∷ text) h = rw h refl

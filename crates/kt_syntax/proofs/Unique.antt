@@ -1,18 +1,16 @@
 -- Any tree of a text's lines is that of their steps.
-use Rattle.std.proofs.Common.{◌≡◌, ℕ, zero, suc, ◌+◌, Bool, true, false, not, ◌||◌, List, [], ◌∷◌, map, Option, Some, None, refl, sym, ap, subst, ◌∙◌}
+use Rattle.std.proofs.Common.{◌≡◌, ℕ, zero, suc, ◌+◌, Bool, true, false, not, List, [], ◌∷◌, Option, Some, None, refl, sym, ap, subst, ◌∙◌}
 use Rattle.kt_syntax.specs.declared.part.Missing.{Missing}
 use Rattle.kt_syntax.specs.declared.part.Missing.TheVariants as missing
 use Rattle.kt_syntax.specs.declared.part.OpenConditional.{OpenConditional}
-use Rattle.kt_syntax.specs.declared.part.OpenDefine.{OpenDefine}
-use Rattle.kt_syntax.specs.declared.part.Stray.{Stray}
 use Rattle.kt_syntax.specs.declared.part.Stray.TheVariants as stray
 use Rattle.kt_syntax.specs.declared.role.Head.{Head}
 use Rattle.kt_syntax.specs.declared.role.Role.{Role}
 use Rattle.kt_syntax.specs.declared.role.Role.TheVariants as role
-use Rattle.kt_syntax.specs.Parts.{Open, after, missing_end, missing_in, open_at_end, part_of, parts_from, parts_of}
+use Rattle.kt_syntax.specs.Parts.{Open, after, open_at_end, part_of, parts_from}
 use Rattle.kt_syntax.specs.Steps.{ahead_of, places_after, step_of, steps_from}
 use Rattle.kt_syntax.specs.Blocks.{Items, Branches, Level, none, line, fault, definition, conditional, no_branch, branch, late, blocks_of, innermost, levels_from, outer, tree_of}
-use Rattle.kt_syntax.specs.Grammar.{IsTreeOf, Rests, Takes, TakesBody, TakesBranches, TakesEndif, TakesItems, TakesStray, depth_after, or_missing}
+use Rattle.kt_syntax.specs.Grammar.{IsTreeOf, Rests, TakesBody, TakesBranches, TakesEndif, TakesItems, or_missing}
 use Rattle.kt_syntax.specs.Reading.{append}
 use Rattle.kt_syntax.proofs.Sound.{levels_at, missing_from}
 

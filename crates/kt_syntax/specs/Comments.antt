@@ -19,7 +19,8 @@ uncommented run (symbol ∷ mask) (byte ∷ text) =
     else (if symbol == 35 then backslashes (run / 2) ++ (if run % 2 == 1 then 35 ∷ uncommented 0 mask text else [])
     else backslashes run ++ byte ∷ uncommented 0 mask text)
 
--- a text without continuations and without its comment
+-- a text without continuations and without its comment. Its mask takes a backslash, carriage return and newline for a
+-- continuation, which makes no difference here: no number sign stands directly behind any of them
 unfoldable pub uncommented_of : Text → Text
 uncommented_of text = uncommented 0 (mask_of text) text
 

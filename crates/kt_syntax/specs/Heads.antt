@@ -32,7 +32,8 @@ colon_place place previous (symbol ∷ mask) =
 abbrev pub after_colon : List ℕ → ℕ → ℕ
 after_colon mask place = if starts_with nat_eq (drop (place + 1) mask) (58 ∷ []) then place + 2 else place + 1
 
--- the words that may stand before a target-specific macro [GNU make manual, "Target-specific Variable Values"]
+-- the words that may stand before a target-specific macro (GNU make manual, "Target-specific Variable Values"; which of
+-- them count is kati's own)
 unfoldable pub is_modifier : Text → Bool
 is_modifier word = bytes_eq word (codes "override") || (bytes_eq word (codes "export") || bytes_eq word (codes "private"))
 

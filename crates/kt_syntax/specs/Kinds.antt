@@ -45,7 +45,8 @@ past_blanks from mask = from + prefix_len is_blank (drop from mask)
 abbrev pub past_word : ℕ → List ℕ → ℕ
 past_word from mask = from + prefix_len (λ symbol. not (is_blank symbol)) (drop from mask)
 
--- the operator that a text begins with, and its length [GNU make manual, "The Two Flavors of Variables"]
+-- the operator that a text begins with, and its length (POSIX.1-2024 make, "Macros"; GNU make manual, "Setting Variables"
+-- and, of `+=`, "Appending More Text to Variables")
 unfoldable pub operator_of : Text → Option (Operator × ℕ)
 operator_of text =
     if starts_with nat_eq text (codes "=") then Some (Deferred, 1)
@@ -100,7 +101,7 @@ block_word word =
     else (if bytes_eq word (codes "define") then Some Define
     else (if bytes_eq word (codes "endef") then Some Endef else None)))))))
 
--- the words of included files [GNU make manual, "Including Other Makefiles"]
+-- the words of included files (GNU make manual, "Including Other Makefiles")
 unfoldable pub include_word : Text → Option Directive
 include_word word =
     if bytes_eq word (codes "include") then Some Include

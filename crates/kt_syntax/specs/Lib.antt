@@ -6,10 +6,12 @@ pub mod Grammar
 pub mod Heads
 pub mod Kinds
 pub mod Mask
+pub mod Masked
 pub mod Parts
 pub mod Reading
 pub mod Recipes
 pub mod Roles
 pub mod Rows
+pub mod Signs
 pub mod Steps
 pub mod Terms

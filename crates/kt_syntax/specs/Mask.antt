@@ -3,7 +3,7 @@
 use Rattle.std.specs.Prelude.{ℕ, zero, suc, Bool, false, not, ◌==◌, ◌&&◌, nat_eq, List, [], ◌∷◌, if◌then◌else◌}
 use Rattle.std.specs.List.{starts_with}
 use Rattle.kt_text.specs.Words.{Text}
-use Rattle.kt_syntax.specs.Terms.{behind_dollar}
+use Rattle.kt_syntax.specs.Terms.{kept, behind_dollar}
 
 -- what stands for a byte of a reference
 abbrev pub inside : ℕ
@@ -16,7 +16,7 @@ goes_odd odd byte = byte == 92 && not odd
 -- how many more bytes a dollar or a backslash takes with it: those of its reference, or of its continuation
 unfoldable pub more_masked : Bool → ℕ → Text → ℕ
 more_masked odd byte text =
-    if byte == 36 then (behind_dollar text).1
+    if byte == 36 then (behind_dollar kept text).1
     else (if goes_odd odd byte then (if starts_with nat_eq text (10 ∷ []) then 1 else (if starts_with nat_eq text (13 ∷ 10 ∷ []) then 2 else 0)) else 0)
 
 -- what stands for the byte, and for those that it takes with it

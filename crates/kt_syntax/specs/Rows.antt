@@ -33,6 +33,9 @@ pub record RowsOfTerms : Type 0 where
   pub unterminated : terms_of (codes "x$(a") ≡ literal (codes "x") ∷ unclosed ∷ []
   pub own_marks : terms_of (codes "${a)}") ≡ reference Braces (codes "a)") ∷ []
   pub nested : terms_of (codes "$(a(b)c)d") ≡ reference Parentheses (codes "a(b)c") ∷ literal (codes "d") ∷ []
+  pub continuation : terms_of (codes "a$" ++ continued (codes "b")) ≡ literal (codes "a") ∷ reference Byte (continued []) ∷ literal (codes "b") ∷ []
+  pub carriage_return :
+      terms_of (codes "a$" ++ quoted (13 ∷ 10 ∷ codes "b")) ≡ literal (codes "a") ∷ reference Byte (quoted []) ∷ literal (13 ∷ 10 ∷ codes "b") ∷ []
 
 -- kinds of lines
 pub record RowsOfKinds : Type 0 where

@@ -36,10 +36,17 @@ pub record IsBalanced (opener closer : ℕ) (text : Text) : Type 0 where
 abbrev pub IsUnclosed : ℕ → ℕ → Text → Type 0
 IsUnclosed opener closer text = (body rest : Text) → text ≡ body ++ closer ∷ rest → ¬ IsBalanced opener closer body
 
--- how many bytes stand for one at the begin of a text: a backslash and a newline, with a carriage return between them or
--- not, are a continuation, which counts as one blank (kati's own)
-abbrev pub unit_length : Text → ℕ
-unit_length text =
+-- whether a text has the carriage returns before its newlines, as a line of a file has, or they are dropped, as in the
+-- value of a macro
+pub data Returns : Type 0 where
+  kept : Returns
+  dropped : Returns
+
+-- how many bytes stand for one at the begin of a text: a backslash and a newline are a continuation, which counts as one
+-- blank; one carriage return before the newline counts to it, where it isn't dropped yet (kati's own)
+abbrev pub unit_length : Returns → Text → ℕ
+unit_length dropped text = if starts_with nat_eq text (92 ∷ 10 ∷ []) then 2 else 1
+unit_length kept text =
     if starts_with nat_eq text (92 ∷ 10 ∷ []) then 2
     else (if starts_with nat_eq text (92 ∷ 13 ∷ 10 ∷ []) then 3 else 1)
 
@@ -53,28 +60,32 @@ EndsRun [] = Unit {0}
 EndsRun (byte ∷ rest) = byte ≡ 36
 
 -- the text is a byte that is no mark, or a continuation, before the rest
-pub record IsSingle (body rest : Text) : Type 0 where
+pub record IsSingle (returns : Returns) (body rest : Text) : Type 0 where
   pub some : 0 < length body
-  pub unit : length body ≡ unit_length (body ++ rest)
+  pub unit : length body ≡ unit_length returns (body ++ rest)
   pub plain : list_all (λ byte. not (is_special byte)) (take 1 body) ≡ true
 
 -- how a term is spelled before the rest of a text: a literal is a maximal run without dollar, and the one without bytes is
 -- a dollar at the end (kati's own)
-abbrev pub IsTerm : Piece → Text → Text → Type 0
-IsTerm (literal []) spelled rest = (spelled ≡ 36 ∷ []) × (rest ≡ [])
-IsTerm (literal (byte ∷ bytes)) spelled rest = (spelled ≡ byte ∷ bytes) × (count_of 36 spelled ≡ 0) × EndsRun rest
-IsTerm dollar spelled rest = spelled ≡ 36 ∷ 36 ∷ []
-IsTerm (reference Byte body) spelled rest = (spelled ≡ 36 ∷ body) × IsSingle body rest
-IsTerm (reference Parentheses body) spelled rest = (spelled ≡ 36 ∷ 40 ∷ (body ++ 41 ∷ [])) × IsBalanced 40 41 body
-IsTerm (reference Braces body) spelled rest = (spelled ≡ 36 ∷ 123 ∷ (body ++ 125 ∷ [])) × IsBalanced 123 125 body
-IsTerm unclosed spelled rest =
+abbrev pub IsTerm : Returns → Piece → Text → Text → Type 0
+IsTerm returns (literal []) spelled rest = (spelled ≡ 36 ∷ []) × (rest ≡ [])
+IsTerm returns (literal (byte ∷ bytes)) spelled rest = (spelled ≡ byte ∷ bytes) × (count_of 36 spelled ≡ 0) × EndsRun rest
+IsTerm returns dollar spelled rest = spelled ≡ 36 ∷ 36 ∷ []
+IsTerm returns (reference Byte body) spelled rest = (spelled ≡ 36 ∷ body) × IsSingle returns body rest
+IsTerm returns (reference Parentheses body) spelled rest = (spelled ≡ 36 ∷ 40 ∷ (body ++ 41 ∷ [])) × IsBalanced 40 41 body
+IsTerm returns (reference Braces body) spelled rest = (spelled ≡ 36 ∷ 123 ∷ (body ++ 125 ∷ [])) × IsBalanced 123 125 body
+IsTerm returns unclosed spelled rest =
     (rest ≡ []) × ((tail : Text) × (((spelled ≡ 36 ∷ 40 ∷ tail) × IsUnclosed 40 41 tail) ⊎ ((spelled ≡ 36 ∷ 123 ∷ tail) × IsUnclosed 123 125 tail)))
 
 -- the text is the spellings of these terms put together
+abbrev pub IsSplittingIn : Returns → Text → List Piece → Type 0
+IsSplittingIn returns text [] = text ≡ []
+IsSplittingIn returns text (piece ∷ pieces) =
+    (spelled : Text) × (rest : Text) × (text ≡ spelled ++ rest) × IsTerm returns piece spelled rest × IsSplittingIn returns rest pieces
+
+-- the same for a text that is no line of a file
 abbrev pub IsSplitting : Text → List Piece → Type 0
-IsSplitting text [] = text ≡ []
-IsSplitting text (piece ∷ pieces) =
-    (spelled : Text) × (rest : Text) × (text ≡ spelled ++ rest) × IsTerm piece spelled rest × IsSplitting rest pieces
+IsSplitting text pieces = IsSplittingIn dropped text pieces
 
 -- each text has exactly one splitting, which `terms_of` computes
 abbrev pub OneSplitting : (Text → List Piece) → Type 0
@@ -94,32 +105,32 @@ referred mark text None = (unclosed, 1 + length text)
 referred mark text (Some place) = (reference mark (take place text), place + 2)
 
 -- the one-byte reference, and how many bytes it takes
-abbrev pub single : Text → Piece × ℕ
-single text = (reference Byte (take (unit_length text) text), unit_length text)
+abbrev pub single : Returns → Text → Piece × ℕ
+single returns text = (reference Byte (take (unit_length returns text) text), unit_length returns text)
 
 -- the term behind a dollar, and how many bytes it takes there
-unfoldable pub behind_dollar : Text → Piece × ℕ
-behind_dollar [] = (literal [], 0)
-behind_dollar (byte ∷ text) =
+unfoldable pub behind_dollar : Returns → Text → Piece × ℕ
+behind_dollar returns [] = (literal [], 0)
+behind_dollar returns (byte ∷ text) =
     if byte == 36 then (dollar, 1)
     else (if byte == 40 then referred Parentheses text (closing 40 41 0 0 text)
     else (if byte == 123 then referred Braces text (closing 123 125 0 0 text)
-    else single (byte ∷ text)))
+    else single returns (byte ∷ text)))
 
 -- the literal that begins with this byte, and how many more bytes it takes
 abbrev pub literal_run : ℕ → Text → Piece × ℕ
 literal_run byte text = let more = position_or_len (λ b. b == 36) text in (literal (byte ∷ take more text), more)
 
 -- the first term of a text that begins with this byte, and how many more bytes it takes
-unfoldable pub first_term : ℕ → Text → Piece × ℕ
-first_term byte text = if byte == 36 then behind_dollar text else literal_run byte text
+unfoldable pub first_term : Returns → ℕ → Text → Piece × ℕ
+first_term returns byte text = if byte == 36 then behind_dollar returns text else literal_run byte text
 
 -- the terms of what follows so many bytes
-unfoldable pub terms_after : ℕ → Text → List Piece
-terms_after skip [] = []
-terms_after (suc skip) (byte ∷ text) = terms_after skip text
-terms_after zero (byte ∷ text) = (first_term byte text).0 ∷ terms_after (first_term byte text).1 text
+unfoldable pub terms_after : Returns → ℕ → Text → List Piece
+terms_after returns skip [] = []
+terms_after returns (suc skip) (byte ∷ text) = terms_after returns skip text
+terms_after returns zero (byte ∷ text) = (first_term returns byte text).0 ∷ terms_after returns (first_term returns byte text).1 text
 
 -- the terms of a text, from left to right
 unfoldable pub terms_of : Text → List Piece
-terms_of text = terms_after 0 text
+terms_of text = terms_after dropped 0 text

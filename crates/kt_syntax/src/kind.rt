@@ -22,25 +22,39 @@ pub fn classify(text: &[u8], tab: bool) -> Form<'_>
         return Form::Blank;
     }
     match assignment(text, begin, end) {
-        Some((name, operator, value)) => {
-            Form::Assignment(&text[begin..name], operator, &text[value..])
-        }
+        Some(parts) => Form::Assignment(
+            &text[begin..parts.name],
+            parts.operator,
+            &text[parts.value..],
+        ),
         None => worded(text, begin, end, tab),
     }
 }
 
-// Where the name of an assignment ends, its operator, and where its value begins.
+// The places of an assignment's parts: where its name ends, and where its value begins.
+#[derive(Clone, Copy, Debug, PartialEq, Eq)]
+pub(crate) struct Parts {
+    pub name: usize,
+    pub operator: Operator,
+    pub value: usize,
+}
+
+// The parts of the assignment whose name begins at a place.
 #[tactic(auto, unfolding(crate::specs::Kinds::assignment_parts))]
-pub(crate) fn assignment(text: &[u8], begin: usize, end: usize) -> Option<(usize, Operator, usize)>
+pub(crate) fn assignment(text: &[u8], begin: usize, end: usize) -> Option<Parts>
     requires order { begin ≤ end }
     requires within { end ≤ length text.now }
-    ensures value { option_map (λ parts. record { name = parts.0; operator = parts.1; value = parts.2 }) result ≡ assignment_parts text.now (take end (mask_of text.now)) begin }
-    ensures bounds { IfSome result (λ parts. (begin ≤ parts.0) × (parts.0 ≤ length text.now) × (parts.2 ≤ length text.now)) }
+    ensures value { option_map (λ parts. record { name = parts.name; operator = parts.operator; value = parts.value }) result ≡ assignment_parts text.now (take end (mask_of text.now)) begin }
+    ensures bounds { IfSome result (λ parts. (begin ≤ parts.name) × (parts.name ≤ length text.now) × (parts.value ≤ length text.now)) }
 {
     let name = name_end(text, begin, end)?;
     let place = past_blanks(text, name, end);
     let (operator, size) = operator_of(&text[place..])?;
-    Some((name, operator, past_line_blanks(text, place + size)))
+    Some(Parts {
+        name,
+        operator,
+        value: past_line_blanks(text, place + size),
+    })
 }
 
 // Where the name of an assignment ends, if an operator may follow it.

@@ -6,7 +6,9 @@ ghost use Rattle.kt_syntax.specs.Assignments.{AssignmentLaw};
 ghost use Rattle.kt_syntax.specs.BlockRows.{RowsOfBlocks};
 ghost use Rattle.kt_syntax.specs.Blocks.{Items, blocks_of, tree_of};
 ghost use Rattle.kt_syntax.specs.Grammar.{IsTreeOf};
+ghost use Rattle.kt_syntax.specs.Masked.{MaskLaw};
 ghost use Rattle.kt_syntax.specs.Rows.{RowsOfKinds, RowsOfRules, RowsOfTerms, RowsOfTexts};
+ghost use Rattle.kt_syntax.specs.Signs.{SignLaw};
 
 /// By the grammar of blocks lines have exactly one tree and one missing end or none: the tree that
 /// the steps of their blocks stand for, and the end that is missing there.
@@ -44,4 +46,16 @@ pub fn rows_of_texts()
 /// that `classify` gives is that one, and where it gives none there is none.
 pub fn law_of_assignments()
     ensures { AssignmentLaw }
+{}
+
+/// A line has exactly one mask by its terms, which are of one splitting: inside at the bytes of
+/// references, a space at those of continuations in literals, and each other byte itself.
+pub fn law_of_masks()
+    ensures { MaskLaw }
+{}
+
+/// The comment of a line begins, and the colon of a head stands, where `classify` and `rule_parts`
+/// find them: at the first place of that kind, and nowhere where there is none.
+pub fn law_of_signs()
+    ensures { SignLaw }
 {}

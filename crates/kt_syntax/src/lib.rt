@@ -1,7 +1,6 @@
 //! The syntax of makefiles: terms of a text, kinds of lines, blocks of lines.
 #![tactic(auto)]
 
-mod blanks;
 mod comment;
 mod cut;
 mod flat;
@@ -12,7 +11,6 @@ mod mask;
 mod nesting;
 mod next_term;
 mod part;
-mod physical;
 mod places;
 mod recipe;
 mod role;

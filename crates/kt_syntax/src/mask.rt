@@ -2,6 +2,7 @@
 ghost use Rattle.std.specs.Prelude.{◌≡◌, ◌<◌, ◌≤◌, ◌∷◌, ◌+◌, List, ℕ, length, drop, take, slice_index};
 ghost use Rattle.std.specs.Iterator.{YieldsFirst, item_count};
 ghost use Rattle.kt_syntax.specs.Mask.{goes_odd, mask_byte, mask_from, mask_of, more_masked};
+ghost use Rattle.kt_syntax.specs.Terms.{behind_dollar, kept};
 
 use crate::next_term::behind_dollar;
 use std::marker::Model;
@@ -116,7 +117,7 @@ fn more_masked(odd: bool, byte: u8, text: &[u8]) -> usize
     ensures bound { result ≤ length text.now }
 {
     if byte == b'$' {
-        return behind_dollar(text).1;
+        return behind_mark(text);
     }
     if !goes_odd(odd, byte) {
         return 0;
@@ -125,6 +126,18 @@ fn more_masked(odd: bool, byte: u8, text: &[u8]) -> usize
         [b'\n', ..] => 1,
         [b'\r', b'\n', ..] => 2,
         _ => 0,
+    }
+}
+
+// How many bytes the term behind a dollar takes, of a continuation the carriage return as well.
+fn behind_mark(text: &[u8]) -> usize
+    ensures value { result ≡ (behind_dollar kept text.now).1 }
+    ensures bound { result ≤ length text.now }
+{
+    if text.starts_with(b"\\\r\n") {
+        3
+    } else {
+        behind_dollar(text).1
     }
 }
 

@@ -1,7 +1,7 @@
 //! The first term of a text.
 ghost use Rattle.std.specs.Prelude.{◌≡◌, ◌==◌, ◌+◌, ◌^◌, ◌∷◌, ◌<◌, ◌≤◌, [], length, MatchOption, IfSome};
 ghost use Rattle.std.specs.List.{position_or_len};
-ghost use Rattle.kt_syntax.specs.Terms.{behind_dollar, closing, first_term, piece_of, referred, terms_of, unit_length};
+ghost use Rattle.kt_syntax.specs.Terms.{behind_dollar, closing, dropped, first_term, piece_of, referred, terms_of, unit_length};
 
 use crate::term::{Mark, Term, Unterminated};
 use memchr::memchr;
@@ -24,8 +24,8 @@ fn first_term<'a>(
     rest: &'a [u8],
 ) -> (Result<Term<'a>, Unterminated>, usize)
     requires { text.now ≡ first ∷ rest.now }
-    ensures term { piece_of result.0 ≡ (first_term first rest.now).0 }
-    ensures taken { result.1 ≡ (first_term first rest.now).1 }
+    ensures term { piece_of result.0 ≡ (first_term dropped first rest.now).0 }
+    ensures taken { result.1 ≡ (first_term dropped first rest.now).1 }
     ensures within { result.1 ≤ length rest.now }
 {
     if first == b'$' {
@@ -46,8 +46,8 @@ fn literal_length(text: &[u8]) -> usize
 // The term behind a dollar, and how many bytes it takes there.
 #[tactic(auto, unfolding(crate::specs::Terms::behind_dollar))]
 pub(crate) fn behind_dollar(text: &[u8]) -> (Result<Term<'_>, Unterminated>, usize)
-    ensures term { piece_of result.0 ≡ (behind_dollar text.now).0 }
-    ensures taken { result.1 ≡ (behind_dollar text.now).1 }
+    ensures term { piece_of result.0 ≡ (behind_dollar dropped text.now).0 }
+    ensures taken { result.1 ≡ (behind_dollar dropped text.now).1 }
     ensures within { result.1 ≤ length text.now }
 {
     match text {
@@ -83,12 +83,11 @@ fn reference(
 // How many bytes stand for one: those of a continuation, or one.
 fn unit_length(text: &[u8]) -> usize
     requires { 0 < length text.now }
-    ensures value { result ≡ unit_length text.now }
+    ensures value { result ≡ unit_length dropped text.now }
     ensures bound { result ≤ length text.now }
 {
     match text {
         [b'\\', b'\n', ..] => 2,
-        [b'\\', b'\r', b'\n', ..] => 3,
         _ => 1,
     }
 }

@@ -1,10 +1,10 @@
 //! Recipe lines without their continuations.
 ghost use Rattle.std.specs.Prelude.{◌≡◌, ◌++◌, IfOk, OnOk};
+ghost use Rattle.kt_text.specs.Lines.{before_backslash};
 ghost use Rattle.kt_syntax.specs.Recipes.{begun, content, ended, joint_of, newline_after, recipe_line, recipe_of, space_before, without_tab};
 
-use crate::blanks::{trim_end, trim_start};
 use crate::mask::{INSIDE, Mask};
-use crate::physical::{before_backslash, is_continued, without_newline};
+use kt_text::{is_continued, line_content, trim_end, trim_start};
 use memchr::memchr;
 use std::alloc::{AllocError, Global};
 
@@ -80,8 +80,19 @@ fn content(after: Joint, line: &[u8]) -> &[u8]
 {
     match after {
         Joint::Edge => line,
-        Joint::Newline => without_newline(line),
+        Joint::Newline => line_content(line),
         Joint::Outside | Joint::Inside => before_backslash(line),
+    }
+}
+
+// A continued line without its newline and the backslash before that.
+fn before_backslash(line: &[u8]) -> &[u8]
+    ensures { result.now ≡ before_backslash line.now }
+{
+    let content = line_content(line);
+    match content {
+        [front @ .., _] => front,
+        [] => content,
     }
 }
 

@@ -11,7 +11,7 @@ use crate::places::{comment_place, is_blank, past_blanks, past_line_blanks};
 use thiserror::Error;
 
 /// The parts of a rule line, as they stand in the file.
-#[derive(Clone, Copy, Debug)]
+#[derive(Clone, Copy, Debug, PartialEq, Eq)]
 pub struct RuleParts<'a> {
     /// What stands before the first `;`; without one, the whole line with its comment.
     pub head: &'a [u8],

@@ -13,7 +13,7 @@ pub enum Mark {
 }
 
 /// A term of a text; its bytes are the text's own.
-#[derive(Clone, Copy, Debug)]
+#[derive(Clone, Copy, Debug, PartialEq, Eq)]
 pub enum Term<'a> {
     /// Bytes that stand for themselves. A dollar at the end of the text is one without bytes.
     Lit(&'a [u8]),

@@ -36,7 +36,7 @@ fn cuts_texts(rt: HostRuntime) -> Result<(), Fail> {
         (b"$\\#b", b"b[\\]l[#b]"),
         (b"$#$;", b"b[#]b[;]"),
         (b"a$\\\n b", b"l[a]b[\\\n]l[ b]"),
-        (b"a$\\\r\n b", b"l[a]b[\\\r\n]l[ b]"),
+        (b"a$\\\r\nb", b"l[a]b[\\]l[\r\nb]"),
         (b"a$\\\\\\\nb", b"l[a]b[\\]l[\\\\\nb]"),
         (b"$)", b"b[)]"),
     ];
@@ -78,7 +78,7 @@ fn kind_told(text: &[u8], tab: bool, rt: &HostRuntime) -> Result<Vec<u8>, Fail> 
 
 #[test]
 fn tells_kinds(rt: HostRuntime) -> Result<(), Fail> {
-    let rows: [(&[u8], bool, &[u8]); 44] = [
+    let rows: [(&[u8], bool, &[u8]); 45] = [
         (b"", false, b"b[][]"),
         (b" \t# x", false, b"b[][]"),
         (b"ifeq = 3", false, b"=[ifeq][3]"),
@@ -113,6 +113,7 @@ fn tells_kinds(rt: HostRuntime) -> Result<(), Fail> {
         (b"A \\\n += \\\n b", false, b"+[A][b]"),
         (b"-include\\\n a", false, b"S[a][]"),
         (b"$\\\nA = 1", false, b"=[$\\\nA][1]"),
+        (b"A$ \\\nB = 1", false, b"r[][]"),
         (b"define := y", false, b":[define][y]"),
         (b"define A = $(", false, b"d[A = $(][]"),
         (b"else ifeq(a,a)", false, b"E[ifeq(a,a)][]"),
@@ -255,9 +256,10 @@ fn joins_recipe_lines(rt: HostRuntime) -> Result<(), Fail> {
 
 #[test]
 fn joins_references_of_recipe_lines(rt: HostRuntime) -> Result<(), Fail> {
-    let rows: [(&[u8], &[u8]); 9] = [
+    let rows: [(&[u8], &[u8]); 10] = [
         (b"[$(subst a,b,x \\\n\\\ny)]", b"[$(subst a,b,x y)]"),
         (b"a$\\\n b", b"a$ b"),
+        (b"a$\\\r\n b", b"a$ b"),
         (b"[$\\\n  \\\n\tA]", b"[$ A]"),
         (b"[$\\\nA]", b"[$ A]"),
         (b"$(x \\\n y", b"$(x y"),

@@ -12,9 +12,9 @@ returns-then-begin-end c =
 
 pub returns-in-Some : goal.returns-in-Some
 returns-in-Some c =
-    ap (λ (value : List ℕ). assignment (slice_range c.args.text.now c.past_blanks-begin.result c.in-Some.name) c.in-Some.operator value) (take_rest c.args.text.now c.in-Some.value)
+    ap (λ (value : List ℕ). assignment (slice_range c.args.text.now c.past_blanks-begin.result c.in-Some.parts.name) c.in-Some.parts.operator value) (take_rest c.args.text.now c.in-Some.parts.value)
     ∙ kind_other c.args.text.now c.args.tab c.comment_place-end.result c.past_blanks-begin.result
-    (Some (record { name = c.in-Some.name; operator = c.in-Some.operator; value = c.in-Some.value })) c.comment_place-end.ensures.value c.comment_place-end.ensures.bound
+    (Some (record { name = c.in-Some.parts.name; operator = c.in-Some.parts.operator; value = c.in-Some.parts.value })) c.comment_place-end.ensures.value c.comment_place-end.ensures.bound
     c.past_blanks-begin.ensures.value c.if-begin-end.false c.in-Some.ensures.value
 
 pub returns-in-None : goal.returns-in-None

@@ -1,11 +1,10 @@
-use Rattle.std.proofs.Common.{◌≡◌, List, Option, length, ap, subst, sym, ◌∙◌}
+use Rattle.std.proofs.Common.{◌≡◌, List, Option, ap, subst, sym, ◌∙◌}
 use Rattle.std.proofs.lemmas.List.{length-map}
 use Rattle.kt_syntax.specs.declared.part.Missing.{Missing}
 use Rattle.kt_syntax.specs.declared.step.Step.{Step}
 use Rattle.kt_syntax.specs.Blocks.{Flat, blocks_of, tree_of}
 use Rattle.kt_syntax.specs.Grammar.{IsTreeOf}
 use Rattle.kt_syntax.specs.Parts.{nothing_open, parts_of}
-use Rattle.kt_syntax.specs.Reading.{AreReadable}
 use Rattle.kt_syntax.specs.Roles.{head_of, heads_of}
 use Rattle.kt_syntax.specs.Steps.{steps_from}
 use Rattle.kt_syntax.proofs.NestingLemmas.{length-parts}

@@ -1,11 +1,11 @@
 use Rattle.std.proofs.Common.{◌≡◌, ◌+◌, length, drop, take, ap, ◌∙◌, List, ℕ, arith}
 use Rattle.kt_syntax.specs.Mask.{mask_of}
-use Rattle.kt_syntax.proofs.Masking.{dropped, length-between}
+use Rattle.kt_syntax.proofs.Masking.{one_taken, length-between}
 use Rattle.kt_syntax.proofs.mask.Mask.between.Goals as goal
 
 pub loop-place-preserved : goal.loop-place-preserved
 loop-place-preserved c =
-    dropped c.loop-place.mask c.next.new.self (take c.args.end (mask_of c.args.text.now)) c.loop-place.place c.next.result c.next.ensures.steps c.loop-place.invariant
+    one_taken c.loop-place.mask c.next.new.self (take c.args.end (mask_of c.args.text.now)) c.loop-place.place c.next.result c.next.ensures.steps c.loop-place.invariant
 
 pub returns : goal.returns
 returns c =
