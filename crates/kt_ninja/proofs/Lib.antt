@@ -10,3 +10,11 @@ pub mod PrintedForms
 pub mod PrintedLines
 pub mod PrintedParts
 pub mod PrintThenRead
+pub mod JoinedLemmas
+pub mod TableLemmas
+pub mod PieceLemmas
+pub mod ScopeLemmas
+pub mod FormLemmas
+pub mod StateLemmas
+pub mod ReaderLemmas
+pub mod LineLemmas

@@ -1,5 +1,5 @@
 -- Values and paths as pieces (Ninja manual, "Lexical syntax": the escapes `$$`, `$ `, `$:`, `$name` and `${name}`).
-use Rattle.std.specs.Prelude.{ℕ, Bool, true, false, ◌==◌, ◌&&◌, ◌||◌, nat_le, List, [], ◌∷◌, ◌++◌, Option, Some, None, option_map, if◌then◌else◌}
+use Rattle.std.specs.Prelude.{ℕ, Bool, ◌==◌, ◌&&◌, ◌||◌, nat_le, List, [], ◌∷◌, ◌++◌, Option, Some, None, option_map, if◌then◌else◌}
 use Rattle.std.specs.Option.{option_and_then}
 use Rattle.kt_ninja.specs.declared.piece.Piece.{Piece}
 use Rattle.kt_ninja.specs.declared.piece.Piece.TheVariants.{Plain, Escaped, Variable}

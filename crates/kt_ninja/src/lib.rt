@@ -2,21 +2,32 @@
 #![tactic(auto)]
 
 mod block;
+mod bytes;
 mod checking;
 mod escapes;
+mod forms;
 mod joined;
 pub mod laws;
 mod memory;
 mod piece;
 mod plan;
 mod printer;
+mod read_fault;
+mod reader;
+mod scopes;
 mod sink;
+mod state;
+mod table;
 
 pub use checking::{Unwritable, writable};
 pub use memory::MemSink;
 pub use plan::{Made, Name, Plan, Statement};
 pub use printer::write_plan;
+pub use read_fault::ReadFault;
+pub use reader::read_plan;
 pub use sink::{Sink, SinkFault, WriteFault, put};
 
+#[cfg(test)]
+mod reader_tests;
 #[cfg(test)]
 mod tests;

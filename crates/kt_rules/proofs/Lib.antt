@@ -3,3 +3,13 @@ mod DotLemmas
 mod ReadingLemmas
 mod SeparationLemmas
 mod TestingLemmas
+pub mod IndexLemmas
+pub mod NameSetLemmas
+pub mod SlotLemmas
+pub mod FindLemmas
+pub mod StartLemmas
+pub mod BookLemmas
+pub mod GoalLemmas
+pub mod AddLemmas
+pub mod PatternLemmas
+pub mod CutLemmas

@@ -4,3 +4,10 @@ pub mod Refusals
 pub mod Names
 pub mod RuleLine
 pub mod Rows
+pub mod Suffixes
+pub mod Book
+pub mod Indexes
+pub mod Slots
+pub mod Patterns
+pub mod BookRows
+pub mod Cuts

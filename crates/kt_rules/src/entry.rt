@@ -147,6 +147,13 @@ impl Entry {
         }
     }
 
+    // What its targets need that no static pattern gives anything.
+    pub(crate) fn shared_needs(&self) -> &Needs
+        ensures { result.now ≡ self.now.needs }
+    {
+        &self.needs
+    }
+
     /// The lines of its recipe, if it has one.
     pub fn recipe(&self) -> Option<&[RecipeLine]>
         ensures { option_map (λ lines. lines.now) result ≡ self.now.recipe }

@@ -1,4 +1,6 @@
 //! Laws of the definitions. These functions do nothing: their contracts are what counts.
+ghost use Rattle.kt_rules.specs.BookRows.{RowsOfAdding, RowsOfAnswers, RowsOfPatternRules, RowsOfSuffixRules};
+ghost use Rattle.kt_rules.specs.Cuts.{CutsAtFirstColon, DropsDots};
 ghost use Rattle.kt_rules.specs.Rows.{RowsOfLines, RowsOfNames, RowsOfRefusals};
 
 /// Worked rule lines that are taken.
@@ -14,4 +16,34 @@ pub fn rows_of_refusals()
 /// Worked names.
 pub fn rows_of_names()
     ensures { RowsOfNames }
+{}
+
+/// Worked suffix rules.
+pub fn rows_of_suffix_rules()
+    ensures { RowsOfSuffixRules }
+{}
+
+/// Worked pattern rules.
+pub fn rows_of_pattern_rules()
+    ensures { RowsOfPatternRules }
+{}
+
+/// Worked additions to a book.
+pub fn rows_of_adding()
+    ensures { RowsOfAdding }
+{}
+
+/// Worked answers of a book.
+pub fn rows_of_answers()
+    ensures { RowsOfAnswers }
+{}
+
+/// The colon that divides a rule line is the first without a backslash directly before it.
+pub fn first_colon()
+    ensures { CutsAtFirstColon }
+{}
+
+/// Each leading `./` of a name goes with all slashes behind it, and nothing else.
+pub fn leading_dots()
+    ensures { DropsDots }
 {}

@@ -1,6 +1,7 @@
 //! The rules of a makefile.
 #![tactic(auto)]
 
+mod book;
 mod checking;
 mod cutting;
 mod entry;
@@ -15,6 +16,7 @@ mod refusal;
 mod refused;
 mod written;
 
+pub use book::{Book, Explicit, Pattern, TargetRule, Warnings};
 pub use entry::{Entry, Kind, Name, Needs, RecipeLine, Stemmed, Target};
 pub use fault::RuleFault;
 pub use name::without_dots;

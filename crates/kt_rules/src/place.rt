@@ -1,5 +1,5 @@
 //! A place in a makefile.
-ghost use Rattle.std.specs.Prelude.{◌≡◌, ◌++◌, IfOk, OnOk};
+ghost use Rattle.std.specs.Prelude.{◌≡◌, ◌++◌, IfOk, OnErr, OnOk};
 
 use itoa::Buffer;
 use kt_list::Shared;
@@ -15,7 +15,7 @@ pub struct Place {
 }
 
 impl Place {
-    ghost use Rattle.kt_rules.specs.Places.{place_text};
+    ghost use Rattle.kt_rules.specs.Places.{IsBegun, place_text};
 
     /// The same place; the file's name isn't copied.
     pub fn share(&self) -> Result<Place, AllocError>
@@ -29,7 +29,8 @@ impl Place {
 
     /// Appends `FILE:LINE`. Where memory is refused, the text holds a beginning of it more.
     pub fn append_to(&self, text: &mut Vec<u8>) -> Result<(), AllocError>
-        ensures { OnOk result (text.new.items ≡ text.old.items ++ place_text self.now) }
+        ensures appended { OnOk result (text.new.items ≡ text.old.items ++ place_text self.now) }
+        ensures refused { OnErr result (IsBegun self.now text.old.items text.new.items) }
     {
         let mut buffer = Buffer::new();
         text.extend_from_slice(self.file.as_slice())?;

@@ -1,0 +1,36 @@
+-- Maps and sets of names, as lists.
+use Rattle.std.proofs.Common.{◌≡◌, ℕ, List, [], ◌∷◌, ◌++◌, refl, ap, map, ⊎_elim}
+use Rattle.std.proofs.lemmas.Bool.{cases_Bool}
+use Rattle.std.specs.List.{list_any}
+use Rattle.std.specs.Str.{bytes_eq}
+use Rattle.std.specs.Map.{lookup}
+use Rattle.std.specs.declared.vec.Vec.{Vec}
+use Rattle.std.specs.declared.alloc.Global.{Global}
+use Rattle.indexmap.specs.IndexMap.{insert_entry}
+use Rattle.kt_ninja.specs.Scopes.{find_in, put_in}
+use Rattle.kt_ninja.specs.Writable.{is_among}
+
+-- bytes that a vector holds
+abbrev pub Bytes : Type 0
+Bytes = Vec ℕ Global
+
+pub find_in_entries : {V : Type 0} (entries : List (Bytes × V)) (name : List ℕ)
+    → find_in (map (λ e. (e.0.items, e.1)) entries) name ≡ lookup (λ k. bytes_eq name k.items) entries
+unfolding find_in
+find_in_entries [] name = refl
+find_in_entries (e ∷ es) name = ⊎_elim (λ h. rw h refl) (λ h. rw h (find_in_entries es name)) (cases_Bool (bytes_eq name e.0.items))
+
+pub put_in_entries : {V : Type 0} (entries : List (Bytes × V)) (name : Bytes) (value : V)
+    → map (λ e. (e.0.items, e.1)) (insert_entry (λ j k. bytes_eq j.items k.items) entries name value) ≡ put_in (map (λ e. (e.0.items, e.1)) entries) name.items value
+unfolding put_in
+put_in_entries [] name value = refl
+put_in_entries (e ∷ es) name value =
+    ⊎_elim (λ h. rw h refl) (λ h. rw h (ap (λ later. (e.0.items, e.1) ∷ later) (put_in_entries es name value))) (cases_Bool (bytes_eq name.items e.0.items))
+
+pub among_keys : (keys : List Bytes) (name : List ℕ) → is_among (map (λ key. key.items) keys) name ≡ list_any (λ key. bytes_eq name key.items) keys
+among_keys [] name = refl
+among_keys (k ∷ ks) name = ⊎_elim (λ h. rw h refl) (λ h. rw h (among_keys ks name)) (cases_Bool (bytes_eq name k.items))
+
+pub insert_keys : (keys : List Bytes) (name : Bytes) → map (λ key. key.items) (keys ++ name ∷ []) ≡ map (λ key. key.items) keys ++ name.items ∷ []
+insert_keys [] name = refl
+insert_keys (k ∷ ks) name = ap (λ later. k.items ∷ later) (insert_keys ks name)

@@ -1,0 +1,18 @@
+use Rattle.std.proofs.lemmas.Bool.{ne_eqb}
+use Rattle.kt_ninja.proofs.PieceLemmas.{brace_cut, brace_end, brace_empty, brace_other}
+use Rattle.kt_ninja.proofs.piece.variable_in_braces.Goals as goal
+
+pub returns-then-length-eq0 : goal.returns-then-length-eq0
+returns-then-length-eq0 c = brace_empty c.args.text.now c.long_name_length-length.result c.long_name_length-length.ensures.value c.if-length-eq0.true
+
+pub returns-in_default : goal.returns-in_default
+returns-in_default c = brace_end c.args.text.now c.split_at.result.1.now c.long_name_length-length.result c.long_name_length-length.ensures.value c.split_at.ensures.back c.in_default.ensures
+
+pub returns-then-byte-ne125 : goal.returns-then-byte-ne125
+returns-then-byte-ne125 c =
+    brace_other c.args.text.now c.split_at.result.1.now _ c.long_name_length-length.result c.in-Some.byte c.long_name_length-length.ensures.value c.split_at.ensures.back c.in-Some.ensures (ne_eqb _ _ c.if-byte-ne125.true)
+
+pub returns : goal.returns
+returns c =
+    brace_cut c.args.text.now c.split_at.result.0.now c.split_at.result.1.now _ c.long_name_length-length.result c.in-Some.byte c.in_ok-variable.field-0 c.long_name_length-length.ensures.value c.long_name_length-length.ensures.bound c.if-length-eq0.false
+    c.split_at.ensures.front c.split_at.ensures.back c.in-Some.ensures c.if-byte-ne125.false c.in_ok-variable.ensures.0 c.in_ok-variable.ensures.1

@@ -1,0 +1,67 @@
+-- Words and names, one after another, and what the forms of a line tell (the reader's own).
+use Rattle.std.specs.Prelude.{ℕ, List, [], ◌∷◌, map, Option, Some, None, option_map, if◌then◌else◌}
+use Rattle.std.specs.Borrow.{Bor}
+use Rattle.std.specs.Option.{option_and_then}
+use Rattle.kt_ninja.specs.declared.forms.Binding.{Binding as ReadBinding}
+use Rattle.kt_ninja.specs.declared.forms.Build.{Build as ReadBuild}
+use Rattle.kt_ninja.specs.declared.forms.Inputs.{Inputs as ReadInputs}
+use Rattle.kt_ninja.specs.declared.piece.Piece.{Piece}
+use Rattle.kt_ninja.specs.declared.piece.Piece.TheVariants.{Plain, Escaped, Variable}
+use Rattle.kt_ninja.specs.JoinedLines.{Text}
+use Rattle.kt_ninja.specs.Pieces.{is_long_name_byte}
+use Rattle.kt_ninja.specs.Forms.{Binding, Build, Inputs, Pieces, begins_with_at, is_keyword, name_in, words_of}
+
+-- borrowed parts of a line, as what they hold
+abbrev pub told : List (Bor Pieces) → List Pieces
+told words = map (λ word. word.now) words
+
+-- the word, if it has a piece
+abbrev pub some_word : Pieces → List Pieces
+some_word [] = []
+some_word (p ∷ ps) = (p ∷ ps) ∷ []
+
+-- the byte of a name that a piece is
+abbrev pub name_byte : Piece → Option ℕ
+name_byte (Plain b) = if is_long_name_byte b then Some b else None
+name_byte (Escaped b) = None
+name_byte (Variable name) = None
+
+-- the name that stands before `=`, if it is no keyword
+abbrev pub not_keyword : Text → Option Text
+not_keyword name = if is_keyword name then None else Some name
+
+unfoldable pub key_of : Pieces → Option Text
+key_of ps = option_and_then not_keyword (name_in (words_of ps))
+
+-- the two parts, if there are two
+abbrev pub two_of : List Pieces → Option (Pieces × Pieces)
+two_of (first ∷ second ∷ []) = Some (first, second)
+two_of _ = None
+
+-- what stands behind two bars, between which there is nothing
+abbrev pub two_bars : List Pieces → Option Pieces
+two_bars ([] ∷ order ∷ []) = Some order
+two_bars _ = None
+
+-- what stands behind one bar and behind two, where the first part is there
+abbrev pub bars_behind : Pieces → List Pieces → Option (Pieces × Pieces)
+bars_behind implicit [] = Some (implicit, [])
+bars_behind [] (part ∷ parts) = option_map (λ order. ([], order)) (two_bars ([] ∷ part ∷ parts))
+bars_behind (p ∷ ps) (part ∷ parts) = option_map (λ order. (p ∷ ps, order)) (two_bars (part ∷ parts))
+
+-- the same for any parts
+abbrev pub bars_cut : List Pieces → Option (Pieces × Pieces)
+bars_cut [] = Some ([], [])
+bars_cut (implicit ∷ parts) = if begins_with_at implicit then None else bars_behind implicit parts
+
+-- the binding that was read
+abbrev pub binding_told : ReadBinding → Binding
+binding_told b = record { key = b.key; value = b.value }
+
+-- the inputs that were read
+abbrev pub inputs_told : ReadInputs → Inputs
+inputs_told i = record { explicit = told i.explicit.items; implicit = told i.implicit.items; order_only = told i.order_only.items }
+
+-- the build line that was read
+abbrev pub build_told : ReadBuild → Build
+build_told b = record { outs = told b.outs.items; rule_name = b.rule.items; inputs = inputs_told b.inputs }

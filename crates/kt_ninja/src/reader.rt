@@ -1,0 +1,291 @@
+//! Reading a Ninja file.
+ghost use Rattle.std.specs.Prelude.{◌≡◌, ◌≤◌, ◌∷◌, [], true, false, not, nat_eq, drop, length, map, MatchOption, MatchResult, Ok, Some};
+ghost use Rattle.std.specs.List.{list_all, prefix_len, starts_with};
+ghost use Rattle.kt_ninja.specs.declared.plan.Plan.{Plan as PlanRead};
+ghost use Rattle.kt_ninja.specs.declared.read_fault.ReadFault.TheVariants.{Memory as MemoryRefused};
+ghost use Rattle.kt_ninja.specs.NinjaRead.{all_parts, begins_part, block_of, cut_lines, is_file_byte, is_sound, ninja_read, nothing_read, read_part, read_parts};
+ghost use Rattle.kt_ninja.specs.Reading.{Adds, Misreads, Stops, build_line, default_line, fault_at, line_binding, margin_line, part_before, part_of, read_text, rule_line};
+ghost use Rattle.kt_ninja.specs.Refusals.{Refuses};
+ghost use Rattle.kt_ninja.specs.Text.{plan_text};
+ghost use Rattle.kt_ninja.specs.Wording.{binding_told};
+ghost use Rattle.kt_ninja.specs.Writable.{IsWritable, is_empty};
+
+use crate::bytes::first_byte;
+use crate::forms::{Binding, binding_of, build_of, defaults_of, rule_name};
+use crate::joined::{Line, is_blank, is_comment, joined_lines};
+use crate::piece::pieces;
+use crate::plan::Plan;
+use crate::read_fault::{Fault, ReadFault};
+use crate::state::State;
+use std::alloc::Global;
+
+// Whether the line begins a part of the file: it isn't empty, and begins with neither a space nor `#`.
+fn begins_part(line: &Line) -> bool
+    ensures { result ≡ begins_part line.now.text }
+{
+    match first_byte(line.text.as_slice()) {
+        Some((byte, _)) => !matches!(byte, b' ' | b'#'),
+        None => false,
+    }
+}
+
+fn is_file_byte(byte: u8) -> bool
+    ensures { result ≡ is_file_byte byte }
+{
+    !matches!(byte, b'\r' | 0)
+}
+
+fn all_file_bytes(text: &[u8]) -> bool
+    ensures { result ≡ list_all is_file_byte text.now }
+{
+    text.iter().all(|byte| is_file_byte(*byte))
+}
+
+// Whether the file can have the line: it ends, and has no byte that is refused.
+fn is_sound(line: &Line) -> bool
+    ensures { result ≡ is_sound line.now }
+{
+    line.ended && all_file_bytes(line.text.as_slice())
+}
+
+fn all_sound(lines: &[Line]) -> bool
+    ensures { result ≡ list_all is_sound lines.now }
+{
+    lines.iter().all(|line| is_sound(line))
+}
+
+fn no_bindings(block: &[Binding]) -> bool
+    ensures { result ≡ is_empty (map binding_told block.now) }
+{
+    block.is_empty()
+}
+
+// The binding that a line is.
+fn line_binding(alloc: Global, text: &[u8]) -> Result<Binding, Fault>
+    ensures { MatchResult result (λ binding. line_binding text.now ≡ Some (binding_told binding)) (Refuses (line_binding text.now)) }
+{
+    let pieces = pieces(alloc, text)?;
+    binding_of(alloc, pieces)
+}
+
+// Adds a line to a block, and answers whether the block is closed behind it.
+fn add_line(
+    alloc: Global,
+    closed: bool,
+    bindings: &mut Vec<Binding>,
+    line: &Line,
+) -> Result<bool, Fault>
+    ensures { MatchResult result (λ now. Adds closed (map binding_told bindings.old.items) line.now now (map binding_told bindings.new.items)) (Stops closed line.now) }
+{
+    let text = line.text.as_slice();
+    if is_comment(text) {
+        return Ok(closed);
+    }
+    if is_blank(text) {
+        return Ok(true);
+    }
+    if closed {
+        return Err(Fault::NoReading);
+    }
+    bindings.push(line_binding(alloc, text)?)?;
+    Ok(false)
+}
+
+// The bindings of a block.
+fn block(alloc: Global, body: &[Line]) -> Result<Vec<Binding>, Fault>
+    ensures { MatchResult result (λ block. block_of body.now ≡ Some (map binding_told block.items)) (Refuses (block_of body.now)) }
+{
+    let mut bindings = Vec::new(alloc);
+    let mut closed = false;
+    for line in body {
+        closed = add_line(alloc, closed, &mut bindings, line)?;
+    }
+    Ok(bindings)
+}
+
+// What stands behind `rule`.
+fn read_rule_line(
+    alloc: Global,
+    state: State,
+    block: Vec<Binding>,
+    text: &[u8],
+) -> Result<State, Fault>
+    ensures { MatchResult result (λ next. rule_line state (map binding_told block.items) text.now ≡ Some next) (Refuses (rule_line state (map binding_told block.items) text.now)) }
+{
+    let pieces = pieces(alloc, text)?;
+    let name = rule_name(alloc, pieces.as_slice())?;
+    state.read_rule(name, block)
+}
+
+// What stands behind `build`.
+fn read_build_line(
+    alloc: Global,
+    state: State,
+    block: &[Binding],
+    text: &[u8],
+) -> Result<State, Fault>
+    ensures { MatchResult result (λ next. build_line state (map binding_told block.now) text.now ≡ Some next) (Refuses (build_line state (map binding_told block.now) text.now)) }
+{
+    let pieces = pieces(alloc, text)?;
+    let build = build_of(alloc, pieces.as_slice())?;
+    state.read_build(&build, block)
+}
+
+// What stands behind `default`, which has no block.
+fn read_default_line(
+    alloc: Global,
+    state: State,
+    block: &[Binding],
+    text: &[u8],
+) -> Result<State, Fault>
+    ensures { MatchResult result (λ next. default_line state (map binding_told block.now) text.now ≡ Some next) (Refuses (default_line state (map binding_told block.now) text.now)) }
+{
+    if !no_bindings(block) {
+        return Err(Fault::NoReading);
+    }
+    let pieces = pieces(alloc, text)?;
+    let paths = defaults_of(alloc, pieces.as_slice())?;
+    state.read_default(paths.as_slice())
+}
+
+// A binding at the margin, which has no block.
+fn read_margin_line(
+    alloc: Global,
+    state: State,
+    block: &[Binding],
+    text: &[u8],
+) -> Result<State, Fault>
+    ensures { MatchResult result (λ next. margin_line state (map binding_told block.now) text.now ≡ Some next) (Refuses (margin_line state (map binding_told block.now) text.now)) }
+{
+    if !no_bindings(block) {
+        return Err(Fault::NoReading);
+    }
+    let binding = line_binding(alloc, text)?;
+    Ok(state.bind(binding)?)
+}
+
+// What stands behind the keyword, if the text begins with it.
+fn behind<'t>(keyword: &[u8], text: &'t [u8]) -> Option<&'t [u8]>
+    ensures { MatchOption result (starts_with nat_eq text.now keyword.now ≡ false) (λ rest. (starts_with nat_eq text.now keyword.now ≡ true) × (rest.now ≡ drop (length keyword.now) text.now)) }
+{
+    if text.starts_with(keyword) {
+        Some(&text[keyword.len()..])
+    } else {
+        None
+    }
+}
+
+// A line at the margin, with the block below it.
+#[tactic(auto, unfolding(crate::specs::Forms::form_of))]
+fn read_text(alloc: Global, state: State, block: Vec<Binding>, text: &[u8]) -> Result<State, Fault>
+    ensures { MatchResult result (λ next. read_text state (map binding_told block.items) text.now ≡ Some next) (Refuses (read_text state (map binding_told block.items) text.now)) }
+{
+    if let Some(rest) = behind(b"rule ", text) {
+        return read_rule_line(alloc, state, block, rest);
+    }
+    if let Some(rest) = behind(b"build ", text) {
+        return read_build_line(alloc, state, block.as_slice(), rest);
+    }
+    if let Some(rest) = behind(b"default ", text) {
+        return read_default_line(alloc, state, block.as_slice(), rest);
+    }
+    read_margin_line(alloc, state, block.as_slice(), text)
+}
+
+// The lines before the first that begins a part.
+#[tactic(auto, unfolding(crate::specs::NinjaRead::read_part))]
+fn read_before(alloc: Global, body: &[Line]) -> Result<(), Fault>
+    ensures { MatchResult result (λ _. read_part nothing_read (part_before body.now) ≡ Some nothing_read) (Refuses (read_part nothing_read (part_before body.now))) }
+{
+    if !all_sound(body) {
+        return Err(Fault::NoReading);
+    }
+    let block = block(alloc, body)?;
+    if no_bindings(block.as_slice()) {
+        Ok(())
+    } else {
+        Err(Fault::NoReading)
+    }
+}
+
+// A part of the file: the line that begins it, and the lines up to the next such line.
+#[tactic(auto, unfolding(crate::specs::NinjaRead::read_part))]
+fn read_part(alloc: Global, state: State, head: &Line, body: &[Line]) -> Result<State, Fault>
+    ensures { MatchResult result (λ next. read_part state (part_of head.now body.now) ≡ Some next) (Refuses (read_part state (part_of head.now body.now))) }
+{
+    if !is_sound(head) || !all_sound(body) {
+        return Err(Fault::NoReading);
+    }
+    let block = block(alloc, body)?;
+    read_text(alloc, state, block, head.text.as_slice())
+}
+
+// How many lines there are before the next that begins a part.
+fn body_length(lines: &[Line]) -> usize
+    ensures value { result ≡ prefix_len (λ line. not (begins_part line.text)) lines.now }
+    ensures bound { result ≤ length lines.now }
+{
+    lines.iter().take_while(|line| !begins_part(line)).count()
+}
+
+fn fault_at(number: u64, fault: Fault) -> ReadFault
+    ensures { result ≡ fault_at number fault }
+{
+    match fault {
+        Fault::NoReading => ReadFault::NotNinja(number),
+        Fault::Memory => ReadFault::Memory,
+    }
+}
+
+// The parts of the file, where no line stands before the first.
+fn read_parts(alloc: Global, parts: &[Line]) -> Result<State, ReadFault>
+    requires { (cut_lines parts.now).before ≡ [] }
+    ensures { MatchResult result (λ state. read_parts nothing_read (cut_lines parts.now).parts ≡ Ok state) (Misreads (read_parts nothing_read (cut_lines parts.now).parts)) }
+{
+    let mut state = State::new(alloc);
+    let mut rest = parts;
+    while let Some((head, after)) = rest.split_first() {
+        let (body, later) = after.split_at(body_length(after));
+        match read_part(alloc, state, head, body) {
+            Ok(next) => state = next,
+            Err(fault) => return Err(fault_at(head.number, fault)),
+        }
+        rest = later;
+    }
+    Ok(state)
+}
+
+// All lines of the file.
+fn read_lines(alloc: Global, lines: &[Line]) -> Result<State, ReadFault>
+    ensures { MatchResult result (λ state. read_parts nothing_read (all_parts (cut_lines lines.now)) ≡ Ok state) (Misreads (read_parts nothing_read (all_parts (cut_lines lines.now)))) }
+{
+    let (before, parts) = lines.split_at(body_length(lines));
+    if let Err(fault) = read_before(alloc, before) {
+        return Err(fault_at(1, fault));
+    }
+    read_parts(alloc, parts)
+}
+
+#[tactic(auto, unfolding(crate::specs::NinjaRead::ninja_read))]
+fn read(alloc: Global, text: &[u8]) -> Result<Plan, ReadFault>
+    ensures { MatchResult result (λ plan. ninja_read text.now ≡ Ok plan) (Misreads (ninja_read text.now)) }
+{
+    let Ok(lines) = joined_lines(alloc, text) else {
+        return Err(ReadFault::Memory);
+    };
+    let state = read_lines(alloc, lines.as_slice())?;
+    match state.into_plan() {
+        Ok(plan) => Ok(plan),
+        Err(_) => Err(ReadFault::Memory),
+    }
+}
+
+/// Reads a Ninja file (Ninja manual, "Ninja file reference").
+///
+/// What a plan is printed as is read as that plan.
+pub fn read_plan(alloc: Global, text: &[u8]) -> Result<Plan, ReadFault>
+    ensures read { MatchResult result (λ plan. ninja_read text.now ≡ Ok plan) (Misreads (ninja_read text.now)) }
+    ensures printed { (plan : PlanRead) → IsWritable plan → text.now ≡ plan_text plan → MatchResult result (λ again. again ≡ plan) (λ fault. fault ≡ MemoryRefused) }
+{
+    read(alloc, text)
+}

@@ -1,0 +1,187 @@
+//! Variables and what they stand for.
+ghost use Rattle.std.specs.Prelude.{◌≡◌, ◌∷◌, ◌++◌, IfOk, OnOk, map};
+ghost use Rattle.std.specs.List.{list_all, flat_map};
+ghost use Rattle.kt_ninja.specs.Scopes.{byte_in_quotes, command_value, expanded, is_shell_safe, piece_text, shell_word, shell_words, value_in, value_within};
+
+use crate::piece::Piece;
+use crate::plan::Name;
+use crate::table::Table;
+use kt_list::Sequence;
+use std::alloc::{AllocError, Global};
+
+/// The values of variables.
+pub(crate) type Scope = Table<Sequence<u8>>;
+
+/// Where the variables of a path or a value are looked up.
+#[derive(Clone, Copy)]
+pub(crate) struct Scopes<'a> {
+    pub(crate) block: &'a Scope,
+    pub(crate) file: &'a Scope,
+}
+
+impl<'a> Scopes<'a> {
+    fn value(&self, name: &[u8]) -> &'a [u8]
+        ensures { result.now ≡ value_within self.now.block.now self.now.file.now name.now }
+    {
+        match self.block.get(name) {
+            Some(value) => value.as_slice(),
+            None => value_in(self.file, name),
+        }
+    }
+}
+
+fn value_in<'a>(scope: &'a Scope, name: &[u8]) -> &'a [u8]
+    ensures { result.now ≡ value_in scope.now name.now }
+{
+    match scope.get(name) {
+        Some(value) => value.as_slice(),
+        None => &[],
+    }
+}
+
+/// What the pieces stand for.
+#[tactic(auto, unfolding(crate::specs::Scopes::expanded))]
+pub(crate) fn expanded(
+    alloc: Global,
+    pieces: &[Piece],
+    scopes: Scopes,
+) -> Result<Vec<u8>, AllocError>
+    ensures { IfOk result (λ text. text.items ≡ expanded (value_within scopes.entry.block.now scopes.entry.file.now) pieces.now) }
+{
+    let mut text = Vec::new(alloc);
+    for piece in pieces {
+        add_piece(&mut text, piece, scopes)?;
+    }
+    Ok(text)
+}
+
+// Adds what a piece stands for.
+fn add_piece(text: &mut Vec<u8>, piece: &Piece, scopes: Scopes) -> Result<(), AllocError>
+    ensures { OnOk result (text.new.items ≡ text.old.items ++ piece_text (value_within scopes.entry.block.now scopes.entry.file.now) piece.now) }
+{
+    match piece {
+        Piece::Plain(byte) | Piece::Escaped(byte) => Ok(text.push(*byte)?),
+        Piece::Variable(name) => text.extend_from_slice(scopes.value(name.as_slice())),
+    }
+}
+
+fn is_shell_safe(byte: u8) -> bool
+    ensures { result ≡ is_shell_safe byte }
+{
+    byte.is_ascii_alphanumeric() || matches!(byte, b'_' | b'+' | b'-' | b'.' | b'/')
+}
+
+fn all_shell_safe(path: &[u8]) -> bool
+    ensures { result ≡ list_all is_shell_safe path.now }
+{
+    path.iter().all(|byte| is_shell_safe(*byte))
+}
+
+// Adds a byte of single quotes.
+fn add_quoted_byte(text: &mut Vec<u8>, byte: u8) -> Result<(), AllocError>
+    ensures { OnOk result (text.new.items ≡ text.old.items ++ byte_in_quotes byte) }
+{
+    if byte == b'\'' {
+        text.extend_from_slice(b"'\\''")
+    } else {
+        Ok(text.push(byte)?)
+    }
+}
+
+// Adds the bytes of single quotes.
+fn add_quoted(text: &mut Vec<u8>, path: &[u8]) -> Result<(), AllocError>
+    ensures { OnOk result (text.new.items ≡ text.old.items ++ flat_map byte_in_quotes path.now) }
+{
+    for byte in path {
+        add_quoted_byte(text, *byte)?;
+    }
+    Ok(())
+}
+
+// Adds a path as one word of a shell.
+#[tactic(auto, unfolding(crate::specs::Scopes::shell_word))]
+fn add_shell_word(text: &mut Vec<u8>, path: &[u8]) -> Result<(), AllocError>
+    ensures { OnOk result (text.new.items ≡ text.old.items ++ shell_word path.now) }
+{
+    if all_shell_safe(path) {
+        return text.extend_from_slice(path);
+    }
+    text.push(b'\'')?;
+    add_quoted(text, path)?;
+    Ok(text.push(b'\'')?)
+}
+
+// Adds paths as words of a shell, each behind a byte.
+fn add_later_words(text: &mut Vec<u8>, between: u8, paths: &[Name]) -> Result<(), AllocError>
+    ensures { OnOk result (text.new.items ≡ text.old.items ++ flat_map (λ path. between ∷ shell_word path) paths.now) }
+{
+    for path in paths {
+        text.push(between)?;
+        add_shell_word(text, path.as_slice())?;
+    }
+    Ok(())
+}
+
+// Adds paths as words of a shell, with a byte between them.
+fn add_shell_words(text: &mut Vec<u8>, between: u8, paths: &[Name]) -> Result<(), AllocError>
+    ensures { OnOk result (text.new.items ≡ text.old.items ++ shell_words between paths.now) }
+{
+    match paths.split_first() {
+        None => Ok(()),
+        Some((first, later)) => {
+            add_shell_word(text, first.as_slice())?;
+            add_later_words(text, between, later)
+        }
+    }
+}
+
+/// What the command of a rule may name.
+#[derive(Clone, Copy)]
+pub(crate) struct CommandScopes<'a> {
+    pub(crate) inputs: &'a [Name],
+    pub(crate) outs: &'a [Name],
+    pub(crate) scopes: Scopes<'a>,
+}
+
+impl<'a> CommandScopes<'a> {
+    #[tactic(auto, unfolding(crate::specs::Scopes::command_value))]
+    fn add_value(&self, text: &mut Vec<u8>, name: &[u8]) -> Result<(), AllocError>
+        ensures { OnOk result (text.new.items ≡ text.old.items ++ command_value self.now.inputs.now self.now.outs.now self.now.scopes.block.now self.now.scopes.file.now name.now) }
+    {
+        if name == b"in".as_slice() {
+            add_shell_words(text, b' ', self.inputs)
+        } else if name == b"in_newline".as_slice() {
+            add_shell_words(text, b'\n', self.inputs)
+        } else if name == b"out".as_slice() {
+            add_shell_words(text, b' ', self.outs)
+        } else {
+            text.extend_from_slice(self.scopes.value(name))
+        }
+    }
+
+    // Adds what a piece of the command stands for.
+    fn add_piece(&self, text: &mut Vec<u8>, piece: &Piece) -> Result<(), AllocError>
+        ensures { OnOk result (text.new.items ≡ text.old.items ++ piece_text (command_value self.now.inputs.now self.now.outs.now self.now.scopes.block.now self.now.scopes.file.now) piece.now) }
+    {
+        match piece {
+            Piece::Plain(byte) | Piece::Escaped(byte) => Ok(text.push(*byte)?),
+            Piece::Variable(name) => self.add_value(text, name.as_slice()),
+        }
+    }
+}
+
+/// The command line that a rule's command is for a statement.
+#[tactic(auto, unfolding(crate::specs::Scopes::expanded))]
+pub(crate) fn command_line(
+    alloc: Global,
+    command: &[Piece],
+    scopes: CommandScopes,
+) -> Result<Vec<u8>, AllocError>
+    ensures { IfOk result (λ text. text.items ≡ expanded (command_value scopes.entry.inputs.now scopes.entry.outs.now scopes.entry.scopes.block.now scopes.entry.scopes.file.now) command.now) }
+{
+    let mut text = Vec::new(alloc);
+    for piece in command {
+        scopes.add_piece(&mut text, piece)?;
+    }
+    Ok(text)
+}

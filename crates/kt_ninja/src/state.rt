@@ -1,0 +1,447 @@
+//! What was read of a Ninja file so far.
+ghost use Rattle.std.specs.Prelude.{◌≡◌, ◌++◌, [], true, codes, is_some, map, IfOk, MatchResult, Some};
+ghost use Rattle.std.specs.List.{list_all};
+ghost use Rattle.std.specs.Str.{bytes_eq};
+ghost use Rattle.kt_ninja.specs.NinjaRead.{add_defaults, add_statement, are_new, bind, block_scope, making_of, nothing_read, paths_in, plan_of, read_build, read_default, read_rule, rule_command, statement_of, stated_with};
+ghost use Rattle.kt_ninja.specs.Scopes.{expanded, find_in, refers_to, value_in, value_within};
+ghost use Rattle.kt_ninja.specs.Holding.{Fails, block_with, made_as, making_as, path_in};
+ghost use Rattle.kt_ninja.specs.Wording.{binding_told, build_told, told};
+ghost use Rattle.kt_ninja.specs.Refusals.{Refuses};
+ghost use Rattle.kt_ninja.specs.Writable.{is_among};
+
+use crate::forms::{Binding, Build};
+use crate::piece::Piece;
+use crate::plan::{Made, Name, Plan, Statement};
+use crate::read_fault::Fault;
+use crate::scopes::{CommandScopes, Scope, Scopes, command_line, expanded};
+use crate::table::{Names, Table};
+use kt_list::{Sequence, Shared};
+use std::alloc::{AllocError, Global};
+use std::marker::Model;
+
+/// How the outputs of a statement are made.
+#[derive(Drop)]
+enum Making {
+    ByNothing,
+    /// By a command of the statement's own.
+    ByOwn(Sequence<u8>),
+    /// By its rule's command, with the scope of its block.
+    ByRule(Shared<Piece>),
+}
+
+/// A statement whose command may not be known yet: it looks up variables as the file leaves them.
+#[derive(Drop)]
+struct Stated {
+    outs: Sequence<Name>,
+    making: Making,
+    block: Scope,
+    inputs: Sequence<Name>,
+    implicit: Sequence<Name>,
+    order_only: Sequence<Name>,
+}
+
+impl Model for Stated {
+    ghost use Rattle.kt_ninja.specs.NinjaRead.{Stated as ReadStatement};
+
+    ghost Value = { ReadStatement };
+
+    ghost use Rattle.kt_ninja.specs.Holding.{making_as};
+
+    ghost view = { λ s. record { outs = s.outs; making = making_as s.block s.making; inputs = s.inputs; implicit = s.implicit; order_only = s.order_only } };
+}
+
+/// The variables of the file, the commands of its rules, its statements with their outputs, and the default targets.
+#[derive(Drop)]
+pub(crate) struct State {
+    alloc: Global,
+    file: Scope,
+    rules: Table<Shared<Piece>>,
+    stated: Vec<Stated>,
+    outs: Names,
+    defaults: Vec<Name>,
+}
+
+impl Model for State {
+    ghost use Rattle.std.specs.Prelude.{◌≡◌};
+    ghost use Rattle.kt_ninja.specs.NinjaRead.{State as ReadState, outs_of};
+
+    ghost Value = { ReadState };
+
+    ghost view = { λ s. record { file = s.file; rules = s.rules; stated = s.stated.items; defaults = s.defaults.items } };
+
+    ghost invariant = { λ s. s.outs ≡ outs_of s.stated.items };
+}
+
+fn is_command(name: &[u8]) -> bool
+    ensures { result ≡ bytes_eq name.now (codes "command") }
+{
+    name == b"command".as_slice()
+}
+
+fn refers_to_command(pieces: &[Piece]) -> bool
+    ensures { result ≡ refers_to (bytes_eq (codes "command")) pieces.now }
+{
+    pieces.iter().any(|piece| match piece {
+        Piece::Variable(name) => b"command".as_slice() == name.as_slice(),
+        Piece::Plain(_) | Piece::Escaped(_) => false,
+    })
+}
+
+// The command of a rule's block: its one binding.
+fn rule_command(block: Vec<Binding>) -> Result<Shared<Piece>, Fault>
+    ensures { MatchResult result (λ command. rule_command (map binding_told block.items) ≡ Some command) (Refuses (rule_command (map binding_told block.items))) }
+{
+    let mut block = block;
+    let Some(binding) = block.pop() else {
+        return Err(Fault::NoReading);
+    };
+    if !block.is_empty() {
+        return Err(Fault::NoReading);
+    }
+    let Binding { key, value } = binding;
+    if !is_command(key.as_slice()) || refers_to_command(value.as_slice()) {
+        return Err(Fault::NoReading);
+    }
+    let value = value.into_vec();
+    if value.is_empty() {
+        return Err(Fault::NoReading);
+    }
+    Ok(Shared::from_vec(value)?)
+}
+
+fn refers_to_key(scope: &Scope, pieces: &[Piece]) -> bool
+    ensures { result ≡ refers_to (λ name. is_some (find_in scope.now name)) pieces.now }
+{
+    pieces.iter().any(|piece| match piece {
+        Piece::Variable(name) => scope.has(name.as_slice()),
+        Piece::Plain(_) | Piece::Escaped(_) => false,
+    })
+}
+
+// What the pieces stand for by the variables of the file alone.
+#[tactic(auto, unfolding(crate::specs::Scopes::find_in))]
+fn value_of(alloc: Global, pieces: &[Piece], file: &Scope) -> Result<Vec<u8>, AllocError>
+    ensures { IfOk result (λ text. text.items ≡ expanded (value_in file.now) pieces.now) }
+{
+    let none = Table::new(alloc);
+    expanded(alloc, pieces, Scopes { block: &none, file })
+}
+
+// Adds a binding to the scope of a block.
+fn add_to_block(
+    alloc: Global,
+    file: &Scope,
+    block: &mut Scope,
+    binding: &Binding,
+) -> Result<(), Fault>
+    ensures { MatchResult result (λ _. block_with file.now block.old (binding_told binding.now) ≡ Some block.new) (Refuses (block_with file.now block.old (binding_told binding.now))) }
+{
+    let key = binding.key.as_slice();
+    let value = binding.value.as_slice();
+    if block.has(key) || refers_to_key(block, value) {
+        return Err(Fault::NoReading);
+    }
+    let key = Vec::from_slice(alloc, key)?;
+    let value = value_of(alloc, value, file)?;
+    block.put(key, Sequence::from(value))?;
+    Ok(())
+}
+
+// The scope of a statement's block.
+fn block_scope(alloc: Global, file: &Scope, bindings: &[Binding]) -> Result<Scope, Fault>
+    ensures { MatchResult result (λ block. block_scope file.now [] (map binding_told bindings.now) ≡ Some block) (Refuses (block_scope file.now [] (map binding_told bindings.now))) }
+{
+    let mut block = Table::new(alloc);
+    for binding in bindings {
+        add_to_block(alloc, file, &mut block, binding)?;
+    }
+    Ok(block)
+}
+
+// The value of a path, which isn't empty.
+fn path(alloc: Global, pieces: &[Piece], scopes: Scopes) -> Result<Name, Fault>
+    ensures { MatchResult result (λ name. path_in (value_within scopes.entry.block.now scopes.entry.file.now) pieces.now ≡ Some name) (Refuses (path_in (value_within scopes.entry.block.now scopes.entry.file.now) pieces.now)) }
+{
+    let name = expanded(alloc, pieces, scopes)?;
+    if name.is_empty() {
+        return Err(Fault::NoReading);
+    }
+    Ok(Sequence::from(name))
+}
+
+// Paths, none of which is empty.
+fn paths(alloc: Global, paths: &[&[Piece]], scopes: Scopes) -> Result<Sequence<Name>, Fault>
+    ensures { MatchResult result (λ names. paths_in (value_within scopes.entry.block.now scopes.entry.file.now) (told paths.now) ≡ Some names) (Refuses (paths_in (value_within scopes.entry.block.now scopes.entry.file.now) (told paths.now))) }
+{
+    let mut names = Vec::new(alloc);
+    for pieces in paths {
+        names.push(path(alloc, *pieces, scopes)?)?;
+    }
+    Ok(Sequence::from(names))
+}
+
+// Paths by the variables of the file alone.
+fn paths_of_file(alloc: Global, targets: &[&[Piece]], file: &Scope) -> Result<Sequence<Name>, Fault>
+    ensures { MatchResult result (λ names. paths_in (value_in file.now) (told targets.now) ≡ Some names) (Refuses (paths_in (value_in file.now) (told targets.now))) }
+{
+    let none = Table::new(alloc);
+    paths(alloc, targets, Scopes { block: &none, file })
+}
+
+// A statement of a build line, by the variables of its block and of the file.
+fn with_paths(
+    alloc: Global,
+    build: &Build,
+    making: Making,
+    block: Scope,
+    file: &Scope,
+) -> Result<Stated, Fault>
+    ensures { MatchResult result (λ s. stated_with (value_within block file.now) (making_as block making) (build_told build.now) ≡ Some s) (Refuses (stated_with (value_within block file.now) (making_as block making) (build_told build.now))) }
+{
+    let scopes = Scopes {
+        block: &block,
+        file,
+    };
+    let outs = paths(alloc, build.outs.as_slice(), scopes)?;
+    let inputs = paths(alloc, build.inputs.explicit.as_slice(), scopes)?;
+    let implicit = paths(alloc, build.inputs.implicit.as_slice(), scopes)?;
+    let order_only = paths(alloc, build.inputs.order_only.as_slice(), scopes)?;
+    Ok(Stated {
+        outs,
+        making,
+        block,
+        inputs,
+        implicit,
+        order_only,
+    })
+}
+
+// What makes the outputs of a statement, by the variables that the file leaves.
+fn made(alloc: Global, making: Making, scopes: CommandScopes) -> Result<Made, AllocError>
+    ensures { IfOk result (λ made. made ≡ made_as scopes.entry.inputs.now scopes.entry.outs.now scopes.entry.scopes.block.now scopes.entry.scopes.file.now making) }
+{
+    match making {
+        Making::ByNothing => Ok(Made::Phony),
+        Making::ByOwn(command) => Ok(Made::Command(command)),
+        Making::ByRule(command) => {
+            let command = command_line(alloc, command.as_slice(), scopes)?;
+            Ok(Made::Command(Sequence::from(command)))
+        }
+    }
+}
+
+impl Stated {
+    // The statement, by the variables that the file leaves.
+    fn into_statement(self, alloc: Global, file: &Scope) -> Result<Statement, AllocError>
+        ensures { IfOk result (λ s. s ≡ statement_of file.now self) }
+    {
+        let Stated {
+            outs,
+            making,
+            block,
+            inputs,
+            implicit,
+            order_only,
+        } = self;
+        let scopes = CommandScopes {
+            inputs: inputs.as_slice(),
+            outs: outs.as_slice(),
+            scopes: Scopes {
+                block: &block,
+                file,
+            },
+        };
+        let made = made(alloc, making, scopes)?;
+        Ok(Statement {
+            outs,
+            made,
+            inputs,
+            implicit,
+            order_only,
+        })
+    }
+}
+
+// Adds outputs, each of which is new.
+fn add_outs(alloc: Global, names: &mut Names, outs: &[Name]) -> Result<(), Fault>
+    ensures { MatchResult result (λ _. (are_new names.old outs.now ≡ true) × (names.new ≡ names.old ++ outs.now)) (Fails (are_new names.old outs.now)) }
+{
+    for out in outs {
+        let name = Vec::from_slice(alloc, out.as_slice())?;
+        if !names.add(name)? {
+            return Err(Fault::NoReading);
+        }
+    }
+    Ok(())
+}
+
+fn all_among(names: &Names, targets: &[Name]) -> bool
+    ensures { result ≡ list_all (is_among names.now) targets.now }
+{
+    targets.iter().all(|target| names.has(target.as_slice()))
+}
+
+fn is_phony(name: &[u8]) -> bool
+    ensures { result ≡ bytes_eq name.now (codes "phony") }
+{
+    name == b"phony".as_slice()
+}
+
+impl State {
+    #[tactic(auto, unfolding(crate::specs::NinjaRead::nothing_read))]
+    pub(crate) fn new(alloc: Global) -> State
+        ensures { result ≡ nothing_read }
+    {
+        State {
+            alloc,
+            file: Table::new(alloc),
+            rules: Table::new(alloc),
+            stated: Vec::new(alloc),
+            outs: Names::new(alloc),
+            defaults: Vec::new(alloc),
+        }
+    }
+
+    /// A variable at the margin.
+    #[tactic(auto, unfolding(crate::specs::NinjaRead::bind))]
+    pub(crate) fn bind(mut self, binding: Binding) -> Result<State, AllocError>
+        ensures { IfOk result (λ state. state ≡ bind self (binding_told binding)) }
+    {
+        let Binding { key, value } = binding;
+        let value = value_of(self.alloc, value.as_slice(), &self.file)?;
+        self.file.put(key.into_vec(), Sequence::from(value))?;
+        Ok(self)
+    }
+
+    /// A rule with its block.
+    #[tactic(auto, unfolding(crate::specs::NinjaRead::read_rule))]
+    pub(crate) fn read_rule(mut self, name: Vec<u8>, block: Vec<Binding>) -> Result<State, Fault>
+        ensures { MatchResult result (λ state. read_rule self name.items (map binding_told block.items) ≡ Some state) (Refuses (read_rule self name.items (map binding_told block.items))) }
+    {
+        if is_phony(name.as_slice()) || self.rules.has(name.as_slice()) {
+            return Err(Fault::NoReading);
+        }
+        let command = rule_command(block)?;
+        self.rules.put(name, command)?;
+        Ok(self)
+    }
+
+    #[tactic(auto, unfolding(crate::specs::NinjaRead::making_of))]
+    fn making(&self, rule: &[u8], block: &Scope) -> Result<Making, Fault>
+        ensures { MatchResult result (λ making. making_of self.now rule.now block.now ≡ Some (making_as block.now making)) (Refuses (making_of self.now rule.now block.now)) }
+    {
+        if is_phony(rule) {
+            return Ok(Making::ByNothing);
+        }
+        let Some(command) = self.rules.get(rule) else {
+            return Err(Fault::NoReading);
+        };
+        match block.get(b"command".as_slice()) {
+            Some(own) => {
+                let own = Vec::from_slice(self.alloc, own.as_slice())?;
+                Ok(Making::ByOwn(Sequence::from(own)))
+            }
+            None => Ok(Making::ByRule(command.share()?)),
+        }
+    }
+
+    // The scope of a block.
+    fn block(&self, bindings: &[Binding]) -> Result<Scope, Fault>
+        ensures { MatchResult result (λ block. block_scope self.now.file [] (map binding_told bindings.now) ≡ Some block) (Refuses (block_scope self.now.file [] (map binding_told bindings.now))) }
+    {
+        block_scope(self.alloc, &self.file, bindings)
+    }
+
+    // A statement of a build line.
+    fn statement(&self, build: &Build, making: Making, block: Scope) -> Result<Stated, Fault>
+        ensures { MatchResult result (λ s. stated_with (value_within block self.now.file) (making_as block making) (build_told build.now) ≡ Some s) (Refuses (stated_with (value_within block self.now.file) (making_as block making) (build_told build.now))) }
+    {
+        with_paths(self.alloc, build, making, block, &self.file)
+    }
+
+    /// A build line with its block.
+    #[tactic(auto, unfolding(crate::specs::NinjaRead::read_build))]
+    pub(crate) fn read_build(self, build: &Build, block: &[Binding]) -> Result<State, Fault>
+        ensures { MatchResult result (λ state. read_build self (build_told build.now) (map binding_told block.now) ≡ Some state) (Refuses (read_build self (build_told build.now) (map binding_told block.now))) }
+    {
+        let block = self.block(block)?;
+        let making = self.making(build.rule.as_slice(), &block)?;
+        let statement = self.statement(build, making, block)?;
+        self.with_statement(statement)
+    }
+
+    // One more statement, if its outputs are new.
+    fn with_statement(self, statement: Stated) -> Result<State, Fault>
+        ensures { MatchResult result (λ state. add_statement self statement ≡ Some state) (Refuses (add_statement self statement)) }
+    {
+        let State {
+            alloc,
+            file,
+            rules,
+            mut stated,
+            mut outs,
+            defaults,
+        } = self;
+        add_outs(alloc, &mut outs, statement.outs.as_slice())?;
+        stated.push(statement)?;
+        Ok(State {
+            alloc,
+            file,
+            rules,
+            stated,
+            outs,
+            defaults,
+        })
+    }
+
+    // The names of default targets.
+    fn targets(&self, targets: &[&[Piece]]) -> Result<Sequence<Name>, Fault>
+        ensures { MatchResult result (λ names. paths_in (value_in self.now.file) (told targets.now) ≡ Some names) (Refuses (paths_in (value_in self.now.file) (told targets.now))) }
+    {
+        paths_of_file(self.alloc, targets, &self.file)
+    }
+
+    /// Default targets.
+    #[tactic(auto, unfolding(crate::specs::NinjaRead::read_default))]
+    pub(crate) fn read_default(self, targets: &[&[Piece]]) -> Result<State, Fault>
+        ensures { MatchResult result (λ state. read_default self (told targets.now) ≡ Some state) (Refuses (read_default self (told targets.now))) }
+    {
+        let names = self.targets(targets)?;
+        self.with_defaults(names)
+    }
+
+    // More default targets, each an output of a statement above.
+    fn with_defaults(mut self, names: Sequence<Name>) -> Result<State, Fault>
+        ensures { MatchResult result (λ state. add_defaults self names ≡ Some state) (Refuses (add_defaults self names)) }
+    {
+        if !all_among(&self.outs, names.as_slice()) {
+            return Err(Fault::NoReading);
+        }
+        let mut names = names.into_vec();
+        self.defaults.append(&mut names)?;
+        Ok(self)
+    }
+
+    /// What was read, as a plan.
+    #[tactic(auto, unfolding(crate::specs::NinjaRead::plan_of))]
+    pub(crate) fn into_plan(self) -> Result<Plan, AllocError>
+        ensures { IfOk result (λ plan. plan ≡ plan_of self) }
+    {
+        let State {
+            alloc,
+            file,
+            rules: _,
+            stated,
+            outs: _,
+            defaults,
+        } = self;
+        let mut statements = Vec::new(alloc);
+        for statement in stated {
+            statements.push(statement.into_statement(alloc, &file)?)?;
+        }
+        Ok(Plan {
+            statements: Sequence::from(statements),
+            defaults: Sequence::from(defaults),
+        })
+    }
+}

@@ -1,0 +1,243 @@
+-- What the cuts of a rule line find.
+use Rattle.std.proofs.Common.{◌≡◌, ℕ, suc, ◌+◌, Bool, true, false, if◌then◌else◌, List, [], ◌∷◌, ◌++◌, length, take, drop, Option, Some, None, refl, sym, ap, subst, ◌∙◌, true≢false, arith, ⊎_elim, ◌⊎◌, inl, inr}
+use Rattle.std.specs.Prelude.{◌==◌, ◌&&◌, ◌||◌, flat_map, option_map}
+use Rattle.std.specs.List.{list_all}
+use Rattle.std.proofs.lemmas.Bool.{eqb-true, eq-eqb}
+use Rattle.std.proofs.lemmas.List.{append_assoc}
+use Rattle.kt_text.specs.Words.{Text}
+use Rattle.kt_rules.specs.declared.cutting.Cut.TheVariants.{Colon}
+use Rattle.kt_rules.specs.Names.{cuts, cut_place, after_dots}
+use Rattle.kt_rules.specs.RuleLine.{colon_cut}
+use Rattle.kt_rules.specs.Cuts.{ends_in_backslash, HasQuotedColons, FindsColon, is_slash, dot_slash, begins_with_slash, begins_with_dot_slash, is_some_text, IsLeft}
+
+abbrev two : Text → Text → Text × Text
+two front back = (front, back)
+
+abbrev put : ℕ → Text × Text → Text × Text
+put byte cut = (byte ∷ cut.0, cut.1)
+
+-- the cut at the colon, byte by byte
+open_cut : Bool → Text → Option (Text × Text)
+open_cut before [] = None
+open_cut before (byte ∷ text) =
+    if cuts Colon before byte then Some ([], text) else option_map (put byte) (open_cut (byte == 92) text)
+
+abbrev cut_at : ℕ → Text → Text × Text
+cut_at place text = (take place text, drop (place + 1) text)
+
+placed_cut : Bool → Text → Option (Text × Text)
+placed_cut before text =
+    if cut_place Colon before text == length text then None else Some (cut_at (cut_place Colon before text) text)
+
+no_zero : (n : ℕ) → (0 == suc n) ≡ false
+no_zero n = by (0 == suc n) refl
+  where
+    by : (b : Bool) → (0 == suc n) ≡ b → b ≡ false
+    by true h = absurd (zero_suc (eqb-true 0 (suc n) h))
+      where
+        zero_suc : 0 ≡ suc n → ⊥
+        zero_suc e = omega arith
+    by false h = refl
+
+one_less : (n m : ℕ) → suc n ≡ suc m → n ≡ m
+one_less n m e = omega arith
+
+suc_eq : (n m : ℕ) → (suc n == suc m) ≡ (n == m)
+suc_eq n m = by (suc n == suc m) (n == m) refl refl
+  where
+    by : (b c : Bool) → (suc n == suc m) ≡ b → (n == m) ≡ c → b ≡ c
+    by true true e f = refl
+    by false false e f = refl
+    by true false e f = sym (eq-eqb n m (one_less n m (eqb-true (suc n) (suc m) e))) ∙ f
+    by false true e f = sym e ∙ eq-eqb (suc n) (suc m) (ap suc (eqb-true n m f))
+
+one_further : (byte : ℕ) (text : Text) (n : ℕ) (b : Bool)
+    → (if b then None else Some (cut_at (suc n) (byte ∷ text))) ≡ option_map (put byte) (if b then None else Some (cut_at n text))
+one_further byte text n true = refl
+one_further byte text n false =
+    let e : suc n + 1 ≡ suc (n + 1) = omega arith in
+    ap (λ m. Some (two (byte ∷ take n text) (drop m (byte ∷ text)))) e
+
+placed_more : (before : Bool) (byte : ℕ) (text : Text) (b : Bool) → cuts Colon before byte ≡ b → placed_cut (byte == 92) text ≡ open_cut (byte == 92) text
+    → (if ((if b then 0 else suc (cut_place Colon (byte == 92) text)) == suc (length text)) then None else Some (cut_at (if b then 0 else suc (cut_place Colon (byte == 92) text)) (byte ∷ text)))
+    ≡ (if b then Some ([], text) else option_map (put byte) (open_cut (byte == 92) text))
+unfolding placed_cut
+placed_more before byte text true e rest = rw (no_zero (length text)) refl
+placed_more before byte text false e rest =
+    ap (λ b. if b then None else Some (cut_at (suc (cut_place Colon (byte == 92) text)) (byte ∷ text))) (suc_eq (cut_place Colon (byte == 92) text) (length text))
+    ∙ one_further byte text (cut_place Colon (byte == 92) text) (cut_place Colon (byte == 92) text == length text) ∙ ap (option_map (put byte)) rest
+
+placed_open : (before : Bool) (text : Text) → placed_cut before text ≡ open_cut before text
+unfolding placed_cut open_cut cut_place
+placed_open before [] = refl
+placed_open before (byte ∷ text) = placed_more before byte text (cuts Colon before byte) refl (placed_open (byte == 92) text)
+
+no_colon : (before : Bool) (byte : ℕ) (b : Bool) → byte == 58 ≡ b → cuts Colon before byte ≡ true → (byte ≡ 58) × (before ≡ false)
+no_colon before byte false e h = absurd (true≢false (sym h ∙ rw e refl))
+no_colon true byte true e h = absurd (true≢false (sym h ∙ rw (eqb-true byte 58 e) refl))
+no_colon false byte true e h = (eqb-true byte 58 e, refl)
+
+-- a colon that cuts has no backslash before it
+colon_is : (before : Bool) (byte : ℕ) → cuts Colon before byte ≡ true → (byte ≡ 58) × (before ≡ false)
+colon_is before byte h = no_colon before byte (byte == 58) refl h
+
+-- and one that doesn't has one
+colon_quoted : (before : Bool) (byte : ℕ) → cuts Colon before byte ≡ false → byte ≡ 58 → before ≡ true
+colon_quoted true byte h e = refl
+colon_quoted false byte h e = absurd (true≢false (rw e at h))
+
+none_in : {A : Type 0} (x : A) (front back : List A) → [] ≡ front ++ x ∷ back → ⊥
+none_in x [] back h = cc
+none_in x (y ∷ front) back h = cc
+
+head_is : {A : Type 0} (x y : A) (xs ys : List A) → x ∷ xs ≡ y ∷ ys → x ≡ y
+head_is x y xs ys h = cc
+
+tail_is : {A : Type 0} (x y : A) (xs ys : List A) → x ∷ xs ≡ y ∷ ys → xs ≡ ys
+tail_is x y xs ys h = cc
+
+-- a byte that doesn't cut, before a text of quoted colons
+quoted_more : (before : Bool) (byte : ℕ) (text : Text) → cuts Colon before byte ≡ false → HasQuotedColons (byte == 92) text → HasQuotedColons before (byte ∷ text)
+quoted_more before byte text h rest [] back e = colon_quoted before byte h (head_is byte 58 text back e)
+quoted_more before byte text h rest (first ∷ front) back e =
+    ap (λ b. ends_in_backslash (b == 92) front) (sym (head_is byte first text (front ++ 58 ∷ back) e))
+    ∙ rest front back (tail_is byte first text (front ++ 58 ∷ back) e)
+
+found_more : (before : Bool) (byte : ℕ) (text : Text) (found : Option (Text × Text)) → cuts Colon before byte ≡ false
+    → FindsColon (byte == 92) text found → FindsColon before (byte ∷ text) (option_map (put byte) found)
+found_more before byte text None h rest = quoted_more before byte text h rest
+found_more before byte text (Some cut) h rest = record {
+  parts = ap (λ (xs : Text). byte ∷ xs) rest.parts;
+  unquoted = rest.unquoted;
+  first = quoted_more before byte cut.0 h rest.first;
+}
+
+found_open : (before : Bool) (byte : ℕ) (text : Text) (rest : Option (Text × Text)) (b : Bool) → cuts Colon before byte ≡ b
+    → FindsColon before (byte ∷ text) (option_map (put byte) rest) ⊎ (b ≡ true)
+    → FindsColon before (byte ∷ text) (if b then Some ([], text) else option_map (put byte) rest)
+found_open before byte text rest true e f = record {
+  parts = ap (λ (b : ℕ). b ∷ text) (colon_is before byte e).0;
+  unquoted = (colon_is before byte e).1;
+  first = λ front back h. absurd (none_in 58 front back h);
+}
+found_open before byte text rest false e f = ⊎_elim (λ yes. yes) (λ no. absurd (true≢false (sym no))) f
+
+one_case : (before : Bool) (byte : ℕ) (text : Text) (rest : Option (Text × Text)) (b : Bool) → cuts Colon before byte ≡ b → FindsColon (byte == 92) text rest
+    → FindsColon before (byte ∷ text) (option_map (put byte) rest) ⊎ (b ≡ true)
+one_case before byte text rest true e f = inr refl
+one_case before byte text rest false e f = inl (found_more before byte text rest e f)
+
+open_finds : (before : Bool) (text : Text) → FindsColon before text (open_cut before text)
+unfolding open_cut
+open_finds before [] = λ front back h. absurd (none_in 58 front back h)
+open_finds before (byte ∷ text) =
+    found_open before byte text (open_cut (byte == 92) text) (cuts Colon before byte) refl
+    (one_case before byte text (open_cut (byte == 92) text) (cuts Colon before byte) refl (open_finds (byte == 92) text))
+
+-- the cut is at the first colon without a backslash directly before it
+pub cuts_at_first : (text : Text) → FindsColon false text (colon_cut text)
+unfolding colon_cut placed_cut
+cuts_at_first text = subst (FindsColon false text) (sym (placed_open false text)) (open_finds false text)
+
+-- ---- leading `./`
+
+-- what is left behind slashes, where a `./` stands before them, and then behind each `./` with its slashes
+record LeftBehind (behind : Bool) (name left : Text) : Type 0 where
+  front : Text
+  slashes : List Text
+  parts : name ≡ front ++ (flat_map dot_slash slashes ++ left)
+  front_slashes : list_all is_slash front ≡ true
+  front_behind : behind ≡ false → front ≡ []
+  are_slashes : list_all (list_all is_slash) slashes ≡ true
+  no_dot_slash : begins_with_dot_slash left ≡ false
+  no_slash : ((behind || is_some_text slashes) && begins_with_slash left) ≡ false
+
+and_false : (a : Bool) → (a && false) ≡ false
+and_false true = refl
+and_false false = refl
+
+or_false : (a b : Bool) → ((a || false) && b) ≡ (a && b)
+or_false true b = refl
+or_false false b = refl
+
+-- a slash behind a `./`
+slash_more : (behind : Bool) (byte : ℕ) (text left : Text) → (behind && byte == 47) ≡ true → LeftBehind true text left → LeftBehind behind (byte ∷ text) left
+slash_more true byte text left h rest = record {
+  front = byte ∷ rest.front;
+  slashes = rest.slashes;
+  parts = ap (λ (xs : Text). byte ∷ xs) rest.parts;
+  front_slashes = rw h rest.front_slashes;
+  front_behind = λ e. absurd (true≢false e);
+  are_slashes = rest.are_slashes;
+  no_dot_slash = rest.no_dot_slash;
+  no_slash = rest.no_slash;
+}
+slash_more false byte text left h rest = absurd (true≢false (sym h))
+
+-- a `./`
+dots_more : (behind : Bool) (byte next : ℕ) (text left : Text) → (byte == 46 && next == 47) ≡ true → LeftBehind true text left → LeftBehind behind (byte ∷ next ∷ text) left
+dots_more behind byte next text left h rest = record {
+  front = [];
+  slashes = rest.front ∷ rest.slashes;
+  parts = two_is byte next text h ∙ ap (λ (xs : Text). 46 ∷ 47 ∷ xs) (rest.parts ∙ sym (append_assoc rest.front (flat_map dot_slash rest.slashes) left));
+  front_slashes = refl;
+  front_behind = λ e. refl;
+  are_slashes = rw rest.front_slashes rest.are_slashes;
+  no_dot_slash = rest.no_dot_slash;
+  no_slash = some_left behind (begins_with_slash left) rest.no_slash;
+}
+  where
+    two_is : (a b : ℕ) (xs : Text) → (a == 46 && b == 47) ≡ true → a ∷ b ∷ xs ≡ 46 ∷ 47 ∷ xs
+    two_is a b xs e = by (a == 46) (b == 47) refl refl e
+      where
+        by : (x y : Bool) → a == 46 ≡ x → b == 47 ≡ y → (x && y) ≡ true → a ∷ b ∷ xs ≡ 46 ∷ 47 ∷ xs
+        by true true f g k = ap (λ (n : ℕ). n ∷ b ∷ xs) (eqb-true a 46 f) ∙ ap (λ (n : ℕ). 46 ∷ n ∷ xs) (eqb-true b 47 g)
+        by true false f g k = absurd (true≢false (sym k))
+        by false y f g k = absurd (true≢false (sym k))
+
+    some_left : (a b : Bool) → b ≡ false → ((a || true) && b) ≡ false
+    some_left true b e = e
+    some_left false b e = e
+
+-- a name that begins with neither
+bare_left : (behind : Bool) (name : Text) → begins_with_dot_slash name ≡ false → (behind && begins_with_slash name) ≡ false → LeftBehind behind name name
+bare_left behind name d s = record {
+  front = [];
+  slashes = [];
+  parts = refl;
+  front_slashes = refl;
+  front_behind = λ e. refl;
+  are_slashes = refl;
+  no_dot_slash = d;
+  no_slash = or_false behind (begins_with_slash name) ∙ s;
+}
+
+left_one : (behind : Bool) (byte : ℕ) (b : Bool) → (behind && byte == 47) ≡ b → LeftBehind behind (byte ∷ []) (if b then [] else byte ∷ [])
+left_one behind byte true h = slash_more behind byte [] [] h (bare_left true [] refl refl)
+left_one behind byte false h = bare_left behind (byte ∷ []) (and_false (byte == 46)) h
+
+left_more : (behind : Bool) (byte next : ℕ) (text : Text) (b c : Bool) → (behind && byte == 47) ≡ b → (byte == 46 && next == 47) ≡ c
+    → LeftBehind true (next ∷ text) (after_dots true (next ∷ text)) → LeftBehind true text (after_dots true text)
+    → LeftBehind behind (byte ∷ next ∷ text) (if b then after_dots true (next ∷ text) else (if c then after_dots true text else byte ∷ next ∷ text))
+left_more behind byte next text true c h g one two = slash_more behind byte (next ∷ text) (after_dots true (next ∷ text)) h one
+left_more behind byte next text false true h g one two = dots_more behind byte next text (after_dots true text) g two
+left_more behind byte next text false false h g one two = bare_left behind (byte ∷ next ∷ text) g h
+
+left_behind : (behind : Bool) (name : Text) → LeftBehind behind name (after_dots behind name)
+unfolding after_dots
+left_behind behind [] = bare_left behind [] refl (and_false behind)
+left_behind behind (byte ∷ []) = left_one behind byte (behind && byte == 47) refl
+left_behind behind (byte ∷ next ∷ text) =
+    left_more behind byte next text (behind && byte == 47) (byte == 46 && next == 47) refl refl (left_behind true (next ∷ text)) (left_behind true text)
+
+-- leading `./` go with all slashes behind them, and nothing else
+pub drops_dots : (name : Text) → IsLeft name (after_dots false name)
+drops_dots name =
+    let all = left_behind false name in
+    record {
+      slashes = all.slashes;
+      parts = all.parts ∙ ap (λ (front : Text). front ++ (flat_map dot_slash all.slashes ++ after_dots false name)) (all.front_behind refl);
+      are_slashes = all.are_slashes;
+      no_dot_slash = all.no_dot_slash;
+      no_slash = all.no_slash;
+    }

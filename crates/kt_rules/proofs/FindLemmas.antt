@@ -1,0 +1,73 @@
+-- Searches among numbers, and names put behind others.
+use Rattle.std.proofs.Common.{◌≡◌, ℕ, zero, suc, ◌+◌, ◌-◌, ◌<◌, Bool, true, false, cond, if◌then◌else◌, List, [], ◌∷◌, ◌++◌, fold, find, filter, map, take, drop, length, get_or, ◌≤◌, ◌&&◌, Some, None, refl, sym, ap, ◌∙◌, arith}
+use Rattle.std.specs.List.{range_with_len}
+use Rattle.std.proofs.lemmas.List.{append-nil, append_assoc, drop_more, drop_all}
+use Rattle.kt_text.specs.Words.{Text}
+use Rattle.kt_rules.specs.Names.{is_among, with_name}
+
+-- the first of some numbers
+pub find-range : (test : ℕ → Bool) (from many : ℕ) → 0 < many
+    → find test (range_with_len from many) ≡ cond (test from) (Some from) (find test (range_with_len (from + 1) (many - 1)))
+find-range test from zero h = absurd (omega arith)
+find-range test from (suc many) h =
+    let e : suc many - 1 ≡ many = omega arith in
+    ap (λ n. cond (test from) (Some from) (find test (range_with_len (from + 1) n))) (sym e)
+
+one_grows : (names : List Text) (name : Text) (b : Bool) → (more : List Text) × ((if b then names else names ++ name ∷ []) ≡ names ++ more)
+one_grows names name true = ([], sym (append-nil names))
+one_grows names name false = (name ∷ [], refl)
+
+-- names that are added stand behind the others
+pub names_grow : (names added : List Text) → (more : List Text) × (fold with_name names added ≡ names ++ more)
+names_grow names [] = ([], sym (append-nil names))
+names_grow names (name ∷ added) =
+    let one : (more : List Text) × (with_name names name ≡ names ++ more) = one_grows names name (is_among names name) in
+    let rest = names_grow (with_name names name) added in
+    (one.0 ++ rest.0, rest.1 ∙ ap (λ (xs : List Text). xs ++ rest.0) one.1 ∙ append_assoc names one.0 rest.0)
+
+take_front : (xs ys : List Text) → take (length xs) (xs ++ ys) ≡ xs
+take_front [] ys = refl
+take_front (x ∷ xs) ys = ap (λ zs. x ∷ zs) (take_front xs ys)
+
+-- the names without those that were added
+pub take_grown : (names added new : List Text) (count : ℕ) → count ≡ length names → new ≡ fold with_name names added → take count new ≡ names
+take_grown names added new count e grown =
+    let more = names_grow names added in
+    ap (λ n. take n new) e ∙ ap (take (length names)) (grown ∙ more.1) ∙ take_front names more.0
+
+-- the first of two filters of a list, from a place on
+pub find_at : {A : Type 0} (made test : A → Bool) (xs : List A) (i : ℕ) (x : A) → i < length xs → x ≡ get_or xs i x
+    → find test (filter made (drop i xs)) ≡ cond (made x && test x) (Some x) (find test (filter made (drop (i + 1) xs)))
+find_at made test xs i x h e =
+    ap (λ ys. find test (filter made ys)) (drop_more xs i x h)
+    ∙ ap (λ y. find test (filter made (y ∷ drop (i + 1) xs))) (sym e)
+    ∙ by (made x) (test x) refl
+  where
+    by : (a b : Bool) → test x ≡ b → find test (cond a (x ∷ filter made (drop (i + 1) xs)) (filter made (drop (i + 1) xs))) ≡ cond (a && b) (Some x) (find test (filter made (drop (i + 1) xs)))
+    by true b f = ap (λ c. cond c (Some x) (find test (filter made (drop (i + 1) xs)))) f
+    by false b f = refl
+
+-- the same of an item of a slice that is the list, by what the two tests tell of it
+pub find_item : {A : Type 0} (made test : A → Bool) (xs slice : List A) (i : ℕ) (x : A) (b : Bool) → slice ≡ xs → i < length slice → x ≡ get_or slice i x
+    → b ≡ (made x && test x) → find test (filter made (drop i xs)) ≡ cond b (Some x) (find test (filter made (drop (i + 1) xs)))
+find_item made test xs slice i x b items h e is =
+    find_at made test xs i x (rw items at h) (rw items at e)
+    ∙ ap (λ c. cond c (Some x) (find test (filter made (drop (i + 1) xs)))) (sym is)
+
+-- and where nothing is left
+pub find_end : {A : Type 0} (made test : A → Bool) (xs : List A) (i : ℕ) → length xs ≤ i → find test (filter made (drop i xs)) ≡ None
+find_end made test xs i h = ap (λ ys. find test (filter made ys)) (drop_all i xs h)
+
+-- what the two filters leave of a list, from a place on
+pub filter_at : {A B : Type 0} (made test : A → Bool) (f : A → B) (xs : List A) (i : ℕ) (x : A) → i < length xs → x ≡ get_or xs i x
+    → map f (filter test (filter made (drop i xs))) ≡ (if made x && test x then f x ∷ [] else []) ++ map f (filter test (filter made (drop (i + 1) xs)))
+filter_at made test f xs i x h e =
+    ap (λ ys. map f (filter test (filter made ys))) (drop_more xs i x h)
+    ∙ ap (λ y. map f (filter test (filter made (y ∷ drop (i + 1) xs)))) (sym e)
+    ∙ by (made x) (test x) refl
+  where
+    by : (a b : Bool) → test x ≡ b → map f (filter test (cond a (x ∷ filter made (drop (i + 1) xs)) (filter made (drop (i + 1) xs))))
+        ≡ (if a && b then f x ∷ [] else []) ++ map f (filter test (filter made (drop (i + 1) xs)))
+    by true true g = ap (λ c. map f (cond c (x ∷ filter test (filter made (drop (i + 1) xs))) (filter test (filter made (drop (i + 1) xs))))) g
+    by true false g = ap (λ c. map f (cond c (x ∷ filter test (filter made (drop (i + 1) xs))) (filter test (filter made (drop (i + 1) xs))))) g
+    by false b g = refl

@@ -1,0 +1,99 @@
+-- Explicit rules and goals, slot by slot.
+use Rattle.std.proofs.Common.{◌≡◌, ℕ, ◌+◌, ◌<◌, ◌≤◌, length, drop, get_or, Bool, true, false, cond, not, ◌&&◌, ◌||◌, if◌then◌else◌, List, [], ◌∷◌, ◌++◌, filter, find, Option, Some, None, refl, sym, ap, ◌∙◌, is_some}
+use Rattle.std.specs.Option.{option_map, option_or, option_map_or}
+use Rattle.std.specs.List.{filter_map, flat_map, cons_option, list_any}
+use Rattle.std.proofs.lemmas.List.{drop_more, drop_all}
+use Rattle.kt_text.specs.Words.{Text}
+use Rattle.kt_rules.specs.declared.entry.Target.{Target}
+use Rattle.kt_rules.specs.declared.book.index.Spot.{Spot}
+use Rattle.kt_rules.specs.declared.book.index.Index.{Index}
+use Rattle.kt_rules.specs.Entry.{Rule}
+use Rattle.kt_rules.specs.Indexes.{spots_at}
+use Rattle.kt_rules.specs.Suffixes.{is_bare, suffix_patterns, suffixes_of}
+use Rattle.kt_rules.specs.Book.{is_goal, first_goal_by, target_rules, explicit_rules, rules_of, recipes_of, is_double, is_group, xor, differ_in_colons, is_beside_group}
+use Rattle.kt_rules.specs.Slots.{rules_in, slot_goal, found, first_of, first_found, spot_rule, unless, explicit_left, IsKept}
+use Rattle.kt_rules.proofs.BookLemmas.{alike_first}
+
+goal_step : {A B : Type 0} (f : A → B) (x : A) (both one other : Option A) (b : Bool) → option_map f both ≡ option_or (option_map f one) (option_map f other)
+    → option_map f (cond b (Some x) both) ≡ option_or (option_map f (cond b (Some x) one)) (option_map f other)
+goal_step f x both one other true h = refl
+goal_step f x both one other false h = h
+
+goal_append : {A B : Type 0} (test : A → Bool) (f : A → B) (xs ys : List A)
+    → option_map f (find test (xs ++ ys)) ≡ option_or (option_map f (find test xs)) (option_map f (find test ys))
+goal_append test f [] ys = refl
+goal_append test f (x ∷ xs) ys = goal_step f x (find test (xs ++ ys)) (find test xs) (find test ys) (test x) (goal_append test f xs ys)
+
+-- the goal of the first slot, or else that of the others
+pub goal_cons : (suffixes : List Text) (slot : Option Rule) (slots : List (Option Rule))
+    → first_goal_by suffixes (rules_in (slot ∷ slots)) ≡ option_or (slot_goal suffixes slot) (first_goal_by suffixes (rules_in slots))
+unfolding first_goal_by
+goal_cons suffixes None slots = refl
+goal_cons suffixes (Some rule) slots =
+    goal_append (is_goal suffixes) (λ (made : Rule × Target). made.1.name) (target_rules rule) (flat_map target_rules (rules_in slots))
+
+-- the goal of the slots from a place on
+pub goal_at : (suffixes : List Text) (slots : List (Option Rule)) (i : ℕ) (slot : Option Rule) → i < length slots → slot ≡ get_or slots i slot
+    → first_goal_by suffixes (rules_in (drop i slots)) ≡ option_or (slot_goal suffixes slot) (first_goal_by suffixes (rules_in (drop (i + 1) slots)))
+goal_at suffixes slots i slot h e =
+    ap (λ xs. first_goal_by suffixes (rules_in xs)) (drop_more slots i slot h)
+    ∙ ap (λ x. first_goal_by suffixes (rules_in (x ∷ drop (i + 1) slots))) (sym e)
+    ∙ goal_cons suffixes slot (drop (i + 1) slots)
+
+pub goal_end : (suffixes : List Text) (slots : List (Option Rule)) (i : ℕ) → length slots ≤ i → first_goal_by suffixes (rules_in (drop i slots)) ≡ None
+unfolding first_goal_by
+goal_end suffixes slots i h = ap (λ xs. first_goal_by suffixes (rules_in xs)) (drop_all i slots h)
+
+unless_kept : {B : Type 0} (test : B → Bool) (y : B) (rest : List B) (b : Bool)
+    → cons_option (if b then None else Some y) rest ≡ cond (not b) (y ∷ rest) rest
+unless_kept test y rest true = refl
+unless_kept test y rest false = refl
+
+unless_one : {B : Type 0} (test : B → Bool) (o : Option B) (left rest : List B) → left ≡ filter (λ y. not (test y)) rest
+    → cons_option (unless test o) left ≡ filter (λ y. not (test y)) (cons_option o rest)
+unless_one test None left rest h = h
+unless_one test (Some y) left rest h = unless_kept test y left (test y) ∙ ap (λ xs. cond (not (test y)) (y ∷ xs) xs) h
+
+filter_unless : {A B : Type 0} (test : B → Bool) (f : A → Option B) (xs : List A)
+    → filter_map (λ x. unless test (f x)) xs ≡ filter (λ y. not (test y)) (filter_map f xs)
+filter_unless test f [] = refl
+filter_unless test f (x ∷ xs) = unless_one test (f x) (filter_map (λ z. unless test (f z)) xs) (filter_map f xs) (filter_unless test f xs)
+
+-- the explicit rules at spots are those found there that are explicit
+pub explicit_found : (skips : Bool) (slots : List (Option Rule)) (spots : List Spot)
+    → explicit_left skips slots spots ≡ filter (λ made. not (is_bare made && skips)) (found slots spots)
+unfolding explicit_left found
+explicit_found skips slots spots = filter_unless (λ made. is_bare made && skips) (spot_rule slots) spots
+
+module _ (slots : List (Option Rule)) (targets recipes : Index) (phony suffixes : List Text) (kept : IsKept slots targets recipes phony suffixes)
+    (rules : List Rule) (view : rules_in slots ≡ rules) (rule : Rule) (name : Text) (first : Option (Rule × Target)) where
+  -- the first rule of a target tells of its colons
+  pub colons_by_first : first ≡ first_found slots (spots_at targets name)
+      → option_map_or (λ (made : Rule × Target). xor (is_double made.0.kind) (is_double rule.kind)) first false ≡ list_any (differ_in_colons rule) (rules_of rules name)
+  colons_by_first at =
+      ap (λ o. option_map_or (λ (made : Rule × Target). xor (is_double made.0.kind) (is_double rule.kind)) o false) (at ∙ ap first_of (kept.targets_told.all name))
+      ∙ sym (alike_first (λ t. xor t (is_double rule.kind)) (λ (made : Rule × Target). is_double made.0.kind) (rules_of (rules_in slots) name) (kept.colons name))
+      ∙ ap (λ rs. list_any (differ_in_colons rule) (rules_of rs name)) view
+
+  -- the first rule with a recipe tells of groups
+  pub group_by_first : first ≡ first_found slots (spots_at recipes name)
+      → option_map_or (λ (made : Rule × Target). is_group rule.kind || is_group made.0.kind) first false ≡ list_any (is_beside_group rule) (recipes_of rules name)
+  group_by_first at =
+      ap (λ o. option_map_or (λ (made : Rule × Target). is_group rule.kind || is_group made.0.kind) o false) (at ∙ ap first_of (kept.recipes_told.all name))
+      ∙ sym (alike_first (λ t. is_group rule.kind || t) (λ (made : Rule × Target). is_group made.0.kind) (recipes_of (rules_in slots) name) (kept.groups name))
+      ∙ ap (λ rs. list_any (is_beside_group rule) (recipes_of rs name)) view
+
+module _ (slots : List (Option Rule)) (targets recipes : Index) (phony suffixes : List Text) (kept : IsKept slots targets recipes phony suffixes)
+    (rules : List Rule) (view : rules_in slots ≡ rules) (name : Text) where
+  -- the explicit rules of a target
+  pub explicit_by_spots : (skips : Bool) (all : List (Option Rule)) (spots : List Spot) → skips ≡ is_some (suffix_patterns suffixes name)
+      → all ≡ slots → spots ≡ spots_at targets name → explicit_left skips all spots ≡ explicit_rules rules name
+  unfolding explicit_rules
+  explicit_by_spots skips all spots skip one two =
+      explicit_found skips all spots
+      ∙ ap (λ b. filter (λ (made : Rule × Target). not (is_bare made && b)) (found all spots)) skip
+      ∙ ap (λ xs. filter (λ (made : Rule × Target). not (is_bare made && is_some (suffix_patterns suffixes name))) (found xs spots)) one
+      ∙ ap (λ xs. filter (λ (made : Rule × Target). not (is_bare made && is_some (suffix_patterns suffixes name))) (found slots xs)) two
+      ∙ ap (filter (λ (made : Rule × Target). not (is_bare made && is_some (suffix_patterns suffixes name)))) (kept.targets_told.all name)
+      ∙ ap (λ names. filter (λ (made : Rule × Target). not (is_bare made && is_some (suffix_patterns names name))) (rules_of (rules_in slots) name)) kept.suffixes_told
+      ∙ ap (λ rs. filter (λ (made : Rule × Target). not (is_bare made && is_some (suffix_patterns (suffixes_of rs) name))) (rules_of rs name)) view

@@ -1,0 +1,142 @@
+-- Slots and spots as rules are added.
+use Rattle.std.proofs.Common.{◌≡◌, ℕ, ◌+◌, ◌<◌, Bool, true, false, if◌then◌else◌, List, [], ◌∷◌, ◌++◌, length, drop, Option, Some, None, refl, sym, ap, ◌∙◌, subst, arith, slice_get, get_or, zero, suc, set, is_some, Result, Ok, Err, OnErr, rules}
+use Rattle.std.specs.Option.{option_and_then}
+use Rattle.std.specs.List.{cons_option}
+use Rattle.std.specs.Str.{bytes_eq}
+use Rattle.std.proofs.lemmas.List.{append-nil, drop_more}
+use Rattle.std.proofs.lemmas.List.Elements.{filter_map-append}
+use Rattle.std.proofs.Math.Seq.{set-append_seam}
+use Rattle.kt_text.specs.Words.{Text}
+use Rattle.kt_rules.specs.declared.entry.Target.{Target}
+use Rattle.kt_rules.specs.declared.book.index.Spot.{Spot}
+use Rattle.kt_rules.specs.declared.book.index.Index.{Index}
+use Rattle.kt_rules.specs.Entry.{Rule}
+use Rattle.kt_rules.specs.Book.{is_made}
+use Rattle.kt_rules.specs.Slots.{rules_in, target_rule, slot_rule, spot_rule, found, spot_at, target_spots, spots_from, spots_for, AreBefore, AreIn, GrewIn, GotSpots, GotRecipes}
+
+-- an empty slot holds no rule
+pub rules_in-none : (slots : List (Option Rule)) → rules_in (slots ++ None ∷ []) ≡ rules_in slots
+rules_in-none slots = filter_map-append (λ (slot : Option Rule). slot) slots (None ∷ []) ∙ append-nil (rules_in slots)
+
+-- a rule in a last slot is the last rule
+pub rules_in-some : (slots : List (Option Rule)) (rule : Rule) → rules_in (slots ++ Some rule ∷ []) ≡ rules_in slots ++ rule ∷ []
+rules_in-some slots rule = filter_map-append (λ (slot : Option Rule). slot) slots (Some rule ∷ [])
+
+-- what is in a slot stays there
+slot_kept : (slots : List (Option Rule)) (slot : Option Rule) (place : ℕ) → place < length slots
+    → slot_rule (slots ++ slot ∷ []) place ≡ slot_rule slots place
+slot_kept [] slot place h = absurd (omega arith)
+slot_kept (first ∷ slots) slot zero h = refl
+slot_kept (first ∷ slots) slot (suc place) h = slot_kept slots slot place (omega arith)
+
+-- the last slot
+pub slot_last : (slots : List (Option Rule)) (slot : Option Rule) → slot_rule (slots ++ slot ∷ []) (length slots) ≡ slot
+slot_last [] slot = refl
+slot_last (first ∷ slots) slot = slot_last slots slot
+
+-- spots before a new slot find what they found
+pub found-before : (slots : List (Option Rule)) (slot : Option Rule) (spots : List Spot) → AreBefore (length slots) spots
+    → found (slots ++ slot ∷ []) spots ≡ found slots spots
+unfolding found
+found-before slots slot [] h = refl
+found-before slots slot (spot ∷ spots) h =
+    ap (λ r. cons_option (option_and_then (λ rule. target_rule rule spot.target) r) (found (slots ++ slot ∷ []) spots)) (slot_kept slots slot spot.entry h.0)
+    ∙ ap (cons_option (spot_rule slots spot)) (found-before slots slot spots h.1)
+
+-- spots in an empty slot find nothing
+pub found-in_none : (slots : List (Option Rule)) (spots : List Spot) → AreIn (length slots) spots → found (slots ++ None ∷ []) spots ≡ []
+unfolding found
+found-in_none slots [] h = refl
+found-in_none slots (spot ∷ spots) h =
+    ap (λ r. cons_option (option_and_then (λ rule. target_rule rule spot.target) r) (found (slots ++ None ∷ []) spots))
+    (ap (slot_rule (slots ++ None ∷ [])) h.0 ∙ slot_last slots None)
+    ∙ found-in_none slots spots h.1
+
+pub found-append : (slots : List (Option Rule)) (spots more : List Spot) → found slots (spots ++ more) ≡ found slots spots ++ found slots more
+unfolding found
+found-append slots spots more = filter_map-append (spot_rule slots) spots more
+
+pub before_more : (place : ℕ) (spots : List Spot) → AreBefore place spots → AreBefore (place + 1) spots
+before_more place [] h = tt
+before_more place (spot ∷ spots) h = (omega arith, before_more place spots h.1)
+
+pub before_in : (place : ℕ) (spots : List Spot) → AreIn place spots → AreBefore (place + 1) spots
+before_in place [] h = tt
+before_in place (spot ∷ spots) h = (omega arith, before_in place spots h.1)
+
+pub before_append : (place : ℕ) (spots more : List Spot) → AreBefore place spots → AreBefore place more → AreBefore place (spots ++ more)
+before_append place [] more h k = k
+before_append place (spot ∷ spots) more h k = (h.0, before_append place spots more h.1 k)
+
+pub in_append : (place : ℕ) (spots more : List Spot) → AreIn place spots → AreIn place more → AreIn place (spots ++ more)
+in_append place [] more h k = k
+in_append place (spot ∷ spots) more h k = (h.0, in_append place spots more h.1 k)
+
+in_if : (place number : ℕ) (b : Bool) → AreIn place (if b then spot_at place number ∷ [] else [])
+in_if place number true = (refl, tt)
+in_if place number false = tt
+
+pub in_target_spots : (rule : Rule) (target : Target) (place number : ℕ) (name : Text) → AreIn place (target_spots rule target (spot_at place number) name)
+in_target_spots rule target place number name = by (is_made rule target)
+  where
+    by : (made : Bool) → AreIn place (if made then (if bytes_eq name target.name then spot_at place number ∷ [] else []) else [])
+    by true = in_if place number (bytes_eq name target.name)
+    by false = tt
+
+-- the spots of a rule are in its slot
+pub in_spots_from : (rule : Rule) (place number : ℕ) (targets : List Target) (name : Text) → AreIn place (spots_from rule place number targets name)
+unfolding spots_from
+in_spots_from rule place number [] name = tt
+in_spots_from rule place number (target ∷ targets) name =
+    in_append place _ _ (in_target_spots rule target place number name) (in_spots_from rule place (number + 1) targets name)
+
+-- one target's spots, and then those of the targets behind it
+pub spots_step : (rule : Rule) (place number : ℕ) (targets : List Target) (name : Text) (d : Target) → number < length targets
+    → spots_from rule place number (drop number targets) name
+    ≡ target_spots rule (get_or targets number d) (spot_at place number) name ++ spots_from rule place (number + 1) (drop (number + 1) targets) name
+unfolding spots_from
+spots_step rule place number targets name d h = ap (λ ts. spots_from rule place number ts name) (drop_more targets number d h)
+
+pub spots_end : (rule : Rule) (place number : ℕ) (name : Text) → spots_from rule place number [] name ≡ []
+unfolding spots_from
+spots_end rule place number name = refl
+
+cons_nil : (target : Target) (rest : List Target) → (target ∷ rest) ≡ [] → ⊥
+cons_nil target rest h = cc
+
+-- the target of a number, and those behind it
+pub first_target : (targets : List Target) (number : ℕ) (target : Target) (rest : List Target) → target ∷ rest ≡ drop number targets
+    → (slice_get targets number ≡ Some target) × (rest ≡ drop (number + 1) targets)
+first_target [] zero target rest h = absurd (cons_nil target rest h)
+first_target [] (suc number) target rest h = absurd (cons_nil target rest h)
+first_target (first ∷ targets) zero target rest h =
+    let e : first ≡ target = cc in
+    let r : rest ≡ targets = cc in
+    (ap Some e, r)
+first_target (first ∷ targets) (suc number) target rest h =
+    let later = first_target targets number target rest h in
+    let e : suc number + 1 ≡ suc (number + 1) = omega arith in
+    (later.0, subst (λ n. rest ≡ drop n (first ∷ targets)) (sym e) later.1)
+
+-- a rule in the last slot
+pub put_last : (slots items : List (Option Rule)) (place : ℕ) (rule : Rule) → items ≡ slots ++ None ∷ [] → place ≡ length slots
+    → set items place (Some rule) ≡ slots ++ Some rule ∷ []
+put_last slots items place rule e at =
+    ap (λ xs. set xs place (Some rule)) e ∙ ap (λ n. set (slots ++ None ∷ []) n (Some rule)) at ∙ set-append_seam slots None [] (Some rule)
+
+-- spots that a rule got are in its slot
+pub grew_spots : (rule : Rule) (place : ℕ) (old new : Index) → GotSpots rule place old new → GrewIn place old new
+grew_spots rule place old new got = λ name. (spots_for rule place name, got name, in_spots_from rule place 0 rule.targets name)
+
+in_spots_if : (rule : Rule) (place : ℕ) (name : Text) (b : Bool) → AreIn place (if b then spots_for rule place name else [])
+in_spots_if rule place name true = in_spots_from rule place 0 rule.targets name
+in_spots_if rule place name false = tt
+
+pub grew_recipes : (rule : Rule) (place : ℕ) (old new : Index) → GotRecipes rule place old new → GrewIn place old new
+grew_recipes rule place old new got = λ name.
+    ((if is_some rule.recipe then spots_for rule place name else []), got name, in_spots_if rule place name (is_some rule.recipe))
+
+-- where a call failed, what holds anyway
+pub on_err : {T E P : Type 0} (r : Result T E) → P → OnErr r P
+on_err (Ok x) p = search rules
+on_err (Err e) p = p

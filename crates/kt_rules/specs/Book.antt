@@ -1,0 +1,192 @@
+-- The rules of a makefile as a list, and what is asked of it (POSIX.1-2024 make, "Target Rules"; GNU make manual, "Rules").
+use Rattle.std.specs.Prelude.{Bool, true, false, not, ◌&&◌, ◌||◌, ◌==◌, List, [], ◌∷◌, ◌++◌, map, filter, find, flat_map, filter_map, codes, bytes_eq, Option, Some, None, option_map, is_some, is_none, Result, Ok, Err, if◌then◌else◌}
+use Rattle.std.specs.List.{list_any}
+use Rattle.std.specs.Cmp.Lexicographic.{pointwise}
+use Rattle.std.specs.Option.{option_or, option_map_or}
+use Rattle.kt_text.specs.Words.{Text}
+use Rattle.kt_rules.specs.declared.entry.Kind.{Kind}
+use Rattle.kt_rules.specs.declared.entry.Kind.TheVariants.{SingleColon, DoubleColon, Group, Pattern, TerminalPattern}
+use Rattle.kt_rules.specs.declared.entry.Target.{Target}
+use Rattle.kt_rules.specs.declared.place.Place.{Place}
+use Rattle.kt_rules.specs.Names.{is_among, is_special}
+use Rattle.kt_rules.specs.Places.{place_text}
+use Rattle.kt_rules.specs.Entry.{Rule}
+use Rattle.kt_rules.specs.Refusals.{Refusal, Fault, bad_group, both_colons, two_recipes, fault_at}
+use Rattle.kt_rules.specs.Suffixes.{special_needs, suffixes_of, suffix_patterns, is_single, is_bare, is_suffix_rule}
+
+abbrev pub is_double : Kind → Bool
+is_double SingleColon = false
+is_double DoubleColon = true
+is_double Group = false
+is_double Pattern = false
+is_double TerminalPattern = false
+
+abbrev pub is_group : Kind → Bool
+is_group SingleColon = false
+is_group DoubleColon = false
+is_group Group = true
+is_group Pattern = false
+is_group TerminalPattern = false
+
+abbrev pub is_pattern : Kind → Bool
+is_pattern SingleColon = false
+is_pattern DoubleColon = false
+is_pattern Group = false
+is_pattern Pattern = true
+is_pattern TerminalPattern = true
+
+-- whether a rule makes a target by its name: no pattern rule does, and no special target is made
+abbrev pub is_made : Rule → Target → Bool
+is_made rule target = not (is_pattern rule.kind) && not (is_special target.name)
+
+-- the targets that a rule makes by their names
+abbrev pub made_targets : Rule → List Target
+made_targets rule = filter (is_made rule) rule.targets
+
+-- a rule with each of these: several targets are separate rules (POSIX.1-2024 make, "Target Rules")
+abbrev pub target_rules : Rule → List (Rule × Target)
+target_rules rule = map (λ target. (rule, target)) (made_targets rule)
+
+-- the rules of a target, in order, suffix rules among them
+unfoldable pub rules_of : List Rule → Text → List (Rule × Target)
+rules_of rules name = filter (λ made. bytes_eq name made.1.name) (flat_map target_rules rules)
+
+abbrev pub has_recipe : Rule × Target → Bool
+has_recipe made = is_some made.0.recipe
+
+-- those of them that have a recipe
+unfoldable pub recipes_of : List Rule → Text → List (Rule × Target)
+recipes_of rules name = filter has_recipe (rules_of rules name)
+
+-- the explicit rules of a target, in order: the suffix rules are told by the suffixes that all rules leave
+unfoldable pub explicit_rules : List Rule → Text → List (Rule × Target)
+explicit_rules rules name = filter (λ made. not (is_suffix_rule (suffixes_of rules) name made)) (rules_of rules name)
+
+-- the names that are phony: what the special target `.PHONY` needs (POSIX.1-2024 make, "Special Targets")
+abbrev pub phony_of : Rule → List Text
+phony_of rule = option_map_or (λ names. names) (special_needs (codes ".PHONY") rule) []
+
+unfoldable pub is_phony : List Rule → Text → Bool
+is_phony rules name = is_among (flat_map phony_of rules) name
+
+abbrev pub begins_with_dot : Text → Bool
+begins_with_dot [] = false
+begins_with_dot (byte ∷ name) = byte == 46
+
+-- whether a name may be the default goal: it doesn't begin with a dot, or it holds a slash (GNU make manual, "How `make`
+-- Processes a Makefile")
+abbrev pub may_be_goal : Text → Bool
+may_be_goal name = not (begins_with_dot name) || list_any (λ byte. byte == 47) name
+
+-- whether a rule is explicit, and its target may be the default goal
+abbrev pub is_goal : List Text → Rule × Target → Bool
+is_goal suffixes made = may_be_goal made.1.name && not (is_suffix_rule suffixes made.1.name made)
+
+-- the first target of one rule that may be the default goal
+abbrev pub goal_in : List Text → Rule → Option Text
+goal_in suffixes rule = option_map (λ made. made.1.name) (find (is_goal suffixes) (target_rules rule))
+
+-- the first target of such a rule, where these are the suffixes
+unfoldable pub first_goal_by : List Text → List Rule → Option Text
+first_goal_by suffixes rules = option_map (λ made. made.1.name) (find (is_goal suffixes) (flat_map target_rules rules))
+
+-- the first target of an explicit rule that may be the default goal
+abbrev pub first_goal_of : List Rule → Option Text
+first_goal_of rules = first_goal_by (suffixes_of rules) rules
+
+-- ---- one more rule
+
+abbrev pub xor : Bool → Bool → Bool
+xor true b = not b
+xor false b = b
+
+-- whether two rules of a target have one colon and two
+abbrev pub differ_in_colons : Rule → Rule × Target → Bool
+differ_in_colons rule earlier = xor (is_double earlier.0.kind) (is_double rule.kind)
+
+-- the first target that has rules with the other number of colons (GNU make manual, "Double-Colon Rules")
+abbrev pub both_colons_in : List Rule → Rule → Option Target
+both_colons_in rules rule = find (λ target. list_any (differ_in_colons rule) (rules_of rules target.name)) (made_targets rule)
+
+-- whether one of two rules of a target is a group's
+abbrev pub is_beside_group : Rule → Rule × Target → Bool
+is_beside_group rule earlier = is_group rule.kind || is_group earlier.0.kind
+
+-- the first target that gets a second recipe, where one of the two is a group's (kati's own)
+abbrev pub beside_group_in : List Rule → Rule → Option Target
+beside_group_in rules rule = find (λ target. list_any (is_beside_group rule) (recipes_of rules target.name)) (made_targets rule)
+
+abbrev pub two_recipes_in : List Rule → Rule → Option Target
+two_recipes_in rules rule = if is_some rule.recipe then beside_group_in rules rule else None
+
+-- what is refused of a rule behind others: first a group without a recipe
+unfoldable pub refusal_of : List Rule → Rule → Option Refusal
+refusal_of rules rule =
+    if is_group rule.kind && is_none rule.recipe then Some bad_group
+    else option_or (option_map (λ target. both_colons target.name) (both_colons_in rules rule))
+    (option_map (λ target. two_recipes target.name) (two_recipes_in rules rule))
+
+-- the targets of which a rule with one colon has the later recipe; an earlier rule with a recipe has one colon too, else
+-- this one is refused (GNU make manual, "Multiple Rules for One Target")
+abbrev pub targets_with_recipe : List Rule → Rule → List Target
+targets_with_recipe rules rule = filter (λ target. list_any (λ earlier. true) (recipes_of rules target.name)) (made_targets rule)
+
+abbrev pub overridden_targets : List Rule → Rule → List Target
+overridden_targets rules rule = if is_single rule.kind && is_some rule.recipe then targets_with_recipe rules rule else []
+
+-- the message on one of them; its form is kati's own
+abbrev pub override_message : Place → Target → Text
+override_message place target = place_text place ++ (codes ": warning: overriding recipe for target '" ++ (target.name ++ 39 ∷ []))
+
+abbrev pub override_messages : List Rule → Rule → List Text
+override_messages rules rule = map (override_message rule.place) (overridden_targets rules rule)
+
+-- what `add` answers: the messages, or the fault
+abbrev pub added : List Rule → Rule → Option Refusal → Result (List Text) Fault
+added rules rule None = Ok (override_messages rules rule)
+added rules rule (Some refusal) = Err (fault_at rule.place refusal)
+
+-- ---- pattern rules
+
+abbrev pub names_eq : List Text → List Text → Bool
+names_eq = pointwise bytes_eq
+
+abbrev pub target_names : Rule → List Text
+target_names rule = map (λ target. target.name) rule.targets
+
+-- whether two pattern rules have the same targets and the same prerequisites, order and repeats counting (GNU make manual,
+-- "Canceling Implicit Rules")
+abbrev pub repeats : Rule → Rule → Bool
+repeats earlier later =
+    names_eq (target_names earlier) (target_names later)
+    && (names_eq earlier.needs.prerequisites later.needs.prerequisites && names_eq earlier.needs.order_only later.needs.order_only)
+
+-- the pattern rule that a suffix rule is, of these patterns
+abbrev pub pattern_rule : Rule → Text × Text → Rule
+pattern_rule rule patterns = record {
+  kind = Pattern;
+  targets = record { name = patterns.0; stemmed = None } ∷ [];
+  needs = record { prerequisites = patterns.1 ∷ []; order_only = [] };
+  recipe = rule.recipe;
+  place = rule.place;
+}
+
+-- one target's suffix rule as a pattern rule, if it is one
+abbrev pub suffix_rule_as_pattern : List Text → Rule × Target → Option Rule
+suffix_rule_as_pattern suffixes made =
+    if is_bare made then option_map (pattern_rule made.0) (suffix_patterns suffixes made.1.name) else None
+
+-- the pattern rules that a rule is
+abbrev pub patterns_in : List Text → Rule → List Rule
+patterns_in suffixes rule =
+    if is_pattern rule.kind then rule ∷ [] else filter_map (suffix_rule_as_pattern suffixes) (target_rules rule)
+
+-- those with a recipe that none of the later repeats
+abbrev pub unrepeated : List Rule → List Rule
+unrepeated [] = []
+unrepeated (rule ∷ rules) =
+    if is_some rule.recipe && not (list_any (repeats rule) rules) then rule ∷ unrepeated rules else unrepeated rules
+
+-- the pattern rules of a list of rules, suffix rules in their places, as the search takes them (GNU make manual, "Pattern Rules")
+unfoldable pub patterns_of : List Rule → List Rule
+patterns_of rules = unrepeated (flat_map (patterns_in (suffixes_of rules)) rules)

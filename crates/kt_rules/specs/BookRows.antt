@@ -1,0 +1,75 @@
+-- Worked books, as facts that compute. The rules are those of the GNU make manual's sections on rules, and of kati's own
+-- rules where it has some.
+use Rattle.std.specs.Prelude.{◌≡◌, ℕ, Bool, true, false, List, [], ◌∷◌, ◌++◌, Some, None, codes}
+use Rattle.kt_text.specs.Words.{Text}
+use Rattle.kt_rules.specs.declared.entry.Kind.{Kind}
+use Rattle.kt_rules.specs.declared.entry.Kind.TheVariants.{SingleColon, DoubleColon, Group, Pattern}
+use Rattle.kt_rules.specs.declared.entry.Target.{Target}
+use Rattle.kt_rules.specs.declared.place.Place.{Place}
+use Rattle.kt_rules.specs.Places.{place_text}
+use Rattle.kt_rules.specs.Entry.{Rule}
+use Rattle.kt_rules.specs.Refusals.{bad_group, both_colons, two_recipes}
+use Rattle.kt_rules.specs.Book.{explicit_rules, is_phony, first_goal_of, refusal_of, override_messages, patterns_of}
+
+abbrev pub at_line : ℕ → Place
+at_line line = record { file = codes "M"; line = line }
+
+abbrev pub named : Text → Target
+named name = record { name = name; stemmed = None }
+
+-- a line's rule for one target that needs names, with a recipe of no text or without one
+abbrev pub rule : Kind → Text → List Text → List Text → Bool → ℕ → Rule
+rule kind name prerequisites order_only true line = record {
+  kind = kind;
+  targets = named name ∷ [];
+  needs = record { prerequisites = prerequisites; order_only = order_only };
+  recipe = Some (record { text = []; place = at_line line } ∷ []);
+  place = at_line line;
+}
+rule kind name prerequisites order_only false line = record {
+  kind = kind;
+  targets = named name ∷ [];
+  needs = record { prerequisites = prerequisites; order_only = order_only };
+  recipe = None;
+  place = at_line line;
+}
+
+-- `NAME: ;` and `NAME: PREREQUISITE` in a line
+abbrev pub made : Text → ℕ → Rule
+made name line = rule SingleColon name [] [] true line
+
+abbrev pub needing : Text → Text → ℕ → Rule
+needing name prerequisite line = rule SingleColon name (prerequisite ∷ []) [] false line
+
+-- `TARGET: PREREQUISITE ;` of patterns
+abbrev pub pattern : Text → Text → ℕ → Rule
+pattern target prerequisite line = rule Pattern target (prerequisite ∷ []) [] true line
+
+-- suffix rules
+pub record RowsOfSuffixRules : Type 0 where
+  pub two_suffixes : patterns_of (made (codes ".c.o") 1 ∷ []) ≡ pattern (codes "%.o") (codes "%.c") 1 ∷ []
+  pub one_suffix : patterns_of (made (codes ".c") 1 ∷ []) ≡ pattern (codes "%") (codes "%.c") 1 ∷ []
+  pub later_suffix : patterns_of (made (codes ".x.o") 1 ∷ needing (codes ".SUFFIXES") (codes ".x") 2 ∷ []) ≡ pattern (codes "%.o") (codes "%.x") 1 ∷ []
+  pub cleared : patterns_of (made (codes ".c.o") 1 ∷ rule SingleColon (codes ".SUFFIXES") [] [] false 2 ∷ []) ≡ []
+  pub not_explicit : explicit_rules (made (codes ".c.o") 1 ∷ []) (codes ".c.o") ≡ []
+  pub repeated : patterns_of (made (codes ".c.o") 1 ∷ rule Pattern (codes "%.o") (codes "%.c" ∷ []) [] false 2 ∷ []) ≡ []
+
+-- pattern rules
+pub record RowsOfPatternRules : Type 0 where
+  pub last_of_three : patterns_of (pattern (codes "%.o") (codes "%.c") 1 ∷ pattern (codes "%.o") (codes "%.c") 2 ∷ pattern (codes "%.o") (codes "%.c") 3 ∷ [])
+      ≡ pattern (codes "%.o") (codes "%.c") 3 ∷ []
+  pub in_both_lists : patterns_of (rule Pattern (codes "%") (codes "a" ∷ []) (codes "a" ∷ []) true 1 ∷ pattern (codes "%") (codes "a") 2 ∷ [])
+      ≡ rule Pattern (codes "%") (codes "a" ∷ []) (codes "a" ∷ []) true 1 ∷ pattern (codes "%") (codes "a") 2 ∷ []
+
+-- what is refused of a rule beside others, and what is told of it
+pub record RowsOfAdding : Type 0 where
+  pub no_recipe : refusal_of [] (rule Group (codes "a") [] [] false 1) ≡ Some bad_group
+  pub two_kinds : refusal_of (needing (codes "a") (codes "b") 1 ∷ []) (rule DoubleColon (codes "a") [] [] false 2) ≡ Some (both_colons (codes "a"))
+  pub beside_group : refusal_of (rule Group (codes "a") [] [] true 1 ∷ []) (made (codes "a") 2) ≡ Some (two_recipes (codes "a"))
+  pub second_recipe : override_messages (made (codes "a") 1 ∷ []) (made (codes "a") 2) ≡ (place_text (at_line 2) ++ codes ": warning: overriding recipe for target 'a'") ∷ []
+
+-- other answers
+pub record RowsOfAnswers : Type 0 where
+  pub order_only_phony : is_phony (rule SingleColon (codes ".PHONY") [] (codes "b" ∷ []) false 1 ∷ []) (codes "b") ≡ true
+  pub no_target : is_phony (needing (codes "a") (codes "b") 1 ∷ []) (codes "b") ≡ false
+  pub first_goal : first_goal_of (made (codes ".c.o") 1 ∷ pattern (codes "%") (codes "a") 2 ∷ needing (codes "b") (codes "c") 3 ∷ []) ≡ Some (codes "b")

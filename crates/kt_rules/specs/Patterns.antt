@@ -1,0 +1,79 @@
+-- Pattern rules as the program holds them (kati's own).
+use Rattle.std.specs.Prelude.{ℕ, Bool, true, false, map, List, [], ◌++◌, Option, Some, None, filter_map, option_to_list, ◌≡◌, reverse, is_some, not, ◌&&◌, if◌then◌else◌}
+use Rattle.std.specs.List.{list_any}
+use Rattle.std.specs.declared.vec.Vec.{Vec}
+use Rattle.std.specs.declared.alloc.Global.{Global}
+use Rattle.kt_text.specs.Words.{Text}
+use Rattle.kt_rules.specs.declared.entry.Kind.{Kind}
+use Rattle.kt_rules.specs.declared.entry.Kind.TheVariants.{SingleColon, DoubleColon, Group, Pattern, TerminalPattern}
+use Rattle.kt_rules.specs.declared.entry.Target.{Target}
+use Rattle.kt_rules.specs.declared.book.pattern.SuffixForm.{SuffixForm}
+use Rattle.kt_rules.specs.Entry.{Rule}
+use Rattle.kt_rules.specs.declared.book.pattern_set.PatternKey.{PatternKey}
+use Rattle.kt_rules.specs.declared.book.pattern_set.PatternSet.{PatternSet}
+use Rattle.kt_rules.specs.Book.{is_made, target_rules, target_names, names_eq, patterns_in, suffix_rule_as_pattern, repeats, unrepeated}
+
+-- a suffix rule with what it makes and needs as a pattern rule
+abbrev pub form_told : Rule → SuffixForm → Rule
+form_told rule form =
+    record { kind = Pattern; targets = form.targets.items; needs = form.needs; recipe = rule.recipe; place = rule.place }
+
+-- an entry, or what a suffix rule makes and needs in its place
+abbrev pub pattern_told : Rule → Option SuffixForm → Rule
+pattern_told rule None = rule
+pattern_told rule (Some form) = form_told rule form
+
+-- the pattern rules that the rule in a slot is
+abbrev pub slot_patterns : List Text → Option Rule → List Rule
+slot_patterns suffixes None = []
+slot_patterns suffixes (Some rule) = patterns_in suffixes rule
+
+-- the suffix rules that a rule is, as pattern rules
+abbrev pub suffix_rules_in : List Text → Rule → List Rule
+suffix_rules_in suffixes rule = filter_map (suffix_rule_as_pattern suffixes) (target_rules rule)
+
+-- the same of one target
+abbrev pub suffix_rules_at : List Text → Rule → Target → List Rule
+suffix_rules_at suffixes rule target =
+    if is_made rule target then option_to_list (suffix_rule_as_pattern suffixes (rule, target)) else []
+
+-- whether no rule is searched for that makes the prerequisites
+abbrev pub is_terminal : Kind → Bool
+is_terminal SingleColon = false
+is_terminal DoubleColon = false
+is_terminal Group = false
+is_terminal Pattern = false
+is_terminal TerminalPattern = true
+
+-- ---- those that stay
+
+-- names as they are held
+abbrev pub held : List (Vec ℕ Global) → List Text
+held names = map (λ name. name.items) names
+
+-- a key has the names of a rule
+pub record IsKeyOf (rule : Rule) (key : PatternKey) : Type 0 where
+  pub targets_held : held key.targets.items ≡ target_names rule
+  pub prerequisites_held : held key.prerequisites.items ≡ rule.needs.prerequisites
+  pub order_only_held : held key.order_only.items ≡ rule.needs.order_only
+
+-- whether a rule has the names of a key
+abbrev pub has_repeated : Rule → PatternKey → Bool
+has_repeated rule key =
+    names_eq (target_names rule) (held key.targets.items)
+    && (names_eq rule.needs.prerequisites (held key.prerequisites.items) && names_eq rule.needs.order_only (held key.order_only.items))
+
+-- whether a rule is in a set of pattern rules
+abbrev pub has_pattern : PatternSet → Rule → Bool
+has_pattern set rule = list_any (has_repeated rule) set.keys.keys
+
+-- whether a pattern rule has a recipe, and none of a set repeats it
+abbrev pub stays_before : PatternSet → Rule → Bool
+stays_before behind rule = is_some rule.recipe && not (has_pattern behind rule)
+
+-- the rules behind those that are left: those that stay stand in turn, and the set has them all
+pub record IsSorted (all left kept : List Rule) (set : PatternSet) : Type 0 where
+  pub behind : List Rule
+  pub whole : left ++ behind ≡ all
+  pub stay : reverse kept ≡ unrepeated behind
+  pub same : (rule : Rule) → has_pattern set rule ≡ list_any (repeats rule) behind

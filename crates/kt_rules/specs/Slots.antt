@@ -1,0 +1,125 @@
+-- The rules of a book in their slots, of which some stay empty, and the spots of their targets (kati's own).
+use Rattle.std.specs.Prelude.{◌≡◌, ℕ, ◌+◌, ◌<◌, Bool, false, ◌&&◌, List, [], ◌∷◌, ◌++◌, filter_map, bytes_eq, length, Option, Some, None, option_map, option_and_then, slice_get, is_some, if◌then◌else◌}
+use Rattle.std.specs.List.{list_any}
+use Rattle.kt_text.specs.Words.{Text}
+use Rattle.kt_rules.specs.declared.entry.Target.{Target}
+use Rattle.kt_rules.specs.declared.book.index.Spot.{Spot}
+use Rattle.kt_rules.specs.declared.book.index.Index.{Index}
+use Rattle.kt_rules.specs.declared.book.target_rule.TargetRule.{TargetRule}
+use Rattle.kt_rules.specs.Entry.{Rule}
+use Rattle.kt_rules.specs.Indexes.{spots_at}
+use Rattle.kt_rules.specs.Book.{is_made, goal_in, is_double, is_group, is_phony, rules_of, recipes_of, xor}
+use Rattle.kt_rules.specs.Names.{is_among}
+use Rattle.kt_rules.specs.Suffixes.{suffixes_of, is_bare}
+
+-- the rules in the slots
+abbrev pub rules_in : List (Option Rule) → List Rule
+rules_in slots = filter_map (λ slot. slot) slots
+
+-- a rule as it is told
+abbrev pub rule_told : TargetRule → Rule × Target
+rule_told rule = (rule.entry.now, rule.target.now)
+
+-- a rule with its target of this number
+abbrev pub target_rule : Rule → ℕ → Option (Rule × Target)
+target_rule rule number = option_map (λ target. (rule, target)) (slice_get rule.targets number)
+
+-- what is in a slot
+abbrev pub slot_rule : List (Option Rule) → ℕ → Option Rule
+slot_rule slots place = option_and_then (λ slot. slot) (slice_get slots place)
+
+-- the rule that stands at a spot
+abbrev pub spot_rule : List (Option Rule) → Spot → Option (Rule × Target)
+spot_rule slots spot = option_and_then (λ rule. target_rule rule spot.target) (slot_rule slots spot.entry)
+
+-- the rules that stand at spots
+unfoldable pub found : List (Option Rule) → List Spot → List (Rule × Target)
+found slots spots = filter_map (spot_rule slots) spots
+
+abbrev pub first_of : {A : Type 0} → List A → Option A
+first_of [] = None
+first_of (x ∷ xs) = Some x
+
+-- the first of them
+abbrev pub first_found : List (Option Rule) → List Spot → Option (Rule × Target)
+first_found slots spots = first_of (found slots spots)
+
+abbrev pub unless : {A : Type 0} → (A → Bool) → Option A → Option A
+unless test None = None
+unless test (Some x) = if test x then None else Some x
+
+-- the rule that stands at a spot, if it is explicit: bare ones may not be
+abbrev pub explicit_rule : Bool → List (Option Rule) → Spot → Option (Rule × Target)
+explicit_rule skips_bare slots spot = unless (λ made. is_bare made && skips_bare) (spot_rule slots spot)
+
+-- the explicit rules that stand at spots
+unfoldable pub explicit_left : Bool → List (Option Rule) → List Spot → List (Rule × Target)
+explicit_left skips_bare slots spots = filter_map (explicit_rule skips_bare slots) spots
+
+-- the name of the default goal that the rule in a slot gives
+abbrev pub slot_goal : List Text → Option Rule → Option Text
+slot_goal suffixes None = None
+slot_goal suffixes (Some rule) = goal_in suffixes rule
+
+-- ---- one more rule
+
+abbrev pub spot_at : ℕ → ℕ → Spot
+spot_at entry target = record { entry = entry; target = target }
+
+-- the spot of a target, where the rule makes it and it has the name
+abbrev pub target_spots : Rule → Target → Spot → Text → List Spot
+target_spots rule target spot name = if is_made rule target then (if bytes_eq name target.name then spot ∷ [] else []) else []
+
+-- the spots that a rule at a place has for a name, of its targets from a number on
+unfoldable pub spots_from : Rule → ℕ → ℕ → List Target → Text → List Spot
+spots_from rule place number [] name = []
+spots_from rule place number (target ∷ targets) name =
+    target_spots rule target (spot_at place number) name ++ spots_from rule place (number + 1) targets name
+
+-- the spots that a rule at a place has for a name
+abbrev pub spots_for : Rule → ℕ → Text → List Spot
+spots_for rule place name = spots_from rule place 0 rule.targets name
+
+-- each spot is in a slot before the place
+abbrev pub AreBefore : ℕ → List Spot → Type 0
+AreBefore place [] = Unit {0}
+AreBefore place (spot ∷ spots) = (spot.entry < place) × AreBefore place spots
+
+-- each spot is in the slot of the place
+abbrev pub AreIn : ℕ → List Spot → Type 0
+AreIn place [] = Unit {0}
+AreIn place (spot ∷ spots) = (spot.entry ≡ place) × AreIn place spots
+
+-- each name may have got spots in the slot of the place
+abbrev pub GrewIn : ℕ → Index → Index → Type 0
+GrewIn place old new =
+    (name : Text) → (more : List Spot) × (spots_at new name ≡ spots_at old name ++ more) × AreIn place more
+
+-- each name has got the spots of a rule at the place
+abbrev pub GotSpots : Rule → ℕ → Index → Index → Type 0
+GotSpots rule place old new = (name : Text) → spots_at new name ≡ spots_at old name ++ spots_for rule place name
+
+-- the same of an index of those rules that have a recipe
+abbrev pub GotRecipes : Rule → ℕ → Index → Index → Type 0
+GotRecipes rule place old new =
+    (name : Text) → spots_at new name ≡ spots_at old name ++ (if is_some rule.recipe then spots_for rule place name else [])
+
+-- the test gives the same at each of them
+abbrev pub AreAlike : {A : Type 0} → (A → Bool) → List A → Type 0
+AreAlike test xs = (b : Bool) × (list_any (λ x. xor (test x) b) xs ≡ false)
+
+-- an index has the rules of each name
+pub record Tells (slots : List (Option Rule)) (index : Index) (rules : Text → List (Rule × Target)) : Type 0 where
+  pub all : (name : Text) → found slots (spots_at index name) ≡ rules name
+  pub before : (name : Text) → AreBefore (length slots) (spots_at index name)
+
+-- what a book keeps beside its rules is what they say
+pub record IsKept (slots : List (Option Rule)) (targets recipes : Index) (phony suffixes : List Text) : Type 0 where
+  pub targets_told : Tells slots targets (rules_of (rules_in slots))
+  pub recipes_told : Tells slots recipes (recipes_of (rules_in slots))
+  pub phony_told : (name : Text) → is_among phony name ≡ is_phony (rules_in slots) name
+  pub suffixes_told : suffixes ≡ suffixes_of (rules_in slots)
+  -- no target has rules with one colon and with two
+  pub colons : (name : Text) → AreAlike (λ made. is_double made.0.kind) (rules_of (rules_in slots) name)
+  -- where a group makes a target, no other rule of it has a recipe
+  pub groups : (name : Text) → AreAlike (λ made. is_group made.0.kind) (recipes_of (rules_in slots) name)

@@ -1,0 +1,78 @@
+-- Suffixes, and the pattern rules that suffix rules are (POSIX.1-2024 make, "Inference Rules"; GNU make manual,
+-- "Old-Fashioned Suffix Rules").
+use Rattle.std.specs.Prelude.{ℕ, Bool, true, false, ◌&&◌, List, [], ◌∷◌, ◌++◌, length, take, drop, fold, find, codes, bytes_eq, Option, Some, option_map, is_some, if◌then◌else◌}
+use Rattle.std.specs.List.{range_with_len}
+use Rattle.std.specs.Option.{option_map_or}
+use Rattle.kt_text.specs.Words.{Text, words_of}
+use Rattle.kt_rules.specs.declared.entry.Kind.{Kind}
+use Rattle.kt_rules.specs.declared.entry.Kind.TheVariants.{SingleColon, DoubleColon, Group, Pattern, TerminalPattern}
+use Rattle.kt_rules.specs.declared.entry.Needs.{Needs}
+use Rattle.kt_rules.specs.declared.entry.Target.{Target}
+use Rattle.kt_rules.specs.Names.{is_among, with_name}
+use Rattle.kt_rules.specs.Entry.{Rule, needs_for}
+
+-- all that is needed, order-only names last
+abbrev pub all_needs : Needs → List Text
+all_needs needs = needs.prerequisites ++ needs.order_only
+
+-- what a rule's special target of a name needs, where the rule has that target
+abbrev pub special_needs : Text → Rule → Option (List Text)
+special_needs special rule =
+    option_map (λ target. all_needs (needs_for rule target)) (find (λ target. bytes_eq target.name special) rule.targets)
+
+-- the suffixes that are known at the start (kati's own)
+unfoldable pub start_suffixes : List Text
+start_suffixes = words_of (codes ".o .c .cc .cpp .s .S .y .l .h .sh .a .f")
+
+-- the suffixes with the names of a `.SUFFIXES` behind them, as far as they aren't there; without names there are none
+abbrev pub suffixes_with : List Text → List Text → List Text
+suffixes_with suffixes [] = []
+suffixes_with suffixes (name ∷ names) = fold with_name suffixes (name ∷ names)
+
+-- the suffixes after one more rule
+abbrev pub suffixes_after : List Text → Rule → List Text
+suffixes_after suffixes rule = option_map_or (suffixes_with suffixes) (special_needs (codes ".SUFFIXES") rule) suffixes
+
+-- the suffixes after all rules
+abbrev pub suffixes_of : List Rule → List Text
+suffixes_of rules = fold suffixes_after start_suffixes rules
+
+-- whether a name that is cut at a place is two suffixes
+abbrev pub is_cut_at : List Text → Text → ℕ → Bool
+is_cut_at suffixes name place = is_among suffixes (take place name) && is_among suffixes (drop place name)
+
+-- the first place at which a name is cut into two suffixes
+abbrev pub suffix_cut : List Text → Text → Option ℕ
+suffix_cut suffixes name = find (is_cut_at suffixes name) (range_with_len 0 (length name))
+
+abbrev pub percent : Text
+percent = 37 ∷ []
+
+-- the pattern of the targets and that of the prerequisite, for a target that is a suffix (`.c`: `%` and `%.c`), or else
+-- two suffixes (`.c.o`: `%.o` and `%.c`)
+abbrev pub suffix_patterns : List Text → Text → Option (Text × Text)
+suffix_patterns suffixes name =
+    if is_among suffixes name then Some (percent, percent ++ name)
+    else option_map (λ place. (percent ++ drop place name, percent ++ take place name)) (suffix_cut suffixes name)
+
+abbrev pub is_single : Kind → Bool
+is_single SingleColon = true
+is_single DoubleColon = false
+is_single Group = false
+is_single Pattern = false
+is_single TerminalPattern = false
+
+abbrev pub is_empty : List Text → Bool
+is_empty [] = true
+is_empty (name ∷ names) = false
+
+abbrev pub needs_nothing : Needs → Bool
+needs_nothing needs = is_empty needs.prerequisites && is_empty needs.order_only
+
+-- whether a rule has the form of a suffix rule for one of its targets: one colon, a recipe, and nothing that is needed
+abbrev pub is_bare : Rule × Target → Bool
+is_bare made = is_single made.0.kind && (is_some made.0.recipe && needs_nothing (needs_for made.0 made.1))
+
+-- whether it is a suffix rule for its target of this name
+abbrev pub is_suffix_rule : List Text → Text → Rule × Target → Bool
+is_suffix_rule suffixes name made = is_bare made && is_some (suffix_patterns suffixes name)

@@ -1,0 +1,181 @@
+//! The rules of a makefile, as a list of entries.
+ghost use Rattle.std.specs.Prelude.{◌≡◌, ◌++◌, ◌∷◌, [], IfOk, OnErr, OnOk, None, map, option_map};
+ghost use Rattle.kt_rules.specs.Book.{added, explicit_rules, first_goal_of, is_phony, override_messages, patterns_of, refusal_of};
+ghost use Rattle.kt_rules.specs.Refusals.{Answers};
+ghost use Rattle.kt_rules.specs.Suffixes.{suffixes_of};
+
+mod explicit;
+mod goal;
+mod index;
+mod matching;
+mod name_set;
+mod noting;
+mod overriding;
+mod pattern;
+mod pattern_set;
+mod refusing;
+mod special;
+mod suffix;
+mod target_rule;
+
+use crate::entry::Entry;
+use crate::fault::RuleFault;
+pub use explicit::Explicit;
+use index::Index;
+use kt_list::Sequence;
+use matching::{candidates, unrepeated};
+use name_set::NameSet;
+use noting::learn;
+pub use pattern::Pattern;
+use refusing::fault_of;
+use special::start_suffixes;
+use std::alloc::{AllocError, Global};
+use std::marker::Model;
+use suffix::is_suffix_name;
+pub use target_rule::TargetRule;
+
+/// Message lines, without their newlines.
+pub type Warnings = Sequence<Sequence<u8>>;
+
+/// The rules of a makefile, in the order in which they were added.
+///
+/// Rules are looked up by their targets: asking costs the same in a long book as in a short one.
+#[derive(Drop)]
+pub struct Book {
+    alloc: Global,
+    // A slot stays empty where its entry couldn't be noted for want of memory.
+    slots: Vec<Option<Entry>>,
+    // The targets that are made by their names, and those of them whose rule has a recipe.
+    targets: Index,
+    recipes: Index,
+    phony: NameSet,
+    suffixes: NameSet,
+}
+
+impl Model for Book {
+    ghost use Rattle.std.specs.Prelude.{List};
+    ghost use Rattle.kt_rules.specs.Entry.{Rule};
+
+    ghost Value = { List Rule };
+
+    ghost use Rattle.kt_rules.specs.Slots.{IsKept, rules_in};
+
+    ghost view = { λ book. rules_in book.slots.items };
+
+    ghost invariant = { λ book. IsKept book.slots.items book.targets book.recipes book.phony book.suffixes };
+}
+
+impl Book {
+    /// A book without rules.
+    pub fn new(alloc: Global) -> Result<Book, AllocError>
+        ensures { IfOk result (λ book. book ≡ []) }
+    {
+        let suffixes = start_suffixes(alloc)?;
+        let slots = Vec::new(alloc);
+        let targets = Index::new(alloc);
+        let recipes = Index::new(alloc);
+        let phony = NameSet::new(alloc);
+        Ok(Book {
+            alloc,
+            slots,
+            targets,
+            recipes,
+            phony,
+            suffixes,
+        })
+    }
+
+    /// Adds the rules of an entry, and gives the messages on targets that get a second recipe.
+    ///
+    /// Refused are, in this order: a group without a recipe; a target that has rules with one colon
+    /// and with two; a target with two recipes, one of them a group's.
+    #[tactic(auto, using(crate::proofs::AddLemmas::answers_refused))]
+    pub fn add(&mut self, entry: Entry) -> Result<Warnings, RuleFault>
+        ensures answers { Answers result (added self.old entry (refusal_of self.old entry)) }
+        ensures grown { OnOk result (self.new ≡ self.old ++ entry ∷ []) }
+        ensures refused { OnErr result (self.new ≡ self.old) }
+    {
+        match self.refusal(&entry) {
+            Some(refusal) => Err(fault_of(self.alloc, entry.place(), refusal)),
+            None => Ok(self.accept(entry)?),
+        }
+    }
+
+    /// The explicit rules of a target, in order. Takes no memory.
+    ///
+    /// A suffix rule is none, as the present suffixes tell (GNU make manual, "Old-Fashioned Suffix
+    /// Rules").
+    pub fn explicit(&self, name: &[u8]) -> Explicit<'_>
+        ensures { result ≡ explicit_rules self.now name.now }
+    {
+        let skips_bare = is_suffix_name(&self.suffixes, name);
+        Explicit::new(self.slots.as_slice(), self.targets.spots(name), skips_bare)
+    }
+
+    /// Whether `.PHONY` needs the name (POSIX.1-2024 make, "Target Rules"). Takes no memory.
+    pub fn is_phony(&self, name: &[u8]) -> bool
+        ensures { result ≡ is_phony self.now name.now }
+    {
+        self.phony.contains(name)
+    }
+
+    /// The suffixes, in order (POSIX.1-2024 make, "Inference Rules"). Takes no memory.
+    pub fn suffixes(&self) -> &[Vec<u8>]
+        ensures { map (λ suffix. suffix.items) result.now ≡ suffixes_of self.now }
+    {
+        self.suffixes.as_slice()
+    }
+
+    /// The first target of an explicit rule that doesn't begin with a dot or that holds a slash (GNU
+    /// make manual, "How `make` Processes a Makefile"). Takes no memory.
+    pub fn first_goal(&self) -> Option<&[u8]>
+        ensures { option_map (λ name. name.now) result ≡ first_goal_of self.now }
+    {
+        goal::first_goal(&self.suffixes, self.slots.as_slice())
+    }
+
+    /// The pattern rules that have a recipe and that no later one repeats, in order, each suffix rule
+    /// in its place (GNU make manual, "Pattern Rules", "Canceling Implicit Rules", "Old-Fashioned
+    /// Suffix Rules").
+    pub fn patterns(&self) -> Result<Vec<Pattern<'_>>, AllocError>
+        ensures { IfOk result (λ patterns. patterns.items ≡ patterns_of self.now) }
+    {
+        let candidates = candidates(self.alloc, &self.suffixes, self.slots.as_slice())?;
+        Ok(unrepeated(self.alloc, candidates)?)
+    }
+
+    // Adds an entry that isn't refused, and tells of second recipes.
+    fn accept(&mut self, entry: Entry) -> Result<Warnings, AllocError>
+        requires { refusal_of self.old entry ≡ None }
+        ensures told { IfOk result (λ warnings. warnings ≡ override_messages self.old entry) }
+        ensures grown { OnOk result (self.new ≡ self.old ++ entry ∷ []) }
+        ensures refused { OnErr result (self.new ≡ self.old) }
+    {
+        let warnings = self.warnings(&entry)?;
+        self.learn(entry)?;
+        Ok(warnings)
+    }
+
+    // Adds an entry that isn't refused.
+    fn learn(&mut self, entry: Entry) -> Result<(), AllocError>
+        requires { refusal_of self.old entry ≡ None }
+        ensures grown { OnOk result (self.new ≡ self.old ++ entry ∷ []) }
+        ensures refused { OnErr result (self.new ≡ self.old) }
+    {
+        let place = self.slots.as_slice().len();
+        self.slots.push(None)?;
+        learn(
+            &mut self.targets,
+            &mut self.recipes,
+            &mut self.phony,
+            &mut self.suffixes,
+            &entry,
+            place,
+        )?;
+        self.slots[place] = Some(entry);
+        Ok(())
+    }
+}
+
+#[cfg(test)]
+mod tests;

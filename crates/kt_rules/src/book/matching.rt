@@ -1,0 +1,173 @@
+//! The pattern rules of a book.
+ghost use Rattle.std.specs.Prelude.{◌≡◌, ◌++◌, ◌||◌, ◌∷◌, [], IfOk, OnOk, flat_map, option_map, if◌then◌else◌};
+ghost use Rattle.kt_rules.specs.Book.{pattern_rule, patterns_in, repeats, unrepeated};
+ghost use Rattle.kt_rules.specs.Entry.{Rule};
+ghost use Rattle.kt_rules.specs.Patterns.{form_told, has_pattern, slot_patterns, stays_before, suffix_rules_at, suffix_rules_in};
+ghost use Rattle.kt_rules.specs.Slots.{rules_in};
+ghost use Rattle.kt_rules.specs.Suffixes.{percent, suffix_patterns};
+
+use super::name_set::NameSet;
+use super::pattern::{Pattern, SuffixForm};
+use super::pattern_set::PatternSet;
+use super::suffix::suffix_cut;
+use super::target_rule::{TargetRule, is_bare, is_made, is_pattern};
+use crate::entry::{Entry, Needs, Target};
+use kt_list::Sequence;
+use std::alloc::{AllocError, Global};
+
+/// The pattern rules that the entries in slots are, whether a later one repeats them or not.
+pub(crate) fn candidates<'a>(
+    alloc: Global,
+    suffixes: &NameSet,
+    slots: &'a [Option<Entry>],
+) -> Result<Vec<Pattern<'a>>, AllocError>
+    ensures { IfOk result (λ patterns. patterns.items ≡ flat_map (patterns_in suffixes.now) (rules_in slots.now)) }
+{
+    let mut patterns = Vec::new(alloc);
+    for slot in slots {
+        add_slot(alloc, suffixes, slot, &mut patterns)?;
+    }
+    Ok(patterns)
+}
+
+fn add_slot<'a>(
+    alloc: Global,
+    suffixes: &NameSet,
+    slot: &'a Option<Entry>,
+    patterns: &mut Vec<Pattern<'a>>,
+) -> Result<(), AllocError>
+    ensures { OnOk result (patterns.new.items ≡ patterns.old.items ++ slot_patterns suffixes.now slot.now) }
+{
+    match slot {
+        Some(entry) => add_entry(alloc, suffixes, entry, patterns),
+        None => Ok(()),
+    }
+}
+
+fn add_entry<'a>(
+    alloc: Global,
+    suffixes: &NameSet,
+    entry: &'a Entry,
+    patterns: &mut Vec<Pattern<'a>>,
+) -> Result<(), AllocError>
+    ensures { OnOk result (patterns.new.items ≡ patterns.old.items ++ patterns_in suffixes.now entry.now) }
+{
+    if is_pattern(entry.kind()) {
+        patterns.push(Pattern { entry, form: None })?;
+        return Ok(());
+    }
+    add_suffix_rules(alloc, suffixes, entry, patterns)
+}
+
+fn add_suffix_rules<'a>(
+    alloc: Global,
+    suffixes: &NameSet,
+    entry: &'a Entry,
+    patterns: &mut Vec<Pattern<'a>>,
+) -> Result<(), AllocError>
+    ensures { OnOk result (patterns.new.items ≡ patterns.old.items ++ suffix_rules_in suffixes.now entry.now) }
+{
+    for target in entry.targets() {
+        add_suffix_rule(alloc, suffixes, TargetRule { entry, target }, patterns)?;
+    }
+    Ok(())
+}
+
+// Appends what a target's suffix rule is as a pattern rule, if it is one.
+fn add_suffix_rule<'a>(
+    alloc: Global,
+    suffixes: &NameSet,
+    rule: TargetRule<'a>,
+    patterns: &mut Vec<Pattern<'a>>,
+) -> Result<(), AllocError>
+    ensures { OnOk result (patterns.new.items ≡ patterns.old.items ++ suffix_rules_at suffixes.now rule.entry.entry.now rule.entry.target.now) }
+{
+    if !(is_made(rule.entry, rule.target) && is_bare(rule)) {
+        return Ok(());
+    }
+    if let Some(form) = named_form(alloc, suffixes, rule.target.name.as_slice())? {
+        patterns.push(Pattern {
+            entry: rule.entry,
+            form: Some(form),
+        })?;
+    }
+    Ok(())
+}
+
+// What a suffix rule makes and needs whose target has the name, where there may be one.
+fn named_form(
+    alloc: Global,
+    suffixes: &NameSet,
+    name: &[u8],
+) -> Result<Option<SuffixForm>, AllocError>
+    ensures { IfOk result (λ form. (rule : Rule) → option_map (form_told rule) form ≡ option_map (pattern_rule rule) (suffix_patterns suffixes.now name.now)) }
+{
+    if suffixes.contains(name) {
+        return Ok(Some(suffix_form(alloc, b"", name)?));
+    }
+    match suffix_cut(suffixes, name) {
+        Some(place) => Ok(Some(suffix_form(alloc, &name[place..], &name[..place])?)),
+        None => Ok(None),
+    }
+}
+
+// The form of a suffix rule for targets with one suffix that need a name with another.
+fn suffix_form(alloc: Global, made: &[u8], needed: &[u8]) -> Result<SuffixForm, AllocError>
+    ensures { IfOk result (λ form. (rule : Rule) → form_told rule form ≡ pattern_rule rule (percent ++ made.now, percent ++ needed.now)) }
+{
+    let target = Target {
+        name: Sequence::from(with_percent(alloc, made)?),
+        stemmed: None,
+    };
+    let prerequisite = Sequence::from(with_percent(alloc, needed)?);
+    let targets = Vec::from_array(alloc, [target])?;
+    let prerequisites = Vec::from_array(alloc, [prerequisite])?;
+    Ok(SuffixForm {
+        targets,
+        needs: Needs {
+            prerequisites: Sequence::from(prerequisites),
+            order_only: Sequence::from(Vec::new(alloc)),
+        },
+    })
+}
+
+fn with_percent(alloc: Global, suffix: &[u8]) -> Result<Vec<u8>, AllocError>
+    ensures { IfOk result (λ name. name.items ≡ percent ++ suffix.now) }
+{
+    let mut name = Vec::from_slice(alloc, b"%")?;
+    name.extend_from_slice(suffix)?;
+    Ok(name)
+}
+
+/// Those with a recipe that none of the later repeats.
+pub(crate) fn unrepeated<'a>(
+    alloc: Global,
+    patterns: Vec<Pattern<'a>>,
+) -> Result<Vec<Pattern<'a>>, AllocError>
+    ensures { IfOk result (λ kept. kept.items ≡ unrepeated patterns.entry.items) }
+{
+    let mut left = patterns;
+    let mut behind = PatternSet::new(alloc);
+    let mut kept = Vec::new(alloc);
+    while let Some(pattern) = left.pop() {
+        sort_in(pattern, &mut kept, &mut behind)?;
+    }
+    kept.reverse();
+    Ok(kept)
+}
+
+// Appends a pattern rule to those that are kept, if it has a recipe and none behind it repeats it.
+fn sort_in<'a>(
+    pattern: Pattern<'a>,
+    kept: &mut Vec<Pattern<'a>>,
+    behind: &mut PatternSet,
+) -> Result<(), AllocError>
+    ensures kept { OnOk result (kept.new.items ≡ kept.old.items ++ (if stays_before behind.old pattern.entry then pattern.entry ∷ [] else [])) }
+    ensures behind { OnOk result ((rule : Rule) → has_pattern behind.new rule ≡ (repeats rule pattern.entry || has_pattern behind.old rule)) }
+{
+    let is_last = behind.insert(&pattern)?;
+    if is_last && pattern.recipe().is_some() {
+        kept.push(pattern)?;
+    }
+    Ok(())
+}

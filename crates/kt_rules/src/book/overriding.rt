@@ -1,0 +1,71 @@
+//! The messages on targets that get a second recipe.
+ghost use Rattle.std.specs.Prelude.{◌≡◌, ◌++◌, ◌∷◌, ◌&&◌, [], true, IfOk, OnOk, map, if◌then◌else◌};
+ghost use Rattle.std.specs.List.{list_any};
+ghost use Rattle.kt_rules.specs.Book.{is_made, override_message, override_messages, recipes_of, targets_with_recipe};
+
+use super::target_rule::{first_rule, has_recipe, is_made, is_single};
+use super::{Book, Warnings};
+use crate::entry::{Entry, Target};
+use crate::place::Place;
+use kt_list::Sequence;
+use std::alloc::{AllocError, Global};
+
+impl Book {
+    // The messages on an entry that isn't refused.
+    pub(crate) fn warnings(&self, entry: &Entry) -> Result<Warnings, AllocError>
+        ensures { IfOk result (λ warnings. warnings ≡ override_messages self.now entry.now) }
+    {
+        if !(is_single(entry.kind()) && has_recipe(entry)) {
+            return Ok(Sequence::from(Vec::new(self.alloc)));
+        }
+        self.second_recipes(entry)
+    }
+
+    fn second_recipes(&self, entry: &Entry) -> Result<Warnings, AllocError>
+        ensures { IfOk result (λ warnings. warnings ≡ map (override_message entry.now.place) (targets_with_recipe self.now entry.now)) }
+    {
+        let mut warnings = Vec::new(self.alloc);
+        for target in entry.targets() {
+            self.warn(entry, target, &mut warnings)?;
+        }
+        Ok(Sequence::from(warnings))
+    }
+
+    // Appends the message on a target, if it gets a second recipe.
+    fn warn(
+        &self,
+        entry: &Entry,
+        target: &Target,
+        warnings: &mut Vec<Sequence<u8>>,
+    ) -> Result<(), AllocError>
+        ensures { OnOk result (warnings.new.items ≡ warnings.old.items
+            ++ (if is_made entry.now target.now && list_any (λ earlier. true) (recipes_of self.now target.now.name) then override_message entry.now.place target.now ∷ [] else [])) }
+    {
+        if is_made(entry, target) && self.has_recipe(target.name.as_slice()) {
+            warnings.push(override_message(self.alloc, entry.place(), target)?)?;
+        }
+        Ok(())
+    }
+
+    // Whether a rule of the target has a recipe.
+    fn has_recipe(&self, name: &[u8]) -> bool
+        ensures { result ≡ list_any (λ earlier. true) (recipes_of self.now name.now) }
+    {
+        first_rule(self.slots.as_slice(), self.recipes.spots(name)).is_some()
+    }
+}
+
+fn override_message(
+    alloc: Global,
+    place: &Place,
+    target: &Target,
+) -> Result<Sequence<u8>, AllocError>
+    ensures { IfOk result (λ text. text ≡ override_message place.now target.now) }
+{
+    let mut text = Vec::new(alloc);
+    place.append_to(&mut text)?;
+    text.extend_from_slice(b": warning: overriding recipe for target '")?;
+    text.extend_from_slice(target.name.as_slice())?;
+    text.push(b'\'')?;
+    Ok(Sequence::from(text))
+}

@@ -1,0 +1,125 @@
+//! What is refused of one more entry.
+ghost use Rattle.std.specs.Prelude.{◌≡◌, ◌||◌, option_map, is_none, ◌&&◌};
+ghost use Rattle.std.specs.List.{list_any};
+ghost use Rattle.kt_rules.specs.Book.{beside_group_in, both_colons_in, differ_in_colons, is_beside_group, is_double, is_group, is_made, recipes_of, refusal_of, rules_of, two_recipes_in, xor};
+ghost use Rattle.kt_rules.specs.Refusals.{Tells, fault_at, refusal_told};
+
+use super::Book;
+use super::target_rule::{first_rule, has_recipe, is_double, is_group, is_made};
+use crate::entry::{Entry, Target};
+use crate::fault::RuleFault;
+use crate::place::Place;
+use crate::refusal::Refusal;
+use std::alloc::Global;
+
+impl Book {
+    // What is refused of an entry behind those of the book.
+    #[tactic(auto, unfolding(crate::specs::Book::refusal_of))]
+    pub(crate) fn refusal<'a>(&self, entry: &'a Entry) -> Option<Refusal<'a>>
+        ensures { option_map refusal_told result ≡ refusal_of self.now entry.now }
+    {
+        if is_group(entry.kind()) && !has_recipe(entry) {
+            return Some(Refusal::BadGroup);
+        }
+        if let Some(target) = self.both_colons(entry) {
+            return Some(Refusal::BothColons(target.name.as_slice()));
+        }
+        match self.two_recipes(entry) {
+            Some(target) => Some(Refusal::TwoRecipes(target.name.as_slice())),
+            None => None,
+        }
+    }
+
+    // The first target that has rules with the other number of colons.
+    fn both_colons<'a>(&self, entry: &'a Entry) -> Option<&'a Target>
+        ensures { option_map (λ target. target.now) result ≡ both_colons_in self.now entry.now }
+    {
+        for target in entry.targets() {
+            if self.differs(entry, target) {
+                return Some(target);
+            }
+        }
+        None
+    }
+
+    // The first target that gets a second recipe, where one of the two is a group's.
+    fn two_recipes<'a>(&self, entry: &'a Entry) -> Option<&'a Target>
+        ensures { option_map (λ target. target.now) result ≡ two_recipes_in self.now entry.now }
+    {
+        if !has_recipe(entry) {
+            return None;
+        }
+        self.beside_group(entry)
+    }
+
+    fn beside_group<'a>(&self, entry: &'a Entry) -> Option<&'a Target>
+        ensures { option_map (λ target. target.now) result ≡ beside_group_in self.now entry.now }
+    {
+        for target in entry.targets() {
+            if self.is_beside_group(entry, target) {
+                return Some(target);
+            }
+        }
+        None
+    }
+
+    // Whether the entry makes the target, and it has rules with the other number of colons.
+    fn differs(&self, entry: &Entry, target: &Target) -> bool
+        ensures { result ≡ (is_made entry.now target.now && list_any (differ_in_colons entry.now) (rules_of self.now target.now.name)) }
+    {
+        is_made(entry, target) && self.has_other_colons(entry, target.name.as_slice())
+    }
+
+    // Whether the entry makes the target, and it has a recipe, one of the two a group's.
+    fn is_beside_group(&self, entry: &Entry, target: &Target) -> bool
+        ensures { result ≡ (is_made entry.now target.now && list_any (is_beside_group entry.now) (recipes_of self.now target.now.name)) }
+    {
+        is_made(entry, target) && self.has_group(entry, target.name.as_slice())
+    }
+
+    // Whether a target has rules with the other number of colons. All that it has are alike.
+    fn has_other_colons(&self, entry: &Entry, name: &[u8]) -> bool
+        ensures { result ≡ list_any (differ_in_colons entry.now) (rules_of self.now name.now) }
+    {
+        match first_rule(self.slots.as_slice(), self.targets.spots(name)) {
+            Some(rule) => differ_in_colons(entry, rule.entry),
+            None => false,
+        }
+    }
+
+    // Whether a target has a recipe, and one of the two is a group's. All groups that it has are alike.
+    fn has_group(&self, entry: &Entry, name: &[u8]) -> bool
+        ensures { result ≡ list_any (is_beside_group entry.now) (recipes_of self.now name.now) }
+    {
+        match first_rule(self.slots.as_slice(), self.recipes.spots(name)) {
+            Some(rule) => either_is_group(entry, rule.entry),
+            None => false,
+        }
+    }
+}
+
+fn differ_in_colons(entry: &Entry, earlier: &Entry) -> bool
+    ensures { result ≡ xor (is_double earlier.now.kind) (is_double entry.now.kind) }
+{
+    if is_double(earlier.kind()) {
+        !is_double(entry.kind())
+    } else {
+        is_double(entry.kind())
+    }
+}
+
+fn either_is_group(entry: &Entry, earlier: &Entry) -> bool
+    ensures { result ≡ (is_group entry.now.kind || is_group earlier.now.kind) }
+{
+    is_group(entry.kind()) || is_group(earlier.kind())
+}
+
+/// The fault of what is refused of the rule at a place.
+pub(crate) fn fault_of(alloc: Global, place: &Place, refusal: Refusal) -> RuleFault
+    ensures { Tells result (fault_at place.now (refusal_told refusal.entry)) }
+{
+    match place.share() {
+        Ok(place) => refusal.at(alloc, place),
+        Err(_refused) => RuleFault::Memory,
+    }
+}

@@ -1,0 +1,106 @@
+//! A rule as it stands for one of its targets.
+ghost use Rattle.std.specs.Prelude.{◌≡◌, not, ◌&&◌, is_some, option_map};
+ghost use Rattle.kt_rules.specs.Book.{is_double, is_group, is_made, is_pattern};
+ghost use Rattle.kt_rules.specs.Slots.{first_found, rule_told, spot_rule, target_rule};
+ghost use Rattle.kt_rules.specs.Suffixes.{is_bare, is_empty, is_single, needs_nothing};
+
+use super::index::Spot;
+use crate::entry::{Entry, Kind, Name, Needs, Target};
+use crate::refused::is_special;
+
+/// A rule as it stands for one of its targets.
+#[derive(Clone, Copy)]
+pub struct TargetRule<'a> {
+    /// The entry, which may have other targets.
+    pub entry: &'a Entry,
+    /// One of its targets.
+    pub target: &'a Target,
+}
+
+// Whether an entry makes a target by its name: no pattern rule does, and no special target is made.
+pub(crate) fn is_made(entry: &Entry, target: &Target) -> bool
+    ensures { result ≡ is_made entry.now target.now }
+{
+    !is_pattern(entry.kind()) && !is_special(target.name.as_slice())
+}
+
+pub(crate) fn is_single(kind: Kind) -> bool
+    ensures { result ≡ is_single kind }
+{
+    matches!(kind, Kind::SingleColon)
+}
+
+pub(crate) fn is_double(kind: Kind) -> bool
+    ensures { result ≡ is_double kind }
+{
+    matches!(kind, Kind::DoubleColon)
+}
+
+pub(crate) fn is_group(kind: Kind) -> bool
+    ensures { result ≡ is_group kind }
+{
+    matches!(kind, Kind::Group)
+}
+
+pub(crate) fn is_pattern(kind: Kind) -> bool
+    ensures { result ≡ is_pattern kind }
+{
+    matches!(kind, Kind::Pattern | Kind::TerminalPattern)
+}
+
+pub(crate) fn has_recipe(entry: &Entry) -> bool
+    ensures { result ≡ is_some entry.now.recipe }
+{
+    entry.recipe().is_some()
+}
+
+// Whether the rule has the form of a suffix rule: one colon, a recipe, and nothing that is needed.
+pub(crate) fn is_bare(rule: TargetRule) -> bool
+    ensures { result ≡ is_bare (rule_told rule.entry) }
+{
+    is_single(rule.entry.kind())
+        && has_recipe(rule.entry)
+        && needs_nothing(rule.entry.needs(rule.target))
+}
+
+pub(crate) fn needs_nothing(needs: &Needs) -> bool
+    ensures { result ≡ needs_nothing needs.now }
+{
+    are_none(needs.prerequisites.as_slice()) && are_none(needs.order_only.as_slice())
+}
+
+fn are_none(names: &[Name]) -> bool
+    ensures { result ≡ is_empty names.now }
+{
+    matches!(names, [])
+}
+
+// The rule that stands at a spot.
+pub(crate) fn rule_at<'a>(slots: &'a [Option<Entry>], spot: Spot) -> Option<TargetRule<'a>>
+    ensures { option_map rule_told result ≡ spot_rule slots.now spot }
+{
+    match slots.get(spot.entry) {
+        Some(Some(entry)) => target_at(entry, spot.target),
+        _ => None,
+    }
+}
+
+fn target_at(entry: &Entry, number: usize) -> Option<TargetRule<'_>>
+    ensures { option_map rule_told result ≡ target_rule entry.now number }
+{
+    let target = entry.targets().get(number)?;
+    Some(TargetRule { entry, target })
+}
+
+// The first rule that stands at one of the spots.
+#[tactic(auto, unfolding(crate::specs::Slots::found))]
+pub(crate) fn first_rule<'a>(slots: &'a [Option<Entry>], spots: &[Spot]) -> Option<TargetRule<'a>>
+    ensures { option_map rule_told result ≡ first_found slots.now spots.now }
+{
+    for spot in spots {
+        if let Some(rule) = rule_at(slots, *spot) {
+            return Some(rule);
+        }
+    }
+    None
+}

@@ -1,0 +1,128 @@
+//! Times of the rules layer over long books.
+//!
+//! With no argument it does nothing; with the argument `run` it prints the times.
+#![tactic(auto)]
+
+use anyhow::Result;
+use kt_list::{Sequence, Shared};
+use kt_rules::{Book, Entry, Place, RuleFault, read_rule};
+use std::alloc::{AllocError, Global};
+use std::env;
+use std::rt::Runtime;
+use std::time::Instant;
+
+fn main(rt: HostRuntime) -> Result<()> {
+    for argument in env::args(&rt)?.skip(1) {
+        if argument.as_str() == "run" {
+            print_all(&rt, rt.alloc())?;
+        }
+    }
+    Ok(())
+}
+
+fn print_all(rt: &impl Runtime, alloc: Global) -> Result<()> {
+    for count in [100_000, 1_000_000] {
+        print_book_times(rt, alloc, count)?;
+    }
+    for count in [10_000, 100_000] {
+        print_pattern_times(rt, alloc, count)?;
+    }
+    Ok(())
+}
+
+// The times of reading so many rules, of adding them, and of asking for each of their targets.
+fn print_book_times(rt: &impl Runtime, alloc: Global, count: u32) -> Result<()> {
+    let start = Instant::now(rt)?;
+    let entries = entries(alloc, count, b"t", b": source.c ./header.h | folder")?;
+    report(rt, "read_rule", count, start, entries.len())?;
+
+    let start = Instant::now(rt)?;
+    let book = book_of(alloc, entries)?;
+    report(rt, "add", count, start, book.suffixes().len())?;
+
+    let names = names(alloc, count)?;
+    let start = Instant::now(rt)?;
+    let found = explicit_count(&book, names.as_slice());
+    report(rt, "explicit", count, start, found)
+}
+
+// The time of listing so many pattern rules, of which the later half repeats the other.
+fn print_pattern_times(rt: &impl Runtime, alloc: Global, count: u32) -> Result<()> {
+    let mut book = Book::new(alloc)?;
+    for _ in 0..2 {
+        for entry in entries(alloc, count / 2, b"%.", b": %.c ./header.h | folder")? {
+            let _warnings = book.add(entry)?;
+        }
+    }
+    let start = Instant::now(rt)?;
+    let patterns = book.patterns()?;
+    report(rt, "patterns", count, start, patterns.len())
+}
+
+fn book_of(alloc: Global, entries: Vec<Entry>) -> Result<Book, RuleFault> {
+    let mut book = Book::new(alloc)?;
+    for entry in entries {
+        let _warnings = book.add(entry)?;
+    }
+    Ok(book)
+}
+
+fn explicit_count(book: &Book, names: &[Vec<u8>]) -> usize {
+    let mut count: usize = 0;
+    for name in names {
+        if book.explicit(name.as_slice()).next().is_some() {
+            count = count.saturating_add(1);
+        }
+    }
+    count
+}
+
+// One line of the table.
+fn report(rt: &impl Runtime, call: &str, count: u32, start: Instant, size: usize) -> Result<()> {
+    let micros = start.elapsed(rt)?.as_micros();
+    println!(rt; "{call:<10} {count:>8} {micros:>10} us, result {size}")?;
+    Ok(())
+}
+
+// Rules with an empty recipe, the target of each with its number.
+fn entries(alloc: Global, count: u32, front: &[u8], back: &[u8]) -> Result<Vec<Entry>, RuleFault> {
+    let file = Shared::from_vec(Vec::from_slice(alloc, b"Makefile")?)?;
+    let mut entries = Vec::new(alloc);
+    for number in 0..count {
+        let place = Place {
+            file: file.share()?,
+            line: u64::from(number),
+        };
+        let head = numbered(alloc, front, number, back)?;
+        let recipe = Sequence::from(Vec::new(alloc));
+        let entry = read_rule(alloc, head.as_slice(), Some(recipe), place)?;
+        keep(&mut entries, entry)?;
+    }
+    Ok(entries)
+}
+
+fn keep(entries: &mut Vec<Entry>, entry: Entry) -> Result<(), AllocError> {
+    entries.push(entry)?;
+    Ok(())
+}
+
+// The targets of such rules.
+fn names(alloc: Global, count: u32) -> Result<Vec<Vec<u8>>, AllocError> {
+    let mut names = Vec::new(alloc);
+    for number in 0..count {
+        names.push(numbered(alloc, b"t", number, b"")?)?;
+    }
+    Ok(names)
+}
+
+// A number of ten digits between two texts.
+fn numbered(alloc: Global, front: &[u8], number: u32, back: &[u8]) -> Result<Vec<u8>, AllocError> {
+    let mut text = Vec::from_slice(alloc, front)?;
+    let mut rest = number;
+    for _ in 0..10 {
+        text.push(b'0' + (rest % 10) as u8)?;
+        rest /= 10;
+    }
+    text.extend_from_slice(back)?;
+    Ok(text)
+}
