@@ -1,6 +1,7 @@
 //! Times of the text layer over long lists of words and lines.
 //!
-//! With no argument it does nothing; with the argument `run` it prints the times.
+//! With no argument it does nothing; with a call's name and numbers of words it prints the time
+//! of that call over so many words: `sort`, `sort-distinct`, `filter`, `patsubst`, `logical_lines`.
 #![tactic(auto)]
 
 ghost use Rattle.std.specs.Prelude.{◌<◌};
@@ -19,41 +20,35 @@ const NAMES: u64 = 50_000;
 const MANY_NAMES: u64 = 10_000_000_000;
 
 fn main(rt: HostRuntime) -> Result<()> {
-    for argument in env::args(&rt)?.skip(1) {
-        if argument.as_str() == "run" {
-            print_times(&rt, rt.alloc(), 100_000)?;
-            print_times(&rt, rt.alloc(), 1_000_000)?;
+    let mut arguments = env::args(&rt)?.skip(1);
+    if let Some(call) = arguments.next() {
+        for count in arguments {
+            print_time(&rt, rt.alloc(), call.as_str(), count.as_str().parse()?)?;
         }
     }
     Ok(())
 }
 
-// The times of each call over a list of so many words, and over so many lines.
-fn print_times(rt: &impl Runtime, alloc: Global, count: u32) -> Result<()> {
-    let words = list(alloc, count, NAMES, b' ')?;
-    let distinct = list(alloc, count, MANY_NAMES, b' ')?;
-    let lines = list(alloc, count, NAMES, b'\n')?;
+// The time of a call over a list of so many words, or over so many lines. A call that isn't known
+// has no line.
+fn print_time(rt: &impl Runtime, alloc: Global, call: &str, count: u32) -> Result<()> {
+    let names = if call == "sort-distinct" {
+        MANY_NAMES
+    } else {
+        NAMES
+    };
+    let separator = if call == "logical_lines" { b'\n' } else { b' ' };
+    let text = list(alloc, count, names, separator)?;
     let patterns = list(alloc, 10_000, NAMES, b' ')?;
-
     let start = Instant::now(rt)?;
-    let sorted = functions::sort(alloc, words.as_slice())?;
-    report(rt, "sort", count, start, sorted.len())?;
-
-    let start = Instant::now(rt)?;
-    let sorted = functions::sort(alloc, distinct.as_slice())?;
-    report(rt, "sort, distinct", count, start, sorted.len())?;
-
-    let start = Instant::now(rt)?;
-    let kept = functions::filter(alloc, patterns.as_slice(), words.as_slice())?;
-    report(rt, "filter", count, start, kept.len())?;
-
-    let start = Instant::now(rt)?;
-    let replaced = functions::patsubst(alloc, b"%0", b"%1", words.as_slice())?;
-    report(rt, "patsubst", count, start, replaced.len())?;
-
-    let start = Instant::now(rt)?;
-    let cut = logical_lines(alloc, lines.as_slice())?;
-    report(rt, "logical_lines", count, start, cut.len())
+    let size = match call {
+        "sort" | "sort-distinct" => functions::sort(alloc, text.as_slice())?.len(),
+        "filter" => functions::filter(alloc, patterns.as_slice(), text.as_slice())?.len(),
+        "patsubst" => functions::patsubst(alloc, b"%0", b"%1", text.as_slice())?.len(),
+        "logical_lines" => logical_lines(alloc, text.as_slice())?.len(),
+        _ => return Ok(()),
+    };
+    report(rt, call, count, start, size)
 }
 
 // One line of the table.

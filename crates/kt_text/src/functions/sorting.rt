@@ -20,7 +20,7 @@ pub fn sort(alloc: Global, text: &[u8]) -> Result<Vec<u8>, TextFault>
     ensures { Answers result (Some (sort_of text.now)) }
 {
     let keys = sorted_keys(alloc, text)?;
-    let mut sorted = Vec::new(alloc);
+    let mut sorted = Vec::with_capacity(alloc, text.len())?;
     for key in &keys {
         add_word(&mut sorted, key.text())?;
     }

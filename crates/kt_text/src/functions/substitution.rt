@@ -47,7 +47,7 @@ pub fn patsubst(
     if quotes_percent(pattern) || quotes_percent(replacement) {
         return Err(TextFault::BadArgument);
     }
-    let mut replaced = Vec::new(alloc);
+    let mut replaced = Vec::with_capacity(alloc, text.len())?;
     for word in words(text) {
         add_replaced(&mut replaced, pattern, replacement, word)?;
     }
