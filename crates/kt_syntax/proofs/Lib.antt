@@ -14,3 +14,4 @@ pub mod Sound
 pub mod Splitting
 pub mod Uncommenting
 pub mod Unique
+pub mod WholeTree

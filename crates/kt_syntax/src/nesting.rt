@@ -3,6 +3,7 @@ ghost use Rattle.std.specs.Prelude.{◌≡◌, length, IfOk};
 ghost use Rattle.kt_syntax.specs.Blocks.{blocks_of, tree_of};
 ghost use Rattle.kt_syntax.specs.Grammar.{IsTreeOf};
 ghost use Rattle.kt_syntax.specs.Parts.{missing_end, parts_of};
+ghost use Rattle.kt_syntax.specs.Reading.{left_at};
 ghost use Rattle.kt_syntax.specs.Roles.{heads_of};
 ghost use Rattle.kt_syntax.specs.Steps.{steps_from};
 
@@ -21,6 +22,7 @@ pub fn blocks(alloc: Global, text: &[u8], lines: &[Line]) -> Result<Blocks, Allo
     ensures flat { IfOk result (λ blocks. blocks ≡ blocks_of (heads_of text.now lines.now)) }
     ensures tree { IfOk result (λ blocks. IsTreeOf (tree_of blocks.steps) blocks.missing (heads_of text.now lines.now)) }
     ensures lines { IfOk result (λ blocks. length blocks.steps ≡ length lines.now) }
+    ensures whole { IfOk result (λ blocks. left_at blocks.steps 0 ≡ tree_of blocks.steps) }
 {
     let (parts, missing) = parts(alloc, text, lines)?;
     let steps = steps(alloc, parts)?;

@@ -10,6 +10,7 @@ use Rattle.kt_syntax.specs.Steps.{steps_from}
 use Rattle.kt_syntax.proofs.NestingLemmas.{length-parts}
 use Rattle.kt_syntax.proofs.ReadingOn.{length-steps, steps_are_readable}
 use Rattle.kt_syntax.proofs.Sound.{tree_is_of}
+use Rattle.kt_syntax.proofs.WholeTree.{whole_tree_is_left}
 use Rattle.kt_syntax.proofs.nesting.blocks.Goals as goal
 
 pub new-requires : goal.new-requires
@@ -30,3 +31,7 @@ returns-clause-lines c =
     let heads = heads_of c.args.text.now c.args.lines.now in
     rw (c.new.ensures, c.in_ok-steps.ensures, c.in_ok-parts.ensures.parts)
     (length-steps (parts_of heads) 0 ∙ length-parts heads nothing_open ∙ length-map c.args.lines.now (head_of c.args.text.now))
+
+pub returns-clause-whole : goal.returns-clause-whole
+returns-clause-whole c =
+    rw (c.new.ensures, c.in_ok-steps.ensures, c.in_ok-parts.ensures.parts) (whole_tree_is_left (heads_of c.args.text.now c.args.lines.now))

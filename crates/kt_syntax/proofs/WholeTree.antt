@@ -1,0 +1,90 @@
+-- At the first line of a text its whole tree is left.
+use Rattle.std.proofs.Common.{◌≡◌, ℕ, zero, suc, ◌+◌, Bool, true, false, not, List, [], ◌∷◌, Option, Some, None, refl, ap, ◌∙◌}
+use Rattle.kt_syntax.specs.declared.part.OpenConditional.{OpenConditional}
+use Rattle.kt_syntax.specs.declared.part.OpenDefine.{OpenDefine}
+use Rattle.kt_syntax.specs.declared.role.Head.{Head}
+use Rattle.kt_syntax.specs.declared.role.Role.{Role}
+use Rattle.kt_syntax.specs.declared.role.Role.TheVariants as role
+use Rattle.kt_syntax.specs.Blocks.{Items, Branches, Level, none, line, fault, definition, conditional, no_branch, blocks_of, innermost, levels_from, outer, tree_of}
+use Rattle.kt_syntax.specs.Parts.{after, part_of, parts_from}
+use Rattle.kt_syntax.specs.Steps.{ahead_of, places_after, step_of, steps_from}
+use Rattle.kt_syntax.specs.Reading.{after_branches, append, left_at, left_of}
+use Rattle.kt_syntax.proofs.Sound.{levels_at}
+
+-- behind the open conditionals the text itself is left, which has no branches and nothing round it
+abbrev IsRooted : List OpenConditional → List Level → Type 0
+IsRooted [] levels = ((innermost levels).others ≡ no_branch) × (outer levels ≡ [])
+IsRooted (open_one ∷ others) levels = IsRooted others (outer levels)
+
+abbrev Rooted : Option OpenDefine → List OpenConditional → ℕ → List Head → Type 0
+Rooted define conditionals place heads = IsRooted conditionals (levels_at (record { define = define; conditionals = conditionals }) place heads)
+
+ended : (conditionals : List OpenConditional) → IsRooted conditionals []
+ended [] = (refl, refl)
+ended (open_one ∷ others) = ended others
+
+-- an `else` inside a conditional
+else_line : (condition : Bool) (number : ℕ) (heads : List Head) (place opened : ℕ) (plain_else : Bool) (others : List OpenConditional)
+    → ((define : Option OpenDefine) (open_ones : List OpenConditional) → Rooted define open_ones (place + 1) heads)
+    → Rooted None (record { number = opened; plain_else = plain_else } ∷ others) place (record { role = role.Else condition; number = number } ∷ heads)
+unfolding parts_from part_of after steps_from step_of ahead_of places_after levels_from
+else_line condition number heads place opened true others more = more None (record { number = opened; plain_else = true } ∷ others)
+else_line condition number heads place opened false others more = more None (record { number = opened; plain_else = not condition } ∷ others)
+
+-- a line outside defines
+outside : (line : Role) (number : ℕ) (heads : List Head) (place : ℕ) (conditionals : List OpenConditional)
+    → ((define : Option OpenDefine) (open_ones : List OpenConditional) → Rooted define open_ones (place + 1) heads)
+    → Rooted None conditionals place (record { role = line; number = number } ∷ heads)
+unfolding parts_from part_of after steps_from step_of ahead_of places_after levels_from
+outside role.Ordinary number heads place [] more = more None []
+outside role.Ordinary number heads place (open_one ∷ others) more = more None (open_one ∷ others)
+outside role.Conditional number heads place [] more = more None (record { number = number; plain_else = false } ∷ [])
+outside role.Conditional number heads place (open_one ∷ others) more = more None (record { number = number; plain_else = false } ∷ open_one ∷ others)
+outside (role.Else condition) number heads place [] more = more None []
+outside (role.Else condition) number heads place (open_one ∷ others) more = else_line condition number heads place open_one.number open_one.plain_else others more
+outside role.Endif number heads place [] more = more None []
+outside role.Endif number heads place (open_one ∷ others) more = more None others
+outside role.Define number heads place [] more = more (Some (record { number = number; depth = 0 })) []
+outside role.Define number heads place (open_one ∷ others) more = more (Some (record { number = number; depth = 0 })) (open_one ∷ others)
+outside role.Endef number heads place [] more = more None []
+outside role.Endef number heads place (open_one ∷ others) more = more None (open_one ∷ others)
+
+-- a line of a define
+inside : (line : Role) (number : ℕ) (heads : List Head) (place opened depth : ℕ) (conditionals : List OpenConditional)
+    → ((define : Option OpenDefine) (open_ones : List OpenConditional) → Rooted define open_ones (place + 1) heads)
+    → Rooted (Some (record { number = opened; depth = depth })) conditionals place (record { role = line; number = number } ∷ heads)
+unfolding parts_from part_of after steps_from step_of ahead_of places_after levels_from
+inside role.Ordinary number heads place opened depth conditionals more = more (Some (record { number = opened; depth = depth })) conditionals
+inside role.Conditional number heads place opened depth conditionals more = more (Some (record { number = opened; depth = depth })) conditionals
+inside (role.Else condition) number heads place opened depth conditionals more = more (Some (record { number = opened; depth = depth })) conditionals
+inside role.Endif number heads place opened depth conditionals more = more (Some (record { number = opened; depth = depth })) conditionals
+inside role.Define number heads place opened depth conditionals more = more (Some (record { number = opened; depth = depth + 1 })) conditionals
+inside role.Endef number heads place opened zero conditionals more = more None conditionals
+inside role.Endef number heads place opened (suc depth) conditionals more = more (Some (record { number = opened; depth = depth })) conditionals
+
+rooted : (heads : List Head) (place : ℕ) (define : Option OpenDefine) (conditionals : List OpenConditional) → Rooted define conditionals place heads
+unfolding parts_from steps_from levels_from
+rooted [] place None conditionals = ended conditionals
+rooted [] place (Some define) conditionals = ended conditionals
+rooted (head ∷ heads) place None conditionals = outside head.role head.number heads place conditionals (rooted heads (place + 1))
+rooted (head ∷ heads) place (Some define) conditionals =
+    inside head.role head.number heads place define.number define.depth conditionals (rooted heads (place + 1))
+
+append_none : (items : Items) → append items none ≡ items
+append_none none = refl
+append_none (line place next) = ap (line place) (append_none next)
+append_none (fault kind place next) = ap (fault kind place) (append_none next)
+append_none (definition place end next) = ap (definition place end) (append_none next)
+append_none (conditional place first branches next) = ap (conditional place first branches) (append_none next)
+
+-- where only the text itself is left, its items are all that is
+root_items : (levels : List Level) → IsRooted [] levels → left_of levels ≡ (innermost levels).items
+root_items [] root = refl
+root_items (level ∷ levels) root =
+    ap (λ (others : Branches). append level.items (after_branches others (left_of levels))) root.0
+    ∙ ap (λ (round : List Level). append level.items (left_of round)) root.1
+    ∙ append_none level.items
+
+pub whole_tree_is_left : (heads : List Head) → left_at (blocks_of heads).steps 0 ≡ tree_of (blocks_of heads).steps
+unfolding left_at
+whole_tree_is_left heads = root_items (levels_from 0 (blocks_of heads).steps) (rooted heads 0 None [])
