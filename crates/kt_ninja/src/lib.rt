@@ -26,8 +26,3 @@ pub use printer::write_plan;
 pub use read_fault::ReadFault;
 pub use reader::read_plan;
 pub use sink::{Sink, SinkFault, WriteFault, put};
-
-#[cfg(test)]
-mod reader_tests;
-#[cfg(test)]
-mod tests;

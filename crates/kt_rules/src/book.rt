@@ -176,6 +176,3 @@ impl Book {
         Ok(())
     }
 }
-
-#[cfg(test)]
-mod tests;

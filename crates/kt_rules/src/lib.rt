@@ -22,6 +22,3 @@ pub use fault::RuleFault;
 pub use name::without_dots;
 pub use place::Place;
 pub use reading::read_rule;
-
-#[cfg(test)]
-mod tests;

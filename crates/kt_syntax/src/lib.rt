@@ -31,8 +31,3 @@ pub use rule_line::{RuleParts, TargetSpecific, rule_parts};
 pub use step::Step;
 pub use term::{Mark, Term, Unterminated};
 pub use term_list::Terms;
-
-#[cfg(test)]
-mod block_tests;
-#[cfg(test)]
-mod tests;

@@ -23,6 +23,3 @@ pub use logical::logical_lines;
 pub use pattern::match_pattern;
 pub use physical::{is_continued, line_content};
 pub use word_runs::Words;
-
-#[cfg(test)]
-mod tests;

@@ -1,60 +1,65 @@
 //! Texts that are makefiles of one rule, and texts that are not.
 use crate::laws::one_reading;
 use crate::one_rule::recognise;
-use std::test::Fail;
+use std::alloc::{AllocError, Global};
+
+/// Texts, and the parts of the rules that they are: target, line and prerequisites, a newline behind each.
+const TEXTS: [(&[u8], &[u8]); 19] = [
+    (
+        b"a.o: a.c\n\tcc -c a.c -o a.o\n",
+        b"a.o\ncc -c a.c -o a.o\na.c\n",
+    ),
+    (b"a:\n\tx\n", b"a\nx\n"),
+    (
+        b"a: b c d-e_f.g 9\n\techo \"#\" (x)\n",
+        b"a\necho \"#\" (x)\nb\nc\nd-e_f.g\n9\n",
+    ),
+    // no rule
+    (b"", b""),
+    (b"a", b""),
+    (b"a:\n", b""),
+    (b"a: b\n", b""),
+    (b"a:b\n\tx\n", b""),
+    (b"a:  b\n\tx\n", b""),
+    (b"a: b \n\tx\n", b""),
+    (b"a: a\n\tx\n", b""),
+    (b"a: b b\n\tx\n", b""),
+    (b"a:\n\t\n", b""),
+    (b"a:\n\t@x\n", b""),
+    (b"a:\n\tx$\n", b""),
+    (b"a:\n\tx\n\n", b""),
+    (b"a:\n\tx", b""),
+    (b".a:\n\tx\n", b""),
+    (b"a:\n x\n", b""),
+];
+
+fn add(text: &mut Vec<u8>, part: &[u8]) -> Result<(), AllocError> {
+    text.extend_from_slice(part)?;
+    Ok(text.push(b'\n')?)
+}
+
+/// The parts of the rule, or nothing.
+fn told(alloc: Global, text: &[u8]) -> Result<Vec<u8>, AllocError> {
+    let mut told = Vec::new(alloc);
+    if let Some(rule) = recognise(alloc, text)? {
+        add(&mut told, rule.target.as_slice())?;
+        add(&mut told, rule.line.as_slice())?;
+        for name in rule.prerequisites.as_slice() {
+            add(&mut told, name.as_slice())?;
+        }
+    }
+    Ok(told)
+}
 
 #[test]
-fn gives_the_parts(rt: HostRuntime) -> Result<(), Fail> {
-    let rule = recognise(rt.alloc(), b"a.o: a.c\n\tcc -c a.c -o a.o\n")?.ok_or("a rule")?;
-    assert_eq!(rt; rule.target.as_slice(), b"a.o".as_slice());
-    assert_eq!(rt; rule.line.as_slice(), b"cc -c a.c -o a.o".as_slice());
-    let names = rule.prerequisites.as_slice();
-    assert_eq!(rt; names.len(), 1);
-    assert_eq!(rt; names[0].as_slice(), b"a.c".as_slice());
-    Ok(())
+fn texts_have_their_parts(rt: HostRuntime) {
+    for (text, parts) in TEXTS {
+        let told = told(rt.alloc(), text).expect(&rt, "memory");
+        assert_eq!(rt; told.as_slice(), parts, "{text:?}");
+    }
 }
 
 #[test]
 fn has_one_reading() {
     one_reading();
-}
-
-#[test]
-fn takes_rules(rt: HostRuntime) -> Result<(), Fail> {
-    for text in ["a:\n\tx\n", "a: b c d-e_f.g 9\n\techo \"#\" (x)\n"] {
-        assert!(rt;
-            recognise(rt.alloc(), text.as_bytes())?.is_some(),
-            "{text:?}"
-        );
-    }
-    Ok(())
-}
-
-#[test]
-fn takes_nothing_else(rt: HostRuntime) -> Result<(), Fail> {
-    let texts = [
-        "",
-        "a",
-        "a:\n",
-        "a: b\n",
-        "a:b\n\tx\n",
-        "a:  b\n\tx\n",
-        "a: b \n\tx\n",
-        "a: a\n\tx\n",
-        "a: b b\n\tx\n",
-        "a:\n\t\n",
-        "a:\n\t@x\n",
-        "a:\n\tx$\n",
-        "a:\n\tx\n\n",
-        "a:\n\tx",
-        ".a:\n\tx\n",
-        "a:\n x\n",
-    ];
-    for text in texts {
-        assert!(rt;
-            recognise(rt.alloc(), text.as_bytes())?.is_none(),
-            "{text:?}"
-        );
-    }
-    Ok(())
 }

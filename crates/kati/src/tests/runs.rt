@@ -6,9 +6,8 @@ use crate::running::run;
 use crate::status::Status;
 use kt_eval::{Files, MemFiles};
 use kt_ninja::MemSink;
-use std::alloc::{AllocError, Global};
+use std::alloc::Global;
 use std::process::Abort;
-use std::test::Fail;
 
 const ONE_RULE: &[u8] = b"a.o: a.c\n\tcc -c a.c -o a.o\n";
 
@@ -18,228 +17,259 @@ const ONE_RULE_TEXT: &[u8] =
 const NO_TARGETS: &[u8] = b"kati: *** no targets [E26]\n";
 
 /// Files of which one, of this name, is there, and the nth read fails.
-fn one_file(alloc: Global, name: &str, text: &[u8], nth: u64) -> Result<MemFiles, AllocError> {
-    let pair = (name.to_string(alloc)?, Vec::from_slice(alloc, text)?);
-    Ok(MemFiles::new(alloc, vec![in alloc; pair]?, nth))
+fn one_file(rt: &impl Abort, alloc: Global, name: &str, text: &[u8], nth: u64) -> MemFiles {
+    let name = name.to_string(alloc).expect(rt, "memory");
+    let text = Vec::from_slice(alloc, text).expect(rt, "memory");
+    let mut pairs = Vec::new(alloc);
+    pairs.push((name, text)).ok().expect(rt, "memory");
+    MemFiles::new(alloc, pairs, nth)
 }
 
-/// The words of a command line.
-fn command_line(alloc: Global, words: &[&str]) -> Result<Vec<String>, AllocError> {
+fn sink(rt: &impl Abort, alloc: Global, room: usize, step: usize) -> MemSink {
+    MemSink::new(alloc, room, step).expect(rt, "memory")
+}
+
+/// How a run ended.
+fn ended(
+    alloc: Global,
+    files: &mut MemFiles,
+    out: &mut MemSink,
+    err: &mut MemSink,
+) -> &'static str {
+    match run(alloc, &Args {}, files, out, err) {
+        Ok(Status::Done) => "done",
+        Ok(Status::Fault) => "fault",
+        Err(RunFault::Read(_)) => "read",
+        Err(RunFault::WriteOut) => "write out",
+        Err(RunFault::WriteErr) => "write err",
+        Err(RunFault::Memory) => "memory",
+    }
+}
+
+/// The exit status of the program with these words behind its name.
+fn exit(
+    rt: &impl Abort,
+    alloc: Global,
+    further: &[&str],
+    files: &mut MemFiles,
+    out: &mut MemSink,
+    err: &mut MemSink,
+) -> u8 {
+    let mut words = Vec::new(alloc);
     words
-        .iter()
-        .map(|word| word.to_string(alloc))
-        .try_collect(alloc)
+        .push("kati".to_string(alloc).expect(rt, "memory"))
+        .ok()
+        .expect(rt, "memory");
+    for word in further {
+        words
+            .push(word.to_string(alloc).expect(rt, "memory"))
+            .ok()
+            .expect(rt, "memory");
+    }
+    whole(alloc, words.as_slice(), files, out, err)
 }
 
-/// What the program on a makefile leaves, with ample room on both outputs.
+/// What the program on a file leaves, with ample room on both outputs, and how many names it asks for.
 fn check_makefile(
     rt: &impl Abort,
     alloc: Global,
-    files: &mut MemFiles,
+    (name, text): (&str, &[u8]),
     code: u8,
-    out: &[u8],
-    err: &[u8],
-) -> Result<(), AllocError> {
-    let mut out_sink = MemSink::new(alloc, 1000, 1000)?;
-    let mut err_sink = MemSink::new(alloc, 1000, 1000)?;
-    let words = command_line(alloc, &["kati"])?;
-    let status = whole(alloc, words.as_slice(), files, &mut out_sink, &mut err_sink);
-    assert_eq!(rt; out_sink.as_slice(), out);
-    assert_eq!(rt; err_sink.as_slice(), err);
-    assert_eq!(rt; status, code);
-    Ok(())
+    (told_out, told_err): (&[u8], &[u8]),
+    asked: usize,
+) {
+    let mut files = one_file(rt, alloc, name, text, 0);
+    let mut out = sink(rt, alloc, 1000, 1000);
+    let mut err = sink(rt, alloc, 1000, 1000);
+    let status = exit(rt, alloc, &[], &mut files, &mut out, &mut err);
+    assert_eq!(rt; out.as_slice(), told_out);
+    assert_eq!(rt; err.as_slice(), told_err);
+    assert_eq!(rt; (status, files.asked().len()), (code, asked));
 }
 
-#[test]
-fn translates_one_rule(rt: HostRuntime) -> Result<(), Fail> {
-    let alloc = rt.alloc();
-    let mut files = one_file(alloc, "Makefile", ONE_RULE, 0)?;
-    check_makefile(&rt, alloc, &mut files, 0, ONE_RULE_TEXT, b"")?;
-    assert_eq!(rt; files.asked().len(), 2);
-    for (asked, name) in files.asked().iter().zip(["makefile", "Makefile"]) {
-        assert_eq!(rt; asked.as_str(), name);
-    }
-    Ok(())
-}
-
-#[test]
-fn looks_for_makefile_first(rt: HostRuntime) -> Result<(), Fail> {
-    let alloc = rt.alloc();
-    let mut files = one_file(alloc, "makefile", ONE_RULE, 0)?;
-    check_makefile(&rt, alloc, &mut files, 0, ONE_RULE_TEXT, b"")?;
-    assert_eq!(rt; files.asked().len(), 1);
-    let mut files = one_file(alloc, "GNUmakefile", ONE_RULE, 0)?;
-    check_makefile(
-        &rt,
-        alloc,
-        &mut files,
+/// Makefiles by name and text, the status, what both outputs hold, and how many names are asked for.
+const MAKEFILES: [(&str, &[u8], u8, &[u8], &[u8], usize); 9] = [
+    ("Makefile", ONE_RULE, 0, ONE_RULE_TEXT, b"", 2),
+    ("makefile", ONE_RULE, 0, ONE_RULE_TEXT, b"", 1),
+    (
+        "GNUmakefile",
+        ONE_RULE,
         2,
         b"",
         b"kati: *** no makefile [E03]\n",
-    )?;
-    Ok(())
-}
+        2,
+    ),
+    ("Makefile", b"", 2, b"", NO_TARGETS, 2),
+    (
+        "Makefile",
+        b"a: b\nc\0",
+        2,
+        b"",
+        b"Makefile:2: *** NUL byte [E01]\n",
+        2,
+    ),
+    (
+        "Makefile",
+        b"a \\\nb\0\n",
+        2,
+        b"",
+        b"Makefile:2: *** NUL byte [E01]\n",
+        2,
+    ),
+    (
+        "Makefile",
+        b"\0\n\0",
+        2,
+        b"",
+        b"Makefile:1: *** NUL byte [E01]\n",
+        2,
+    ),
+    (
+        "Makefile",
+        b"A = 1\n",
+        2,
+        b"",
+        b"kati: *** not yet [E00]\n",
+        2,
+    ),
+    (
+        "Makefile",
+        b"a: a\n\tx\n",
+        2,
+        b"",
+        b"kati: *** not yet [E00]\n",
+        2,
+    ),
+];
 
 #[test]
-fn tells_of_a_makefile_with_a_fault(rt: HostRuntime) -> Result<(), Fail> {
-    let alloc = rt.alloc();
-    let rows: [(&[u8], &[u8]); 6] = [
-        (b"", NO_TARGETS),
-        (b"a: b\nc\0", b"Makefile:2: *** NUL byte [E01]\n"),
-        (b"a \\\nb\0\n", b"Makefile:2: *** NUL byte [E01]\n"),
-        (b"\0\n\0", b"Makefile:1: *** NUL byte [E01]\n"),
-        (b"A = 1\n", b"kati: *** not yet [E00]\n"),
-        (b"a: a\n\tx\n", b"kati: *** not yet [E00]\n"),
-    ];
-    for (text, err) in rows {
-        let mut files = one_file(alloc, "Makefile", text, 0)?;
-        check_makefile(&rt, alloc, &mut files, 2, b"", err)?;
+fn translates_makefiles(rt: HostRuntime) {
+    for (name, text, code, out, err, asked) in MAKEFILES {
+        check_makefile(&rt, rt.alloc(), (name, text), code, (out, err), asked);
     }
-    Ok(())
 }
 
 #[test]
-fn bounds_a_makefile(rt: HostRuntime) -> Result<(), Fail> {
-    let alloc = rt.alloc();
-    let rows: [(usize, &[u8]); 2] = [
-        (16_777_216, b"kati: *** not yet [E00]\n"),
-        (16_777_217, b"kati: *** file too large: Makefile [E02]\n"),
-    ];
-    for (length, err) in rows {
-        let text = vec![in alloc; b'#'; length]?;
-        let mut files = one_file(alloc, "Makefile", text.as_slice(), 0)?;
-        check_makefile(&rt, alloc, &mut files, 2, b"", err)?;
+fn asks_for_both_names_and_writes_once(rt: HostRuntime) {
+    let mut files = one_file(&rt, rt.alloc(), "Makefile", ONE_RULE, 0);
+    let mut out = sink(&rt, rt.alloc(), 1000, 1000);
+    let mut err = sink(&rt, rt.alloc(), 1000, 1000);
+    assert_eq!(rt; ended(rt.alloc(), &mut files, &mut out, &mut err), "done");
+    assert_eq!(rt; (out.calls(), err.calls(), files.asked().len()), (1, 0, 2));
+    for (asked, name) in files.asked().iter().zip(["makefile", "Makefile"]) {
+        assert_eq!(rt; asked.as_str(), name);
     }
-    Ok(())
+}
+
+/// Lengths of makefiles of one byte again and again, and what is told of them.
+const LENGTHS: [(usize, &[u8]); 2] = [
+    (16_777_216, b"kati: *** not yet [E00]\n"),
+    (16_777_217, b"kati: *** file too large: Makefile [E02]\n"),
+];
+
+#[test]
+fn bounds_a_makefile(rt: HostRuntime) {
+    for (length, err) in LENGTHS {
+        let text = vec![in rt.alloc(); b'#'; length].expect(&rt, "memory");
+        let file = ("Makefile", text.as_slice());
+        check_makefile(&rt, rt.alloc(), file, 2, (b"", err), 2);
+    }
+}
+
+/// Runs on a Makefile of this text with outputs of these rooms and one step: how they end, and what both outputs hold.
+fn check_run(
+    rt: &impl Abort,
+    alloc: Global,
+    text: &[u8],
+    (out_room, err_room, step): (usize, usize, usize),
+    end: &str,
+    (held_out, held_err): (&[u8], &[u8]),
+) {
+    let mut files = one_file(rt, alloc, "Makefile", text, 0);
+    let mut out = sink(rt, alloc, out_room, step);
+    let mut err = sink(rt, alloc, err_room, step);
+    let ended = ended(alloc, &mut files, &mut out, &mut err);
+    assert_eq!(rt; ended, end);
+    assert_eq!(rt; out.as_slice(), held_out);
+    assert_eq!(rt; err.as_slice(), held_err);
+}
+
+/// A byte a call, and none.
+#[test]
+fn writes_to_sinks_that_dawdle(rt: HostRuntime) {
+    let rows: [(&[u8], usize, &str, &[u8], &[u8]); 4] = [
+        (ONE_RULE, 1, "done", ONE_RULE_TEXT, b""),
+        (b"", 1, "fault", b"", NO_TARGETS),
+        (ONE_RULE, 0, "write out", b"", b""),
+        (b"", 0, "write err", b"", b""),
+    ];
+    for (text, step, end, out, err) in rows {
+        check_run(&rt, rt.alloc(), text, (1000, 1000, step), end, (out, err));
+    }
 }
 
 #[test]
-fn writes_in_one_call(rt: HostRuntime) -> Result<(), Fail> {
-    let alloc = rt.alloc();
-    let mut files = one_file(alloc, "Makefile", ONE_RULE, 0)?;
-    let mut out = MemSink::new(alloc, 1000, 1000)?;
-    let mut err = MemSink::new(alloc, 1000, 1000)?;
-    let status = run(alloc, &Args {}, &mut files, &mut out, &mut err);
-    assert!(rt; matches!(status, Ok(Status::Done)));
-    assert_eq!(rt; out.calls(), 1);
-    assert_eq!(rt; err.calls(), 0);
-    Ok(())
-}
-
-#[test]
-fn writes_to_a_sink_that_takes_a_byte_a_call(rt: HostRuntime) -> Result<(), Fail> {
-    let alloc = rt.alloc();
-    let mut files = one_file(alloc, "Makefile", ONE_RULE, 0)?;
-    let mut out = MemSink::new(alloc, 1000, 1)?;
-    let mut err = MemSink::new(alloc, 1000, 1)?;
-    let status = run(alloc, &Args {}, &mut files, &mut out, &mut err);
-    assert!(rt; matches!(status, Ok(Status::Done)));
-    assert_eq!(rt; out.as_slice(), ONE_RULE_TEXT);
-    let mut files = one_file(alloc, "Makefile", b"", 0)?;
-    let status = run(alloc, &Args {}, &mut files, &mut out, &mut err);
-    assert!(rt; matches!(status, Ok(Status::Fault)));
-    assert_eq!(rt; err.as_slice(), NO_TARGETS);
-    Ok(())
-}
-
-#[test]
-fn stops_at_an_output_that_fails(rt: HostRuntime) -> Result<(), Fail> {
-    let alloc = rt.alloc();
+fn stops_at_an_output_that_fails(rt: HostRuntime) {
     for room in 0..ONE_RULE_TEXT.len() {
-        let mut files = one_file(alloc, "Makefile", ONE_RULE, 0)?;
-        let mut out = MemSink::new(alloc, room, 1000)?;
-        let mut err = MemSink::new(alloc, 1000, 1000)?;
-        let status = run(alloc, &Args {}, &mut files, &mut out, &mut err);
-        assert!(rt; matches!(status, Err(RunFault::WriteOut)));
-        assert!(rt; room < ONE_RULE_TEXT.len());
-        assert_eq!(rt; out.as_slice(), &ONE_RULE_TEXT[..room]);
-        assert!(rt; err.as_slice().is_empty());
+        let held = (&ONE_RULE_TEXT[..room], b"".as_slice());
+        check_run(
+            &rt,
+            rt.alloc(),
+            ONE_RULE,
+            (room, 1000, 1000),
+            "write out",
+            held,
+        );
     }
-    Ok(())
 }
 
 #[test]
-fn stops_at_an_error_output_that_fails(rt: HostRuntime) -> Result<(), Fail> {
-    let alloc = rt.alloc();
+fn stops_at_an_error_output_that_fails(rt: HostRuntime) {
     for room in 0..NO_TARGETS.len() {
-        let mut files = one_file(alloc, "Makefile", b"", 0)?;
-        let mut out = MemSink::new(alloc, 1000, 1000)?;
-        let mut err = MemSink::new(alloc, room, 1000)?;
-        let status = run(alloc, &Args {}, &mut files, &mut out, &mut err);
-        assert!(rt; matches!(status, Err(RunFault::WriteErr)));
-        assert!(rt; out.as_slice().is_empty());
-        assert!(rt; room < NO_TARGETS.len());
-        assert_eq!(rt; err.as_slice(), &NO_TARGETS[..room]);
+        let held = (b"".as_slice(), &NO_TARGETS[..room]);
+        check_run(&rt, rt.alloc(), b"", (1000, room, 1000), "write err", held);
     }
-    Ok(())
 }
 
-#[test]
-fn stops_at_outputs_that_take_nothing(rt: HostRuntime) -> Result<(), Fail> {
-    let alloc = rt.alloc();
-    let mut out = MemSink::new(alloc, 1000, 0)?;
-    let mut err = MemSink::new(alloc, 1000, 0)?;
-    let mut files = one_file(alloc, "Makefile", ONE_RULE, 0)?;
-    let status = run(alloc, &Args {}, &mut files, &mut out, &mut err);
-    assert!(rt; matches!(status, Err(RunFault::WriteOut)));
-    let mut files = one_file(alloc, "Makefile", b"", 0)?;
-    let status = run(alloc, &Args {}, &mut files, &mut out, &mut err);
-    assert!(rt; matches!(status, Err(RunFault::WriteErr)));
-    assert!(rt; out.as_slice().is_empty());
-    assert!(rt; err.as_slice().is_empty());
-    Ok(())
-}
+/// Which read fails, the room of the output, what it holds then, and what the program tells.
+const TROUBLES: [(u64, usize, &[u8], &[u8]); 3] = [
+    (1, 1000, b"", b"kati: cannot read makefile\n"),
+    (2, 1000, b"", b"kati: cannot read Makefile\n"),
+    (0, 10, b"# kati\nrul", b"kati: cannot write\n"),
+];
 
 #[test]
-fn tells_what_kept_it_from_its_end(rt: HostRuntime) -> Result<(), Fail> {
-    let alloc = rt.alloc();
-    let words = command_line(alloc, &["kati"])?;
-    let rows: [(u64, usize, &[u8], &[u8]); 3] = [
-        (1, 1000, b"", b"kati: cannot read makefile\n"),
-        (2, 1000, b"", b"kati: cannot read Makefile\n"),
-        (0, 10, b"# kati\nrul", b"kati: cannot write\n"),
-    ];
-    for (nth, room, written, told) in rows {
-        let mut files = one_file(alloc, "Makefile", ONE_RULE, nth)?;
-        let mut out = MemSink::new(alloc, room, 1000)?;
-        let mut err = MemSink::new(alloc, 1000, 1000)?;
-        let status = whole(alloc, words.as_slice(), &mut files, &mut out, &mut err);
+fn tells_what_kept_it_from_its_end(rt: HostRuntime) {
+    for (nth, room, written, told) in TROUBLES {
+        let mut files = one_file(&rt, rt.alloc(), "Makefile", ONE_RULE, nth);
+        let mut out = sink(&rt, rt.alloc(), room, 1000);
+        let mut err = sink(&rt, rt.alloc(), 1000, 1000);
+        let status = exit(&rt, rt.alloc(), &[], &mut files, &mut out, &mut err);
         assert_eq!(rt; status, 3);
         assert_eq!(rt; out.as_slice(), written);
         assert_eq!(rt; err.as_slice(), told);
     }
-    Ok(())
+}
+
+/// Each read that fails ends the run, with nothing written.
+#[test]
+fn stops_at_a_read_that_fails(rt: HostRuntime) {
+    for (nth, asked) in [(1, 1), (2, 2)] {
+        let mut files = one_file(&rt, rt.alloc(), "Makefile", ONE_RULE, nth);
+        let mut out = sink(&rt, rt.alloc(), 1000, 1000);
+        let mut err = sink(&rt, rt.alloc(), 1000, 1000);
+        assert_eq!(rt; ended(rt.alloc(), &mut files, &mut out, &mut err), "read");
+        assert_eq!(rt; (files.asked().len(), files.failures()), (asked, 1));
+        assert_eq!(rt; (out.calls(), err.calls()), (0, 0));
+    }
 }
 
 #[test]
-fn names_the_file_that_failed(rt: HostRuntime) -> Result<(), Fail> {
-    let alloc = rt.alloc();
-    let mut files = one_file(alloc, "Makefile", ONE_RULE, 2)?;
-    let mut out = MemSink::new(alloc, 1000, 1000)?;
-    let mut err = MemSink::new(alloc, 1000, 1000)?;
-    let status = run(alloc, &Args {}, &mut files, &mut out, &mut err);
-    let Err(RunFault::Read(name)) = status else {
-        return Err(Fail::from("no fault of reading"));
-    };
-    assert_eq!(rt; name.as_str(), "Makefile");
-    assert_eq!(rt; files.asked().len(), 2);
-    assert_eq!(rt; files.failures(), 1);
-    assert!(rt; out.as_slice().is_empty());
-    assert!(rt; err.as_slice().is_empty());
-    Ok(())
-}
-
-#[test]
-fn refuses_further_words(rt: HostRuntime) -> Result<(), Fail> {
-    let alloc = rt.alloc();
-    let words = command_line(alloc, &["kati", "a.o"])?;
-    let mut files = one_file(alloc, "Makefile", ONE_RULE, 0)?;
-    let mut out = MemSink::new(alloc, 1000, 1000)?;
-    let mut err = MemSink::new(alloc, 1000, 1000)?;
-    let status = whole(alloc, words.as_slice(), &mut files, &mut out, &mut err);
-    assert_eq!(rt; status, 64);
-    assert!(rt; files.asked().is_empty());
-    assert!(rt; out.as_slice().is_empty());
-    assert!(rt; err.as_slice().is_empty());
-    Ok(())
+fn refuses_further_words(rt: HostRuntime) {
+    let mut files = one_file(&rt, rt.alloc(), "Makefile", ONE_RULE, 0);
+    let mut out = sink(&rt, rt.alloc(), 1000, 1000);
+    let mut err = sink(&rt, rt.alloc(), 1000, 1000);
+    let status = exit(&rt, rt.alloc(), &["a.o"], &mut files, &mut out, &mut err);
+    assert_eq!(rt; (status, files.asked().len()), (64, 0));
+    assert_eq!(rt; (out.calls(), err.calls()), (0, 0));
 }

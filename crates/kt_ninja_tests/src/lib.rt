@@ -1,0 +1,12 @@
+//! Tests of kt_ninja, which call what it makes public. They stand in a crate of their own, since a crate that has tests
+//! is proved once more with them.
+#![tactic(auto)]
+
+#[cfg(test)]
+mod plans;
+#[cfg(test)]
+mod reading;
+#[cfg(test)]
+mod refusing;
+#[cfg(test)]
+mod writing;

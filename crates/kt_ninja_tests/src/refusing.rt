@@ -1,0 +1,57 @@
+//! Plans that can't be written, and what keeps them from it first.
+use crate::plans::plan_of;
+use kt_ninja::{Unwritable, writable};
+
+/// Plans, and what their trouble is.
+const REFUSED: [(&[u8], Unwritable<'static>); 35] = [
+    // each alone
+    (b"a,;;;;#;;a,;;#>", Unwritable::NoOutput(1)),
+    (b"a,;=;;;#>", Unwritable::BadCommand(0)),
+    (b"a,b,a,;;;;#>", Unwritable::Repeated(b"a")),
+    (b"a,b,;;;;#c,;;;;#d,b,;;;;#>", Unwritable::Repeated(b"b")),
+    (b"a,;;b,;;#>a,b,", Unwritable::NotAnOutput(b"b")),
+    (b">,", Unwritable::NotAnOutput(b"")),
+    // the first of several
+    (b"a|,a|,;=;;;#;;;;#>z,", Unwritable::NoOutput(1)),
+    (b"a,;=\0;,;\n,;#>z,", Unwritable::BadName(b"")),
+    (b"a,a,;=c;;;|,#b,;=\r;;;#>z,", Unwritable::BadName(b"|")),
+    (
+        b"a,a,;=c;;;#b,;=\r;;;#|,;;;;#>z,",
+        Unwritable::BadCommand(1),
+    ),
+    (b"a,b,b,a,;=c;;;#>z,", Unwritable::Repeated(b"b")),
+    (b"a,;=c;;;#>z,y,", Unwritable::NotAnOutput(b"z")),
+    // every place of a name, and every byte
+    (b"a,,;;b,;c,;d,#>", Unwritable::BadName(b"")),
+    (b"a,;;b,,;c,;d,#>", Unwritable::BadName(b"")),
+    (b"a,;;b,;c,,;d,#>", Unwritable::BadName(b"")),
+    (b"a,;;b,;c,;d,,#>", Unwritable::BadName(b"")),
+    (b"a,|,;;b,;c,;d,#>", Unwritable::BadName(b"|")),
+    (b"a,;;b,x|y,;c,;d,#>", Unwritable::BadName(b"x|y")),
+    (b"a,;;b,;c,|y,;d,#>", Unwritable::BadName(b"|y")),
+    (b"a,;;b,;c,;d,x|,#>", Unwritable::BadName(b"x|")),
+    (b"a,\r,;;b,;c,;d,#>", Unwritable::BadName(b"\r")),
+    (b"a,;;b,x\ry,;c,;d,#>", Unwritable::BadName(b"x\ry")),
+    (b"a,;;b,;c,\ry,;d,#>", Unwritable::BadName(b"\ry")),
+    (b"a,;;b,;c,;d,x\r,#>", Unwritable::BadName(b"x\r")),
+    (b"a,\n,;;b,;c,;d,#>", Unwritable::BadName(b"\n")),
+    (b"a,;;b,x\ny,;c,;d,#>", Unwritable::BadName(b"x\ny")),
+    (b"a,;;b,;c,\ny,;d,#>", Unwritable::BadName(b"\ny")),
+    (b"a,;;b,;c,;d,x\n,#>", Unwritable::BadName(b"x\n")),
+    (b"a,\0,;;b,;c,;d,#>", Unwritable::BadName(b"\0")),
+    (b"a,;;b,x\0y,;c,;d,#>", Unwritable::BadName(b"x\0y")),
+    (b"a,;;b,;c,\0y,;d,#>", Unwritable::BadName(b"\0y")),
+    (b"a,;;b,;c,;d,x\0,#>", Unwritable::BadName(b"x\0")),
+    // commands
+    (b"a,;=x\ry;;;#>", Unwritable::BadCommand(0)),
+    (b"a,;=\n;;;#>", Unwritable::BadCommand(0)),
+    (b"a,;=x\0;;;#>", Unwritable::BadCommand(0)),
+];
+
+#[test]
+fn refusals_come_in_order(rt: HostRuntime) {
+    for (text, trouble) in REFUSED {
+        let plan = plan_of(&rt, rt.alloc(), text);
+        assert_eq!(rt; writable(&plan).err(), Some(trouble), "{text:?}");
+    }
+}

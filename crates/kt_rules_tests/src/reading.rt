@@ -1,0 +1,249 @@
+//! Rule lines by the GNU make manual and by the rows that kati is to read.
+use crate::telling::{place, put, put_fault, put_needs, put_place, read, text};
+use kt_rules::{Entry, Kind, Target, without_dots};
+use std::alloc::{AllocError, Global};
+use std::process::Abort;
+use std::test::Fail;
+
+/// A target with its stem between square brackets, and what it needs between angle brackets.
+fn put_target(told: &mut Vec<u8>, entry: &Entry, target: &Target) {
+    put(told, b" ");
+    put(told, target.name.as_slice());
+    if let Some(stemmed) = &target.stemmed {
+        put(told, b"[");
+        put(told, stemmed.stem.as_slice());
+        put(told, b"]");
+    }
+    put(told, b"<");
+    put_needs(told, entry.needs(target));
+    put(told, b">");
+}
+
+fn kind_word(kind: Kind) -> &'static [u8] {
+    match kind {
+        Kind::SingleColon => b"one",
+        Kind::DoubleColon => b"two",
+        Kind::Group => b"all",
+        Kind::Pattern => b"any",
+        Kind::TerminalPattern => b"end",
+    }
+}
+
+/// The kind of an entry and its targets.
+fn put_entry(told: &mut Vec<u8>, entry: &Entry) {
+    put(told, kind_word(entry.kind()));
+    for target in entry.targets() {
+        put_target(told, entry, target);
+    }
+}
+
+/// What `read_rule` tells of a head: the entry, or the fault as a line.
+fn told(alloc: Global, head: &[u8]) -> Vec<u8> {
+    let mut told = Vec::new(alloc);
+    match read(alloc, head, None, 7) {
+        Ok(entry) => put_entry(&mut told, &entry),
+        Err(fault) => put_fault(&mut told, &fault),
+    }
+    told
+}
+
+fn tells(rt: &impl Abort, alloc: Global, rows: &[(&[u8], &[u8])]) {
+    for row in rows {
+        let told = told(alloc, row.0);
+        assert_eq!(rt; told.as_slice(), row.1);
+    }
+}
+
+#[test]
+fn reads_rules(rt: HostRuntime) {
+    tells(
+        &rt,
+        rt.alloc(),
+        &[
+            (b"a: b ", b"one a<b,|>"),
+            (b"t: x | x y ", b"one t<x,|x,y,>"),
+            (b"t: x|y", b"one t<x|y,|>"),
+            (b"t: a ./| b", b"one t<a,|,b,|>"),
+            (b"t: a | b | c", b"one t<a,|b,|,c,>"),
+            (b"t | u: a", b"one t<a,|> |<a,|> u<a,|>"),
+            (b".PHONY: | b", b"one .PHONY<|b,>"),
+            (b"a\\ b: c\\:d ", b"one a b<c:d,|>"),
+            (b"a\\\\:b: c", b"one a\\:b<c,|>"),
+            (b"a: b\\\tc", b"one a<b\\,c,|>"),
+            (
+                b"all: ./x .//x ././/x .// a//b ./",
+                b"one all<x,x,x,./,a//b,./,|>",
+            ),
+            (b"a ./a b a: c", b"one a<c,|> b<c,|>"),
+            (b"t : a %.o | b", b"one t<a,%.o,|b,>"),
+            (b"a: ; b", b"one a<;,b,|>"),
+            (b"a: b # c", b"one a<b,#,c,|>"),
+            (b"a:: b", b"two a<b,|>"),
+            (b".PHONY a:: b", b"two .PHONY<b,|> a<b,|>"),
+            (b"%.o: %.c | x", b"any %.o<%.c,|x,>"),
+            (b"%.o ./%.o: %.c", b"any %.o<%.c,|>"),
+            (b"%.h %.c:: ./%.y", b"end %.h<%.y,|> %.c<%.y,|>"),
+        ],
+    );
+}
+
+#[test]
+fn reads_static_patterns_and_groups(rt: HostRuntime) {
+    tells(
+        &rt,
+        rt.alloc(),
+        &[
+            (
+                b"x.o y.o: %.o: %.c a | %.h",
+                b"one x.o[x]<x.c,a,|x.h,> y.o[y]<y.c,a,|y.h,>",
+            ),
+            (b"x.c:: %: ", b"two x.c[x.c]<|>"),
+            (b".c: %.c: ", b"one .c[]<|>"),
+            (b".c.o: .c%: ", b"one .c.o[.o]<|>"),
+            (
+                b"a/x ./x: %x: ./%%/y %//z",
+                b"one a/x[a/]<a/%/y,a///z,|> x[]<%/y,//z,|>",
+            ),
+            (b"./x: .%: b", b"m:7 21 bad static pattern x"),
+            (b"x: %x: %./y", b"one x[]<y,|>"),
+            (
+                b".PHONY a: %: x%",
+                b"one .PHONY[.PHONY]<x.PHONY,|> a[a]<xa,|>",
+            ),
+            (b"b.o a.o &: c ", b"all b.o<c,|> a.o<c,|>"),
+            (b"a b&: c | d", b"all a<c,|d,> b<c,|d,>"),
+            (b"a\\&: c", b"all a\\<c,|>"),
+        ],
+    );
+}
+
+#[test]
+fn reads_lines_without_targets(rt: HostRuntime) {
+    tells(
+        &rt,
+        rt.alloc(),
+        &[
+            (b"", b"one"),
+            (b" \t\n", b"one"),
+            (b": a ", b"one"),
+            (b": *.c", b"one"),
+            (b":: .WAIT", b"one"),
+            (b"&: b", b"one"),
+            (b": %.o : b", b"one"),
+            (b": a : b : c", b"m:7 05 missing separator"),
+            (b": a b: c", b"m:7 21 bad static pattern a b"),
+            (b": *%: c", b"m:7 20 refused name *%"),
+            (b"&:: b", b"m:7 35 bad group"),
+        ],
+    );
+}
+
+#[test]
+fn refuses_lines_in_order(rt: HostRuntime) {
+    tells(
+        &rt,
+        rt.alloc(),
+        &[
+            (b"a", b"m:7 05 missing separator"),
+            (b"a\\:b", b"m:7 05 missing separator"),
+            (b"a: b: %: c: d", b"m:7 05 missing separator"),
+            (b"a ::: b", b"m:7 21 bad static pattern "),
+            (b"a.o: %.o  %.x: b", b"m:7 21 bad static pattern %.o  %.x"),
+            (b"\na: b\nc: d", b"m:7 21 bad static pattern b\nc"),
+            (b"a: b: *", b"m:7 21 bad static pattern b"),
+            (b"a: *.c", b"m:7 20 refused name *.c"),
+            (b"./~x: ", b"m:7 20 refused name ~x"),
+            (b"a: b? l(m) d", b"m:7 20 refused name b?"),
+            (b"a: (m) l(m)", b"m:7 20 refused name l(m)"),
+            (b"a: %: \\% c", b"m:7 20 refused name \\%"),
+            (b"a*: [%: c", b"m:7 20 refused name a*"),
+            (b"a: x[% : *", b"m:7 20 refused name x[%"),
+            (b"a % *: c", b"m:7 20 refused name *"),
+            (b"a %: .WAIT", b"m:7 05 missing separator"),
+            (b"a%: %: c", b"m:7 05 missing separator"),
+            (b".DEFAULT %.o: x", b"m:7 05 missing separator"),
+            (b".DEFAULT .PHONY &: x ", b"m:7 35 bad group"),
+            (b".PHONY a &: b", b"m:7 35 bad group"),
+            (b"%.a %.b &: c", b"m:7 35 bad group"),
+            (b"a b &:: c", b"m:7 35 bad group"),
+            (b"a b &: c : d : e", b"m:7 35 bad group"),
+            (b".DEFAULT a &: b", b"m:7 22 refused target .DEFAULT"),
+            (b"x .IGNORE: %.o: %.c", b"m:7 21 bad static pattern x"),
+            (b".IGNORE x: %.o: %.c", b"m:7 22 refused target .IGNORE"),
+            (b"x: %.o: .WAIT", b"m:7 21 bad static pattern x"),
+            (b"a: b ./.WAIT", b"m:7 22 refused target .WAIT"),
+            (b".WAIT: b", b"m:7 22 refused target .WAIT"),
+            (
+                b".POSIX .SILENT: * .WAIT",
+                b"one .POSIX<*,.WAIT,|> .SILENT<*,.WAIT,|>",
+            ),
+            (b".POSIX a: *", b"m:7 20 refused name *"),
+            (b".PHONY: *", b"m:7 20 refused name *"),
+        ],
+    );
+}
+
+/// The lines of a recipe.
+fn put_recipe(told: &mut Vec<u8>, entry: &Entry) {
+    for line in entry.recipe().unwrap_or(&[]) {
+        put_place(told, &line.place);
+        put(told, line.text.as_slice());
+    }
+}
+
+/// Adds a line to a recipe.
+fn push(alloc: Global, entry: &mut Entry, line: &[u8], number: u64) -> Result<(), AllocError> {
+    let place = place(alloc, number)?;
+    entry.push(text(alloc, line)?, place)
+}
+
+#[test]
+fn keeps_recipes(rt: HostRuntime) -> Result<(), Fail> {
+    let alloc = rt.alloc();
+    let mut told = Vec::new(alloc);
+    let mut entry = read(alloc, b"a: b", Some(b"one,"), 7)?;
+    push(alloc, &mut entry, b"two", 9)?;
+    put_recipe(&mut told, &entry);
+    assert_eq!(rt; told.as_slice(), b"m:7 one,m:9 two".as_slice());
+    Ok(())
+}
+
+#[test]
+fn begins_recipes(rt: HostRuntime) -> Result<(), Fail> {
+    let alloc = rt.alloc();
+    let mut told = Vec::new(alloc);
+    let mut entry = read(alloc, b"", None, 7)?;
+    assert!(rt; entry.recipe().is_none());
+    push(alloc, &mut entry, b"", 8)?;
+    put_recipe(&mut told, &entry);
+    assert_eq!(rt; told.as_slice(), b"m:8 ".as_slice());
+    assert!(rt; entry.targets().is_empty());
+    Ok(())
+}
+
+/// The place of a rule, shared.
+#[test]
+fn tells_file_and_line(rt: HostRuntime) -> Result<(), Fail> {
+    let alloc = rt.alloc();
+    let mut told = Vec::new(alloc);
+    let entry = read(alloc, b"a:", None, 12)?;
+    put_place(&mut told, &entry.place().share()?);
+    assert_eq!(rt; told.as_slice(), b"m:12 ".as_slice());
+    Ok(())
+}
+
+#[test]
+fn removes_leading_dots(rt: HostRuntime) {
+    for (name, left) in [
+        (b"./x".as_slice(), b"x".as_slice()),
+        (b".//././/x", b"x"),
+        (b".//", b"./"),
+        (b"./", b"./"),
+        (b"", b""),
+        (b"..//./x", b"..//./x"),
+        (b"/./x", b"/./x"),
+        (b".", b"."),
+    ] {
+        assert_eq!(rt; without_dots(name), left);
+    }
+}

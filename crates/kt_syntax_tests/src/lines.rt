@@ -1,0 +1,276 @@
+//! Terms, kinds of lines and texts of parts, from the manuals and kati's own rules.
+use kt_syntax::{
+    Directive, Form, Mark, Operator, Term, classify, plain, recipe_text, rule_parts, terms,
+};
+use std::test::Fail;
+
+/// Each term in brackets, with a letter for its mark.
+fn told(text: &[u8], rt: &HostRuntime) -> Result<Vec<u8>, Fail> {
+    let mut told = Vec::new(rt.alloc());
+    for term in terms(text) {
+        let (kind, body) = match term {
+            Ok(Term::Lit(bytes)) => (b'l', bytes),
+            Ok(Term::Dollar) => (b'd', b"".as_slice()),
+            Ok(Term::Ref(Mark::Byte, body)) => (b'b', body),
+            Ok(Term::Ref(Mark::Parentheses, body)) => (b'p', body),
+            Ok(Term::Ref(Mark::Braces, body)) => (b'c', body),
+            Err(_) => (b'u', b"".as_slice()),
+        };
+        told.push(kind)?;
+        told.push(b'[')?;
+        told.extend_from_slice(body)?;
+        told.push(b']')?;
+    }
+    Ok(told)
+}
+
+#[test]
+fn cuts_texts(rt: HostRuntime) -> Result<(), Fail> {
+    let rows: [(&[u8], &[u8]); 12] = [
+        (b"", b""),
+        (b"a$(b$$)c$$$d$", b"l[a]p[b$$]l[c]d[]b[d]l[]"),
+        (b"x$(a", b"l[x]u[]"),
+        (b"${a)}$(b})", b"c[a)]p[b}]"),
+        (b"$(a(b)c)d)", b"p[a(b)c]l[d)]"),
+        (b"$((a)", b"u[]"),
+        (b"$\\#b", b"b[\\]l[#b]"),
+        (b"$#$;", b"b[#]b[;]"),
+        (b"a$\\\n b", b"l[a]b[\\\n]l[ b]"),
+        (b"a$\\\r\nb", b"l[a]b[\\]l[\r\nb]"),
+        (b"a$\\\\\\\nb", b"l[a]b[\\]l[\\\\\nb]"),
+        (b"$)", b"b[)]"),
+    ];
+    for (text, expected) in rows {
+        let found = told(text, &rt)?;
+        assert_eq!(rt; found.as_slice(), expected);
+    }
+    Ok(())
+}
+
+/// The kind of a line in one letter, and its parts, each in brackets.
+fn kind_told(text: &[u8], tab: bool, rt: &HostRuntime) -> Result<Vec<u8>, Fail> {
+    let mut told = Vec::new(rt.alloc());
+    let (kind, first, second) = match classify(text, tab) {
+        Form::Blank => (b'b', b"".as_slice(), b"".as_slice()),
+        Form::Assignment(name, Operator::Deferred, value) => (b'=', name, value),
+        Form::Assignment(name, Operator::Immediate, value) => (b':', name, value),
+        Form::Assignment(name, Operator::Escaped, value) => (b'e', name, value),
+        Form::Assignment(name, Operator::Conditional, value) => (b'?', name, value),
+        Form::Assignment(name, Operator::Append, value) => (b'+', name, value),
+        Form::Assignment(name, Operator::Shell, value) => (b'!', name, value),
+        Form::Directive(Directive::Else, rest) => (b'E', rest, b"".as_slice()),
+        Form::Directive(Directive::Endif, rest) => (b'F', rest, b"".as_slice()),
+        Form::Directive(Directive::Endef, rest) => (b'D', rest, b"".as_slice()),
+        Form::Directive(Directive::Ifeq, rest) => (b'I', rest, b"".as_slice()),
+        Form::Directive(Directive::OptionalInclude, rest) => (b'S', rest, b"".as_slice()),
+        Form::Directive(_, rest) => (b'd', rest, b"".as_slice()),
+        Form::Refused(word) => (b'x', word, b"".as_slice()),
+        Form::Rule => (b'r', b"".as_slice(), b"".as_slice()),
+    };
+    told.push(kind)?;
+    for part in [first, second] {
+        told.push(b'[')?;
+        told.extend_from_slice(part)?;
+        told.push(b']')?;
+    }
+    Ok(told)
+}
+
+#[test]
+fn tells_kinds(rt: HostRuntime) -> Result<(), Fail> {
+    let rows: [(&[u8], bool, &[u8]); 45] = [
+        (b"", false, b"b[][]"),
+        (b" \t# x", false, b"b[][]"),
+        (b"ifeq = 3", false, b"=[ifeq][3]"),
+        (b"a:: b = c", false, b"r[][]"),
+        (b"a b = c", false, b"r[][]"),
+        (b"a\\:=b", false, b":[a\\][b]"),
+        (b"a\\ = b", false, b"=[a\\][b]"),
+        (b"a+b?c;d$$ = 1", false, b"=[a+b?c;d$$][1]"),
+        (b"a::::=b", false, b"r[][]"),
+        (b"a:::=b", false, b"e[a][b]"),
+        (b"a : = b", false, b"r[][]"),
+        (b"a:b=c", false, b"r[][]"),
+        (b"a b := c", false, b"r[][]"),
+        (b"A$(x = 1", false, b"r[][]"),
+        (b"endif $(x", false, b"F[$(x][]"),
+        (b"A = $(x", false, b"=[A][$(x]"),
+        (b"ifeq(a,b)", false, b"r[][]"),
+        (b"include: a", false, b"r[][]"),
+        (b"else;", false, b"r[][]"),
+        (b"\tA = 1", true, b"=[A][1]"),
+        (b"\t# c", true, b"b[][]"),
+        (b"\tendif", true, b"r[][]"),
+        (b"endif", false, b"F[][]"),
+        (b"endef#c", false, b"D[#c][]"),
+        (b"endef = x", false, b"=[endef][x]"),
+        (b"A = a$\\\\#b # c", false, b"=[A][a$\\\\#b # c]"),
+        (b"$# = 1", false, b"=[$#][1]"),
+        (b"a\\# = hash", false, b"=[a\\#][hash]"),
+        (b"a\\\\# = hash", false, b"r[][]"),
+        (b"export Z", false, b"x[export][]"),
+        (b"Z != z", false, b"![Z][z]"),
+        (b"A \\\n += \\\n b", false, b"+[A][b]"),
+        (b"-include\\\n a", false, b"S[a][]"),
+        (b"$\\\nA = 1", false, b"=[$\\\nA][1]"),
+        (b"A$ \\\nB = 1", false, b"r[][]"),
+        (b"define := y", false, b":[define][y]"),
+        (b"define A = $(", false, b"d[A = $(][]"),
+        (b"else ifeq(a,a)", false, b"E[ifeq(a,a)][]"),
+        (b"\tinclude a", true, b"d[a][]"),
+        (b"include a\\ b", false, b"d[a\\ b][]"),
+        (b"override A = 1", false, b"x[override][]"),
+        (b"-load a", false, b"x[-load][]"),
+        (b"A ?= b", false, b"?[A][b]"),
+        (b"a::=b", false, b":[a][b]"),
+        (b"= b", false, b"=[][b]"),
+    ];
+    for (text, tab, expected) in rows {
+        let found = kind_told(text, tab, &rt)?;
+        assert_eq!(rt; found.as_slice(), expected);
+    }
+    Ok(())
+}
+
+/// Head and recipe, each in brackets, or a star for a target-specific macro.
+fn parts_told(text: &[u8], rt: &HostRuntime) -> Result<Vec<u8>, Fail> {
+    let mut told = Vec::new(rt.alloc());
+    match rule_parts(text) {
+        Err(_) => told.push(b'*')?,
+        Ok(parts) => {
+            told.push(b'[')?;
+            told.extend_from_slice(parts.head)?;
+            told.push(b']')?;
+            if let Some(recipe) = parts.recipe {
+                told.push(b'[')?;
+                told.extend_from_slice(recipe)?;
+                told.push(b']')?;
+            }
+        }
+    }
+    Ok(told)
+}
+
+#[test]
+fn cuts_rule_lines(rt: HostRuntime) -> Result<(), Fail> {
+    let rows: [(&[u8], &[u8]); 26] = [
+        (b"a\\#b: c ; echo $@ # yes", b"[a\\#b: c ][echo $@ # yes]"),
+        (b"a: c # ; no", b"[a: c # ; no]"),
+        (b"a: b$; c", b"[a: b$; c]"),
+        (b"a: $(b ; x", b"[a: $(b ; x]"),
+        (b"t: ; \\\n\t @ echo a", b"[t: ][@ echo a]"),
+        (b"a$\\: b = c", b"*"),
+        (b"a::::=b", b"*"),
+        (b"a:: = b", b"*"),
+        (b"a : = b", b"*"),
+        (b"a:b=c", b"*"),
+        (b"a b := c", b"*"),
+        (b"t: export override A = b", b"*"),
+        (b"t: A# = b", b"[t: A# = b]"),
+        (b"t: a ; X = 1", b"[t: a ][X = 1]"),
+        (b"a\\:b=c", b"[a\\:b=c]"),
+        (b"a\\\\:b: c ; true", b"[a\\\\:b: c ][true]"),
+        (b"t: private\\\n A = b", b"*"),
+        (b"t: a b", b"[t: a b]"),
+        (b"t:;", b"[t:][]"),
+        (b"$(a:b=c): d", b"[$(a:b=c): d]"),
+        (b"t: export  private\tA = b # c", b"*"),
+        (b"t: export A", b"[t: export A]"),
+        (b"t: exports A = b", b"[t: exports A = b]"),
+        (b"t: \\\n a ; $(error x)", b"[t: \\\n a ][$(error x)]"),
+        (b"a: b\\\tc ; x", b"[a: b\\\tc ][x]"),
+        (b"a", b"[a]"),
+    ];
+    for (text, expected) in rows {
+        let found = parts_told(text, &rt)?;
+        assert_eq!(rt; found.as_slice(), expected);
+    }
+    Ok(())
+}
+
+#[test]
+fn drops_comments(rt: HostRuntime) -> Result<(), Fail> {
+    let rows: [(&[u8], &[u8]); 11] = [
+        (b"a\\#b\\\\# c", b"a#b\\"),
+        (b"a$\\#b", b"a$\\"),
+        (b"a$\\\\#b", b"a$\\#b"),
+        (b"$(info a\\#b\\\\#c)", b"$(info a\\#b\\\\#c)"),
+        (b"$(x # y", b"$(x # y"),
+        (b"[$(x # y)]", b"[$(x # y)]"),
+        (b"ok # $(", b"ok "),
+        (b"a$#b$$#c", b"a$#b$$"),
+        (b"${a)#}#)", b"${a)#}"),
+        (b"a\\\\b\\", b"a\\\\b\\"),
+        (b"# c", b""),
+    ];
+    for (text, expected) in rows {
+        let found = plain(rt.alloc(), text)?;
+        assert_eq!(rt; found.as_slice(), expected);
+    }
+    Ok(())
+}
+
+#[test]
+fn condenses_parts(rt: HostRuntime) -> Result<(), Fail> {
+    let rows: [(&[u8], &[u8]); 10] = [
+        (b"x \\\n\\\ny", b"x y"),
+        (b"x\\\n", b"x "),
+        (b"a\\\r\n b", b"a b"),
+        (b"x\\\r\r\n", b"x\\\r\n"),
+        (b"a$\\\nb", b"a$ b"),
+        (b"[$\\\n  \\\n\tA]", b"[$ A]"),
+        (b"a # b \\\n c", b"a "),
+        (b"a \\\n# c", b"a "),
+        (b"$(a \\\n # b)", b"$(a # b)"),
+        (b"a\\\\\\\n# c", b"a\\\\ "),
+    ];
+    for (text, expected) in rows {
+        let found = plain(rt.alloc(), text)?;
+        assert_eq!(rt; found.as_slice(), expected);
+    }
+    Ok(())
+}
+
+#[test]
+fn joins_recipe_lines(rt: HostRuntime) -> Result<(), Fail> {
+    let rows: [(&[u8], &[u8]); 12] = [
+        (b"a \\\n\tb", b"a b"),
+        (b"a\\\n\t\tb", b"a\tb"),
+        (b"a\\\n b", b"a b"),
+        (b"a\\\r\n\tb", b"ab"),
+        (b"a\\\\\nb", b"a\\\\\nb"),
+        (b"a\r\nb\r", b"a\nb\r"),
+        (b"a\\", b"a\\"),
+        (b"a\\\n", b"a"),
+        (b"echo a\\#b # c", b"echo a\\#b # c"),
+        (b"$$\\\n\tb", b"$$b"),
+        (b"a$\\\\\\\nb", b"a$\\\\b"),
+        (b"", b""),
+    ];
+    for (text, expected) in rows {
+        let found = recipe_text(rt.alloc(), text)?;
+        assert_eq!(rt; found.as_slice(), expected);
+    }
+    Ok(())
+}
+
+#[test]
+fn joins_references_of_recipe_lines(rt: HostRuntime) -> Result<(), Fail> {
+    let rows: [(&[u8], &[u8]); 10] = [
+        (b"[$(subst a,b,x \\\n\\\ny)]", b"[$(subst a,b,x y)]"),
+        (b"a$\\\n b", b"a$ b"),
+        (b"a$\\\r\n b", b"a$ b"),
+        (b"[$\\\n  \\\n\tA]", b"[$ A]"),
+        (b"[$\\\nA]", b"[$ A]"),
+        (b"$(x \\\n y", b"$(x y"),
+        (b"$(x\\\n", b"$(x "),
+        (b"${a)\\\n\t}b\\\n\tc", b"${a) }bc"),
+        (b"$(a $\\\n  \\\n b)", b"$(a $ b)"),
+        (b"$(a  b) \\\n\tc", b"$(a  b) c"),
+    ];
+    for (text, expected) in rows {
+        let found = recipe_text(rt.alloc(), text)?;
+        assert_eq!(rt; found.as_slice(), expected);
+    }
+    Ok(())
+}
