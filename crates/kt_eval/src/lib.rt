@@ -1,13 +1,35 @@
-//! Reading makefiles. So far: the files that they are read from, and what can be wrong with them.
+//! Macros, functions and the reading of makefiles.
 #![tactic(auto)]
 
+mod assigning;
+mod assignments;
+mod calls;
+mod compared;
+mod conditionals;
+mod evaluate;
+mod evaluation;
 mod fault;
 mod files;
+mod frames;
+mod function;
+mod including;
+pub mod laws;
+mod machine;
+mod macros;
 mod memory;
+mod page;
+mod pure;
+mod reading;
+mod scope;
+mod state;
+mod stop;
+mod text_functions;
 
 pub use fault::Fault;
 pub use files::{FileFault, Files};
+pub use function::{Function, TextFunction};
+pub use machine::{Machine, Reading};
+pub use macros::{Flavour, Macro, Macros, Origin};
 pub use memory::MemFiles;
-
-#[cfg(test)]
-mod tests;
+pub use state::Automatic;
+pub use stop::Stop;

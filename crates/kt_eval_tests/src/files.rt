@@ -1,5 +1,5 @@
 //! Files over memory.
-use crate::{FileFault, Files, MemFiles};
+use kt_eval::{FileFault, Files, MemFiles};
 use std::test::Fail;
 
 #[test]

@@ -1,0 +1,34 @@
+-- The body of a define, line by line.
+use Rattle.std.proofs.Common.{◌≡◌, ℕ, ◌-◌, List, [], ◌∷◌, ◌++◌, map, take, drop, refl, ap}
+use Rattle.std.specs.List.{join_with_byte, slice_range}
+use Rattle.std.proofs.lemmas.List.{append-nil, take-map, drop-map}
+use Rattle.kt_text.specs.declared.line.Line.{Line}
+use Rattle.kt_text.specs.Words.{Text}
+use Rattle.kt_text.specs.Lines.{condensed_of}
+use Rattle.kt_syntax.specs.Roles.{line_text}
+use Rattle.kt_eval.specs.Assignments.{body_text}
+use Rattle.kt_eval.specs.Reading.{raw_line}
+
+-- what is left of a body, with what comes before its next line
+unfoldable pub left_of_body : Text → List Text → Text
+left_of_body separator [] = []
+left_of_body separator (line ∷ lines) = separator ++ (condensed_of line ++ left_of_body (10 ∷ []) lines)
+
+behind_first : (line : Text) (lines : List Text) → condensed_of line ++ left_of_body (10 ∷ []) lines ≡ join_with_byte 10 (map condensed_of (line ∷ lines))
+unfolding left_of_body
+behind_first line [] = append-nil (condensed_of line)
+behind_first line (next ∷ lines) = ap (λ rest. condensed_of line ++ 10 ∷ rest) (behind_first next lines)
+
+-- all of it
+pub whole_body : (lines : List Text) → left_of_body [] lines ≡ body_text lines
+unfolding left_of_body body_text
+whole_body [] = refl
+whole_body (line ∷ lines) = behind_first line lines
+
+texts : (text : Text) (lines : List Line) → map (λ raw. raw.text) (map (raw_line text) lines) ≡ map (line_text text) lines
+texts text [] = refl
+texts text (line ∷ lines) = ap (λ rest. line_text text line ∷ rest) (texts text lines)
+
+-- the texts of some of the lines
+pub body_lines : (text : Text) (lines : List Line) (start end : ℕ) → map (λ raw. raw.text) (slice_range (map (raw_line text) lines) start end) ≡ map (line_text text) (slice_range lines start end)
+body_lines text lines start end = rw (drop-map (raw_line text) start lines, take-map (raw_line text) (end - start) (drop start lines)) (texts text (take (end - start) (drop start lines)))

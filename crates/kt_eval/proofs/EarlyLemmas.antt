@@ -1,0 +1,175 @@
+-- Messages so far, where something is refused: they are a beginning of those of the step that it stands in.
+use Rattle.std.proofs.Common.{◌≡◌, ℕ, suc, ◌+◌, ◌<◌, ◌==◌, ◌||◌, Bool, true, cond, false, List, [], ◌∷◌, ◌++◌, length, map, drop, get_or, drop-cons, Some, refl, sym, ap, subst, ◌∙◌, arith, Bor}
+use Rattle.std.specs.List.{slice_get}
+use Rattle.kt_text.specs.Words.{Text, words_of}
+use Rattle.kt_syntax.specs.Blocks.{Items, Branches, definition, conditional, no_branch, branch, late}
+use Rattle.kt_syntax.specs.Kinds.{Kind, kind_of}
+use Rattle.kt_syntax.specs.declared.step.Step.{Step as Found}
+use Rattle.kt_syntax.specs.declared.step.Step.TheVariants as step
+use Rattle.kt_syntax.specs.Reading.{left_at, AreTried}
+use Rattle.kt_eval.specs.declared.stop.Stop.{Stop}
+use Rattle.kt_eval.specs.declared.stop.Stop.TheVariants as stops
+use Rattle.kt_eval.specs.Files.{Store}
+use Rattle.kt_eval.specs.Fronts.{IsFront}
+use Rattle.kt_eval.specs.State.{World}
+use Rattle.kt_eval.specs.Step.{Step, Outcome, Gave, Stopped, Fails, then_do, said_of}
+use Rattle.kt_eval.specs.Calls.{stripped}
+use Rattle.kt_eval.specs.Conditions.{Compared}
+use Rattle.kt_eval.specs.Conditionals.{are_equal}
+use Rattle.kt_eval.specs.Expansion.{expanded, each_argument, apply_or, apply_and, apply_eval, apply_foreach}
+use Rattle.kt_eval.specs.Levels.{evaluator}
+use Rattle.kt_eval.specs.Reading.{Sheet, at_line, line_at, body_at, branch_holds, late_else, read_bytes, read_define, read_first, read_items, read_branches, read_or}
+use Rattle.kt_eval.proofs.LevelLemmas.{evaluator_reads}
+use Rattle.kt_eval.proofs.ReadingLemmas.{Tries}
+use Rattle.kt_eval.proofs.GrowingLemmas.{front_same, front_next, one_more_level, behind_first_related, behind_branch_related, read_first_related, read_or_related}
+use Rattle.kt_eval.proofs.FrontLemmas.{grown_front, expand_front, eval_front, each_word_front, expanded_front, each_argument_front, apply_or_front, apply_and_front, read_items_front}
+
+-- messages before the end of a step are before that of a longer one
+early_then : {A B : Type 0} (said : List Text) (o : Outcome A) (f : A → Step B) → ((x : A) (w : World) → IsFront w.said (said_of (f x w))) → IsFront said (said_of o) → IsFront said (said_of (then_do o f))
+early_then said (Gave w x) f more h = front_next said w.said (said_of (f x w)) h (more x w)
+early_then said (Stopped w x) f more h = h
+
+-- a step that fails in its first part
+fails_then : {A B : Type 0} (stop : Stop) (w : World) (o : Outcome A) (f : A → Step B) → ((x : A) (v : World) → IsFront v.said (said_of (f x v))) → Fails stop w o → Fails stop w (then_do o f)
+fails_then (stops.Fault fault) w o f more h = rw h refl
+fails_then (stops.Device name) w o f more h = early_then w.said o f more h
+fails_then stops.Memory w o f more h = early_then w.said o f more h
+
+front_cond : {A : Type 0} (b : Bool) (s t : Step A) (w : World) → IsFront w.said (said_of (s w)) → IsFront w.said (said_of (t w)) → IsFront w.said (said_of (cond b s t w))
+front_cond true s t w p q = p
+front_cond false s t w p q = q
+
+texts_left : (texts : List (Bor Text)) (place : ℕ) (d : Bor Text) → place < length texts → map (λ a. a.now) (drop place texts) ≡ (get_or texts place d).now ∷ map (λ a. a.now) (drop (suc place) texts)
+texts_left texts place d within = ap (map (λ (a : Bor Text). a.now)) (drop-cons texts place d within)
+
+module _ (reads : Bool) (store : Store) (levels : ℕ) where
+  pub eval_fails : (stop : Stop) (w v : World) (text : Text) → reads ≡ true
+      → Fails stop v ((evaluator reads store levels).expand text w) → Fails stop v (apply_eval (evaluator reads store levels) text w)
+  unfolding apply_eval
+  eval_fails stop w v text is h =
+      rw (evaluator_reads reads store levels ∙ is)
+      (fails_then stop v ((evaluator reads store levels).expand text w) _
+      (λ x u. early_then u.said ((evaluator reads store levels).eval x u) _ (λ _ t. front_same t.said) (eval_front reads store levels x u)) h)
+
+  pub foreach_fails : (stop : Stop) (w v : World) (variable list body : Text)
+      → Fails stop v ((evaluator reads store levels).expand variable w) → Fails stop v (apply_foreach (evaluator reads store levels) variable list body w)
+  unfolding apply_foreach
+  foreach_fails stop w v variable list body h =
+      fails_then stop v ((evaluator reads store levels).expand variable w) _
+      (λ name u. early_then u.said ((evaluator reads store levels).expand list u) _
+      (λ words t. each_word_front reads store levels (stripped name) body [] [] (words_of words) t) (expand_front reads store levels list u)) h
+
+  pub equal_fails : (stop : Stop) (w v : World) (compared : Compared)
+      → Fails stop v (expanded (evaluator reads store levels) compared.first w) → Fails stop v (are_equal (evaluator reads store levels) (Some compared) w)
+  unfolding are_equal
+  equal_fails stop w v compared h =
+      fails_then stop v (expanded (evaluator reads store levels) compared.first w) _
+      (λ x u. early_then u.said (expanded (evaluator reads store levels) compared.second u) _ (λ y t. front_same t.said) (expanded_front reads store levels compared.second u)) h
+
+  pub argument_fails : (stop : Stop) (w v : World) (out : List Text) (text : Text) (texts : List Text)
+      → Fails stop v ((evaluator reads store levels).expand text w) → Fails stop v (each_argument (evaluator reads store levels) out (text ∷ texts) w)
+  unfolding each_argument
+  argument_fails stop w v out text texts h =
+      fails_then stop v ((evaluator reads store levels).expand text w) _ (λ x u. each_argument_front reads store levels (out ++ x ∷ []) texts u) h
+
+  pub or_fails : (stop : Stop) (w v : World) (text : Text) (texts : List Text)
+      → Fails stop v ((evaluator reads store levels).expand (stripped text) w) → Fails stop v (apply_or (evaluator reads store levels) (text ∷ texts) w)
+  unfolding apply_or
+  or_fails stop w v text texts h =
+      fails_then stop v ((evaluator reads store levels).expand (stripped text) w) _
+      (λ x u. front_cond (length x == 0) _ _ u (apply_or_front reads store levels texts u) (front_same u.said)) h
+
+  pub and_fails : (stop : Stop) (w v : World) (text : Text) (texts : List Text)
+      → Fails stop v ((evaluator reads store levels).expand (stripped text) w) → Fails stop v (apply_and (evaluator reads store levels) (text ∷ texts) w)
+  unfolding apply_and
+  and_fails stop w v text texts h =
+      fails_then stop v ((evaluator reads store levels).expand (stripped text) w) _
+      (λ x u. front_cond (length x == 0 || length texts == 0) _ _ u (front_same u.said) (apply_and_front reads store levels texts u)) h
+
+  -- the same at a place of texts
+  pub argument_at_fails : (stop : Stop) (w v : World) (out : List Text) (texts : List (Bor Text)) (place : ℕ) (d : Bor Text) → place < length texts
+      → Fails stop v ((evaluator reads store levels).expand (get_or texts place d).now w)
+      → Fails stop v (each_argument (evaluator reads store levels) out (map (λ a. a.now) (drop place texts)) w)
+  argument_at_fails stop w v out texts place d within h =
+      rw (texts_left texts place d within) (argument_fails stop w v out (get_or texts place d).now (map (λ a. a.now) (drop (suc place) texts)) h)
+
+  pub or_at_fails : (stop : Stop) (w v : World) (texts : List (Bor Text)) (place : ℕ) (d : Bor Text) → place < length texts
+      → Fails stop v ((evaluator reads store levels).expand (stripped (get_or texts place d).now) w)
+      → Fails stop v (apply_or (evaluator reads store levels) (map (λ a. a.now) (drop place texts)) w)
+  or_at_fails stop w v texts place d within h =
+      rw (texts_left texts place d within) (or_fails stop w v (get_or texts place d).now (map (λ a. a.now) (drop (suc place) texts)) h)
+
+  pub and_at_fails : (stop : Stop) (w v : World) (texts : List (Bor Text)) (place : ℕ) (d : Bor Text) → place < length texts
+      → Fails stop v ((evaluator reads store levels).expand (stripped (get_or texts place d).now) w)
+      → Fails stop v (apply_and (evaluator reads store levels) (map (λ a. a.now) (drop place texts)) w)
+  and_at_fails stop w v texts place d within h =
+      rw (texts_left texts place d within) (and_fails stop w v (get_or texts place d).now (map (λ a. a.now) (drop (suc place) texts)) h)
+
+  -- once the text at a place is expanded
+  pub argument_at_front : (w v : World) (out : List Text) (texts : List (Bor Text)) (place : ℕ) (d : Bor Text) (x : Text) → place < length texts
+      → (evaluator reads store levels).expand (get_or texts place d).now w ≡ Gave v x
+      → IsFront v.said (said_of (each_argument (evaluator reads store levels) out (map (λ a. a.now) (drop place texts)) w))
+  unfolding each_argument
+  argument_at_front w v out texts place d x within h =
+      rw (texts_left texts place d within, h) (each_argument_front reads store levels (out ++ x ∷ []) (map (λ a. a.now) (drop (suc place) texts)) v)
+
+module _ (reads : Bool) (store : Store) (levels : ℕ) (sheet : Sheet) where
+  pub definition_fails : (stop : Stop) (w v : World) (items next : Items) (place end : ℕ) (kind : Kind) (body : Text) → items ≡ definition place end next
+      → kind ≡ kind_of (line_at sheet.lines place).text false → body ≡ body_at sheet (place + 1) end
+      → Fails stop v (read_define (evaluator reads store levels) kind body (at_line sheet place w))
+      → Fails stop v (read_items (evaluator reads store levels) sheet items w)
+  unfolding read_items
+  definition_fails stop w v items next place end kind body is kind_is body_is h =
+      rw (is, ← kind_is, ← body_is)
+      (fails_then stop v (read_define (evaluator reads store levels) kind body (at_line sheet place w)) _
+      (λ _ u. read_items_front reads store levels sheet next u) h)
+
+  pub first_fails : (stop : Stop) (w v : World) (items : Items) (place : ℕ) (first : Items) (others : Branches) (next : Items)
+      → items ≡ conditional place first others next
+      → Fails stop v (branch_holds (evaluator reads store levels) sheet place true w)
+      → Fails stop v (read_items (evaluator reads store levels) sheet items w)
+  unfolding read_items
+  first_fails stop w v items place first others next is h =
+      rw is
+      (fails_then stop v (branch_holds (evaluator reads store levels) sheet place true w) _
+      (λ chosen u. grown_front {A = Unit {0}} u
+      (then_do (cond chosen (read_items (evaluator reads store levels) sheet first) (read_branches (evaluator reads store levels) sheet others) u) (λ _ t. then_do (late_else sheet others t) (λ _. read_items (evaluator reads store levels) sheet next)))
+      (behind_first_related (evaluator reads store levels) (evaluator reads store (suc levels)) (one_more_level reads store levels) sheet chosen first others next u).0)
+      h)
+
+  module _ (steps : List Found) (at after : ℕ) (w : World) (whole : Outcome (Unit {0})) (condition : Bool) (next more : ℕ) (stop : Stop) (v : World) where
+    fails_in : (others : Branches) → AreTried steps others at after
+        → whole ≡ then_do (read_branches (evaluator reads store levels) sheet others w) (λ _. read_items (evaluator reads store levels) sheet (left_at steps after))
+        → at < after → slice_get steps at ≡ Some (step.Branch condition next more)
+        → Fails stop v (branch_holds (evaluator reads store levels) sheet at condition w) → Fails stop v whole
+    unfolding AreTried read_items
+    fails_in no_branch tried rest lt found h = absurd (omega (arith, tried, lt))
+    fails_in (late place items others) tried rest lt found h = absurd (omega (arith, tried, lt))
+    fails_in (branch place test items others) tried rest lt found h =
+        let stepped : slice_get steps at ≡ Some (step.Branch test tried.2.0 after) = subst (λ p. slice_get steps p ≡ Some (step.Branch test tried.2.0 after)) tried.0 tried.2.1 in
+        let same : condition ≡ test = cc (found, stepped) in
+        let held : Fails stop v (branch_holds (evaluator reads store levels) sheet place test w) = rw (tried.0, sym same) h in
+        rw rest
+        (fails_then {A = Unit {0}} {B = Unit {0}} stop v _ _
+        (λ _ u. read_items_front reads store levels sheet (left_at steps after) u)
+        (fails_then {A = Bool} {B = Unit {0}} stop v (branch_holds (evaluator reads store levels) sheet place test w) _
+        (λ chosen u. grown_front {A = Unit {0}} u (cond chosen (read_items (evaluator reads store levels) sheet items) (read_branches (evaluator reads store levels) sheet others) u) (behind_branch_related (evaluator reads store levels) (evaluator reads store (suc levels)) (one_more_level reads store levels) sheet chosen items others u).0)
+        held))
+
+    pub branch_fails : Tries (evaluator reads store levels) sheet steps at after w whole → at < after → slice_get steps at ≡ Some (step.Branch condition next more)
+        → Fails stop v (branch_holds (evaluator reads store levels) sheet at condition w) → Fails stop v whole
+    branch_fails t lt found h = fails_in t.others t.tried t.rest lt found h
+
+-- a file that can't be read, of those of which the first that is there is read
+pub file_fails : (reads : Bool) (store : Store) (levels : ℕ) (stop : Stop) (w v : World) (name : Text) (names : List Text)
+    → Fails stop v (read_bytes store name w) → Fails stop v (read_first store (evaluator reads store levels) (name ∷ names) w)
+unfolding read_first
+file_fails reads store levels stop w v name names h =
+    fails_then stop v (read_bytes store name w) _
+    (λ found u. grown_front {A = Unit {0}} u (read_or (evaluator reads store levels) name found (read_first store (evaluator reads store levels) names) u) (read_or_related (evaluator reads store levels) (evaluator reads store (suc levels)) (one_more_level reads store levels) store name found (read_first store (evaluator reads store levels) names) (read_first store (evaluator reads store (suc levels)) names) u
+    (read_first_related (evaluator reads store levels) (evaluator reads store (suc levels)) (one_more_level reads store levels) store names u)).0) h
+
+pub file_at_fails : (reads : Bool) (store : Store) (levels : ℕ) (stop : Stop) (w v : World) (names : List (Bor Text)) (place : ℕ) (d : Bor Text) → place < length names
+    → Fails stop v (read_bytes store (get_or names place d).now w) → Fails stop v (read_first store (evaluator reads store levels) (map (λ name. name.now) (drop place names)) w)
+file_at_fails reads store levels stop w v names place d within h =
+    rw (texts_left names place d within) (file_fails reads store levels stop w v (get_or names place d).now (map (λ name. name.now) (drop (suc place) names)) h)

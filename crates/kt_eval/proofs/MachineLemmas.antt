@@ -1,0 +1,39 @@
+-- A reading from its first line to its end.
+use Rattle.std.proofs.Common.{ℕ, List, Option, Some, None, Result, Ok, Err, refl, true}
+use Rattle.std.specs.Prelude.{IfSome}
+use Rattle.kt_text.specs.Words.{Text}
+use Rattle.kt_rules.specs.Entry.{Rule}
+use Rattle.kt_eval.specs.declared.stop.Stop.{Stop}
+use Rattle.kt_eval.specs.declared.stop.Stop.TheVariants as stops
+use Rattle.kt_eval.specs.Files.{Store}
+use Rattle.kt_eval.specs.Table.{Table}
+use Rattle.kt_eval.specs.State.{World}
+use Rattle.kt_eval.specs.Step.{Outcome, Gave, Stopped, said_of, Gives, AreKnown, store_of}
+use Rattle.kt_eval.specs.Levels.{evaluator}
+use Rattle.kt_eval.specs.Reading.{read_first}
+use Rattle.kt_eval.specs.Fronts.{IsFront}
+use Rattle.kt_eval.specs.Machines.{Reads, ending, messages_of, reading, first_world}
+use Rattle.kt_eval.proofs.FrontLemmas.{read_first_front}
+
+-- what a reading gives is how it ends
+pub ends_so : (result : Result (Unit {0}) Stop) (w : World) (outcome : Outcome (Unit {0})) → Gives (λ u. u) result w outcome → Reads result w.table w.book w.said w.asked (ending outcome)
+ends_so (Ok x) w outcome h = rw h refl
+ends_so (Err (stops.Fault fault)) w outcome h = rw h refl
+ends_so (Err (stops.Device name)) w (Gave v x) h = h
+ends_so (Err (stops.Device name)) w (Stopped v x) h = h
+ends_so (Err stops.Memory) w (Gave v x) h = h
+ends_so (Err stops.Memory) w (Stopped v x) h = h
+
+-- the same where the bytes behind the names are known
+pub reads_to_the_end : (known : Option Store) (names : List Text) (limit : ℕ) (table : Table) (book : List Rule) (said asked : List Text) (result : Result (Unit {0}) Stop) (w : World) → (AreKnown known → Gives (λ u. u) result w (read_first (store_of known) (evaluator true (store_of known) limit) names (first_world table book said asked))) → IfSome known (λ store. Reads result w.table w.book w.said w.asked (reading store names limit table book said asked))
+reads_to_the_end None names limit table book said asked result w h = tt
+reads_to_the_end (Some store) names limit table book said asked result w h = ends_so result w _ (h refl)
+
+in_the_end : (said : List Text) (outcome : Outcome (Unit {0})) → IsFront said (said_of outcome) → IsFront said (messages_of (ending outcome))
+in_the_end said (Gave w x) h = h
+in_the_end said (Stopped w x) h = h
+
+-- before the first line the messages are a beginning of those of the reading
+pub before_reading : (known : Option Store) (names : List Text) (limit : ℕ) (table : Table) (book : List Rule) (said asked : List Text) → IfSome known (λ store. IsFront said (messages_of (reading store names limit table book said asked)))
+before_reading None names limit table book said asked = tt
+before_reading (Some store) names limit table book said asked = in_the_end said (read_first store (evaluator true store limit) names (first_world table book said asked)) (read_first_front true store limit names (first_world table book said asked))

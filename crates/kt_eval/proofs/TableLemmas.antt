@@ -1,0 +1,40 @@
+-- The words of the map and those of the table.
+use Rattle.std.proofs.Common.{◌≡◌, ℕ, Bool, true, false, cond, bytes_eq, List, [], ◌∷◌, map, Option, Some, None, option_map, Bor, refl}
+use Rattle.std.specs.Prelude.{Vec, option_copied}
+use Rattle.std.specs.declared.alloc.Global.{Global}
+use Rattle.std.specs.Map.{lookup}
+use Rattle.indexmap.specs.IndexMap.{insert_entry}
+use Rattle.kt_eval.specs.declared.macros.Macro.{Macro}
+use Rattle.kt_eval.specs.Table.{find, put}
+
+abbrev Pair : Type 0
+Pair = Vec ℕ Global × Macro
+
+-- an entry as the table has it
+abbrev pub entry_of : Pair → List ℕ × Macro
+entry_of entry = (entry.0.items, entry.1)
+
+-- what a reference shows is what is copied from behind it
+pub seen : (r : Option (Bor Macro)) → option_map (λ m. m.now) r ≡ option_copied r
+seen None = refl
+seen (Some m) = refl
+
+same_cond : (b : Bool) (x : Macro) (rest other : Option Macro) → rest ≡ other → cond b (Some x) rest ≡ cond b (Some x) other
+same_cond true x rest other e = refl
+same_cond false x rest other e = e
+
+-- the map finds what the table does
+pub find_entries : (name : List ℕ) (es : List Pair) → lookup (λ k. bytes_eq name k.items) es ≡ find name (map entry_of es)
+unfolding find
+find_entries name [] = refl
+find_entries name (e ∷ es) = same_cond (bytes_eq name e.0.items) e.1 _ _ (find_entries name es)
+
+map_cond : (b : Bool) (xs ys : List Pair) (zs ws : List (List ℕ × Macro)) → map entry_of xs ≡ zs → map entry_of ys ≡ ws → map entry_of (cond b xs ys) ≡ cond b zs ws
+map_cond true xs ys zs ws p q = p
+map_cond false xs ys zs ws p q = q
+
+-- and sets what the table does
+pub put_entries : (es : List Pair) (k : Vec ℕ Global) (v : Macro) → map entry_of (insert_entry (λ x y. bytes_eq x.items y.items) es k v) ≡ put k.items v (map entry_of es)
+unfolding put
+put_entries [] k v = refl
+put_entries (e ∷ es) k v = map_cond (bytes_eq k.items e.0.items) _ _ _ _ refl (rw (put_entries es k v) refl)

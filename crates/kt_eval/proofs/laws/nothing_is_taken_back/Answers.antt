@@ -1,0 +1,11 @@
+use Rattle.kt_eval.proofs.GrowingLemmas.{expanding_grows, applying_grows, reading_grows}
+use Rattle.kt_eval.proofs.laws.nothing_is_taken_back.Goals as goal
+
+pub returns-clause-expanding : goal.returns-clause-expanding
+returns-clause-expanding c = expanding_grows
+
+pub returns-clause-applying : goal.returns-clause-applying
+returns-clause-applying c = applying_grows
+
+pub returns-clause-reading : goal.returns-clause-reading
+returns-clause-reading c = reading_grows

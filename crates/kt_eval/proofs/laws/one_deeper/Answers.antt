@@ -1,0 +1,11 @@
+use Rattle.kt_eval.proofs.GrowingLemmas.{expanding_stays, applying_stays, reading_stays}
+use Rattle.kt_eval.proofs.laws.one_deeper.Goals as goal
+
+pub returns-clause-expanding : goal.returns-clause-expanding
+returns-clause-expanding c = expanding_stays
+
+pub returns-clause-applying : goal.returns-clause-applying
+returns-clause-applying c = applying_stays
+
+pub returns-clause-reading : goal.returns-clause-reading
+returns-clause-reading c = reading_stays

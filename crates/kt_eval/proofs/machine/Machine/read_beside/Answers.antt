@@ -1,0 +1,6 @@
+use Rattle.kt_eval.proofs.machine.Machine.read_beside.Goals as goal
+
+pub returns-clause-reads : goal.returns-clause-reads
+returns-clause-reads g c =
+    rw (← c.self.view_is)
+    (rw (c.replace-book.ensures.value, c.replace-macros.ensures.value, c.replace-messages.ensures.value) at c.read_once-makefile.ensures.reads)

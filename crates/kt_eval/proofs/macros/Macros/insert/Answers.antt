@@ -1,0 +1,9 @@
+use Rattle.std.proofs.Common.{map, ap, ◌∙◌}
+use Rattle.kt_eval.specs.Table.{put}
+use Rattle.kt_eval.proofs.TableLemmas.{entry_of, put_entries}
+use Rattle.kt_eval.proofs.macros.Macros.insert.Goals as goal
+
+pub returns : goal.returns
+returns c =
+    ap (map entry_of) c.in_ok-insert.ensures.entries
+    ∙ put_entries c.self.inside.entries.entries c.args.name c.args.value ∙ ap (put c.args.name.items c.args.value) c.self.view_is

@@ -1,0 +1,98 @@
+-- Worked values of expansion, as facts that compute. The texts are of the GNU make manual's sections on variables and
+-- functions, and of kati's own rules where it has some.
+use Rattle.std.specs.Prelude.{◌≡◌, ℕ, false, List, [], ◌∷◌, Option, Some, None, codes}
+use Rattle.kt_text.specs.Words.{Text}
+use Rattle.kt_rules.specs.declared.place.Place.{Place}
+use Rattle.kt_syntax.specs.declared.form.Operator.TheVariants as operator
+use Rattle.kt_eval.specs.declared.fault.Fault.{Fault}
+use Rattle.kt_eval.specs.declared.macros.Flavour.TheVariants.{Deferred, Immediate}
+use Rattle.kt_eval.specs.declared.macros.Origin.TheVariants.{CommandLine}
+use Rattle.kt_eval.specs.declared.macros.Macro.{Macro}
+use Rattle.kt_eval.specs.declared.state.Automatic.{Automatic}
+use Rattle.kt_eval.specs.Table.{Table, assigning, keeps, defers, expands, set_by_makefile}
+use Rattle.kt_eval.specs.State.{frozen_world}
+use Rattle.kt_eval.specs.Step.{Ending, with_text, with_fault, ending, fault_at}
+use Rattle.kt_eval.specs.Conditions.{compared_of}
+use Rattle.kt_eval.specs.Expansion.{expanded}
+use Rattle.kt_eval.specs.Files.{Store}
+use Rattle.kt_eval.specs.Levels.{evaluator}
+use Rattle.kt_eval.specs.Machines.{read_all, at_fault, reading}
+use Rattle.kt_eval.specs.Machines.{Ending as EndOfReading}
+
+-- a text expanded as a recipe is, with so many levels
+abbrev pub comes_to : Table → List Automatic → ℕ → Text → Ending
+comes_to table automatic limit text = ending (expanded (evaluator false [] limit) text (frozen_world table automatic None []))
+
+abbrev pub deferred : Text → Text → Text × Macro
+deferred name value = (name, set_by_makefile Deferred value)
+
+abbrev pub immediate : Text → Text → Text × Macro
+immediate name value = (name, set_by_makefile Immediate value)
+
+-- references
+pub record RowsOfReferences : Type 0 where
+  pub undefined : comes_to [] [] 9 (codes "[$(A)]$$") ≡ with_text [] (codes "[]$")
+  pub nested : comes_to (deferred (codes "A") (codes "B") ∷ deferred (codes "B") (codes "x") ∷ []) [] 9 (codes "$($(A))$A") ≡ with_text [] (codes "xB")
+  pub substituted : comes_to (deferred (codes "S") (codes "a.c b") ∷ []) [] 9 (codes "$(S:.c=.o)") ≡ with_text [] (codes "a.o b")
+  pub immediate_kept : comes_to (immediate (codes "A") (codes "$(B)") ∷ []) [] 1 (codes "$(A)") ≡ with_text [] (codes "$(B)")
+  pub unterminated : comes_to [] [] 9 (codes "x$(a") ≡ with_fault [] (fault_at None 7 (codes "unterminated reference"))
+  pub recursive : comes_to (deferred (codes "A") (codes "$(A)") ∷ []) [] 5 (codes "$(A)") ≡ with_fault [] (fault_at None 8 (codes "nesting too deep"))
+  pub empty_level : comes_to (deferred (codes "A") [] ∷ []) [] 0 (codes "$(A)") ≡ with_fault [] (fault_at None 8 (codes "nesting too deep"))
+  pub dollar_level : comes_to [] [] 0 (codes "[$(A$$)]") ≡ with_fault [] (fault_at None 8 (codes "nesting too deep"))
+
+-- functions
+pub record RowsOfCalls : Type 0 where
+  pub joined : comes_to [] [] 9 (codes "$(join a b,1 2 3)") ≡ with_text [] (codes "a1 b2 3")
+  pub blank_condition : comes_to (deferred (codes "s") (codes " ") ∷ []) [] 9 (codes "[$(if $(s),y,n)]") ≡ with_text [] (codes "[y]")
+  pub argument : comes_to (deferred (codes "f") (codes "[$(1):$(2)]") ∷ deferred (codes "g") (codes "$(call f,x)$(2)") ∷ []) [] 9 (codes "$(call g,a,b)") ≡ with_text [] (codes "[x:]b")
+  pub stopped : comes_to [] [] 9 (codes "$(info a)$(error no)") ≡ with_fault (codes "a" ∷ []) (fault_at None 19 (codes "no"))
+  pub refused : comes_to [] [] 9 (codes "$(shell ls)") ≡ with_fault [] (fault_at None 16 (codes "refused function shell"))
+  pub bad : comes_to [] [] 9 (codes "$(word 0,a)") ≡ with_fault [] (fault_at None 18 (codes "bad argument of word"))
+  pub few : comes_to [] [] 0 (codes "$(subst a)") ≡ with_fault [] (fault_at None 18 (codes "bad argument of subst"))
+  pub in_recipe : comes_to [] [] 0 (codes "$(eval A = 1)") ≡ with_fault [] (fault_at None 32 (codes "eval in a recipe"))
+  pub not_called : comes_to [] [] 9 (codes "$( info x)") ≡ with_text [] []
+  pub cut_by_bytes : comes_to [] [] 9 (codes "$(subst a$,b,a)") ≡ with_text [] (codes "b")
+  pub other_marks : comes_to [] [] 9 (codes "[$(subst a,${b,c},a)]") ≡ with_fault [] (fault_at None 7 (codes "unterminated reference"))
+
+-- assignments and conditions
+pub record RowsOfAssignments : Type 0 where
+  pub appended : assigning operator.Append (Some (set_by_makefile Deferred (codes "x"))) ≡ defers (codes "x ")
+  pub appended_at_once : assigning operator.Append (Some (set_by_makefile Immediate (codes "x"))) ≡ expands (codes "x ")
+  pub appended_new : assigning operator.Append None ≡ defers []
+  pub kept : assigning operator.Conditional (Some (set_by_makefile Immediate [])) ≡ keeps
+  pub command_line : assigning operator.Deferred (Some (record { flavour = Deferred; origin = CommandLine; value = codes "1" })) ≡ keeps
+  pub parentheses : compared_of (codes "( a , (b,c) ) x") ≡ Some (record { first = codes "a"; second = codes "(b,c)" })
+  pub quotes : compared_of (codes "\" a\"'a'") ≡ Some (record { first = codes " a"; second = codes "a" })
+  pub unclosed : compared_of (codes "($(a,b)") ≡ None
+
+-- how a reading is seen: its messages, the names asked for, and the fault, if there is one
+abbrev pub heard_of : EndOfReading → List Text × (List Text × Option Fault)
+heard_of (read_all table book said asked) = (said, (asked, None))
+heard_of (at_fault said asked fault) = (said, (asked, Some fault))
+
+-- the file `m` is read beside others, with so many levels
+abbrev pub heard : Store → ℕ → List Text × (List Text × Option Fault)
+heard files limit = heard_of (reading files (codes "m" ∷ []) limit [] [] [] [])
+
+abbrev pub makefile : Text → Store
+makefile text = (codes "m", text) ∷ []
+
+abbrev pub at_m : ℕ → Option Place
+at_m number = Some (record { file = codes "m"; line = number })
+
+-- makefiles
+pub record RowsOfReading : Type 0 where
+  pub no_makefile : heard [] 9 ≡ ([], ((codes "m" ∷ []), Some (fault_at None 3 (codes "no makefile"))))
+  pub stray_end : heard (makefile (codes "endif")) 9 ≡ ([], ((codes "m" ∷ []), Some (fault_at (at_m 1) 11 (codes "stray endif"))))
+  pub appended : heard (makefile (codes "A = x\nA += y\nB := $(info $(A))")) 9 ≡ ((codes "x y" ∷ []), ((codes "m" ∷ []), None))
+  pub condition : heard (makefile (codes "ifeq (a,b)\nelse ifdef A\nelse\nB := $(info c)\nendif")) 9 ≡ ((codes "c" ∷ []), ((codes "m" ∷ []), None))
+  pub missing_end : heard (makefile (codes "B := $(info c)\n\nifdef A")) 9 ≡ ((codes "c" ∷ []), ((codes "m" ∷ []), Some (fault_at (at_m 3) 12 (codes "missing endif"))))
+  pub defined : heard (makefile (codes "define A\nx\nendef\nB := $(info $(A))")) 9 ≡ ((codes "x" ∷ []), ((codes "m" ∷ []), None))
+  pub deep : heard (makefile (codes "A =\nB := $(A)")) 0 ≡ ([], ((codes "m" ∷ []), Some (fault_at (at_m 2) 8 (codes "nesting too deep"))))
+  pub absent : heard (makefile (codes "include n")) 9 ≡ ([], ((codes "m" ∷ codes "n" ∷ []), Some (fault_at (at_m 1) 4 (codes "no file n"))))
+  pub includes_itself : heard (makefile (codes "include m")) 2 ≡ ([], ((codes "m" ∷ codes "m" ∷ codes "m" ∷ []), Some (fault_at (at_m 1) 8 (codes "nesting too deep"))))
+  pub included_twice : heard ((codes "m", codes "include n n") ∷ (codes "n", codes "B := $(info $(A))\nA := x") ∷ []) 9 ≡ ((codes "" ∷ codes "x" ∷ []), ((codes "m" ∷ codes "n" ∷ codes "n" ∷ []), None))
+  pub bare_tab : heard (makefile (codes "\tx")) 9 ≡ ([], ((codes "m" ∷ []), Some (fault_at (at_m 1) 6 (codes "recipe before a target"))))
+  pub refused_form : heard (makefile (codes "A != x")) 9 ≡ ([], ((codes "m" ∷ []), Some (fault_at (at_m 1) 17 (codes "refused form !="))))
+  pub pattern : heard (makefile (codes "include *")) 9 ≡ ([], ((codes "m" ∷ []), Some (fault_at (at_m 1) 20 (codes "refused name *"))))
+  pub end_in_eval : heard (makefile (codes "\nB := $(eval endif)")) 2 ≡ ([], ((codes "m" ∷ []), Some (fault_at (at_m 2) 11 (codes "stray endif"))))

@@ -1,0 +1,121 @@
+-- What reading and expanding know and change: macros, bindings, the rules so far, messages, the names asked for, the place.
+use Rattle.std.specs.Prelude.{◌-◌, Bool, false, ◌==◌, ◌&&◌, List, [], ◌∷◌, ◌++◌, length, take, Option, Some, None, option_map, unwrap_or, codes, bytes_eq, if◌then◌else◌}
+use Rattle.std.specs.List.{list_all, slice_get}
+use Rattle.std.specs.Char.{is_ascii_digit}
+use Rattle.std.specs.Str.Parse.{digits_value}
+use Rattle.kt_text.specs.Words.{Text, is_nonempty}
+use Rattle.kt_rules.specs.declared.place.Place.{Place}
+use Rattle.kt_rules.specs.Places.{place_text}
+use Rattle.kt_rules.specs.Entry.{Rule}
+use Rattle.kt_eval.specs.declared.macros.Flavour.TheVariants.{Immediate}
+use Rattle.kt_eval.specs.declared.macros.Macro.{Macro}
+use Rattle.kt_eval.specs.declared.state.Automatic.{Automatic}
+use Rattle.kt_eval.specs.declared.state.Found.{Found}
+use Rattle.kt_eval.specs.declared.state.Frame.{Frame}
+use Rattle.kt_eval.specs.declared.state.Frame.TheVariants.{Loop, Call}
+use Rattle.kt_eval.specs.Table.{Table, find, put}
+
+-- the bindings stand innermost last; `book` has the rules that are closed, `rule` the one that is open
+pub record World : Type 0 where
+  pub table : Table
+  pub automatic : List Automatic
+  pub frames : List Frame
+  pub said : List Text
+  pub asked : List Text
+  pub place : Option Place
+  pub book : List Rule
+  pub rule : Option Rule
+
+-- a name of digits alone
+abbrev pub is_digits : Text → Bool
+is_digits name = is_nonempty name && list_all is_ascii_digit name
+
+-- a number with a zero before it, which is the name of no argument (kati's own)
+abbrev pub is_padded : Text → Bool
+is_padded [] = false
+is_padded (first ∷ rest) = first == 48 && is_nonempty rest
+
+-- the argument of this number, or the empty text beyond the last
+abbrev pub argument : Text → List Text → Text
+argument name arguments = if is_padded name then [] else unwrap_or (slice_get arguments (digits_value 10 name)) []
+
+-- what a binding says of a name; a call says something of each name of digits (kati's own)
+unfoldable pub seen : Text → Frame → Option Text
+seen name (Loop bound word) = if bytes_eq bound name then Some word else None
+seen name (Call arguments) = if is_digits name then Some (argument name arguments) else None
+
+-- the second, unless it is missing
+abbrev pub newer : {A : Type 0} → Option A → Option A → Option A
+newer found None = found
+newer found (Some other) = Some other
+
+-- what the innermost binding says that says something, or what was found before
+unfoldable pub innermost : Text → Option Text → List Frame → Option Text
+innermost name found [] = found
+innermost name found (frame ∷ frames) = innermost name (newer found (seen name frame)) frames
+
+-- the value of an automatic macro (GNU make manual, "Automatic Variables")
+unfoldable pub automatic_value : Text → List Automatic → Option Text
+automatic_value name [] = None
+automatic_value name (first ∷ others) = if bytes_eq first.name name then Some first.value else automatic_value name others
+
+-- a value that isn't expanded again
+abbrev pub fixed : Text → Found
+fixed value = record { flavour = Immediate; value = value }
+
+abbrev pub found_of : Macro → Found
+found_of entry = record { flavour = entry.flavour; value = entry.value }
+
+-- a value that isn't expanded again, or else what was found elsewhere
+abbrev pub fixed_or : Option Text → Option Found → Option Found
+fixed_or None other = other
+fixed_or (Some value) other = Some (fixed value)
+
+-- what a name stands for that nothing binds: an automatic macro comes before the table
+abbrev pub unbound : Text → List Automatic → Table → Option Found
+unbound name automatic table = fixed_or (automatic_value name automatic) (option_map found_of (find name table))
+
+-- bindings from the innermost on, then automatic macros, then the table (kati's own)
+unfoldable pub lookup : Text → World → Option Found
+lookup name w =
+    fixed_or (innermost name None w.frames) (unbound name w.automatic w.table)
+
+-- the value as it stands, or nothing for a name that isn't defined (GNU make manual, "The value Function")
+abbrev pub raw_value : Option Found → Text
+raw_value None = []
+raw_value (Some found) = found.value
+
+-- the place of a message; without a place the program's name stands for it (kati's own)
+abbrev pub message_place : Option Place → Text
+message_place None = codes "kati"
+message_place (Some place) = place_text place
+
+-- the world of a recipe: macros and automatic ones, a place, and the messages so far
+abbrev pub frozen_world : Table → List Automatic → Option Place → List Text → World
+frozen_world table automatic place said =
+    record { table = table; automatic = automatic; frames = []; said = said; asked = []; place = place; book = []; rule = None }
+
+-- what each change leaves
+abbrev pub bind : Frame → World → World
+bind frame w = record w { frames = w.frames ++ frame ∷ [] }
+
+abbrev pub unbind : World → World
+unbind w = record w { frames = take (length w.frames - 1) w.frames }
+
+abbrev pub say : Text → World → World
+say message w = record w { said = w.said ++ message ∷ [] }
+
+abbrev pub warn : Text → World → World
+warn message w = say (message_place w.place ++ (codes ": " ++ message)) w
+
+abbrev pub ask : Text → World → World
+ask name w = record w { asked = w.asked ++ name ∷ [] }
+
+abbrev pub move_to : Option Place → World → World
+move_to place w = record w { place = place }
+
+abbrev pub set_macro : Text → Macro → World → World
+set_macro name value w = record w { table = put name value w.table }
+
+abbrev pub set_rule : Option Rule → World → World
+set_rule rule w = record w { rule = rule }

@@ -1,0 +1,120 @@
+-- A step takes a world and gives a value, or stops at a fault; both leave a world.
+use Rattle.std.specs.Prelude.{◌≡◌, ℕ, ◌≤◌, true, Option, is_some, unwrap_or, List, [], Result, Ok, Err, IfErr, Vec}
+use Rattle.std.specs.declared.alloc.Global.{Global}
+use Rattle.kt_list.specs.Counters.{Rises}
+use Rattle.kt_text.specs.Words.{Text}
+use Rattle.kt_rules.specs.declared.place.Place.{Place}
+use Rattle.kt_eval.specs.declared.fault.Fault.{Fault}
+use Rattle.kt_eval.specs.declared.stop.Stop.{Stop}
+use Rattle.kt_eval.specs.declared.stop.Stop.TheVariants as stops
+use Rattle.kt_eval.specs.Files.{Store}
+use Rattle.kt_eval.specs.Fronts.{IsFront}
+use Rattle.kt_eval.specs.State.{World}
+
+-- what is seen of an evaluation: its world, the bytes behind the names of its files, where they are known, how often a read
+-- failed, and by which reference it holds the files
+pub record Seen : Type 0 where
+  pub world : World
+  pub known : Option Store
+  pub failed : ℕ
+  pub lender : ℕ
+
+-- the files are the same, with the same bytes; no failure is forgotten, and no message is taken back
+abbrev pub Keeps : Seen → Seen → Type 0
+Keeps old new =
+    (new.known ≡ old.known) × (new.lender ≡ old.lender) × (old.failed ≤ new.failed) × IsFront old.world.said new.world.said
+
+pub data Outcome (A : Type 0) : Type 0 where
+  Gave : (world : World) (value : A) → Outcome A
+  Stopped : (world : World) (fault : Fault) → Outcome A
+
+-- the messages at the end of a step
+abbrev pub said_of : {A : Type 0} → Outcome A → List Text
+said_of (Gave w x) = w.said
+said_of (Stopped w fault) = w.said
+
+abbrev pub Step : Type 0 → Type 0
+Step A = World → Outcome A
+
+abbrev pub then_do : {A B : Type 0} → Outcome A → (A → Step B) → Outcome B
+then_do (Gave w x) f = f x w
+then_do (Stopped w fault) f = Stopped w fault
+
+infixl 10 ◌>>=◌
+abbrev pub ◌>>=◌ : {A B : Type 0} → Step A → (A → Step B) → Step B
+(m >>= f) w = then_do (m w) f
+
+infixl 10 ◌>>◌
+abbrev pub ◌>>◌ : {A B : Type 0} → Step A → Step B → Step B
+(m >> k) w = then_do (m w) (λ _. k)
+
+abbrev pub done : {A : Type 0} → A → Step A
+done x w = Gave w x
+
+abbrev pub fault_at : Option Place → ℕ → Text → Fault
+fault_at place number words = record { place = place; number = number; words = words }
+
+-- a fault at the place where the world stands
+abbrev pub stop : {A : Type 0} → ℕ → Text → Step A
+stop number words w = Stopped w (fault_at w.place number words)
+
+-- a change of the world
+abbrev pub change : (World → World) → Step (Unit {0})
+change f w = Gave (f w) tt
+
+-- the fault that is answered is the one that the step stops at; where memory is wanted or a device failed, the messages so
+-- far are a beginning of those of the step
+abbrev pub Fails : {A : Type 0} → Stop → World → Outcome A → Type 0
+Fails (stops.Fault fault) w outcome = outcome ≡ Stopped w fault
+Fails (stops.Device name) w outcome = IsFront w.said (said_of outcome)
+Fails stops.Memory w outcome = IsFront w.said (said_of outcome)
+
+-- what a call answered, seen by `see`, and the world that it left are what the step gives
+abbrev pub Gives : {A B : Type 0} → (A → B) → Result A Stop → World → Outcome B → Type 0
+Gives see (Ok x) w outcome = outcome ≡ Gave w (see x)
+Gives see (Err e) w outcome = Fails e w outcome
+
+-- what a call answered is where to go on, and what is given from there on is the outcome
+abbrev pub GivesOn : {A B : Type 0} → Result A Stop → World → (A → Step B) → Outcome B → Type 0
+GivesOn (Ok x) w rest outcome = outcome ≡ rest x w
+GivesOn (Err e) w rest outcome = Fails e w outcome
+
+-- how an expansion ended: its messages, and the text or the fault
+pub data Ending : Type 0 where
+  with_text : (said : List Text) (text : Text) → Ending
+  with_fault : (said : List Text) (fault : Fault) → Ending
+
+abbrev pub ending : Outcome Text → Ending
+ending (Gave w text) = with_text w.said text
+ending (Stopped w fault) = with_fault w.said fault
+
+-- its messages
+abbrev pub messages_of : Ending → List Text
+messages_of (with_text said text) = said
+messages_of (with_fault said fault) = said
+
+-- what a call answered, and the messages that it left, are that ending; where memory is wanted, a beginning of its messages;
+-- no device is there to fail
+abbrev pub Ends : Result (Vec ℕ Global) Stop → List Text → Ending → Type 0
+Ends (Ok text) said expected = expected ≡ with_text said text.items
+Ends (Err (stops.Fault fault)) said expected = expected ≡ with_fault said fault
+Ends (Err (stops.Device name)) said expected = ⊥
+Ends (Err stops.Memory) said expected = IsFront said (messages_of expected)
+
+-- the bytes behind the names are known
+abbrev pub AreKnown : Option Store → Type 0
+AreKnown known = is_some known ≡ true
+
+-- they, where they are
+abbrev pub store_of : Option Store → Store
+store_of known = unwrap_or known []
+
+-- a failed device shows in the count of failures
+abbrev pub IsCounted : Stop → ℕ → ℕ → Type 0
+IsCounted (stops.Fault fault) old new = Unit {0}
+IsCounted (stops.Device name) old new = Rises old new
+IsCounted stops.Memory old new = Unit {0}
+
+-- a failed device is answered only where the count of failures rose
+abbrev pub Blames : {A : Type 0} → Result A Stop → ℕ → ℕ → Type 0
+Blames result old new = IfErr result (λ e. IsCounted e old new)

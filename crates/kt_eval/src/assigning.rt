@@ -1,0 +1,91 @@
+//! What an assignment does, by its operator and what stands there.
+ghost use Rattle.std.specs.Prelude.{◌≡◌, IfOk, option_map};
+ghost use Rattle.kt_eval.specs.Table.{appending, assigning, assigning_again, assigning_new, doubled};
+ghost use Rattle.kt_eval.specs.Views.{assigning_told};
+
+use crate::macros::{Flavour, Macro, Origin};
+use kt_syntax::Operator;
+use std::alloc::{AllocError, Global};
+
+/// What an assignment does with its text.
+#[derive(Drop)]
+pub(crate) enum Assigning {
+    /// The macro stays as it is.
+    Keeps,
+    /// The text as it stands becomes the deferred value, behind this.
+    Defers(Vec<u8>),
+    /// The expanded text becomes the immediate value, behind this.
+    Expands(Vec<u8>),
+    /// The expanded text with each dollar doubled becomes the deferred value.
+    Escapes,
+}
+
+// What an assignment does to a macro; one of the command line is passed over.
+#[tactic(auto, unfolding(crate::specs::Table::assigning))]
+pub(crate) fn assignment_of(
+    alloc: Global,
+    operator: Operator,
+    old: Option<&Macro>,
+) -> Result<Assigning, AllocError>
+    ensures { IfOk result (λ found. assigning_told found ≡ assigning operator (option_map (λ entry. entry.now) old.entry)) }
+{
+    match old {
+        None => Ok(assigning_new(alloc, operator)),
+        Some(entry) => match entry.origin {
+            Origin::CommandLine => Ok(Assigning::Keeps),
+            Origin::Makefile => assigning_again(alloc, operator, entry),
+        },
+    }
+}
+
+fn assigning_new(alloc: Global, operator: Operator) -> Assigning
+    ensures { assigning_told result ≡ assigning_new operator }
+{
+    match operator {
+        Operator::Deferred | Operator::Conditional | Operator::Append => {
+            Assigning::Defers(Vec::new(alloc))
+        }
+        Operator::Immediate => Assigning::Expands(Vec::new(alloc)),
+        Operator::Escaped => Assigning::Escapes,
+        Operator::Shell => Assigning::Keeps,
+    }
+}
+
+fn assigning_again(alloc: Global, operator: Operator, old: &Macro) -> Result<Assigning, AllocError>
+    ensures { IfOk result (λ found. assigning_told found ≡ assigning_again operator old.now) }
+{
+    match operator {
+        Operator::Deferred => Ok(Assigning::Defers(Vec::new(alloc))),
+        Operator::Immediate => Ok(Assigning::Expands(Vec::new(alloc))),
+        Operator::Escaped => Ok(Assigning::Escapes),
+        Operator::Conditional | Operator::Shell => Ok(Assigning::Keeps),
+        Operator::Append => appending(alloc, old),
+    }
+}
+
+// More text goes behind the old value and a space.
+fn appending(alloc: Global, old: &Macro) -> Result<Assigning, AllocError>
+    ensures { IfOk result (λ found. assigning_told found ≡ appending old.now.flavour old.now.value) }
+{
+    let mut front = Vec::from_slice(alloc, old.value.as_slice())?;
+    front.push(b' ')?;
+    match old.flavour {
+        Flavour::Deferred => Ok(Assigning::Defers(front)),
+        Flavour::Immediate => Ok(Assigning::Expands(front)),
+    }
+}
+
+// A text with each dollar doubled.
+#[tactic(auto, unfolding(crate::specs::Table::doubled))]
+pub(crate) fn doubled(alloc: Global, text: &[u8]) -> Result<Vec<u8>, AllocError>
+    ensures { IfOk result (λ whole. whole.items ≡ doubled text.now) }
+{
+    let mut whole = Vec::new(alloc);
+    for byte in text {
+        if *byte == b'$' {
+            whole.push(b'$')?;
+        }
+        whole.push(*byte)?;
+    }
+    Ok(whole)
+}

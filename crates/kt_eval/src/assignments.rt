@@ -1,0 +1,139 @@
+//! Assignments and defines.
+ghost use Rattle.std.specs.Prelude.{◌≡◌, ◌==◌, ◌||◌, length, true};
+ghost use Rattle.std.specs.List.{list_any};
+ghost use Rattle.kt_text.specs.Words.{is_separator};
+ghost use Rattle.kt_syntax.specs.Comments.{plain_of};
+ghost use Rattle.kt_syntax.specs.Kinds.{kind_told};
+ghost use Rattle.kt_eval.specs.Assignments.{assign, assign_line, assign_named, define, is_bad_name};
+ghost use Rattle.kt_eval.specs.Levels.{evaluator};
+ghost use Rattle.kt_eval.specs.Step.{AreKnown, Blames, Gives, store_of, Keeps};
+ghost use Rattle.kt_eval.specs.Views.{assigning_told};
+
+use crate::assigning::{Assigning, doubled};
+use crate::compared::trimmed;
+use crate::evaluation::Evaluation;
+use crate::files::Files;
+use crate::macros::Flavour;
+use crate::scope::Scope;
+use crate::stop::Stop;
+use kt_syntax::{Form, Operator, plain};
+
+fn is_bad_name(name: &[u8]) -> bool
+    ensures { result ≡ is_bad_name name.now }
+{
+    name.is_empty() || has_separator(name)
+}
+
+fn has_separator(name: &[u8]) -> bool
+    ensures { result ≡ list_any is_separator name.now }
+{
+    name.iter().any(|byte| is_separator(*byte))
+}
+
+#[tactic(auto, unfolding(kt_text::specs::Words::is_separator))]
+fn is_separator(byte: u8) -> bool
+    ensures { result ≡ is_separator byte }
+{
+    matches!(byte, b' ' | b'\t' | b'\n')
+}
+
+impl<'a, M: Scope, F: Files> Evaluation<'a, M, F> {
+    #[cycle(evaluate)]
+    #[tactic(auto, unfolding(crate::specs::Assignments::assign))]
+    pub(crate) fn assign(
+        &mut self,
+        below: u64,
+        name: Vec<u8>,
+        text: &[u8],
+        does: Assigning,
+    ) -> Result<(), Stop>
+        requires { M.writable ≡ true }
+        ensures gives { AreKnown self.old.known → Gives (λ u. u) result self.new.world (assign (evaluator M.writable (store_of self.old.known) below) name.items text.now (assigning_told does) self.old.world) }
+        ensures kept { Keeps self.old self.new }
+        ensures blames { Blames result self.old.failed self.new.failed }
+    {
+        match does {
+            Assigning::Keeps => Ok(()),
+            Assigning::Defers(front) => Ok(self.set_macro(name, Flavour::Deferred, front, text)?),
+            Assigning::Expands(front) => {
+                let x = self.expand_here(below, text)?;
+                Ok(self.set_macro(name, Flavour::Immediate, front, &x)?)
+            }
+            Assigning::Escapes => {
+                let x = self.expand_here(below, text)?;
+                let front = doubled(self.alloc, &x)?;
+                Ok(self.set_macro(name, Flavour::Deferred, front, b"")?)
+            }
+        }
+    }
+
+    #[cycle(evaluate)]
+    #[tactic(auto, using(crate::proofs::FrontLemmas::assign_front), unfolding(crate::specs::Assignments::assign_named))]
+    pub(crate) fn assign_named(
+        &mut self,
+        below: u64,
+        operator: Operator,
+        text: &[u8],
+        name: Vec<u8>,
+    ) -> Result<(), Stop>
+        requires { M.writable ≡ true }
+        ensures gives { AreKnown self.old.known → Gives (λ u. u) result self.new.world (assign_named (evaluator M.writable (store_of self.old.known) below) operator text.now name.items self.old.world) }
+        ensures kept { Keeps self.old self.new }
+        ensures blames { Blames result self.old.failed self.new.failed }
+    {
+        if is_bad_name(&name) {
+            return Err(Stop::Fault(self.fault(9, b"bad macro name", b"")?));
+        }
+        let does = self.assigning(operator, &name)?;
+        self.assign(below, name, text, does)
+    }
+
+    // `!=` is refused before the name is expanded.
+    #[cycle(evaluate)]
+    #[tactic(auto, using(crate::proofs::FrontLemmas::assign_named_longer, crate::proofs::FrontLemmas::assign_named_same), unfolding(crate::specs::Assignments::assign_line))]
+    pub(crate) fn assign_line(
+        &mut self,
+        below: u64,
+        name: &[u8],
+        operator: Operator,
+        text: &[u8],
+    ) -> Result<(), Stop>
+        requires { M.writable ≡ true }
+        ensures gives { AreKnown self.old.known → Gives (λ u. u) result self.new.world (assign_line (evaluator M.writable (store_of self.old.known) below) name.now operator text.now self.old.world) }
+        ensures kept { Keeps self.old self.new }
+        ensures blames { Blames result self.old.failed self.new.failed }
+    {
+        if operator == Operator::Shell {
+            return Err(Stop::Fault(self.fault(17, b"refused form ", b"!=")?));
+        }
+        let name = self.expand_here(below, name)?;
+        self.assign_named(below, operator, text, name)
+    }
+
+    // What follows the operator of a define is ignored.
+    #[cycle(evaluate)]
+    #[tactic(auto, using(crate::proofs::FrontLemmas::assign_line_front), unfolding(crate::specs::Assignments::define))]
+    pub(crate) fn define(
+        &mut self,
+        below: u64,
+        rest: &[u8],
+        form: Form<'_>,
+        body: &[u8],
+    ) -> Result<(), Stop>
+        requires { M.writable ≡ true }
+        ensures gives { AreKnown self.old.known → Gives (λ u. u) result self.new.world (define (evaluator M.writable (store_of self.old.known) below) rest.now (kind_told form.entry) body.now self.old.world) }
+        ensures kept { Keeps self.old self.new }
+        ensures blames { Blames result self.old.failed self.new.failed }
+    {
+        match form {
+            Form::Assignment(name, operator, _) => {
+                let name = plain(self.alloc, name)?;
+                self.assign_line(below, &name, operator, body)
+            }
+            _ => {
+                let name = plain(self.alloc, rest)?;
+                self.assign_line(below, trimmed(&name), Operator::Deferred, body)
+            }
+        }
+    }
+}

@@ -1,0 +1,172 @@
+//! Conditions of conditionals.
+ghost use Rattle.std.specs.Prelude.{◌≡◌, option_map, bytes_eq, true};
+ghost use Rattle.kt_text.specs.Words.{is_nonempty, words_of};
+ghost use Rattle.kt_syntax.specs.Kinds.{kind_told};
+ghost use Rattle.kt_eval.specs.Conditionals.{are_equal, bad_conditional, else_holds, holds, is_defined, is_set, line_holds, text_holds, worded_holds};
+ghost use Rattle.kt_eval.specs.Levels.{evaluator};
+ghost use Rattle.kt_eval.specs.State.{lookup, raw_value};
+ghost use Rattle.kt_eval.specs.Step.{AreKnown, Blames, Gives, store_of, Keeps};
+ghost use Rattle.kt_eval.specs.Views.{compared_told};
+
+use crate::compared::{Compared, compared_texts, text_after_word, word_before_blank};
+use crate::evaluation::Evaluation;
+use crate::files::Files;
+use crate::scope::Scope;
+use crate::stop::Stop;
+use kt_syntax::{Directive, Form, classify, plain};
+use kt_text::words;
+
+impl<'a, M: Scope, F: Files> Evaluation<'a, M, F> {
+    fn bad_conditional(&self) -> Result<bool, Stop>
+        ensures gives { Gives (λ b. b) result self.now.world (bad_conditional self.now.world) }
+        ensures blames { Blames result self.now.failed self.now.failed }
+    {
+        Err(Stop::Fault(self.fault(15, b"bad conditional", b"")?))
+    }
+
+    // Whether the one macro that is named has a value, as it stands.
+    #[tactic(auto, unfolding(crate::specs::Conditionals::is_set))]
+    fn is_set(&self, names: &[u8]) -> Result<bool, Stop>
+        ensures gives { Gives (λ b. b) result self.now.world (is_set (words_of names.now) self.now.world) }
+        ensures blames { Blames result self.now.failed self.now.failed }
+    {
+        let mut rest = words(names);
+        let Some(name) = rest.next() else {
+            return self.bad_conditional();
+        };
+        if rest.next().is_some() {
+            return self.bad_conditional();
+        }
+        match self.lookup(name)? {
+            None => Ok(false),
+            Some(found) => Ok(!found.value.as_slice().is_empty()),
+        }
+    }
+
+    #[cycle(evaluate)]
+    #[tactic(auto, using(crate::proofs::FrontLemmas::is_set_longer, crate::proofs::FrontLemmas::is_set_same), unfolding(crate::specs::Conditionals::is_defined))]
+    pub(crate) fn is_defined(&mut self, below: u64, text: &[u8]) -> Result<bool, Stop>
+        requires { M.writable ≡ true }
+        ensures gives { AreKnown self.old.known → Gives (λ b. b) result self.new.world (is_defined (evaluator M.writable (store_of self.old.known) below) text.now self.old.world) }
+        ensures kept { Keeps self.old self.new }
+        ensures blames { Blames result self.old.failed self.new.failed }
+    {
+        let x = self.expand_here(below, text)?;
+        self.is_set(&x)
+    }
+
+    #[cycle(evaluate)]
+    #[tactic(auto, using(crate::proofs::FrontLemmas::expanded_longer, crate::proofs::FrontLemmas::expanded_same), unfolding(crate::specs::Conditionals::are_equal))]
+    pub(crate) fn are_equal(
+        &mut self,
+        below: u64,
+        compared: Option<Compared<'_>>,
+    ) -> Result<bool, Stop>
+        requires { M.writable ≡ true }
+        ensures gives { AreKnown self.old.known → Gives (λ b. b) result self.new.world (are_equal (evaluator M.writable (store_of self.old.known) below) (option_map compared_told compared.entry) self.old.world) }
+        ensures kept { Keeps self.old self.new }
+        ensures blames { Blames result self.old.failed self.new.failed }
+    {
+        let Some(compared) = compared else {
+            return self.bad_conditional();
+        };
+        let x = self.expand_here(below, compared.first)?;
+        let y = self.expand_here(below, compared.second)?;
+        Ok(x == y)
+    }
+
+    #[cycle(evaluate)]
+    #[tactic(auto, unfolding(crate::specs::Conditionals::holds))]
+    pub(crate) fn holds(&mut self, below: u64, word: Directive, text: &[u8]) -> Result<bool, Stop>
+        requires { M.writable ≡ true }
+        ensures gives { AreKnown self.old.known → Gives (λ b. b) result self.new.world (holds (evaluator M.writable (store_of self.old.known) below) word text.now self.old.world) }
+        ensures kept { Keeps self.old self.new }
+        ensures blames { Blames result self.old.failed self.new.failed }
+    {
+        match word {
+            Directive::Ifdef => self.is_defined(below, text),
+            Directive::Ifndef => Ok(!self.is_defined(below, text)?),
+            Directive::Ifeq => self.are_equal(below, compared_texts(text)),
+            Directive::Ifneq => Ok(!self.are_equal(below, compared_texts(text))?),
+            _ => self.bad_conditional(),
+        }
+    }
+
+    #[cycle(evaluate)]
+    #[tactic(auto)]
+    pub(crate) fn worded_holds(
+        &mut self,
+        below: u64,
+        form: Form<'_>,
+        text: &[u8],
+    ) -> Result<bool, Stop>
+        requires { M.writable ≡ true }
+        ensures gives { AreKnown self.old.known → Gives (λ b. b) result self.new.world (worded_holds (evaluator M.writable (store_of self.old.known) below) (kind_told form.entry) text.now self.old.world) }
+        ensures kept { Keeps self.old self.new }
+        ensures blames { Blames result self.old.failed self.new.failed }
+    {
+        match form {
+            Form::Directive(word, _) => self.holds(below, word, text),
+            _ => self.bad_conditional(),
+        }
+    }
+
+    #[cycle(evaluate)]
+    #[tactic(auto, unfolding(crate::specs::Conditionals::text_holds))]
+    pub(crate) fn text_holds(&mut self, below: u64, text: &[u8]) -> Result<bool, Stop>
+        requires { M.writable ≡ true }
+        ensures gives { AreKnown self.old.known → Gives (λ b. b) result self.new.world (text_holds (evaluator M.writable (store_of self.old.known) below) text.now self.old.world) }
+        ensures kept { Keeps self.old self.new }
+        ensures blames { Blames result self.old.failed self.new.failed }
+    {
+        self.worded_holds(
+            below,
+            classify(word_before_blank(text), false),
+            text_after_word(text),
+        )
+    }
+
+    // An `else` without a condition is always taken.
+    #[cycle(evaluate)]
+    #[tactic(auto, using(crate::proofs::FrontLemmas::text_holds_front), unfolding(crate::specs::Conditionals::else_holds))]
+    pub(crate) fn else_holds(
+        &mut self,
+        below: u64,
+        condition: bool,
+        rest: &[u8],
+    ) -> Result<bool, Stop>
+        requires { M.writable ≡ true }
+        ensures gives { AreKnown self.old.known → Gives (λ b. b) result self.new.world (else_holds (evaluator M.writable (store_of self.old.known) below) condition rest.now self.old.world) }
+        ensures kept { Keeps self.old self.new }
+        ensures blames { Blames result self.old.failed self.new.failed }
+    {
+        if !condition {
+            return Ok(true);
+        }
+        let text = plain(self.alloc, rest)?;
+        self.text_holds(below, &text)
+    }
+
+    #[cycle(evaluate)]
+    #[tactic(auto, using(crate::proofs::FrontLemmas::holds_front), unfolding(crate::specs::Conditionals::line_holds))]
+    pub(crate) fn line_holds(
+        &mut self,
+        below: u64,
+        condition: bool,
+        form: Form<'_>,
+    ) -> Result<bool, Stop>
+        requires { M.writable ≡ true }
+        ensures gives { AreKnown self.old.known → Gives (λ b. b) result self.new.world (line_holds (evaluator M.writable (store_of self.old.known) below) condition (kind_told form.entry) self.old.world) }
+        ensures kept { Keeps self.old self.new }
+        ensures blames { Blames result self.old.failed self.new.failed }
+    {
+        match form {
+            Form::Directive(Directive::Else, rest) => self.else_holds(below, condition, rest),
+            Form::Directive(word, rest) => {
+                let text = plain(self.alloc, rest)?;
+                self.holds(below, word, &text)
+            }
+            _ => self.bad_conditional(),
+        }
+    }
+}

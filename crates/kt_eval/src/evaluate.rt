@@ -1,0 +1,489 @@
+//! Texts expanded, each level of nesting by the one below it.
+ghost use Rattle.std.specs.Prelude.{◌≡◌, ◌≤◌, ◌==◌, ◌∷◌, [], map, option_map, true};
+ghost use Rattle.std.specs.List.{list_any};
+ghost use Rattle.kt_text.specs.Words.{words_of};
+ghost use Rattle.kt_syntax.specs.Terms.{piece_of, terms_of};
+ghost use Rattle.kt_eval.specs.State.{lookup};
+ghost use Rattle.kt_eval.specs.Step.{AreKnown, Blames, Gives, store_of, Keeps};
+ghost use Rattle.kt_eval.specs.Calls.{naming_of, text_result};
+ghost use Rattle.kt_eval.specs.Views.{asked_told};
+ghost use Rattle.kt_eval.specs.Expansion.{accepted, apply, apply_and, apply_call, apply_error, apply_eval, apply_foreach, apply_if, apply_info, apply_or, apply_text, apply_value, apply_warning, body_of, call_by_name, called, each_argument, each_word, expanded, referred, term_of, value_named, value_of};
+ghost use Rattle.kt_eval.specs.Levels.{evaluator};
+
+use crate::calls::{Asked, Naming, asked_by, is_function_name, name_in, stripped};
+use crate::evaluation::Evaluation;
+use crate::files::Files;
+use crate::function::{Function, TextFunction};
+use crate::macros::Flavour;
+use crate::scope::Scope;
+use crate::state::Frame;
+use crate::stop::Stop;
+use crate::text_functions::text_result;
+use kt_list::{Sequence, Shared};
+use kt_syntax::{Term, Unterminated, terms};
+use kt_text::functions::patsubst;
+use kt_text::{TextFault, words};
+
+fn has_dollar(text: &[u8]) -> bool
+    ensures { result ≡ list_any (λ byte. byte == 36) text.now }
+{
+    text.iter().any(|byte| *byte == b'$')
+}
+
+impl<'a, M: Scope, F: Files> Evaluation<'a, M, F> {
+    // Expands a text one level deeper than what asks for it.
+    #[cycle(evaluate)]
+    #[tactic(auto, using(crate::proofs::LevelLemmas::evaluator_above), unfolding(crate::specs::Levels::evaluator, crate::specs::Levels::none_left, crate::specs::Levels::above))]
+    pub(crate) fn expand(&mut self, levels: u64, text: &[u8]) -> Result<Vec<u8>, Stop>
+        ensures gives { AreKnown self.old.known → Gives (λ v. v.items) result self.new.world ((evaluator M.writable (store_of self.old.known) levels).expand text.now self.old.world) }
+        ensures kept { Keeps self.old self.new }
+        ensures blames { Blames result self.old.failed self.new.failed }
+    {
+        if levels == 0 {
+            return Err(Stop::Fault(self.fault(8, b"nesting too deep", b"")?));
+        }
+        self.expand_here(levels - 1, text)
+    }
+
+    // Expands a text at the level where it stands.
+    #[cycle(evaluate)]
+    #[tactic(auto, using(crate::proofs::FrontLemmas::each_term_front, crate::proofs::FrontLemmas::each_term_longer, crate::proofs::FrontLemmas::each_term_same), unfolding(crate::specs::Expansion::each_term, crate::specs::Expansion::expanded))]
+    pub(crate) fn expand_here(&mut self, below: u64, text: &[u8]) -> Result<Vec<u8>, Stop>
+        ensures gives { AreKnown self.old.known → Gives (λ v. v.items) result self.new.world (expanded (evaluator M.writable (store_of self.old.known) below) text.now self.old.world) }
+        ensures kept { Keeps self.old self.new }
+        ensures blames { Blames result self.old.failed self.new.failed }
+    {
+        let mut out = Vec::new(self.alloc);
+        let mut rest = terms(text);
+        'terms: while let Some(term) = rest.next() {
+            let x = self.expand_term(below, term)?;
+            out.extend_from_slice(&x)?;
+        }
+        Ok(out)
+    }
+
+    #[cycle(evaluate)]
+    #[tactic(auto, using(crate::proofs::FrontLemmas::referred_front), unfolding(crate::specs::Expansion::term_of))]
+    pub(crate) fn expand_term(
+        &mut self,
+        below: u64,
+        term: Result<Term<'_>, Unterminated>,
+    ) -> Result<Vec<u8>, Stop>
+        ensures gives { AreKnown self.old.known → Gives (λ v. v.items) result self.new.world (term_of (evaluator M.writable (store_of self.old.known) below) (piece_of term.entry) self.old.world) }
+        ensures kept { Keeps self.old self.new }
+        ensures blames { Blames result self.old.failed self.new.failed }
+    {
+        match term {
+            Ok(Term::Lit(bytes)) => Ok(Vec::from_slice(self.alloc, bytes)?),
+            Ok(Term::Dollar) => Ok(Vec::from_slice(self.alloc, b"$")?),
+            Ok(Term::Ref(mark, body)) => {
+                let asked = asked_by(self.alloc, mark, body)?;
+                self.refer(below, asked)
+            }
+            Err(Unterminated) => {
+                Err(Stop::Fault(self.fault(7, b"unterminated reference", b"")?))
+            }
+        }
+    }
+
+    #[cycle(evaluate)]
+    #[tactic(auto, using(crate::proofs::FrontLemmas::value_named_longer, crate::proofs::FrontLemmas::value_named_same), unfolding(crate::specs::Expansion::referred))]
+    pub(crate) fn refer(&mut self, below: u64, asked: Asked<'_>) -> Result<Vec<u8>, Stop>
+        ensures gives { AreKnown self.old.known → Gives (λ v. v.items) result self.new.world (referred (evaluator M.writable (store_of self.old.known) below) (asked_told asked.entry) self.old.world) }
+        ensures kept { Keeps self.old self.new }
+        ensures blames { Blames result self.old.failed self.new.failed }
+    {
+        match asked {
+            Asked::Calls(function, arguments) => self.apply(below, function, &arguments),
+            Asked::Refuses(name) => {
+                Err(Stop::Fault(self.fault(16, b"refused function ", name)?))
+            }
+            Asked::Refers(body) => {
+                let name = self.body_of(below, body)?;
+                self.value_named(below, &name)
+            }
+        }
+    }
+
+    // A body that holds a dollar is expanded.
+    #[cycle(evaluate)]
+    #[tactic(auto, unfolding(crate::specs::Expansion::body_of))]
+    pub(crate) fn body_of(&mut self, below: u64, body: &[u8]) -> Result<Vec<u8>, Stop>
+        ensures gives { AreKnown self.old.known → Gives (λ v. v.items) result self.new.world (body_of (evaluator M.writable (store_of self.old.known) below) body.now self.old.world) }
+        ensures kept { Keeps self.old self.new }
+        ensures blames { Blames result self.old.failed self.new.failed }
+    {
+        if has_dollar(body) {
+            return self.expand(below, body);
+        }
+        Ok(Vec::from_slice(self.alloc, body)?)
+    }
+
+    #[cycle(evaluate)]
+    #[tactic(auto, using(crate::proofs::FrontLemmas::value_named_front, crate::proofs::FrontLemmas::accepted_longer, crate::proofs::FrontLemmas::accepted_same), unfolding(crate::specs::Expansion::value_named))]
+    pub(crate) fn value_named(&mut self, below: u64, body: &[u8]) -> Result<Vec<u8>, Stop>
+        ensures gives { AreKnown self.old.known → Gives (λ v. v.items) result self.new.world (value_named (evaluator M.writable (store_of self.old.known) below) (naming_of body.now) self.old.world) }
+        ensures kept { Keeps self.old self.new }
+        ensures blames { Blames result self.old.failed self.new.failed }
+    {
+        match name_in(self.alloc, body)? {
+            Naming::Plainly(name) => self.value_of(below, name),
+            Naming::Substituting(name, pattern, replacement) => {
+                let value = self.value_of(below, name)?;
+                let replaced = patsubst(self.alloc, &pattern, &replacement, &value);
+                self.accept(b"patsubst", replaced)
+            }
+        }
+    }
+
+    #[cycle(evaluate)]
+    #[tactic(auto, using(crate::proofs::FrontLemmas::value_of_front), unfolding(crate::specs::Expansion::value_of))]
+    pub(crate) fn value_of(&mut self, below: u64, name: &[u8]) -> Result<Vec<u8>, Stop>
+        ensures gives { AreKnown self.old.known → Gives (λ v. v.items) result self.new.world (value_of (evaluator M.writable (store_of self.old.known) below) (lookup name.now self.old.world) self.old.world) }
+        ensures kept { Keeps self.old self.new }
+        ensures blames { Blames result self.old.failed self.new.failed }
+    {
+        let Some(found) = self.lookup(name)? else {
+            return Ok(Vec::new(self.alloc));
+        };
+        match found.flavour {
+            Flavour::Deferred => self.expand(below, found.value.as_slice()),
+            Flavour::Immediate => Ok(Vec::from_slice(self.alloc, found.value.as_slice())?),
+        }
+    }
+
+    #[cycle(evaluate)]
+    #[tactic(auto, unfolding(crate::specs::Expansion::apply))]
+    pub(crate) fn apply(
+        &mut self,
+        below: u64,
+        function: Function,
+        arguments: &[&[u8]],
+    ) -> Result<Vec<u8>, Stop>
+        ensures gives { AreKnown self.old.known → Gives (λ v. v.items) result self.new.world (apply (evaluator M.writable (store_of self.old.known) below) function (map (λ a. a.now) arguments.now) self.old.world) }
+        ensures kept { Keeps self.old self.new }
+        ensures blames { Blames result self.old.failed self.new.failed }
+    {
+        match function {
+            Function::Text(text_function) => self.apply_text(below, text_function, arguments),
+            Function::If => match arguments {
+                [condition, chosen] => self.apply_if(below, condition, chosen, None),
+                [condition, chosen, other] => {
+                    self.apply_if(below, condition, chosen, Some(other))
+                }
+                _ => self.bad_argument(b"if"),
+            },
+            Function::Or => self.apply_or(below, arguments),
+            Function::And => self.apply_and(below, arguments),
+            Function::Foreach => match arguments {
+                [variable, list, body] => self.apply_foreach(below, variable, list, body),
+                _ => self.bad_argument(b"foreach"),
+            },
+            Function::Call => self.apply_call(below, arguments),
+            Function::Value => match arguments {
+                [text] => self.apply_value(below, text),
+                _ => self.bad_argument(b"value"),
+            },
+            Function::Eval => match arguments {
+                [text] => self.apply_eval(below, text),
+                _ => self.bad_argument(b"eval"),
+            },
+            Function::Error => match arguments {
+                [text] => self.apply_error(below, text),
+                _ => self.bad_argument(b"error"),
+            },
+            Function::Warning => match arguments {
+                [text] => self.apply_warning(below, text),
+                _ => self.bad_argument(b"warning"),
+            },
+            Function::Info => match arguments {
+                [text] => self.apply_info(below, text),
+                _ => self.bad_argument(b"info"),
+            },
+        }
+    }
+
+    // A function of texts; too few arguments are refused before one is expanded.
+    #[cycle(evaluate)]
+    #[tactic(auto, using(crate::proofs::FrontLemmas::accepted_longer, crate::proofs::FrontLemmas::accepted_same), unfolding(crate::specs::Expansion::apply_text))]
+    pub(crate) fn apply_text(
+        &mut self,
+        below: u64,
+        function: TextFunction,
+        texts: &[&[u8]],
+    ) -> Result<Vec<u8>, Stop>
+        ensures gives { AreKnown self.old.known → Gives (λ v. v.items) result self.new.world (apply_text (evaluator M.writable (store_of self.old.known) below) function (map (λ a. a.now) texts.now) self.old.world) }
+        ensures kept { Keeps self.old self.new }
+        ensures blames { Blames result self.old.failed self.new.failed }
+    {
+        if texts.len() != function.arity() {
+            return self.bad_argument(function.name());
+        }
+        let arguments = self.each_argument(below, Vec::new(self.alloc), texts)?;
+        let outcome = text_result(self.alloc, function, &arguments);
+        self.accept(function.name(), outcome)
+    }
+
+    // Expands each argument in turn, behind what is given.
+    #[cycle(evaluate)]
+    #[tactic(auto, using(crate::proofs::FrontLemmas::each_argument_longer, crate::proofs::FrontLemmas::each_argument_same), unfolding(crate::specs::Expansion::each_argument))]
+    pub(crate) fn each_argument(
+        &mut self,
+        below: u64,
+        first: Vec<Shared<u8>>,
+        texts: &[&[u8]],
+    ) -> Result<Vec<Shared<u8>>, Stop>
+        ensures gives { AreKnown self.old.known → Gives (λ v. v.items) result self.new.world (each_argument (evaluator M.writable (store_of self.old.known) below) first.items (map (λ a. a.now) texts.now) self.old.world) }
+        ensures kept { Keeps self.old self.new }
+        ensures blames { Blames result self.old.failed self.new.failed }
+    {
+        let mut out = first;
+        let mut place = 0;
+        'arguments: while place < texts.len() {
+            let x = self.expand(below, texts[place])?;
+            out.push(Shared::from_vec(x)?)?;
+            place += 1;
+        }
+        Ok(out)
+    }
+
+    #[cycle(evaluate)]
+    #[tactic(auto, using(crate::proofs::FrontLemmas::expand_longer, crate::proofs::FrontLemmas::expand_same), unfolding(crate::specs::Expansion::apply_if))]
+    pub(crate) fn apply_if(
+        &mut self,
+        below: u64,
+        condition: &[u8],
+        chosen: &[u8],
+        other: Option<&[u8]>,
+    ) -> Result<Vec<u8>, Stop>
+        ensures gives { AreKnown self.old.known → Gives (λ v. v.items) result self.new.world (apply_if (evaluator M.writable (store_of self.old.known) below) condition.now chosen.now (option_map (λ t. t.now) other.entry) self.old.world) }
+        ensures kept { Keeps self.old self.new }
+        ensures blames { Blames result self.old.failed self.new.failed }
+    {
+        let x = self.expand(below, stripped(condition))?;
+        if !x.is_empty() {
+            return self.expand(below, chosen);
+        }
+        match other {
+            None => Ok(Vec::new(self.alloc)),
+            Some(text) => self.expand(below, text),
+        }
+    }
+
+    #[cycle(evaluate)]
+    #[tactic(auto, using(crate::proofs::FrontLemmas::apply_or_longer, crate::proofs::FrontLemmas::apply_or_same), unfolding(crate::specs::Expansion::apply_or))]
+    pub(crate) fn apply_or(&mut self, below: u64, texts: &[&[u8]]) -> Result<Vec<u8>, Stop>
+        ensures gives { AreKnown self.old.known → Gives (λ v. v.items) result self.new.world (apply_or (evaluator M.writable (store_of self.old.known) below) (map (λ a. a.now) texts.now) self.old.world) }
+        ensures kept { Keeps self.old self.new }
+        ensures blames { Blames result self.old.failed self.new.failed }
+    {
+        let mut place = 0;
+        'arguments: while place < texts.len() {
+            let x = self.expand(below, stripped(texts[place]))?;
+            if !x.is_empty() {
+                return Ok(x);
+            }
+            place += 1;
+        }
+        Ok(Vec::new(self.alloc))
+    }
+
+    #[cycle(evaluate)]
+    #[tactic(auto, using(crate::proofs::FrontLemmas::apply_and_longer, crate::proofs::FrontLemmas::apply_and_same), unfolding(crate::specs::Expansion::apply_and))]
+    pub(crate) fn apply_and(&mut self, below: u64, texts: &[&[u8]]) -> Result<Vec<u8>, Stop>
+        ensures gives { AreKnown self.old.known → Gives (λ v. v.items) result self.new.world (apply_and (evaluator M.writable (store_of self.old.known) below) (map (λ a. a.now) texts.now) self.old.world) }
+        ensures kept { Keeps self.old self.new }
+        ensures blames { Blames result self.old.failed self.new.failed }
+    {
+        let mut place = 0;
+        'arguments: while place < texts.len() {
+            let x = self.expand(below, stripped(texts[place]))?;
+            place += 1;
+            if x.is_empty() || place == texts.len() {
+                return Ok(x);
+            }
+        }
+        Ok(Vec::new(self.alloc))
+    }
+
+    #[cycle(evaluate)]
+    #[tactic(auto, using(crate::proofs::FrontLemmas::expand_longer, crate::proofs::FrontLemmas::expand_same, crate::proofs::FrontLemmas::each_word_longer, crate::proofs::FrontLemmas::each_word_same), unfolding(crate::specs::Expansion::apply_foreach))]
+    pub(crate) fn apply_foreach(
+        &mut self,
+        below: u64,
+        variable: &[u8],
+        list: &[u8],
+        body: &[u8],
+    ) -> Result<Vec<u8>, Stop>
+        ensures gives { AreKnown self.old.known → Gives (λ v. v.items) result self.new.world (apply_foreach (evaluator M.writable (store_of self.old.known) below) variable.now list.now body.now self.old.world) }
+        ensures kept { Keeps self.old self.new }
+        ensures blames { Blames result self.old.failed self.new.failed }
+    {
+        let expanded = self.expand(below, variable)?;
+        let list = self.expand(below, list)?;
+        let name = Shared::from_vec(Vec::from_slice(self.alloc, stripped(&expanded))?)?;
+        self.each_word(below, &name, &list, body)
+    }
+
+    // The body for each word in turn.
+    #[cycle(evaluate)]
+    #[tactic(auto, using(crate::proofs::FrontLemmas::each_word_front, crate::proofs::FrontLemmas::each_word_longer, crate::proofs::FrontLemmas::each_word_same), unfolding(crate::specs::Expansion::each_word))]
+    pub(crate) fn each_word(
+        &mut self,
+        below: u64,
+        name: &Shared<u8>,
+        list: &[u8],
+        body: &[u8],
+    ) -> Result<Vec<u8>, Stop>
+        ensures gives { AreKnown self.old.known → Gives (λ v. v.items) result self.new.world (each_word (evaluator M.writable (store_of self.old.known) below) name.now body.now [] [] (words_of list.now) self.old.world) }
+        ensures kept { Keeps self.old self.new }
+        ensures blames { Blames result self.old.failed self.new.failed }
+    {
+        let mut out = Vec::new(self.alloc);
+        let mut separator: &[u8] = b"";
+        let mut rest = words(list);
+        'words: while let Some(word) = rest.next() {
+            let word = Shared::from_vec(Vec::from_slice(self.alloc, word)?)?;
+            self.bind(Frame::Loop(name.share()?, word))?;
+            let x = self.expand(below, body)?;
+            self.unbind();
+            out.extend_from_slice(separator)?;
+            out.extend_from_slice(&x)?;
+            separator = b" ";
+        }
+        Ok(out)
+    }
+
+    #[cycle(evaluate)]
+    #[tactic(auto, using(crate::proofs::FrontLemmas::call_by_name_longer, crate::proofs::FrontLemmas::call_by_name_same), unfolding(crate::specs::Expansion::apply_call))]
+    pub(crate) fn apply_call(&mut self, below: u64, texts: &[&[u8]]) -> Result<Vec<u8>, Stop>
+        ensures gives { AreKnown self.old.known → Gives (λ v. v.items) result self.new.world (apply_call (evaluator M.writable (store_of self.old.known) below) (map (λ a. a.now) texts.now) self.old.world) }
+        ensures kept { Keeps self.old self.new }
+        ensures blames { Blames result self.old.failed self.new.failed }
+    {
+        let Some((text, others)) = texts.split_first() else {
+            return Ok(Vec::new(self.alloc));
+        };
+        let x = self.expand(below, text)?;
+        self.call_by_name(below, stripped(&x), others)
+    }
+
+    #[cycle(evaluate)]
+    #[tactic(auto, using(crate::proofs::FrontLemmas::call_by_name_front, crate::proofs::FrontLemmas::called_longer, crate::proofs::FrontLemmas::called_same), unfolding(crate::specs::Expansion::call_by_name))]
+    pub(crate) fn call_by_name(
+        &mut self,
+        below: u64,
+        name: &[u8],
+        texts: &[&[u8]],
+    ) -> Result<Vec<u8>, Stop>
+        ensures gives { AreKnown self.old.known → Gives (λ v. v.items) result self.new.world (call_by_name (evaluator M.writable (store_of self.old.known) below) name.now (map (λ a. a.now) texts.now) self.old.world) }
+        ensures kept { Keeps self.old self.new }
+        ensures blames { Blames result self.old.failed self.new.failed }
+    {
+        if is_function_name(name) {
+            return Err(Stop::Fault(self.fault(16, b"refused function ", name)?));
+        }
+        let mut first = Vec::new(self.alloc);
+        first.push(Shared::from_vec(Vec::from_slice(self.alloc, name)?)?)?;
+        let arguments = self.each_argument(below, first, texts)?;
+        self.call(below, name, arguments)
+    }
+
+    // The value of a macro with its name and arguments bound.
+    #[cycle(evaluate)]
+    #[tactic(auto, using(crate::proofs::FrontLemmas::called_front, crate::proofs::FrontLemmas::value_of_longer, crate::proofs::FrontLemmas::value_of_same), unfolding(crate::specs::Expansion::called))]
+    pub(crate) fn call(
+        &mut self,
+        below: u64,
+        name: &[u8],
+        arguments: Vec<Shared<u8>>,
+    ) -> Result<Vec<u8>, Stop>
+        ensures gives { AreKnown self.old.known → Gives (λ v. v.items) result self.new.world (called (evaluator M.writable (store_of self.old.known) below) name.now arguments.items self.old.world) }
+        ensures kept { Keeps self.old self.new }
+        ensures blames { Blames result self.old.failed self.new.failed }
+    {
+        self.bind(Frame::Call(Sequence::from(arguments)))?;
+        let x = self.value_of(below, name)?;
+        self.unbind();
+        Ok(x)
+    }
+
+    #[cycle(evaluate)]
+    #[tactic(auto, unfolding(crate::specs::Expansion::apply_value))]
+    pub(crate) fn apply_value(&mut self, below: u64, text: &[u8]) -> Result<Vec<u8>, Stop>
+        ensures gives { AreKnown self.old.known → Gives (λ v. v.items) result self.new.world (apply_value (evaluator M.writable (store_of self.old.known) below) text.now self.old.world) }
+        ensures kept { Keeps self.old self.new }
+        ensures blames { Blames result self.old.failed self.new.failed }
+    {
+        let name = self.expand(below, text)?;
+        match self.lookup(&name)? {
+            None => Ok(Vec::new(self.alloc)),
+            Some(found) => Ok(Vec::from_slice(self.alloc, found.value.as_slice())?),
+        }
+    }
+
+    #[cycle(evaluate)]
+    #[tactic(auto, using(crate::proofs::FrontLemmas::eval_longer, crate::proofs::FrontLemmas::eval_same, crate::proofs::LevelLemmas::evaluator_reads), unfolding(crate::specs::Expansion::apply_eval))]
+    pub(crate) fn apply_eval(&mut self, below: u64, text: &[u8]) -> Result<Vec<u8>, Stop>
+        ensures gives { AreKnown self.old.known → Gives (λ v. v.items) result self.new.world (apply_eval (evaluator M.writable (store_of self.old.known) below) text.now self.old.world) }
+        ensures kept { Keeps self.old self.new }
+        ensures blames { Blames result self.old.failed self.new.failed }
+    {
+        if !self.is_writable() {
+            return Err(Stop::Fault(self.fault(32, b"eval in a recipe", b"")?));
+        }
+        let x = self.expand(below, text)?;
+        self.eval(below, &x)?;
+        Ok(Vec::new(self.alloc))
+    }
+
+    #[cycle(evaluate)]
+    #[tactic(auto, unfolding(crate::specs::Expansion::apply_error))]
+    pub(crate) fn apply_error(&mut self, below: u64, text: &[u8]) -> Result<Vec<u8>, Stop>
+        ensures gives { AreKnown self.old.known → Gives (λ v. v.items) result self.new.world (apply_error (evaluator M.writable (store_of self.old.known) below) text.now self.old.world) }
+        ensures kept { Keeps self.old self.new }
+        ensures blames { Blames result self.old.failed self.new.failed }
+    {
+        let x = self.expand(below, text)?;
+        Err(Stop::Fault(self.fault(19, b"", &x)?))
+    }
+
+    #[cycle(evaluate)]
+    #[tactic(auto, unfolding(crate::specs::Expansion::apply_warning))]
+    pub(crate) fn apply_warning(&mut self, below: u64, text: &[u8]) -> Result<Vec<u8>, Stop>
+        ensures gives { AreKnown self.old.known → Gives (λ v. v.items) result self.new.world (apply_warning (evaluator M.writable (store_of self.old.known) below) text.now self.old.world) }
+        ensures kept { Keeps self.old self.new }
+        ensures blames { Blames result self.old.failed self.new.failed }
+    {
+        let x = self.expand(below, text)?;
+        self.warn(&x)?;
+        Ok(Vec::new(self.alloc))
+    }
+
+    #[cycle(evaluate)]
+    #[tactic(auto, unfolding(crate::specs::Expansion::apply_info))]
+    pub(crate) fn apply_info(&mut self, below: u64, text: &[u8]) -> Result<Vec<u8>, Stop>
+        ensures gives { AreKnown self.old.known → Gives (λ v. v.items) result self.new.world (apply_info (evaluator M.writable (store_of self.old.known) below) text.now self.old.world) }
+        ensures kept { Keeps self.old self.new }
+        ensures blames { Blames result self.old.failed self.new.failed }
+    {
+        let x = self.expand(below, text)?;
+        self.say(x)?;
+        Ok(Vec::new(self.alloc))
+    }
+
+    // Reads the text of an `eval`.
+    #[cycle(evaluate)]
+    #[tactic(auto, using(crate::proofs::LevelLemmas::evaluator_above), unfolding(crate::specs::Levels::evaluator, crate::specs::Levels::none_left, crate::specs::Levels::above))]
+    pub(crate) fn eval(&mut self, levels: u64, text: &[u8]) -> Result<(), Stop>
+        requires { M.writable ≡ true }
+        ensures gives { AreKnown self.old.known → Gives (λ u. u) result self.new.world ((evaluator M.writable (store_of self.old.known) levels).eval text.now self.old.world) }
+        ensures kept { Keeps self.old self.new }
+        ensures blames { Blames result self.old.failed self.new.failed }
+    {
+        if levels == 0 {
+            return Err(Stop::Fault(self.fault(8, b"nesting too deep", b"")?));
+        }
+        self.read_held(levels - 1, text)
+    }
+}

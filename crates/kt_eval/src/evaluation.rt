@@ -1,0 +1,403 @@
+//! An evaluation in progress: what it knows, and the small steps that change it.
+ghost use Rattle.std.specs.Prelude.{◌≡◌, ◌++◌, ◌≤◌, IfOk, OnErr, OnOk, None, drop, option_map, true};
+ghost use Rattle.kt_eval.specs.State.{innermost, lookup};
+ghost use Rattle.kt_eval.specs.Views.{rule_stop};
+
+use crate::assigning::{Assigning, assignment_of};
+use crate::fault::Fault;
+use crate::files::{FileFault, Files};
+use crate::frames::innermost;
+use crate::macros::{Flavour, Macro, Origin};
+use crate::page::{Page, RawLine, Source};
+use crate::scope::Scope;
+use crate::state::{Found, Frame};
+use crate::stop::Stop;
+use kt_list::{Sequence, Shared};
+use kt_rules::{Entry, Place, RuleFault, read_rule};
+use kt_syntax::{Operator, recipe_text};
+use kt_text::TextFault;
+use std::alloc::{AllocError, Global};
+use std::marker::Model;
+
+/// What an evaluation knows and changes.
+#[derive(Drop)]
+pub(crate) struct Evaluation<'a, M: Scope, F: Files> {
+    pub(crate) alloc: Global,
+    pub(crate) macros: M,
+    pub(crate) frames: Vec<Frame>,
+    pub(crate) messages: Vec<Sequence<u8>>,
+    pub(crate) place: Option<Place>,
+    pub(crate) rule: Option<Entry>,
+    pub(crate) files: &'a mut F,
+}
+
+impl<'a, M: Scope, F: Files> Model for Evaluation<'a, M, F> {
+    ghost use Rattle.kt_eval.specs.State.{World};
+    ghost use Rattle.kt_eval.specs.Step.{Seen};
+
+    ghost Value = { Seen };
+
+    ghost view = { λ s. record {
+      world = record {
+        table = M.table s.macros;
+        automatic = M.automatic s.macros;
+        frames = s.frames.items;
+        said = s.messages.items;
+        asked = F.names s.files.now;
+        place = s.place;
+        book = M.book s.macros;
+        rule = s.rule;
+      };
+      known = F.known s.files.now;
+      failed = F.failed s.files.now;
+      lender = s.files.ghost_name;
+    } };
+}
+
+impl<'a, M: Scope, F: Files> Evaluation<'a, M, F> {
+    ghost use Rattle.std.specs.Prelude.{codes, Option, List, ℕ};
+    ghost use Rattle.kt_text.specs.Functions.{Answers};
+    ghost use Rattle.kt_eval.specs.Expansion.{accepted, bad_argument};
+    ghost use Rattle.kt_eval.specs.Step.{Blames, Gives};
+    ghost use Rattle.kt_eval.specs.State.{bind, unbind, say, warn, message_place};
+    ghost use Rattle.kt_eval.specs.Step.{fault_at};
+
+    // What a name stands for.
+    #[tactic(auto, unfolding(crate::specs::State::lookup))]
+    pub(crate) fn lookup(&self, name: &[u8]) -> Result<Option<Found>, AllocError>
+        ensures { IfOk result (λ found. found ≡ lookup name.now self.now.world) }
+    {
+        match innermost(self.alloc, &self.frames, name)? {
+            Some(value) => Ok(Some(Found {
+                flavour: Flavour::Immediate,
+                value,
+            })),
+            None => self.macros.find(name),
+        }
+    }
+
+    pub(crate) fn is_writable(&self) -> bool
+        ensures { result ≡ M.writable }
+    {
+        self.macros.is_writable()
+    }
+
+    // Binds innermost.
+    pub(crate) fn bind(&mut self, frame: Frame) -> Result<(), AllocError>
+        ensures refused { OnErr result (self.new ≡ self.old) }
+        ensures done { OnOk result (self.new ≡ record self.old { world = bind frame self.old.world }) }
+    {
+        self.frames.push(frame)?;
+        Ok(())
+    }
+
+    // Ends the innermost binding.
+    pub(crate) fn unbind(&mut self)
+        ensures { self.new ≡ record self.old { world = unbind self.old.world } }
+    {
+        let _ = self.frames.pop();
+    }
+
+    pub(crate) fn say(&mut self, message: Vec<u8>) -> Result<(), AllocError>
+        ensures refused { OnErr result (self.new ≡ self.old) }
+        ensures done { OnOk result (self.new ≡ record self.old { world = say message.items self.old.world }) }
+    {
+        self.messages.push(Sequence::from(message))?;
+        Ok(())
+    }
+
+    // Says a message behind its place.
+    pub(crate) fn warn(&mut self, message: &[u8]) -> Result<(), AllocError>
+        ensures refused { OnErr result (self.new ≡ self.old) }
+        ensures done { OnOk result (self.new ≡ record self.old { world = warn message.now self.old.world }) }
+    {
+        let mut text = self.message_place()?;
+        text.extend_from_slice(b": ")?;
+        text.extend_from_slice(message)?;
+        self.say(text)
+    }
+
+    fn message_place(&self) -> Result<Vec<u8>, AllocError>
+        ensures { IfOk result (λ text. text.items ≡ message_place self.now.world.place) }
+    {
+        let mut text = Vec::new(self.alloc);
+        match &self.place {
+            None => text.extend_from_slice(b"kati")?,
+            Some(place) => place.append_to(&mut text)?,
+        }
+        Ok(text)
+    }
+
+    // A fault at the place that is being read, with these words before a name.
+    pub(crate) fn fault(&self, number: u8, words: &[u8], name: &[u8]) -> Result<Fault, AllocError>
+        ensures { IfOk result (λ fault. fault ≡ fault_at self.now.world.place number (words.now ++ name.now)) }
+    {
+        let mut text = Vec::from_slice(self.alloc, words)?;
+        text.extend_from_slice(name)?;
+        let place = match &self.place {
+            None => None,
+            Some(place) => Some(place.share()?),
+        };
+        Ok(Fault {
+            place,
+            number,
+            words: Sequence::from(text),
+        })
+    }
+
+    // The refusal of an argument of a function.
+    pub(crate) fn bad_argument(&self, name: &[u8]) -> Result<Vec<u8>, Stop>
+        ensures gives { Gives (λ v. v.items) result self.now.world (bad_argument name.now self.now.world) }
+        ensures blames { Blames result self.now.failed self.now.failed }
+    {
+        Err(Stop::Fault(self.fault(18, b"bad argument of ", name)?))
+    }
+
+    // What a function of texts answered.
+    #[tactic(auto, using(crate::proofs::FrontLemmas::accepted_front))]
+    pub(crate) fn accept(
+        &self,
+        name: &[u8],
+        outcome: Result<Vec<u8>, TextFault>,
+    ) -> Result<Vec<u8>, Stop>
+        ensures gives { (expected : Option (List ℕ)) → Answers outcome expected → Gives (λ v. v.items) result self.now.world (accepted name.now expected self.now.world) }
+        ensures blames { Blames result self.now.failed self.now.failed }
+    {
+        match outcome {
+            Ok(text) => Ok(text),
+            Err(TextFault::BadArgument) => self.bad_argument(name),
+            Err(TextFault::Memory) => Err(Stop::Memory),
+        }
+    }
+}
+
+impl<'a, M: Scope, F: Files> Evaluation<'a, M, F> {
+    ghost use Rattle.kt_eval.specs.Reading.{at_line, at_number, line_at, read_bytes};
+    ghost use Rattle.kt_eval.specs.Rules.{close_rule, enter_rule, open_rule, recipe_line, rule_place};
+    ghost use Rattle.kt_eval.specs.State.{move_to, set_macro, set_rule};
+    ghost use Rattle.kt_eval.specs.Step.{AreKnown, Blames, Gives, store_of, Keeps};
+    ghost use Rattle.kt_eval.specs.Table.{assigning, find, set_by_makefile};
+    ghost use Rattle.kt_eval.specs.Views.{assigning_told, raw_told};
+
+    // Moves to a line of a source; all lines of an `eval` are where it stands.
+    #[tactic(auto, unfolding(crate::specs::Reading::at_number))]
+    pub(crate) fn move_to(&mut self, source: &Source, number: u64) -> Result<(), AllocError>
+        ensures refused { OnErr result (self.new ≡ self.old) }
+        ensures done { OnOk result (self.new ≡ record self.old { world = at_number source.now number self.old.world }) }
+        ensures said { self.new.world.said ≡ self.old.world.said }
+    {
+        match source {
+            Source::Held => Ok(()),
+            Source::File(name) => {
+                let file = name.share()?;
+                self.place = Some(Place { file, line: number });
+                Ok(())
+            }
+        }
+    }
+
+    // Moves to the line at a place of a page.
+    pub(crate) fn at_line<'p>(
+        &mut self,
+        page: &'p Page<'_>,
+        place: usize,
+    ) -> Result<RawLine<'p>, AllocError>
+        ensures refused { OnErr result (self.new ≡ self.old) }
+        ensures done { OnOk result (self.new ≡ record self.old { world = at_line page.now place self.old.world }) }
+        ensures said { self.new.world.said ≡ self.old.world.said }
+        ensures line { IfOk result (λ line. raw_told line ≡ line_at page.now.lines place) }
+    {
+        let line = page.line(place);
+        self.move_to(page.source(), line.number)?;
+        Ok(line)
+    }
+
+    // The present place, to come back to.
+    pub(crate) fn place(&self) -> Result<Option<Place>, AllocError>
+        ensures { IfOk result (λ place. place ≡ self.now.world.place) }
+    {
+        match &self.place {
+            None => Ok(None),
+            Some(place) => Ok(Some(place.share()?)),
+        }
+    }
+
+    pub(crate) fn set_place(&mut self, place: Option<Place>)
+        ensures { self.new ≡ record self.old { world = move_to place self.old.world } }
+    {
+        self.place = place;
+    }
+
+    // What an assignment to a name does.
+    pub(crate) fn assigning(&self, operator: Operator, name: &[u8]) -> Result<Assigning, AllocError>
+        ensures { IfOk result (λ found. assigning_told found ≡ assigning operator (find name.now self.now.world.table)) }
+    {
+        assignment_of(self.alloc, operator, self.macros.get(name))
+    }
+
+    // Sets a macro to a text behind another.
+    pub(crate) fn set_macro(
+        &mut self,
+        name: Vec<u8>,
+        flavour: Flavour,
+        front: Vec<u8>,
+        text: &[u8],
+    ) -> Result<(), AllocError>
+        requires { M.writable ≡ true }
+        ensures done { OnOk result (self.new ≡ record self.old { world = set_macro name.items (set_by_makefile flavour (front.items ++ text.now)) self.old.world }) }
+        ensures kept { Keeps self.old self.new }
+        ensures unfailed { self.new.failed ≡ self.old.failed }
+        ensures said { self.new.world.said ≡ self.old.world.said }
+    {
+        let mut value = front;
+        value.extend_from_slice(text)?;
+        let value = Shared::from_vec(value)?;
+        self.macros.put(
+            name,
+            Macro {
+                flavour,
+                origin: Origin::Makefile,
+                value,
+            },
+        )
+    }
+
+    // Takes the open rule, so that none is open.
+    pub(crate) fn take_rule(&mut self) -> Option<Entry>
+        ensures taken { result ≡ self.old.world.rule }
+        ensures left { self.new ≡ record self.old { world = set_rule None self.old.world } }
+    {
+        self.rule.take()
+    }
+
+    pub(crate) fn set_rule(&mut self, rule: Option<Entry>)
+        ensures { self.new ≡ record self.old { world = set_rule rule self.old.world } }
+    {
+        self.rule = rule;
+    }
+
+    // The place of a rule that is read here.
+    fn rule_place(&self) -> Result<Place, AllocError>
+        ensures { IfOk result (λ place. place ≡ rule_place self.now.world.place) }
+    {
+        match &self.place {
+            Some(place) => place.share(),
+            None => {
+                let file = Shared::from_vec(Vec::new(self.alloc))?;
+                Ok(Place { file, line: 0 })
+            }
+        }
+    }
+
+    // Closes the open rule, if there is one.
+    #[tactic(auto, unfolding(crate::specs::Rules::close_rule))]
+    pub(crate) fn close_rule(&mut self) -> Result<(), Stop>
+        requires { M.writable ≡ true }
+        ensures gives { Gives (λ u. u) result self.new.world (close_rule self.old.world) }
+        ensures kept { Keeps self.old self.new }
+        ensures blames { Blames result self.old.failed self.new.failed }
+        ensures unfailed { self.new.failed ≡ self.old.failed }
+    {
+        match self.take_rule() {
+            None => Ok(()),
+            Some(rule) => self.enter_rule(rule),
+        }
+    }
+
+    // Puts a rule into the book.
+    #[tactic(auto, using(crate::proofs::FrontLemmas::enter_rule_front), unfolding(crate::specs::Rules::enter_rule))]
+    fn enter_rule(&mut self, rule: Entry) -> Result<(), Stop>
+        requires { M.writable ≡ true }
+        ensures gives { Gives (λ u. u) result self.new.world (enter_rule rule self.old.world) }
+        ensures kept { Keeps self.old self.new }
+        ensures blames { Blames result self.old.failed self.new.failed }
+        ensures unfailed { self.new.failed ≡ self.old.failed }
+    {
+        match self.macros.add(rule) {
+            Ok(warnings) => {
+                self.messages.append(&mut warnings.into_vec())?;
+                Ok(())
+            }
+            Err(refused) => Err(rule_stop(refused)),
+        }
+    }
+
+    // Opens the rule of an expanded head.
+    #[tactic(auto, using(crate::proofs::FrontLemmas::open_rule_front), unfolding(crate::specs::Rules::open_rule))]
+    pub(crate) fn open_rule(
+        &mut self,
+        recipe: Option<Sequence<u8>>,
+        head: &[u8],
+    ) -> Result<(), Stop>
+        ensures gives { Gives (λ u. u) result self.new.world (open_rule recipe head.now self.old.world) }
+        ensures kept { Keeps self.old self.new }
+        ensures blames { Blames result self.old.failed self.new.failed }
+        ensures unfailed { self.new.failed ≡ self.old.failed }
+    {
+        let place = self.rule_place()?;
+        match read_rule(self.alloc, head, recipe, place) {
+            Ok(rule) => {
+                self.rule = Some(rule);
+                Ok(())
+            }
+            Err(refused) => Err(rule_stop(refused)),
+        }
+    }
+
+    // Opens a rule again with one more line of its recipe.
+    #[tactic(auto, unfolding(crate::specs::Rules::recipe_line))]
+    pub(crate) fn recipe_line(&mut self, rule: Entry, text: &[u8]) -> Result<(), Stop>
+        ensures gives { Gives (λ u. u) result self.new.world (recipe_line rule text.now self.old.world) }
+        ensures kept { Keeps self.old self.new }
+        ensures blames { Blames result self.old.failed self.new.failed }
+        ensures unfailed { self.new.failed ≡ self.old.failed }
+    {
+        let mut rule = rule;
+        let place = self.rule_place()?;
+        let line = recipe_text(self.alloc, behind_first(text))?;
+        rule.push(Sequence::from(line), place)?;
+        self.rule = Some(rule);
+        Ok(())
+    }
+
+    // Reads the bytes of a file, if it is there.
+    #[tactic(auto, unfolding(crate::specs::Reading::read_bytes))]
+    pub(crate) fn read_bytes(&mut self, name: &str) -> Result<Option<Vec<u8>>, Stop>
+        ensures gives { AreKnown self.old.known → Gives (λ found. option_map (λ v. v.items) found) result self.new.world (read_bytes (store_of self.old.known) name.now self.old.world) }
+        ensures kept { Keeps self.old self.new }
+        ensures blames { Blames result self.old.failed self.new.failed }
+    {
+        match self.files.read(name) {
+            Ok(found) => Ok(found),
+            Err(FileFault::Device) => Err(Stop::Device(name.to_string(self.alloc)?)),
+            Err(FileFault::Memory) => Err(Stop::Memory),
+        }
+    }
+}
+
+// What a rule is refused for, as what stops the reading.
+fn rule_stop(refused: RuleFault) -> Stop
+    ensures { result ≡ rule_stop refused }
+{
+    match refused {
+        RuleFault::Refused {
+            number,
+            place,
+            words,
+        } => Stop::Fault(Fault {
+            place: Some(place),
+            number,
+            words,
+        }),
+        RuleFault::Memory => Stop::Memory,
+    }
+}
+
+fn behind_first(text: &[u8]) -> &[u8]
+    ensures { result.now ≡ drop 1 text.now }
+{
+    match text {
+        [_, rest @ ..] => rest,
+        [] => text,
+    }
+}

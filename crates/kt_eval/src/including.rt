@@ -1,0 +1,200 @@
+//! Included files.
+ghost use Rattle.std.specs.Prelude.{◌≡◌, ◌==◌, ◌||◌, ◌<◌, MatchOption, false, map, option_map, true};
+ghost use Rattle.std.specs.Str.{is_utf8};
+ghost use Rattle.std.specs.List.{list_any};
+ghost use Rattle.kt_text.specs.Words.{words_of};
+ghost use Rattle.kt_eval.specs.Including.{each_include, include_line, include_named, is_pattern};
+ghost use Rattle.kt_eval.specs.Levels.{evaluator};
+ghost use Rattle.kt_eval.specs.Reading.{included, read_file, read_first, read_included};
+ghost use Rattle.kt_eval.specs.Step.{AreKnown, Blames, Gives, store_of, Keeps};
+
+use crate::evaluation::Evaluation;
+use crate::files::Files;
+use crate::page::Source;
+use crate::scope::Scope;
+use crate::stop::Stop;
+use kt_list::Shared;
+use kt_text::words;
+use std::str::from_utf8;
+
+/// The most bytes that a makefile may have.
+const LARGEST: usize = 16_777_216;
+
+// Whether the name is a pattern of the shell.
+#[tactic(auto, unfolding(crate::specs::Including::is_pattern))]
+fn is_pattern(name: &[u8]) -> bool
+    ensures { result ≡ is_pattern name.now }
+{
+    match name {
+        [] => false,
+        [first, ..] => *first == b'~' || has_wildcard(name),
+    }
+}
+
+// The name as text, if it is UTF-8.
+#[tactic(auto, using(crate::proofs::TextLemmas::utf8_found, crate::proofs::TextLemmas::utf8_not_found))]
+fn as_text(name: &[u8]) -> Option<&str>
+    ensures { MatchOption result (is_utf8 name.now ≡ false) (λ text. (is_utf8 name.now ≡ true) × (text.now ≡ name.now)) }
+{
+    match from_utf8(name) {
+        Ok(text) => Some(text),
+        Err(_fault) => None,
+    }
+}
+
+fn has_wildcard(name: &[u8]) -> bool
+    ensures { result ≡ list_any (λ byte. byte == 42 || (byte == 63 || byte == 91)) name.now }
+{
+    name.iter()
+        .any(|byte| *byte == b'*' || *byte == b'?' || *byte == b'[')
+}
+
+impl<'a, M: Scope, F: Files> Evaluation<'a, M, F> {
+    #[cycle(evaluate)]
+    #[tactic(auto, using(crate::proofs::FrontLemmas::each_include_longer, crate::proofs::FrontLemmas::each_include_same), unfolding(crate::specs::Including::include_line))]
+    pub(crate) fn include_line(
+        &mut self,
+        below: u64,
+        optional: bool,
+        text: &[u8],
+    ) -> Result<(), Stop>
+        requires { M.writable ≡ true }
+        ensures gives { AreKnown self.old.known → Gives (λ u. u) result self.new.world (include_line (evaluator M.writable (store_of self.old.known) below) optional text.now self.old.world) }
+        ensures kept { Keeps self.old self.new }
+        ensures blames { Blames result self.old.failed self.new.failed }
+    {
+        let x = self.expand_here(below, text)?;
+        self.each_include(below, optional, &x)
+    }
+
+    #[cycle(evaluate)]
+    #[tactic(auto, using(crate::proofs::FrontLemmas::each_include_longer, crate::proofs::FrontLemmas::each_include_same), unfolding(crate::specs::Including::each_include))]
+    pub(crate) fn each_include(
+        &mut self,
+        below: u64,
+        optional: bool,
+        names: &[u8],
+    ) -> Result<(), Stop>
+        requires { M.writable ≡ true }
+        ensures gives { AreKnown self.old.known → Gives (λ u. u) result self.new.world (each_include (evaluator M.writable (store_of self.old.known) below) optional (words_of names.now) self.old.world) }
+        ensures kept { Keeps self.old self.new }
+        ensures blames { Blames result self.old.failed self.new.failed }
+    {
+        let mut rest = words(names);
+        'names: while let Some(name) = rest.next() {
+            self.include_named(below, optional, name)?;
+        }
+        Ok(())
+    }
+
+    #[cycle(evaluate)]
+    #[tactic(auto, unfolding(crate::specs::Including::include_named))]
+    pub(crate) fn include_named(
+        &mut self,
+        below: u64,
+        optional: bool,
+        name: &[u8],
+    ) -> Result<(), Stop>
+        requires { M.writable ≡ true }
+        ensures gives { AreKnown self.old.known → Gives (λ u. u) result self.new.world (include_named (evaluator M.writable (store_of self.old.known) below) optional name.now self.old.world) }
+        ensures kept { Keeps self.old self.new }
+        ensures blames { Blames result self.old.failed self.new.failed }
+    {
+        let Some(text) = as_text(name) else {
+            return Err(Stop::Fault(self.fault(34, b"include name is not UTF-8", b"")?));
+        };
+        if is_pattern(name) {
+            return Err(Stop::Fault(self.fault(20, b"refused name ", name)?));
+        }
+        self.include(below, optional, text)
+    }
+
+    // Reads a file one level deeper than what asks for it.
+    #[cycle(evaluate)]
+    #[tactic(auto, using(crate::proofs::LevelLemmas::evaluator_above), unfolding(crate::specs::Levels::evaluator, crate::specs::Levels::none_left, crate::specs::Levels::above))]
+    pub(crate) fn include(&mut self, levels: u64, optional: bool, name: &str) -> Result<(), Stop>
+        requires { M.writable ≡ true }
+        ensures gives { AreKnown self.old.known → Gives (λ u. u) result self.new.world ((evaluator M.writable (store_of self.old.known) levels).include optional name.now self.old.world) }
+        ensures kept { Keeps self.old self.new }
+        ensures blames { Blames result self.old.failed self.new.failed }
+    {
+        if levels == 0 {
+            return Err(Stop::Fault(self.fault(8, b"nesting too deep", b"")?));
+        }
+        self.included(levels - 1, optional, name)
+    }
+
+    #[cycle(evaluate)]
+    #[tactic(auto, using(crate::proofs::FrontLemmas::read_included_longer, crate::proofs::FrontLemmas::read_included_same), unfolding(crate::specs::Reading::included))]
+    pub(crate) fn included(&mut self, below: u64, optional: bool, name: &str) -> Result<(), Stop>
+        requires { M.writable ≡ true }
+        ensures gives { AreKnown self.old.known → Gives (λ u. u) result self.new.world (included (store_of self.old.known) (evaluator M.writable (store_of self.old.known) below) optional name.now self.old.world) }
+        ensures kept { Keeps self.old self.new }
+        ensures blames { Blames result self.old.failed self.new.failed }
+    {
+        let found = self.read_bytes(name)?;
+        self.read_included(below, optional, name, found)
+    }
+
+    // The place is then that of the include again.
+    #[cycle(evaluate)]
+    #[tactic(auto, using(crate::proofs::FrontLemmas::read_included_front, crate::proofs::FrontLemmas::read_file_longer, crate::proofs::FrontLemmas::read_file_same))]
+    pub(crate) fn read_included(
+        &mut self,
+        below: u64,
+        optional: bool,
+        name: &str,
+        found: Option<Vec<u8>>,
+    ) -> Result<(), Stop>
+        requires { M.writable ≡ true }
+        ensures gives { AreKnown self.old.known → Gives (λ u. u) result self.new.world (read_included (evaluator M.writable (store_of self.old.known) below) optional name.now (option_map (λ v. v.items) found) self.old.world) }
+        ensures kept { Keeps self.old self.new }
+        ensures blames { Blames result self.old.failed self.new.failed }
+    {
+        match found {
+            None => {
+                if optional {
+                    return Ok(());
+                }
+                Err(Stop::Fault(self.fault(4, b"no file ", name.as_bytes())?))
+            }
+            Some(text) => {
+                let place = self.place()?;
+                self.read_file(below, name, &text)?;
+                self.set_place(place);
+                Ok(())
+            }
+        }
+    }
+
+    #[cycle(evaluate)]
+    #[tactic(auto, using(crate::proofs::FrontLemmas::read_text_front), unfolding(crate::specs::Reading::read_file))]
+    pub(crate) fn read_file(&mut self, below: u64, name: &str, text: &[u8]) -> Result<(), Stop>
+        requires { M.writable ≡ true }
+        ensures gives { AreKnown self.old.known → Gives (λ u. u) result self.new.world (read_file (evaluator M.writable (store_of self.old.known) below) name.now text.now self.old.world) }
+        ensures kept { Keeps self.old self.new }
+        ensures blames { Blames result self.old.failed self.new.failed }
+    {
+        if LARGEST < text.len() {
+            return Err(Stop::Fault(self.fault(2, b"file too large: ", name.as_bytes())?));
+        }
+        let file = Shared::from_vec(Vec::from_slice(self.alloc, name.as_bytes())?)?;
+        self.read_text(below, &Source::File(file), text)
+    }
+
+    // Reads the first of these files that is there.
+    #[tactic(auto, using(crate::proofs::FrontLemmas::read_first_longer, crate::proofs::FrontLemmas::read_first_same), unfolding(crate::specs::Reading::read_first))]
+    pub(crate) fn read_first(&mut self, limit: u64, names: &[&str]) -> Result<(), Stop>
+        requires { M.writable ≡ true }
+        ensures gives { AreKnown self.old.known → Gives (λ u. u) result self.new.world (read_first (store_of self.old.known) (evaluator M.writable (store_of self.old.known) limit) (map (λ name. name.now) names.now) self.old.world) }
+        ensures kept { Keeps self.old self.new }
+        ensures blames { Blames result self.old.failed self.new.failed }
+    {
+        for name in names {
+            if let Some(text) = self.read_bytes(name)? {
+                return self.read_file(limit, name, &text);
+            }
+        }
+        Err(Stop::Fault(self.fault(3, b"no makefile", b"")?))
+    }
+}

@@ -1,0 +1,44 @@
+//! Laws of the definitions. These functions do nothing: their contracts are what counts.
+ghost use Rattle.std.specs.Prelude.{ℕ, Bool, List};
+ghost use Rattle.kt_text.specs.Words.{Text};
+ghost use Rattle.kt_eval.specs.declared.function.Function.{Function};
+ghost use Rattle.kt_eval.specs.Expansion.{apply, expanded};
+ghost use Rattle.kt_eval.specs.Files.{Store};
+ghost use Rattle.kt_eval.specs.Growing.{StaysOneDeeper, TakesNothingBack};
+ghost use Rattle.kt_eval.specs.Levels.{evaluator};
+ghost use Rattle.kt_eval.specs.Reading.{read_first};
+ghost use Rattle.kt_eval.specs.Rows.{RowsOfAssignments, RowsOfCalls, RowsOfReading, RowsOfReferences};
+
+/// Worked values of references.
+pub fn rows_of_references()
+    ensures { RowsOfReferences }
+{}
+
+/// Worked values of calls of functions.
+pub fn rows_of_calls()
+    ensures { RowsOfCalls }
+{}
+
+/// Worked values of assignments and conditions.
+pub fn rows_of_assignments()
+    ensures { RowsOfAssignments }
+{}
+
+/// Worked readings of makefiles.
+pub fn rows_of_reading()
+    ensures { RowsOfReading }
+{}
+
+/// No message is taken back, and no name that was asked for.
+pub fn nothing_is_taken_back()
+    ensures expanding { (reads : Bool) (store : Store) (levels : ℕ) (text : Text) → TakesNothingBack (expanded (evaluator reads store levels) text) }
+    ensures applying { (reads : Bool) (store : Store) (levels : ℕ) (function : Function) (arguments : List Text) → TakesNothingBack (apply (evaluator reads store levels) function arguments) }
+    ensures reading { (reads : Bool) (store : Store) (levels : ℕ) (names : List Text) → TakesNothingBack (read_first store (evaluator reads store levels) names) }
+{}
+
+/// What isn't too deep (E08) with so many levels is the same with one more.
+pub fn one_deeper()
+    ensures expanding { (reads : Bool) (store : Store) (text : Text) → StaysOneDeeper (λ levels. expanded (evaluator reads store levels) text) }
+    ensures applying { (reads : Bool) (store : Store) (function : Function) (arguments : List Text) → StaysOneDeeper (λ levels. apply (evaluator reads store levels) function arguments) }
+    ensures reading { (reads : Bool) (store : Store) (names : List Text) → StaysOneDeeper (λ levels. read_first store (evaluator reads store levels) names) }
+{}

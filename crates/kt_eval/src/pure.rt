@@ -1,0 +1,92 @@
+//! Texts expanded after all reading, as recipes are.
+ghost use Rattle.std.specs.Prelude.{◌≡◌, [], false};
+ghost use Rattle.kt_eval.specs.Step.{Ends, ending};
+ghost use Rattle.kt_eval.specs.Expansion.{expanded};
+ghost use Rattle.kt_eval.specs.Fronts.{IsFront};
+ghost use Rattle.kt_eval.specs.Levels.{evaluator};
+ghost use Rattle.kt_eval.specs.State.{frozen_world};
+
+use crate::evaluation::Evaluation;
+use crate::files::{FileFault, Files};
+use crate::macros::Macros;
+use crate::scope::Frozen;
+use crate::state::Automatic;
+use crate::stop::Stop;
+use kt_list::Sequence;
+use kt_rules::Place;
+use std::alloc::Global;
+
+impl Macros {
+    /// The text with its references expanded, for a recipe: no macro is set, so `eval` is refused.
+    ///
+    /// The text stands at level 0. Without a place, as for the goal that a macro names, messages
+    /// begin with the program's name. GNU make manual, "How to Use Variables", "Using Variables in
+    /// Recipes". Messages are appended in order; where memory is refused, a beginning of them.
+    pub fn expand_pure(
+        &self,
+        alloc: Global,
+        text: &[u8],
+        automatic: &[Automatic],
+        place: Option<Place>,
+        messages: &mut Vec<Sequence<u8>>,
+        limit: u64,
+    ) -> Result<Vec<u8>, Stop>
+        ensures appends { IsFront messages.old.items messages.new.items }
+        ensures ends { Ends result messages.new.items
+            (ending (expanded (evaluator false [] limit) text.now (frozen_world self.now automatic.now place messages.old.items))) }
+    {
+        let before = std::mem::replace(messages, Vec::new(alloc));
+        let mut files = NoFiles;
+        let mut evaluation = Evaluation {
+            alloc,
+            macros: Frozen {
+                macros: self,
+                automatic,
+            },
+            frames: Vec::new(alloc),
+            messages: before,
+            place,
+            rule: None,
+            files: &mut files,
+        };
+        let result = evaluation.expand_here(limit, text);
+        let Evaluation {
+            alloc: _alloc,
+            macros: _macros,
+            frames: _frames,
+            messages: after,
+            place: _place,
+            rule: _rule,
+            files,
+        } = evaluation;
+        let _ = &*files;
+        *messages = after;
+        result
+    }
+}
+
+// A recipe reads no file.
+#[derive(Clone, Copy)]
+struct NoFiles;
+
+impl Files for NoFiles {
+    ghost use Rattle.std.specs.Prelude.{Some};
+
+    ghost known = { λ _. Some [] };
+
+    ghost names = { λ _. [] };
+
+    ghost failed = { λ _. 0 };
+
+    fn read(&mut self, _name: &str) -> Result<Option<Vec<u8>>, FileFault> {
+        Err(FileFault::Memory)
+    }
+
+    fn asked(&self) -> &[String] {
+        &[]
+    }
+
+    fn failures(&self) -> u64 {
+        0
+    }
+}

@@ -1,0 +1,399 @@
+//! Makefiles read, line by line.
+ghost use Rattle.std.specs.Prelude.{◌≡◌, ◌<◌, ◌≤◌, ◌+◌, length, option_map, IfOk, Some, true};
+ghost use Rattle.std.specs.List.{slice_get, slice_range};
+ghost use Rattle.kt_syntax.specs.Kinds.{kind_of, kind_told};
+ghost use Rattle.kt_syntax.specs.Blocks.{tree_of};
+ghost use Rattle.kt_syntax.specs.Reading.{IsAhead, IsConditional, ReadsOn, left_at};
+ghost use Rattle.kt_syntax.specs.declared.step.Step.TheVariants as step;
+ghost use Rattle.kt_eval.specs.Levels.{evaluator};
+ghost use Rattle.kt_eval.specs.Reading.{branch_holds, line_at, read_bare_tab, read_define, read_end, read_held, read_include, read_items, read_kind, read_line, read_sheet, read_stray, read_tab, read_text};
+ghost use Rattle.kt_eval.specs.Assignments.{assign_line};
+ghost use Rattle.kt_eval.specs.Rules.{rule_line, rule_of_parts};
+ghost use Rattle.kt_syntax.specs.Comments.{plain_of};
+ghost use Rattle.kt_syntax.specs.Recipes.{recipe_of};
+ghost use Rattle.kt_eval.specs.Step.{AreKnown, Blames, Gives, GivesOn, Stopped, store_of, Keeps};
+ghost use Rattle.kt_eval.specs.Views.{raw_told};
+
+use crate::evaluation::Evaluation;
+use crate::fault::Fault;
+use crate::files::Files;
+use crate::page::{Page, RawLine, Source};
+use crate::scope::Scope;
+use crate::stop::Stop;
+use kt_list::Sequence;
+use kt_syntax::{
+    Directive, Form, Missing, Operator, Step, Stray, TargetSpecific, classify, plain, recipe_text,
+    rule_parts,
+};
+use kt_text::{LineFault, logical_lines};
+use std::alloc::{AllocError, Global};
+
+impl<'a, M: Scope, F: Files> Evaluation<'a, M, F> {
+    // The end that is missing.
+    #[tactic(auto, using(crate::proofs::FrontLemmas::read_end_front), unfolding(crate::specs::Reading::read_end))]
+    fn read_end(&mut self, source: &Source, missing: Option<Missing>) -> Result<(), Stop>
+        ensures gives { Gives (λ u. u) result self.new.world (read_end source.now missing self.old.world) }
+        ensures kept { Keeps self.old self.new }
+        ensures blames { Blames result self.old.failed self.new.failed }
+        ensures unfailed { self.new.failed ≡ self.old.failed }
+    {
+        match missing {
+            None => Ok(()),
+            Some(Missing::Endif(number)) => {
+                self.move_to(source, number)?;
+                Err(Stop::Fault(self.fault(12, b"missing endif", b"")?))
+            }
+            Some(Missing::Endef(number)) => {
+                self.move_to(source, number)?;
+                Err(Stop::Fault(self.fault(14, b"missing endef", b"")?))
+            }
+        }
+    }
+
+    // The fault of a line that continues or ends no block.
+    #[tactic(auto, unfolding(crate::specs::Reading::read_stray))]
+    fn stray(&self, kind: Stray) -> Result<Fault, AllocError>
+        ensures { IfOk result (λ fault. read_stray kind self.now.world ≡ Stopped self.now.world fault) }
+    {
+        match kind {
+            Stray::Else | Stray::LateElse => self.fault(10, b"stray else", b""),
+            Stray::Endif => self.fault(11, b"stray endif", b""),
+            Stray::Endef => self.fault(13, b"stray endef", b""),
+        }
+    }
+
+    // The text of an `eval` has rules of its own.
+    #[cycle(evaluate)]
+    #[tactic(auto, unfolding(crate::specs::Reading::read_held))]
+    pub(crate) fn read_held(&mut self, below: u64, text: &[u8]) -> Result<(), Stop>
+        requires { M.writable ≡ true }
+        ensures gives { AreKnown self.old.known → Gives (λ u. u) result self.new.world (read_held (evaluator M.writable (store_of self.old.known) below) text.now self.old.world) }
+        ensures kept { Keeps self.old self.new }
+        ensures blames { Blames result self.old.failed self.new.failed }
+    {
+        let outer = self.take_rule();
+        self.read_text(below, &Source::Held, text)?;
+        self.set_rule(outer);
+        Ok(())
+    }
+
+    #[cycle(evaluate)]
+    #[tactic(auto, using(crate::proofs::FrontLemmas::read_sheet_front, crate::proofs::FrontLemmas::read_without_nul_front), unfolding(crate::specs::Reading::read_text))]
+    pub(crate) fn read_text(&mut self, below: u64, source: &Source, text: &[u8]) -> Result<(), Stop>
+        requires { M.writable ≡ true }
+        ensures gives { AreKnown self.old.known → Gives (λ u. u) result self.new.world (read_text (evaluator M.writable (store_of self.old.known) below) source.now text.now self.old.world) }
+        ensures kept { Keeps self.old self.new }
+        ensures blames { Blames result self.old.failed self.new.failed }
+    {
+        match logical_lines(self.alloc, text) {
+            Ok(lines) => {
+                let page = Page::new(self.alloc, source, text, lines)?;
+                self.read_page(below, &page)
+            }
+            Err(LineFault::Nul(number)) => {
+                self.move_to(source, number)?;
+                Err(Stop::Fault(self.fault(1, b"NUL byte", b"")?))
+            }
+            Err(LineFault::Memory) => Err(Stop::Memory),
+        }
+    }
+
+    #[cycle(evaluate)]
+    #[tactic(auto, using(crate::proofs::FrontLemmas::close_rule_longer, crate::proofs::FrontLemmas::close_rule_same, crate::proofs::FrontLemmas::read_end_longer, crate::proofs::FrontLemmas::read_end_same), unfolding(crate::specs::Reading::read_sheet))]
+    pub(crate) fn read_page(&mut self, below: u64, page: &Page<'_>) -> Result<(), Stop>
+        requires { M.writable ≡ true }
+        ensures gives { AreKnown self.old.known → Gives (λ u. u) result self.new.world (read_sheet (evaluator M.writable (store_of self.old.known) below) page.now self.old.world) }
+        ensures kept { Keeps self.old self.new }
+        ensures blames { Blames result self.old.failed self.new.failed }
+    {
+        self.read_items(below, page)?;
+        self.close_rule()?;
+        self.read_end(page.source(), page.missing())
+    }
+
+    #[cycle(evaluate)]
+    #[tactic(auto, unfolding(crate::specs::Reading::read_items))]
+    pub(crate) fn read_items(&mut self, below: u64, page: &Page<'_>) -> Result<(), Stop>
+        requires { M.writable ≡ true }
+        ensures gives { AreKnown self.old.known → Gives (λ u. u) result self.new.world (read_items (evaluator M.writable (store_of self.old.known) below) page.now (tree_of page.now.blocks.steps) self.old.world) }
+        ensures kept { Keeps self.old self.new }
+        ensures blames { Blames result self.old.failed self.new.failed }
+    {
+        let mut place = page.first();
+        'lines: while let Some(step) = page.step(place) {
+            place = self.read_step(below, page, place, step)?;
+        }
+        Ok(())
+    }
+
+    // Reads the line of a place, or tests a conditional, and gives the place to go on from.
+    #[cycle(evaluate)]
+    #[tactic(auto, using(crate::proofs::FrontLemmas::read_items_front, crate::proofs::FrontLemmas::read_items_longer, crate::proofs::FrontLemmas::read_items_same), unfolding(crate::specs::Reading::read_items))]
+    pub(crate) fn read_step(
+        &mut self,
+        below: u64,
+        page: &Page<'_>,
+        place: usize,
+        step: Step,
+    ) -> Result<usize, Stop>
+        requires writable { M.writable ≡ true }
+        requires step { slice_get page.now.blocks.steps place ≡ Some step }
+        requires reads { ReadsOn page.now.blocks.steps place step }
+        requires ahead { IsAhead place (length page.now.blocks.steps) step }
+        requires within { place < length page.now.blocks.steps }
+        ensures ahead { IfOk result (λ at. (place < at) × (at ≤ length page.now.blocks.steps)) }
+        ensures gives { AreKnown self.old.known → GivesOn result self.new.world (λ at. read_items (evaluator M.writable (store_of self.old.known) below) page.now (left_at page.now.blocks.steps at)) (read_items (evaluator M.writable (store_of self.old.known) below) page.now (left_at page.now.blocks.steps place) self.old.world) }
+        ensures kept { Keeps self.old self.new }
+        ensures blames { Blames result self.old.failed self.new.failed }
+    {
+        match step {
+            Step::Line => {
+                let line = self.at_line(page, place)?;
+                self.read_line(below, line)?;
+                Ok(page.behind(place))
+            }
+            Step::Body | Step::Endef | Step::Endif => Ok(page.behind(place)),
+            Step::Define { end } => {
+                let line = self.at_line(page, place)?;
+                let body = page.body(self.alloc, page.behind(place), end)?;
+                self.read_define(below, classify(line.text, false), &body)?;
+                Ok(end)
+            }
+            Step::Conditional { next, after } => {
+                self.read_conditional(below, page, place, next, after)
+            }
+            Step::Branch { after, .. } => Ok(after),
+            Step::Stray(kind) => {
+                let _line = self.at_line(page, place)?;
+                Err(Stop::Fault(self.stray(kind)?))
+            }
+        }
+    }
+
+    // Finds the branch of a conditional that is read.
+    #[cycle(evaluate)]
+    #[tactic(auto, using(crate::proofs::ReadingLemmas::first_taken, crate::proofs::ReadingLemmas::first_passed, crate::proofs::ReadingLemmas::first_halted, crate::proofs::ReadingLemmas::branch_taken, crate::proofs::ReadingLemmas::branch_passed, crate::proofs::ReadingLemmas::branch_stopped, crate::proofs::ReadingLemmas::all_passed))]
+    pub(crate) fn read_conditional(
+        &mut self,
+        below: u64,
+        page: &Page<'_>,
+        place: usize,
+        next: usize,
+        after: usize,
+    ) -> Result<usize, Stop>
+        requires writable { M.writable ≡ true }
+        requires reads { IsConditional page.now.blocks.steps place next after }
+        requires ahead { IsAhead place (length page.now.blocks.steps) (step.Conditional next after) }
+        ensures ahead { IfOk result (λ at. (place < at) × (at ≤ length page.now.blocks.steps)) }
+        ensures gives { AreKnown self.old.known → GivesOn result self.new.world (λ at. read_items (evaluator M.writable (store_of self.old.known) below) page.now (left_at page.now.blocks.steps at)) (read_items (evaluator M.writable (store_of self.old.known) below) page.now (left_at page.now.blocks.steps place) self.old.world) }
+        ensures kept { Keeps self.old self.new }
+        ensures blames { Blames result self.old.failed self.new.failed }
+    {
+        if self.branch_holds(below, page, place, true)? {
+            return Ok(page.behind(place));
+        }
+        let mut at = next;
+        'branches: while let Some((condition, next)) = page.branch(at, after) {
+            if self.branch_holds(below, page, at, condition)? {
+                return Ok(page.behind(at));
+            }
+            at = next;
+        }
+        Ok(after)
+    }
+
+    #[cycle(evaluate)]
+    #[tactic(auto, using(crate::proofs::FrontLemmas::branch_holds_front), unfolding(crate::specs::Reading::branch_holds))]
+    pub(crate) fn branch_holds(
+        &mut self,
+        below: u64,
+        page: &Page<'_>,
+        place: usize,
+        condition: bool,
+    ) -> Result<bool, Stop>
+        requires { M.writable ≡ true }
+        ensures gives { AreKnown self.old.known → Gives (λ b. b) result self.new.world (branch_holds (evaluator M.writable (store_of self.old.known) below) page.now place condition self.old.world) }
+        ensures kept { Keeps self.old self.new }
+        ensures blames { Blames result self.old.failed self.new.failed }
+    {
+        let line = self.at_line(page, place)?;
+        self.line_holds(below, condition, classify(line.text, false))
+    }
+
+    #[cycle(evaluate)]
+    #[tactic(auto, unfolding(crate::specs::Reading::read_line))]
+    pub(crate) fn read_line(&mut self, below: u64, line: RawLine<'_>) -> Result<(), Stop>
+        requires { M.writable ≡ true }
+        ensures gives { AreKnown self.old.known → Gives (λ u. u) result self.new.world (read_line (evaluator M.writable (store_of self.old.known) below) (raw_told line.entry) self.old.world) }
+        ensures kept { Keeps self.old self.new }
+        ensures blames { Blames result self.old.failed self.new.failed }
+    {
+        if line.tab {
+            return self.read_tab(below, line.text);
+        }
+        self.read_kind(below, line.text, classify(line.text, false))
+    }
+
+    // A line that begins with a tab is one of the open rule's recipe, if there is one.
+    #[cycle(evaluate)]
+    #[tactic(auto, unfolding(crate::specs::Reading::read_tab))]
+    pub(crate) fn read_tab(&mut self, below: u64, text: &[u8]) -> Result<(), Stop>
+        requires { M.writable ≡ true }
+        ensures gives { AreKnown self.old.known → Gives (λ u. u) result self.new.world (read_tab (evaluator M.writable (store_of self.old.known) below) text.now self.old.world) }
+        ensures kept { Keeps self.old self.new }
+        ensures blames { Blames result self.old.failed self.new.failed }
+    {
+        match self.take_rule() {
+            None => self.read_bare_tab(below, classify(text, true)),
+            Some(rule) => self.recipe_line(rule, text),
+        }
+    }
+
+    #[cycle(evaluate)]
+    #[tactic(auto, unfolding(crate::specs::Reading::read_bare_tab))]
+    pub(crate) fn read_bare_tab(&mut self, below: u64, form: Form<'_>) -> Result<(), Stop>
+        requires { M.writable ≡ true }
+        ensures gives { AreKnown self.old.known → Gives (λ u. u) result self.new.world (read_bare_tab (evaluator M.writable (store_of self.old.known) below) (kind_told form.entry) self.old.world) }
+        ensures kept { Keeps self.old self.new }
+        ensures blames { Blames result self.old.failed self.new.failed }
+    {
+        match form {
+            Form::Blank => Ok(()),
+            Form::Assignment(name, operator, value) => {
+                self.read_assignment(below, name, operator, value)
+            }
+            _ => Err(Stop::Fault(self.fault(6, b"recipe before a target", b"")?)),
+        }
+    }
+
+    #[cycle(evaluate)]
+    #[tactic(auto, using(crate::proofs::FrontLemmas::assign_line_front))]
+    pub(crate) fn read_assignment(
+        &mut self,
+        below: u64,
+        name: &[u8],
+        operator: Operator,
+        value: &[u8],
+    ) -> Result<(), Stop>
+        requires { M.writable ≡ true }
+        ensures gives { AreKnown self.old.known → Gives (λ u. u) result self.new.world (assign_line (evaluator M.writable (store_of self.old.known) below) (plain_of name.now) operator (plain_of value.now) self.old.world) }
+        ensures kept { Keeps self.old self.new }
+        ensures blames { Blames result self.old.failed self.new.failed }
+    {
+        let name = plain(self.alloc, name)?;
+        let value = plain(self.alloc, value)?;
+        self.assign_line(below, &name, operator, &value)
+    }
+
+    // An assignment, an include and a rule line close the rule that is open.
+    #[cycle(evaluate)]
+    #[tactic(auto, using(crate::proofs::FrontLemmas::assign_line_longer, crate::proofs::FrontLemmas::assign_line_same, crate::proofs::FrontLemmas::rule_line_longer, crate::proofs::FrontLemmas::rule_line_same), unfolding(crate::specs::Reading::read_kind))]
+    pub(crate) fn read_kind(&mut self, below: u64, text: &[u8], form: Form<'_>) -> Result<(), Stop>
+        requires { M.writable ≡ true }
+        ensures gives { AreKnown self.old.known → Gives (λ u. u) result self.new.world (read_kind (evaluator M.writable (store_of self.old.known) below) text.now (kind_told form.entry) self.old.world) }
+        ensures kept { Keeps self.old self.new }
+        ensures blames { Blames result self.old.failed self.new.failed }
+    {
+        match form {
+            Form::Blank => Ok(()),
+            Form::Assignment(name, operator, value) => {
+                self.close_rule()?;
+                self.read_assignment(below, name, operator, value)
+            }
+            Form::Directive(Directive::Include, rest) => self.read_include(below, false, rest),
+            Form::Directive(Directive::OptionalInclude, rest) => self.read_include(
+                below, true, rest,
+            ),
+            Form::Directive(_, _) => Ok(()),
+            Form::Refused(word) => Err(Stop::Fault(self.fault(17, b"refused form ", word)?)),
+            Form::Rule => {
+                self.close_rule()?;
+                self.rule_line(below, text)
+            }
+        }
+    }
+
+    #[cycle(evaluate)]
+    #[tactic(auto, using(crate::proofs::FrontLemmas::include_line_front, crate::proofs::FrontLemmas::include_line_longer, crate::proofs::FrontLemmas::include_line_same), unfolding(crate::specs::Reading::read_include))]
+    pub(crate) fn read_include(
+        &mut self,
+        below: u64,
+        optional: bool,
+        rest: &[u8],
+    ) -> Result<(), Stop>
+        requires { M.writable ≡ true }
+        ensures gives { AreKnown self.old.known → Gives (λ u. u) result self.new.world (read_include (evaluator M.writable (store_of self.old.known) below) optional rest.now self.old.world) }
+        ensures kept { Keeps self.old self.new }
+        ensures blames { Blames result self.old.failed self.new.failed }
+    {
+        self.close_rule()?;
+        let text = plain(self.alloc, rest)?;
+        self.include_line(below, optional, &text)
+    }
+
+    #[cycle(evaluate)]
+    #[tactic(auto, using(crate::proofs::FrontLemmas::define_longer, crate::proofs::FrontLemmas::define_same), unfolding(crate::specs::Reading::read_define))]
+    pub(crate) fn read_define(
+        &mut self,
+        below: u64,
+        form: Form<'_>,
+        body: &[u8],
+    ) -> Result<(), Stop>
+        requires { M.writable ≡ true }
+        ensures gives { AreKnown self.old.known → Gives (λ u. u) result self.new.world (read_define (evaluator M.writable (store_of self.old.known) below) (kind_told form.entry) body.now self.old.world) }
+        ensures kept { Keeps self.old self.new }
+        ensures blames { Blames result self.old.failed self.new.failed }
+    {
+        match form {
+            Form::Directive(Directive::Define, rest) => {
+                self.close_rule()?;
+                self.define(below, rest, classify(rest, true), body)
+            }
+            _ => Ok(()),
+        }
+    }
+
+    #[cycle(evaluate)]
+    #[tactic(auto, unfolding(crate::specs::Rules::rule_line, crate::specs::Rules::rule_of_parts))]
+    pub(crate) fn rule_line(&mut self, below: u64, text: &[u8]) -> Result<(), Stop>
+        requires { M.writable ≡ true }
+        ensures gives { AreKnown self.old.known → Gives (λ u. u) result self.new.world (rule_line (evaluator M.writable (store_of self.old.known) below) text.now self.old.world) }
+        ensures kept { Keeps self.old self.new }
+        ensures blames { Blames result self.old.failed self.new.failed }
+    {
+        match rule_parts(text) {
+            Err(TargetSpecific) => Err(Stop::Fault(self.fault(23, b"target-specific macro", b"")?)),
+            Ok(parts) => self.read_rule(below, parts.head, parts.recipe),
+        }
+    }
+
+    // A rule line by its parts.
+    #[cycle(evaluate)]
+    #[tactic(auto, using(crate::proofs::FrontLemmas::rule_of_parts_front, crate::proofs::FrontLemmas::open_rule_longer, crate::proofs::FrontLemmas::open_rule_same), unfolding(crate::specs::Rules::rule_of_parts))]
+    pub(crate) fn read_rule(
+        &mut self,
+        below: u64,
+        head: &[u8],
+        recipe: Option<&[u8]>,
+    ) -> Result<(), Stop>
+        requires { M.writable ≡ true }
+        ensures gives { AreKnown self.old.known → Gives (λ u. u) result self.new.world (rule_of_parts (evaluator M.writable (store_of self.old.known) below) (Some (record { head = head.now; recipe = option_map (λ text. text.now) recipe.entry })) self.old.world) }
+        ensures kept { Keeps self.old self.new }
+        ensures blames { Blames result self.old.failed self.new.failed }
+    {
+        let recipe = recipe_of(self.alloc, recipe)?;
+        let head = plain(self.alloc, head)?;
+        let head = self.expand_here(below, &head)?;
+        self.open_rule(recipe, &head)
+    }
+}
+
+// The recipe that a rule line has itself.
+fn recipe_of(alloc: Global, recipe: Option<&[u8]>) -> Result<Option<Sequence<u8>>, AllocError>
+    ensures { IfOk result (λ text. text ≡ option_map recipe_of (option_map (λ part. part.now) recipe.entry)) }
+{
+    match recipe {
+        None => Ok(None),
+        Some(recipe) => Ok(Some(Sequence::from(recipe_text(alloc, recipe)?))),
+    }
+}

@@ -1,0 +1,152 @@
+//! Where names are looked up that nothing binds, and where rules go.
+ghost use Rattle.std.specs.Prelude.{◌≡◌, ◌++◌, ◌∷◌, [], Bool, List, IfOk, OnErr, OnOk, true, option_map};
+ghost use Rattle.kt_rules.specs.Book.{added, refusal_of};
+ghost use Rattle.kt_rules.specs.Entry.{Rule};
+ghost use Rattle.kt_rules.specs.Refusals.{Answers};
+ghost use Rattle.kt_eval.specs.Table.{Table, find, put};
+ghost use Rattle.kt_eval.specs.State.{automatic_value, unbound};
+ghost use Rattle.kt_eval.specs.declared.macros.Macro.{Macro};
+ghost use Rattle.kt_eval.specs.declared.state.Automatic.{Automatic};
+
+use crate::macros::{Flavour, Macro, Macros};
+use crate::state::{Automatic, Found};
+use kt_list::Shared;
+use kt_rules::{Book, Entry, RuleFault, Warnings};
+use std::alloc::AllocError;
+
+/// Macros, automatic ones before them, and rules.
+pub(crate) trait Scope {
+    /// The macros that were set.
+    ghost table: { Self → Table };
+
+    /// The automatic macros, which hide them.
+    ghost automatic: { Self → List Automatic };
+
+    /// The rules that were closed.
+    ghost book: { Self → List Rule };
+
+    /// Whether macros may be set and rules made: a makefile may, a recipe may not.
+    ghost writable: { Bool };
+
+    fn is_writable(&self) -> bool
+        ensures { result ≡ writable };
+
+    fn find(&self, name: &[u8]) -> Result<Option<Found>, AllocError>
+        ensures { IfOk result (λ found. found ≡ unbound name.now (automatic self.now) (table self.now)) };
+
+    fn get(&self, name: &[u8]) -> Option<&Macro>
+        ensures { option_map (λ entry. entry.now) result ≡ find name.now (table self.now) };
+
+    fn put(&mut self, name: Vec<u8>, value: Macro) -> Result<(), AllocError>
+        requires { writable ≡ true }
+        ensures set { OnOk result (table self.new ≡ put name.items value (table self.old)) }
+        ensures kept_automatic { automatic self.new ≡ automatic self.old }
+        ensures kept_book { book self.new ≡ book self.old };
+
+    fn add(&mut self, rule: Entry) -> Result<Warnings, RuleFault>
+        requires { writable ≡ true }
+        ensures answers { Answers result (added (book self.old) rule (refusal_of (book self.old) rule)) }
+        ensures grown { OnOk result (book self.new ≡ book self.old ++ rule ∷ []) }
+        ensures refused { OnErr result (book self.new ≡ book self.old) }
+        ensures kept_automatic { automatic self.new ≡ automatic self.old }
+        ensures kept_table { table self.new ≡ table self.old };
+}
+
+/// What a makefile sets: macros and rules.
+#[derive(Drop)]
+pub(crate) struct Makefile {
+    pub(crate) macros: Macros,
+    pub(crate) book: Book,
+}
+
+impl Scope for Makefile {
+    ghost use Rattle.std.specs.Prelude.{[]};
+
+    ghost table = { λ s. s.macros };
+
+    ghost automatic = { λ _. [] };
+
+    ghost book = { λ s. s.book };
+
+    ghost writable = { true };
+
+    fn is_writable(&self) -> bool {
+        true
+    }
+
+    #[tactic(auto, unfolding(crate::specs::State::automatic_value))]
+    fn find(&self, name: &[u8]) -> Result<Option<Found>, AllocError> {
+        self.macros.found(name)
+    }
+
+    fn get(&self, name: &[u8]) -> Option<&Macro> {
+        self.macros.get(name)
+    }
+
+    fn put(&mut self, name: Vec<u8>, value: Macro) -> Result<(), AllocError> {
+        self.macros.insert(name, value)
+    }
+
+    fn add(&mut self, rule: Entry) -> Result<Warnings, RuleFault> {
+        self.book.add(rule)
+    }
+}
+
+/// The macros of a makefile and the automatic ones of a recipe, neither of which changes.
+#[derive(Drop)]
+pub(crate) struct Frozen<'a> {
+    pub(crate) macros: &'a Macros,
+    pub(crate) automatic: &'a [Automatic],
+}
+
+impl<'a> Scope for Frozen<'a> {
+    ghost use Rattle.std.specs.Prelude.{[], false};
+
+    ghost table = { λ s. s.macros.now };
+
+    ghost automatic = { λ s. s.automatic.now };
+
+    ghost book = { λ _. [] };
+
+    ghost writable = { false };
+
+    fn is_writable(&self) -> bool {
+        false
+    }
+
+    #[tactic(auto, unfolding(crate::specs::State::automatic_value))]
+    fn find(&self, name: &[u8]) -> Result<Option<Found>, AllocError> {
+        if let Some(value) = automatic_value(self.automatic, name) {
+            return Ok(Some(Found {
+                flavour: Flavour::Immediate,
+                value: value.share()?,
+            }));
+        }
+        self.macros.found(name)
+    }
+
+    fn get(&self, name: &[u8]) -> Option<&Macro> {
+        self.macros.get(name)
+    }
+
+    fn put(&mut self, _name: Vec<u8>, _value: Macro) -> Result<(), AllocError> {
+        unreachable!()
+    }
+
+    fn add(&mut self, _rule: Entry) -> Result<Warnings, RuleFault> {
+        unreachable!()
+    }
+}
+
+// The value of an automatic macro.
+#[tactic(auto, unfolding(crate::specs::State::automatic_value))]
+fn automatic_value<'a>(macros: &'a [Automatic], name: &[u8]) -> Option<&'a Shared<u8>>
+    ensures { option_map (λ value. value.now) result ≡ automatic_value name.now macros.now }
+{
+    for entry in macros {
+        if entry.name.as_slice() == name {
+            return Some(&entry.value);
+        }
+    }
+    None
+}

@@ -1,0 +1,728 @@
+//! What makefiles say when they are read, by the rows that kati is to read.
+use kt_eval::{Fault, Files, Flavour, Machine, Macro, Macros, MemFiles, Origin, Stop};
+use kt_list::{Sequence, Shared};
+use kt_rules::{Book, Name, RecipeLine};
+use std::alloc::{AllocError, Global};
+use std::process::Abort;
+use std::test::Fail;
+
+mod hostile;
+mod refusals;
+
+/// What a reading begins with, beside `Makefile`.
+#[derive(Clone, Copy)]
+struct Start<'a> {
+    /// Macros of the command line.
+    arguments: &'a [(&'a str, &'a str)],
+    files: &'a [(&'a str, &'a str)],
+    limit: u64,
+}
+
+const ALONE: Start<'static> = Start {
+    arguments: &[],
+    files: &[],
+    limit: 100,
+};
+
+fn files_of(alloc: Global, named: &[(&str, &str)]) -> Result<Vec<(String, Vec<u8>)>, AllocError> {
+    let mut pairs = Vec::new(alloc);
+    for (name, text) in named {
+        pairs.push((
+            name.to_string(alloc)?,
+            Vec::from_slice(alloc, text.as_bytes())?,
+        ))?;
+    }
+    Ok(pairs)
+}
+
+fn arguments_of(alloc: Global, named: &[(&str, &str)]) -> Result<Macros, AllocError> {
+    let mut macros = Macros::new(alloc);
+    for (name, text) in named {
+        let value = Shared::from_vec(Vec::from_slice(alloc, text.as_bytes())?)?;
+        macros.insert(
+            Vec::from_slice(alloc, name.as_bytes())?,
+            Macro {
+                flavour: Flavour::Deferred,
+                origin: Origin::CommandLine,
+                value,
+            },
+        )?;
+    }
+    Ok(macros)
+}
+
+fn put_messages(out: &mut Vec<u8>, messages: &[Sequence<u8>]) -> Result<(), AllocError> {
+    for message in messages {
+        out.extend_from_slice(message.as_slice())?;
+        out.push(b'\n')?;
+    }
+    Ok(())
+}
+
+fn put_asked(out: &mut Vec<u8>, names: &[String]) -> Result<(), AllocError> {
+    for name in names {
+        out.extend_from_slice(b"< ")?;
+        out.extend_from_slice(name.as_bytes())?;
+        out.push(b'\n')?;
+    }
+    Ok(())
+}
+
+fn put_names(out: &mut Vec<u8>, names: &[Name]) -> Result<(), AllocError> {
+    for name in names {
+        out.push(b' ')?;
+        out.extend_from_slice(name.as_slice())?;
+    }
+    Ok(())
+}
+
+fn put_recipe(out: &mut Vec<u8>, lines: &[RecipeLine]) -> Result<(), AllocError> {
+    for line in lines {
+        out.push(b'\t')?;
+        out.extend_from_slice(line.text.as_slice())?;
+        out.push(b'\n')?;
+    }
+    Ok(())
+}
+
+/// The rules of a goal, much as a makefile has them.
+fn put_rules(out: &mut Vec<u8>, book: &Book, goal: &[u8]) -> Result<(), AllocError> {
+    for rule in book.explicit(goal) {
+        let needs = rule.entry.needs(rule.target);
+        out.extend_from_slice(goal)?;
+        out.push(b':')?;
+        put_names(out, needs.prerequisites.as_slice())?;
+        out.extend_from_slice(b" |")?;
+        put_names(out, needs.order_only.as_slice())?;
+        out.push(b'\n')?;
+        put_recipe(out, rule.entry.recipe().unwrap_or(&[]))?;
+    }
+    Ok(())
+}
+
+fn put_fault(out: &mut Vec<u8>, fault: &Fault) -> Result<(), AllocError> {
+    match &fault.place {
+        Some(place) => place.append_to(out)?,
+        None => out.extend_from_slice(b"kati")?,
+    }
+    out.extend_from_slice(b": *** ")?;
+    out.extend_from_slice(fault.words.as_slice())?;
+    out.extend_from_slice(b" [E")?;
+    out.push(b'0' + fault.number / 10)?;
+    out.push(b'0' + fault.number % 10)?;
+    out.push(b']')?;
+    Ok(())
+}
+
+fn put_stop(out: &mut Vec<u8>, stop: &Stop) -> Result<(), AllocError> {
+    match stop {
+        Stop::Fault(fault) => put_fault(out, fault),
+        Stop::Device(name) => {
+            out.extend_from_slice(b"cannot read ")?;
+            out.extend_from_slice(name.as_bytes())
+        }
+        Stop::Memory => out.extend_from_slice(b"no memory"),
+    }
+}
+
+/// The rules of the first goal, or what stopped the reading.
+fn put_end(out: &mut Vec<u8>, book: &Book, outcome: &Result<(), Stop>) -> Result<(), AllocError> {
+    match outcome {
+        Ok(()) => put_rules(out, book, book.first_goal().unwrap_or(b"")),
+        Err(stop) => put_stop(out, stop),
+    }
+}
+
+/// Reads. It stands apart so that what the contract says of a reading burdens no other proof.
+fn read(machine: &mut Machine, files: &mut MemFiles, names: &[&str]) -> Result<(), Stop> {
+    machine.read_file(files, names)
+}
+
+/// The messages of reading `Makefile`, the names asked for behind `makefile` and `Makefile`, and how the reading ended.
+fn told(alloc: Global, start: Start<'_>, makefile: &[u8]) -> Result<Vec<u8>, AllocError> {
+    let mut pairs = files_of(alloc, start.files)?;
+    let makefile = Vec::from_slice(alloc, makefile)?;
+    pairs.push(("Makefile".to_string(alloc)?, makefile))?;
+    let mut files = MemFiles::new(alloc, pairs, 0);
+    let macros = arguments_of(alloc, start.arguments)?;
+    let mut machine = Machine::new(alloc, macros, start.limit)?;
+    let outcome = read(&mut machine, &mut files, &["makefile", "Makefile"]);
+    let reading = machine.finish();
+    let mut out = Vec::new(alloc);
+    put_messages(&mut out, reading.messages.as_slice())?;
+    put_asked(&mut out, files.asked().get(2..).unwrap_or(&[]))?;
+    put_end(&mut out, &reading.book, &outcome)?;
+    Ok(out)
+}
+
+fn tells(
+    rt: &impl Abort,
+    alloc: Global,
+    start: Start<'_>,
+    rows: &[(&str, &str)],
+) -> Result<(), AllocError> {
+    for (makefile, expected) in rows {
+        let found = told(alloc, start, makefile.as_bytes())?;
+        assert_eq!(rt; found.as_slice(), expected.as_bytes(), "of {makefile}");
+    }
+    Ok(())
+}
+
+fn with_limit(limit: u64) -> Start<'static> {
+    Start {
+        arguments: &[],
+        files: &[],
+        limit,
+    }
+}
+
+#[test]
+fn assigns(rt: HostRuntime) -> Result<(), Fail> {
+    let alloc = rt.alloc();
+    tells(
+        &rt,
+        alloc,
+        with_limit(100),
+        &[
+            ("A = x\nA += y\n$(info [$(A)])\n", "[x y]\n"),
+            ("A :::= $$\n$(info $(value A))\n", "$$\n"),
+            ("A := $$x\n$(info $(value A))\n", "$x\n"),
+            (
+                "A = 1\nD = $(A)\nI ::= $(A)\nT :::= $$x$(A)\nA = 2\nT += $(A)\n$(info $(D) $(I) $(T))\n",
+                "2 1 $x1 2\n",
+            ),
+            ("A := x\nA += $(eval A := y)z\n$(info $(A))\n", "x z\n"),
+            ("A := x\nA += $(eval A = y)z\n$(info $(value A))\n", "x z\n"),
+            ("A += $(B)\nB = y\n$(info $(A))\n", "y\n"),
+            ("A = 1\nA ?= 2\nB ?= 3\n$(info $(A)$(B))\n", "13\n"),
+            ("A = ok # $(\n$(info [$(A)])\n", "[ok ]\n"),
+            ("A = $(x # y\n$(info $(value A))\n", "$(x # y\n"),
+            ("A = $(x\nall:\n", "all: |\n"),
+            ("A$(x = 1\n", "Makefile:1: *** unterminated reference [E07]"),
+            ("a\\:=b\n$(info $(a\\))\n", "b\n"),
+            ("a\\ = b\n$(info $(a\\))\n", "b\n"),
+            ("a+b?c;d$$ = 1\n$(info [$(value a+b?c;d$$)])\n", "[1]\n"),
+            (
+                "e = $() \nA$(e) = 1\n",
+                "Makefile:2: *** bad macro name [E09]",
+            ),
+            ("X != ls\n", "Makefile:1: *** refused form != [E17]"),
+            (
+                "X := $(shell ls)\n",
+                "Makefile:1: *** refused function shell [E16]",
+            ),
+            (
+                "E =\n\tA = 1\n\t# c\n$(info $(A))\nB = 2\n\t$(E)\n",
+                "1\nMakefile:6: *** recipe before a target [E06]",
+            ),
+            (
+                "$(info [$(SHELL)][$(.SHELLFLAGS)][$(MAKE)])\n",
+                "[/bin/sh][-c][make]\n",
+            ),
+        ],
+    )?;
+    Ok(())
+}
+
+#[test]
+fn defines(rt: HostRuntime) -> Result<(), Fail> {
+    let alloc = rt.alloc();
+    tells(
+        &rt,
+        alloc,
+        with_limit(100),
+        &[
+            (
+                "define A\ndefine B\nx\nendef\nendef\n$(info $(value A))\n",
+                "define B\nx\nendef\n",
+            ),
+            ("define A = $(\nx\nendef\n$(info [$(A)])\n", "[x]\n"),
+            (
+                "define A B\nx\nendef\n",
+                "Makefile:1: *** bad macro name [E09]",
+            ),
+            ("define A \nx\nendef\n$(info [$(A)])\n", "[x]\n"),
+            (
+                "define A\nendef = x\ndefine := y\nendef#c\n$(info [$(value A)])\n",
+                "[endef = x\ndefine := y]\n",
+            ),
+            ("define A :=\n$(warning w)\n\nendef\n", "Makefile:1: w\n"),
+            (
+                "define A :=\n$(error no)\nendef\n",
+                "Makefile:1: *** no [E19]",
+            ),
+            ("define A !=\nx\n", "Makefile:1: *** refused form != [E17]"),
+            (
+                "ifdef X\ndefine A !=\nx\n",
+                "Makefile:2: *** missing endef [E14]",
+            ),
+            ("A = a\ndefine A +=\nb\nendef\n$(info [$(A)])\n", "[a b]\n"),
+            ("define N\n\n\nendef\n$(info [$(N)])\n", "[\n]\n"),
+            ("endef\n", "Makefile:1: *** stray endef [E13]"),
+            (
+                "a: b\na:: c\ndefine\nendef\n",
+                "Makefile:2: *** single and double colon on a [E24]",
+            ),
+        ],
+    )?;
+    Ok(())
+}
+
+#[test]
+fn reads_conditions(rt: HostRuntime) -> Result<(), Fail> {
+    let alloc = rt.alloc();
+    tells(
+        &rt,
+        alloc,
+        with_limit(100),
+        &[
+            (
+                "ifeq (a,b)\n$(error no)\nelse ifeq \"a\" 'a'\n$(info yes)\nendif\n",
+                "yes\n",
+            ),
+            (
+                "ifdef X\nelse\nelse\nendif\n",
+                "Makefile:3: *** stray else [E10]",
+            ),
+            ("endif\n", "Makefile:1: *** stray endif [E11]"),
+            ("endif $(x\n", "Makefile:1: *** stray endif [E11]"),
+            ("ifeq(a,b)\n", "Makefile:1: *** missing separator [E05]"),
+            (
+                "ifdef X\nelse ifeq(a,a)\nelse\nendif\n",
+                "Makefile:3: *** stray else [E10]",
+            ),
+            (
+                "ifdef Q\nelse ifdef = x\nendif\n",
+                "Makefile:2: *** bad conditional [E15]",
+            ),
+            ("ifdef Q\nelse endif\n$(info y)\nendif\n", "y\n"),
+            (
+                "ifeq \" a\" \"a\"\n$(info same)\nelse\n$(info other)\nendif\n",
+                "other\n",
+            ),
+            (
+                "ifeq \"a\"'a'\n$(info same)\nelse\n$(info other)\nendif\n",
+                "same\n",
+            ),
+            (
+                "ifeq ( a , a )\n$(info same)\nelse\n$(info other)\nendif\n",
+                "same\n",
+            ),
+            (
+                "ifeq (${a,b},c)\nendif\n",
+                "Makefile:1: *** unterminated reference [E07]",
+            ),
+            (
+                "ifeq ($(a,b)\nendif\n",
+                "Makefile:1: *** bad conditional [E15]",
+            ),
+            (
+                "ifeq '$(subst ','a' 'x'\nendif\n",
+                "Makefile:1: *** bad conditional [E15]",
+            ),
+            (
+                "A =\nB = $(A)\nifdef A\n$(info a)\nelse ifndef B\n$(info no)\nelse\n$(info b)\nendif\n",
+                "b\n",
+            ),
+            (
+                "define T\nifdef v\n$(info yes)\nelse\n$(info no)\nendif\nendef\n$(foreach v,1,$(eval $(value T)))\n",
+                "yes\n",
+            ),
+            ("\n$(eval ifdef X)\n", "Makefile:2: *** missing endif [E12]"),
+            (
+                "$(info hi)\nifdef X\n",
+                "hi\nMakefile:2: *** missing endif [E12]",
+            ),
+            ("ifdef X\nifdef Y\n", "Makefile:2: *** missing endif [E12]"),
+            (
+                "ifdef X\nifdef Y\ndefine Z\n",
+                "Makefile:3: *** missing endef [E14]",
+            ),
+            (
+                "ifndef X\na: b\na:: c\n",
+                "Makefile:3: *** single and double colon on a [E24]",
+            ),
+        ],
+    )?;
+    Ok(())
+}
+
+#[test]
+fn expands(rt: HostRuntime) -> Result<(), Fail> {
+    let alloc = rt.alloc();
+    tells(
+        &rt,
+        alloc,
+        with_limit(100),
+        &[
+            ("S = a.c b\n$(info $(S:.c=.o))\n", "a.o b\n"),
+            (
+                "$(info $(subst ,x,ab))\n$(info $(join a b,1 2 3))\n",
+                "abx\na1 b2 3\n",
+            ),
+            (
+                "$(info $(wordlist 2,9,a b c))\n$(info $(dir a/b c))\n",
+                "b c\na/ ./\n",
+            ),
+            (
+                "$(info $(basename a/b.c d.e/f))\n$(info $(sort b a b))\n",
+                "a/b d.e/f\na b\n",
+            ),
+            (
+                "$(info $(if ,y,n))\n$(info $(or ,b,$(error no)))\n$(info a,b)\n",
+                "n\nb\na,b\n",
+            ),
+            (
+                "$(info $(word 0,a))\n",
+                "Makefile:1: *** bad argument of word [E18]",
+            ),
+            (
+                "S = a.c a,c\n$(info [$(S: %.c=x)][$(S:a,c=b,d)])\n",
+                "[a.c a,c][a.c b,d]\n",
+            ),
+            (
+                "f = a b:c\n$(info [$(f:a=b:c=d)][$(f:b:c=d)])\n",
+                "[b:c=d b:c][a d]\n",
+            ),
+            (
+                "A = $(info value)\n$(info $(A:\\%=x))\n",
+                "value\nMakefile:2: *** bad argument of patsubst [E18]",
+            ),
+            ("$(info $(subst a$,b,a))\n", "b\n"),
+            (
+                "$(info $(words ${a)}))\n",
+                "Makefile:1: *** unterminated reference [E07]",
+            ),
+            (
+                "$(info [$(subst a,${b,c},a)])\n",
+                "Makefile:1: *** unterminated reference [E07]",
+            ),
+            (
+                "A = 1\n$(info [$(value A )][$(patsubst a ,x,a)])\n",
+                "[][a]\n",
+            ),
+            ("s = $() $()\n$(info [$(if $(s),y,n)])\n", "[y]\n"),
+            (
+                "define N\n\n\nendef\n$(info $(word 1$(N),a))\n",
+                "Makefile:5: *** bad argument of word [E18]",
+            ),
+            ("$( info x)\na: ;\n", "a: |\n\t\n"),
+        ],
+    )?;
+    Ok(())
+}
+
+#[test]
+fn calls(rt: HostRuntime) -> Result<(), Fail> {
+    let alloc = rt.alloc();
+    tells(
+        &rt,
+        alloc,
+        with_limit(100),
+        &[
+            (
+                "A = 1$(eval A = 2)3$(A)\n$(info $(A))\n$(info $(A))\n",
+                "132\n2\n",
+            ),
+            ("p = z\n$(info $(foreach p,a b,$(p))$(p))\n", "a bz\n"),
+            // A number with a zero before it is the name of no argument.
+            ("01 = t\nf = [$(01)]\n$(info $(call f,a) $(01))\n", "[] t\n"),
+            (
+                "f = [$(1):$(2)]\ng = $(call f,x)$(2)\n$(info $(call g,a,b))\n",
+                "[x:]b\n",
+            ),
+            ("$(eval X = $$(Y))\nY = 1\n$(info $(X))\n", "1\n"),
+            (
+                "r = $(call r)\n$(info $(call r))\n",
+                "Makefile:2: *** nesting too deep [E08]",
+            ),
+            (
+                "$(info $(call subst,a,b,c))\n",
+                "Makefile:1: *** refused function subst [E16]",
+            ),
+            (
+                "$(info $(call shell,x))\n",
+                "Makefile:1: *** refused function shell [E16]",
+            ),
+            (
+                "$(info $(call $(info n)subst,$(error no)))\n",
+                "n\nMakefile:1: *** refused function subst [E16]",
+            ),
+            ("$(eval endif)\n", "Makefile:1: *** stray endif [E11]"),
+            ("$(info $(foreach v,$$x,$(value v)))\n", "$x\n"),
+            ("$(foreach A,x,$(eval A ?= y))$(info $(A))\n", "y\n"),
+            (
+                "f = [$(1)]\n$(info $(foreach 1,z,$(call f,x)$(1)$(call f)))\n",
+                "[x]z[]\n",
+            ),
+            ("f = $(foreach 1,z,[$(1)])\n$(info $(call f,x))\n", "[z]\n"),
+            (
+                "f = $(1)\n$(info $(call f,$$(A)) $(foreach p,$$(B),$(p) $(value p) $(call p) $(p:%=<%>)))\n",
+                "$(A) $(B) $(B) $(B) <$(B)>\n",
+            ),
+            (
+                "1 = table\n$(info [$(call 1,x)][$(call 0,x)])\n",
+                "[x][0]\n",
+            ),
+            ("S = a.c\n$(info [$(call S:.c=.o)])\n", "[]\n"),
+            ("$(info $(foreach ,a b,[$()]))\n", "[a] [b]\n"),
+        ],
+    )?;
+    Ok(())
+}
+
+#[test]
+fn reads_rules(rt: HostRuntime) -> Result<(), Fail> {
+    let alloc = rt.alloc();
+    tells(
+        &rt,
+        alloc,
+        with_limit(100),
+        &[
+            (
+                "a.o: a.c\n\tcc -c a.c -o a.o\n",
+                "a.o: a.c |\n\tcc -c a.c -o a.o\n",
+            ),
+            (
+                "a.o: a.c\r\n\tcc -c a.c -o a.o",
+                "a.o: a.c |\n\tcc -c a.c -o a.o\n",
+            ),
+            (
+                "t: x | x y\n\techo $^ - $|\n",
+                "t: x | x y\n\techo $^ - $|\n",
+            ),
+            ("include: a\n", "include: a |\n"),
+            ("R = a: ; b\n$(R)\n", "a: ; b |\n"),
+            ("R = a: b # c\n$(R)\n", "a: b |\n"),
+            ("R = a: b \\# c\n$(R)\n", "a: b # c |\n"),
+            ("R = : a %.o | b\nt $(R)\n", "t: a %.o | b\n"),
+            (
+                "define R\na: b\nc: d\nendef\n$(R)\n",
+                "Makefile:5: *** bad static pattern b\nc [E21]",
+            ),
+            ("a::::=b\n", "Makefile:1: *** target-specific macro [E23]"),
+            ("a:: = b\n", "Makefile:1: *** target-specific macro [E23]"),
+            ("a : = b\n", "Makefile:1: *** target-specific macro [E23]"),
+            ("a:b=c\n", "Makefile:1: *** target-specific macro [E23]"),
+            ("a b := c\n", "Makefile:1: *** target-specific macro [E23]"),
+            ("\tendif\n", "Makefile:1: *** recipe before a target [E06]"),
+            ("\techo x\n", "Makefile:1: *** recipe before a target [E06]"),
+            ("a", "Makefile:1: *** missing separator [E05]"),
+            ("a.o:", "a.o: |\n"),
+            ("a: b\r", "a: b\r |\n"),
+            ("a: b\nc\0\n", "Makefile:2: *** NUL byte [E01]"),
+            (
+                "@ = table\nt: $@ ; $(foreach @,a b,$@) $@ $(value @)\n",
+                "t: table |\n\t$(foreach @,a b,$@) $@ $(value @)\n",
+            ),
+            ("all: $(A\n", "Makefile:1: *** unterminated reference [E07]"),
+            (
+                "a: $(b ; x\n",
+                "Makefile:1: *** unterminated reference [E07]",
+            ),
+            ("$(info hi)\n\tnever\nt:\n", "hi\nt: |\n"),
+            (
+                "define go\n@echo one\n-false\nendef\nt:\n\t$(go)\n",
+                "t: |\n\t$(go)\n",
+            ),
+            (
+                "define R\n$(1): $(1).c ; cc $(1).c\nendef\n$(foreach p,a b,$(eval $(call R,$(p))))\n",
+                "a: a.c |\n\tcc a.c\n",
+            ),
+        ],
+    )?;
+    Ok(())
+}
+
+#[test]
+fn closes_rules(rt: HostRuntime) -> Result<(), Fail> {
+    let alloc = rt.alloc();
+    tells(
+        &rt,
+        alloc,
+        with_limit(100),
+        &[
+            (
+                "a: ; x\na: ; y\nexport Z\n",
+                "Makefile:3: *** refused form export [E17]",
+            ),
+            (
+                "a: ; x\na: ; y\nendef\n",
+                "Makefile:3: *** stray endef [E13]",
+            ),
+            (
+                "a: ; x\na: ; y\nZ != z\n",
+                "Makefile:2: warning: overriding recipe for target 'a'\nMakefile:3: *** refused form != [E17]",
+            ),
+            (
+                "a: ; x\na: ; y\nt: A = b\n",
+                "Makefile:2: warning: overriding recipe for target 'a'\nMakefile:3: *** target-specific macro [E23]",
+            ),
+            (
+                "a: ; one\nifeq ($(eval a: ; two),)\n\tthree\nendif\n",
+                "Makefile:1: warning: overriding recipe for target 'a'\na: |\n\ttwo\na: |\n\tone\n\tthree\n",
+            ),
+            (
+                "a: b ; one $^\na: c ; two $^\n",
+                "Makefile:2: warning: overriding recipe for target 'a'\na: b |\n\tone $^\na: c |\n\ttwo $^\n",
+            ),
+            (
+                "a:: b ; one $<\na:: c ; two $<\n",
+                "a: b |\n\tone $<\na: c |\n\ttwo $<\n",
+            ),
+            (
+                "a: b\na:: c\n",
+                "Makefile:2: *** single and double colon on a [E24]",
+            ),
+            ("a b &: c\n", "Makefile:1: *** bad group [E35]"),
+        ],
+    )?;
+    Ok(())
+}
+
+#[test]
+fn counts_levels(rt: HostRuntime) -> Result<(), Fail> {
+    let alloc = rt.alloc();
+    tells(
+        &rt,
+        alloc,
+        with_limit(1),
+        &[
+            (
+                "A = $(B)\nB = x\nall: $(A)\n",
+                "Makefile:3: *** nesting too deep [E08]",
+            ),
+            (
+                "A =\n$(info $(A))\n",
+                "Makefile:2: *** nesting too deep [E08]",
+            ),
+            (
+                "include Makefile\n",
+                "< Makefile\nMakefile:1: *** nesting too deep [E08]",
+            ),
+            (
+                "ifdef A\ninclude ~a\nendif\nA = 1\ninclude Makefile\n",
+                "< Makefile\nMakefile:2: *** refused name ~a [E20]",
+            ),
+            (
+                "A = $(words a)\nall: $(A)\n",
+                "Makefile:2: *** nesting too deep [E08]",
+            ),
+            (
+                "$(info [$(A$$)])\n",
+                "Makefile:1: *** nesting too deep [E08]",
+            ),
+            (
+                "$(eval $(eval A = 1))\nall: $(A)\n",
+                "Makefile:1: *** nesting too deep [E08]",
+            ),
+            (
+                "A = $(subst a)\nt: $(A)\n",
+                "Makefile:2: *** bad argument of subst [E18]",
+            ),
+            (
+                "a.o: a.c\n\tcc -c a.c -o a.o\n",
+                "a.o: a.c |\n\tcc -c a.c -o a.o\n",
+            ),
+        ],
+    )?;
+    tells(
+        &rt,
+        alloc,
+        with_limit(2),
+        &[
+            ("A = $(B)\nB = x\nall: $(A)\n", "all: x |\n"),
+            ("$(info [$(A$$)])\n", "[]\n"),
+            ("$(eval $(eval A = 1))\nall: $(A)\n", "all: 1 |\n"),
+        ],
+    )?;
+    tells(
+        &rt,
+        alloc,
+        with_limit(3),
+        &[("$(eval $(eval $(info x)))\n", "x\n")],
+    )?;
+    tells(
+        &rt,
+        alloc,
+        with_limit(100),
+        &[(
+            "A = $(A)\nall: $(A)\n",
+            "Makefile:2: *** nesting too deep [E08]",
+        )],
+    )?;
+    Ok(())
+}
+
+#[test]
+fn keeps_command_line(rt: HostRuntime) -> Result<(), Fail> {
+    let alloc = rt.alloc();
+    let start = Start {
+        arguments: &[("A", "1"), ("A$(B)", "2")],
+        files: &[],
+        limit: 100,
+    };
+    tells(
+        &rt,
+        alloc,
+        start,
+        &[
+            ("A := $(error no)\nall: $(A)\n", "all: 1 |\n"),
+            ("define A :=\n$(error no)\nendef\nall: $(A)\n", "all: 1 |\n"),
+            ("$(info $(A$$(B)))\n", "2\n"),
+            ("A ?= 3\nA += 4\n$(info $(A))\n", "1\n"),
+            ("A != x\n", "Makefile:1: *** refused form != [E17]"),
+        ],
+    )?;
+    Ok(())
+}
+
+#[test]
+fn includes(rt: HostRuntime) -> Result<(), Fail> {
+    let alloc = rt.alloc();
+    let start = Start {
+        arguments: &[],
+        files: &[
+            ("i", "$(warning in)\nA = 1\n"),
+            ("b.mk", "$(info b)"),
+            ("e.mk", ""),
+        ],
+        limit: 100,
+    };
+    tells(
+        &rt,
+        alloc,
+        start,
+        &[
+            (
+                "include a.mk\n",
+                "< a.mk\nMakefile:1: *** no file a.mk [E04]",
+            ),
+            ("-include a.mk b.mk\n", "b\n< a.mk\n< b.mk\n"),
+            ("sinclude a.mk\n$(info x)\n", "x\n< a.mk\n"),
+            ("include e.mk\ninclude e.mk\n", "< e.mk\n< e.mk\n"),
+            (
+                "include a\\ b\n",
+                "< a\\\nMakefile:1: *** no file a\\ [E04]",
+            ),
+            (
+                "include b.mk *.mk e.mk\n",
+                "b\n< b.mk\nMakefile:1: *** refused name *.mk [E20]",
+            ),
+            ("include ~a\n", "Makefile:1: *** refused name ~a [E20]"),
+            (
+                "include i\n$(warning $(A))\n",
+                "i:1: in\nMakefile:2: 1\n< i\n",
+            ),
+            (
+                "$(eval include i$$(warning w))\nt:\n",
+                "Makefile:1: w\ni:1: in\n< i\nt: |\n",
+            ),
+            (
+                "a: ; x\na: ; y\ninclude a.mk\n",
+                "Makefile:2: warning: overriding recipe for target 'a'\n< a.mk\nMakefile:3: *** no file a.mk [E04]",
+            ),
+        ],
+    )?;
+    Ok(())
+}

@@ -1,0 +1,90 @@
+//! Reads that fail, and readings after a refusal.
+use super::{files_of, put_asked, put_messages, put_stop, read};
+use kt_eval::{Files, Machine, Macros, MemFiles, Stop};
+use std::alloc::{AllocError, Global};
+use std::process::Abort;
+use std::test::Fail;
+
+/// How a reading of `m` ends, and all names asked for so far.
+fn put_reading(
+    out: &mut Vec<u8>,
+    machine: &mut Machine,
+    files: &mut MemFiles,
+) -> Result<(), AllocError> {
+    match &read(machine, files, &["m"]) {
+        Ok(()) => out.extend_from_slice(b"read")?,
+        Err(stop) => put_stop(out, stop)?,
+    }
+    out.push(b'\n')?;
+    put_asked(out, files.asked())
+}
+
+/// How two readings end of which the nth read fails, the names asked for until then, and then the messages.
+fn told_twice(alloc: Global, named: &[(&str, &str)], nth: u64) -> Result<Vec<u8>, AllocError> {
+    let mut files = MemFiles::new(alloc, files_of(alloc, named)?, nth);
+    let mut machine = Machine::new(alloc, Macros::new(alloc), 100)?;
+    let mut out = Vec::new(alloc);
+    put_reading(&mut out, &mut machine, &mut files)?;
+    put_reading(&mut out, &mut machine, &mut files)?;
+    put_messages(&mut out, machine.finish().messages.as_slice())?;
+    Ok(out)
+}
+
+fn fails(
+    rt: &impl Abort,
+    alloc: Global,
+    named: &[(&str, &str)],
+    rows: &[(u64, &str)],
+) -> Result<(), AllocError> {
+    for (nth, expected) in rows {
+        let found = told_twice(alloc, named, *nth)?;
+        assert_eq!(rt; found.as_slice(), expected.as_bytes());
+    }
+    Ok(())
+}
+
+#[test]
+fn repeats_the_refusal_of_a_read(rt: HostRuntime) -> Result<(), Fail> {
+    let alloc = rt.alloc();
+    fails(
+        &rt,
+        alloc,
+        &[
+            (
+                "m",
+                "$(info one)\ninclude a.mk\n$(info two)\ninclude a.mk\n",
+            ),
+            ("a.mk", ""),
+        ],
+        &[
+            (1, "cannot read m\n< m\ncannot read m\n< m\n"),
+            (
+                2,
+                "cannot read a.mk\n< m\n< a.mk\ncannot read a.mk\n< m\n< a.mk\none\n",
+            ),
+            (
+                3,
+                "cannot read a.mk\n< m\n< a.mk\n< a.mk\ncannot read a.mk\n< m\n< a.mk\n< a.mk\none\ntwo\n",
+            ),
+        ],
+    )?;
+    fails(
+        &rt,
+        alloc,
+        &[("m", "-include a.mk\n$(info x)\n")],
+        &[(
+            2,
+            "cannot read a.mk\n< m\n< a.mk\ncannot read a.mk\n< m\n< a.mk\n",
+        )],
+    )?;
+    fails(
+        &rt,
+        alloc,
+        &[("m", "$(info x)\nifdef X\n")],
+        &[(
+            0,
+            "m:2: *** missing endif [E12]\n< m\nm:2: *** missing endif [E12]\n< m\nx\n",
+        )],
+    )?;
+    Ok(())
+}
