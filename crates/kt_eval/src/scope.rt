@@ -38,13 +38,11 @@ pub(crate) trait Scope {
         ensures { option_map (λ entry. entry.now) result ≡ find name.now (table self.now) };
 
     fn put(&mut self, name: Vec<u8>, value: Macro) -> Result<(), AllocError>
-        requires { writable ≡ true }
         ensures set { OnOk result (table self.new ≡ put name.items value (table self.old)) }
         ensures kept_automatic { automatic self.new ≡ automatic self.old }
         ensures kept_book { book self.new ≡ book self.old };
 
     fn add(&mut self, rule: Entry) -> Result<Warnings, RuleFault>
-        requires { writable ≡ true }
         ensures answers { Answers result (added (book self.old) rule (refusal_of (book self.old) rule)) }
         ensures grown { OnOk result (book self.new ≡ book self.old ++ rule ∷ []) }
         ensures refused { OnErr result (book self.new ≡ book self.old) }
@@ -129,12 +127,14 @@ impl<'a> Scope for Frozen<'a> {
         self.macros.get(name)
     }
 
+    // Nothing calls this: where nothing may be written, `eval` is refused.
     fn put(&mut self, _name: Vec<u8>, _value: Macro) -> Result<(), AllocError> {
-        unreachable!()
+        Err(AllocError)
     }
 
+    // Nor this.
     fn add(&mut self, _rule: Entry) -> Result<Warnings, RuleFault> {
-        unreachable!()
+        Err(RuleFault::Memory)
     }
 }
 
