@@ -93,7 +93,6 @@ impl Macros {
     }
 
     /// Sets what a name stands for: a name that is there keeps its place, and a new one goes last.
-    /// Where memory is refused nothing changes.
     pub fn insert(&mut self, name: Vec<u8>, value: Macro) -> Result<(), AllocError>
         ensures { OnOk result (self.new ≡ put name.items value self.old) }
     {
