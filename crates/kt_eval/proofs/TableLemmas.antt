@@ -1,8 +1,8 @@
 -- The words of the map and those of the table.
-use Rattle.std.proofs.Common.{◌≡◌, ℕ, Bool, true, false, cond, bytes_eq, List, [], ◌∷◌, map, Option, Some, None, option_map, Bor, refl}
+use Rattle.std.proofs.Common.{◌≡◌, ℕ, Bool, true, false, true≢false, cond, bytes_eq, List, [], ◌∷◌, map, Option, Some, None, option_map, is_some, Bor, refl, sym, ap}
 use Rattle.std.specs.Prelude.{Vec, option_copied}
 use Rattle.std.specs.declared.alloc.Global.{Global}
-use Rattle.std.specs.Map.{lookup}
+use Rattle.std.specs.Map.{lookup, set_value}
 use Rattle.indexmap.specs.IndexMap.{insert_entry}
 use Rattle.kt_eval.specs.declared.macros.Macro.{Macro}
 use Rattle.kt_eval.specs.Table.{find, put}
@@ -38,3 +38,16 @@ pub put_entries : (es : List Pair) (k : Vec ℕ Global) (v : Macro) → map entr
 unfolding put
 put_entries [] k v = refl
 put_entries (e ∷ es) k v = map_cond (bytes_eq k.items e.0.items) _ _ _ _ refl (rw (put_entries es k v) refl)
+
+set_cond : (b : Bool) (e : Pair) (es left : List Pair) (v old : Macro) (found : Option Macro) (right : List (List ℕ × Macro))
+    → (found ≡ Some old → map entry_of left ≡ right) → cond b (Some e.1) found ≡ Some old
+    → map entry_of (cond b ((e.0, v) ∷ es) (e ∷ left)) ≡ cond b ((e.0.items, v) ∷ map entry_of es) (entry_of e ∷ right)
+set_cond true e es left v old found right rest at = refl
+set_cond false e es left v old found right rest at = ap (λ l. entry_of e ∷ l) (rest at)
+
+-- and so does a write over the value of a name that is there
+pub set_entries : (name : List ℕ) (es : List Pair) (v old : Macro) → lookup (λ k. bytes_eq name k.items) es ≡ Some old
+    → map entry_of (set_value (λ k. bytes_eq name k.items) es v) ≡ put name v (map entry_of es)
+unfolding put
+set_entries name [] v old at = absurd (true≢false (ap is_some (sym at)))
+set_entries name (e ∷ es) v old at = set_cond (bytes_eq name e.0.items) e es _ v old _ _ (set_entries name es v old) at

@@ -1,5 +1,6 @@
 -- What the code's own types say, without where it lies in memory.
-use Rattle.std.specs.Prelude.{map, Some}
+use Rattle.std.specs.Prelude.{[], ◌++◌, Option, None, Some, map, codes}
+use Rattle.kt_text.specs.Words.{Text}
 use Rattle.kt_rules.specs.declared.fault.RuleFault.{RuleFault}
 use Rattle.kt_rules.specs.declared.fault.RuleFault.TheVariants.{Memory, Refused}
 use Rattle.kt_eval.specs.declared.assigning.Assigning.{Assigning as AssigningType}
@@ -18,11 +19,16 @@ use Rattle.kt_eval.specs.declared.calls.Asked.TheVariants as asked
 use Rattle.kt_eval.specs.declared.calls.Naming.{Naming as NamingType}
 use Rattle.kt_eval.specs.declared.calls.Naming.TheVariants as naming
 
+-- what stands before the text of an assignment: an old value and a space, if there is one
+abbrev pub front_told : Option Text → Text
+front_told None = []
+front_told (Some old) = old ++ codes " "
+
 -- what an assignment does
 abbrev pub assigning_told : AssigningType → Assigning
 assigning_told does.Keeps = keeps
-assigning_told (does.Defers front) = defers front.items
-assigning_told (does.Expands front) = expands front.items
+assigning_told (does.Defers front) = defers (front_told front)
+assigning_told (does.Expands front) = expands (front_told front)
 assigning_told does.Escapes = escapes
 
 -- a line of a page

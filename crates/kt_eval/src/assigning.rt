@@ -4,6 +4,7 @@ ghost use Rattle.kt_eval.specs.Table.{appending, assigning, assigning_again, ass
 ghost use Rattle.kt_eval.specs.Views.{assigning_told};
 
 use crate::macros::{Flavour, Macro, Origin};
+use kt_list::Shared;
 use kt_syntax::Operator;
 use std::alloc::{AllocError, Global};
 
@@ -12,10 +13,10 @@ use std::alloc::{AllocError, Global};
 pub(crate) enum Assigning {
     /// The macro stays as it is.
     Keeps,
-    /// The text as it stands becomes the deferred value, behind this.
-    Defers(Vec<u8>),
-    /// The expanded text becomes the immediate value, behind this.
-    Expands(Vec<u8>),
+    /// The text as it stands becomes the deferred value, behind this one and a space if there is one.
+    Defers(Option<Shared<u8>>),
+    /// The expanded text becomes the immediate value, behind this one and a space if there is one.
+    Expands(Option<Shared<u8>>),
     /// The expanded text with each dollar doubled becomes the deferred value.
     Escapes,
 }
@@ -23,52 +24,48 @@ pub(crate) enum Assigning {
 // What an assignment does to a macro; one of the command line is passed over.
 #[tactic(auto, unfolding(crate::specs::Table::assigning))]
 pub(crate) fn assignment_of(
-    alloc: Global,
     operator: Operator,
     old: Option<&Macro>,
 ) -> Result<Assigning, AllocError>
     ensures { IfOk result (λ found. assigning_told found ≡ assigning operator (option_map (λ entry. entry.now) old.entry)) }
 {
     match old {
-        None => Ok(assigning_new(alloc, operator)),
+        None => Ok(assigning_new(operator)),
         Some(entry) => match entry.origin {
             Origin::CommandLine => Ok(Assigning::Keeps),
-            Origin::Makefile => assigning_again(alloc, operator, entry),
+            Origin::Makefile => assigning_again(operator, entry),
         },
     }
 }
 
-fn assigning_new(alloc: Global, operator: Operator) -> Assigning
+fn assigning_new(operator: Operator) -> Assigning
     ensures { assigning_told result ≡ assigning_new operator }
 {
     match operator {
-        Operator::Deferred | Operator::Conditional | Operator::Append => {
-            Assigning::Defers(Vec::new(alloc))
-        }
-        Operator::Immediate => Assigning::Expands(Vec::new(alloc)),
+        Operator::Deferred | Operator::Conditional | Operator::Append => Assigning::Defers(None),
+        Operator::Immediate => Assigning::Expands(None),
         Operator::Escaped => Assigning::Escapes,
         Operator::Shell => Assigning::Keeps,
     }
 }
 
-fn assigning_again(alloc: Global, operator: Operator, old: &Macro) -> Result<Assigning, AllocError>
+fn assigning_again(operator: Operator, old: &Macro) -> Result<Assigning, AllocError>
     ensures { IfOk result (λ found. assigning_told found ≡ assigning_again operator old.now) }
 {
     match operator {
-        Operator::Deferred => Ok(Assigning::Defers(Vec::new(alloc))),
-        Operator::Immediate => Ok(Assigning::Expands(Vec::new(alloc))),
+        Operator::Deferred => Ok(Assigning::Defers(None)),
+        Operator::Immediate => Ok(Assigning::Expands(None)),
         Operator::Escaped => Ok(Assigning::Escapes),
         Operator::Conditional | Operator::Shell => Ok(Assigning::Keeps),
-        Operator::Append => appending(alloc, old),
+        Operator::Append => appending(old),
     }
 }
 
-// More text goes behind the old value and a space.
-fn appending(alloc: Global, old: &Macro) -> Result<Assigning, AllocError>
+// More text goes behind the old value and a space. The value is held once more, not copied.
+fn appending(old: &Macro) -> Result<Assigning, AllocError>
     ensures { IfOk result (λ found. assigning_told found ≡ appending old.now.flavour old.now.value) }
 {
-    let mut front = Vec::from_slice(alloc, old.value.as_slice())?;
-    front.push(b' ')?;
+    let front = Some(old.value.share()?);
     match old.flavour {
         Flavour::Deferred => Ok(Assigning::Defers(front)),
         Flavour::Immediate => Ok(Assigning::Expands(front)),

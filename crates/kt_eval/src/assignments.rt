@@ -61,8 +61,8 @@ impl<'a, M: Scope, F: Files> Evaluation<'a, M, F> {
             }
             Assigning::Escapes => {
                 let x = self.expand_here(below, text)?;
-                let front = doubled(self.alloc, &x)?;
-                Ok(self.set_macro(name, Flavour::Deferred, front, b"")?)
+                let x = doubled(self.alloc, &x)?;
+                Ok(self.set_macro(name, Flavour::Deferred, None, &x)?)
             }
         }
     }

@@ -7,7 +7,7 @@ use crate::assigning::{Assigning, assignment_of};
 use crate::fault::Fault;
 use crate::files::{FileFault, Files};
 use crate::frames::innermost;
-use crate::macros::{Flavour, Macro, Origin};
+use crate::macros::{Flavour, Macro};
 use crate::page::{Page, RawLine, Source};
 use crate::scope::Scope;
 use crate::state::{Found, Frame};
@@ -177,7 +177,7 @@ impl<'a, M: Scope, F: Files> Evaluation<'a, M, F> {
     ghost use Rattle.kt_eval.specs.State.{move_to, set_macro, set_rule};
     ghost use Rattle.kt_eval.specs.Step.{AreKnown, Blames, Gives, store_of, Keeps};
     ghost use Rattle.kt_eval.specs.Table.{assigning, find, set_by_makefile};
-    ghost use Rattle.kt_eval.specs.Views.{assigning_told, raw_told};
+    ghost use Rattle.kt_eval.specs.Views.{assigning_told, front_told, raw_told};
 
     // Moves to a line of a source; all lines of an `eval` are where it stands.
     #[tactic(auto, unfolding(crate::specs::Reading::at_number))]
@@ -232,34 +232,30 @@ impl<'a, M: Scope, F: Files> Evaluation<'a, M, F> {
     pub(crate) fn assigning(&self, operator: Operator, name: &[u8]) -> Result<Assigning, AllocError>
         ensures { IfOk result (λ found. assigning_told found ≡ assigning operator (find name.now self.now.world.table)) }
     {
-        assignment_of(self.alloc, operator, self.macros.get(name))
+        assignment_of(operator, self.macros.get(name))
     }
 
-    // Sets a macro to a text behind another.
+    // Sets a macro to a text, behind an old value and a space if there is one.
     pub(crate) fn set_macro(
         &mut self,
         name: Vec<u8>,
         flavour: Flavour,
-        front: Vec<u8>,
+        front: Option<Shared<u8>>,
         text: &[u8],
     ) -> Result<(), AllocError>
         requires { M.writable ≡ true }
-        ensures done { OnOk result (self.new ≡ record self.old { world = set_macro name.items (set_by_makefile flavour (front.items ++ text.now)) self.old.world }) }
+        ensures done { OnOk result (self.new ≡ record self.old { world = set_macro name.items (set_by_makefile flavour (front_told front ++ text.now)) self.old.world }) }
         ensures kept { Keeps self.old self.new }
         ensures unfailed { self.new.failed ≡ self.old.failed }
         ensures said { self.new.world.said ≡ self.old.world.said }
     {
-        let mut value = front;
-        value.extend_from_slice(text)?;
-        let value = Shared::from_vec(value)?;
-        self.macros.put(
-            name,
-            Macro {
-                flavour,
-                origin: Origin::Makefile,
-                value,
-            },
-        )
+        match front {
+            Some(front) => self.macros.append(name, flavour, front, text),
+            None => {
+                let value = Shared::from_vec(Vec::from_slice(self.alloc, text)?)?;
+                self.macros.put(name, Macro::of_makefile(flavour, value))
+            }
+        }
     }
 
     // Takes the open rule, so that none is open.

@@ -36,6 +36,28 @@ pub struct Macro {
 }
 
 impl Macro {
+    ghost use Rattle.std.specs.Prelude.{◌++◌, OnOk, codes};
+    ghost use Rattle.kt_eval.specs.Table.{set_by_makefile};
+
+    // One that a makefile sets.
+    pub(crate) fn of_makefile(flavour: Flavour, value: Shared<u8>) -> Macro
+        ensures { result ≡ set_by_makefile flavour value }
+    {
+        Macro {
+            flavour,
+            origin: Origin::Makefile,
+            value,
+        }
+    }
+
+    // Puts a space and more text behind the value; in place, where nothing else holds it.
+    fn append(&mut self, more: &[u8]) -> Result<(), AllocError>
+        ensures { OnOk result (self.new ≡ record self.old { value = (self.old.value ++ codes " ") ++ more.now }) }
+    {
+        self.value.extend_from_slice(b" ")?;
+        self.value.extend_from_slice(more)
+    }
+
     // What a name stands for that stands for this; its value is held once more.
     pub(crate) fn found(&self) -> Result<Found, AllocError>
         ensures { IfOk result (λ found. found ≡ found_of self.now) }
@@ -63,8 +85,8 @@ impl Model for Macros {
 }
 
 impl Macros {
-    ghost use Rattle.std.specs.Prelude.{[], OnOk, OnErr, option_map};
-    ghost use Rattle.kt_eval.specs.Table.{find, put};
+    ghost use Rattle.std.specs.Prelude.{[], ◌++◌, OnOk, OnErr, codes, option_map};
+    ghost use Rattle.kt_eval.specs.Table.{find, put, set_by_makefile};
 
     /// None.
     pub fn new(alloc: Global) -> Macros
@@ -94,9 +116,34 @@ impl Macros {
 
     /// Sets what a name stands for: a name that is there keeps its place, and a new one goes last.
     pub fn insert(&mut self, name: Vec<u8>, value: Macro) -> Result<(), AllocError>
-        ensures { OnOk result (self.new ≡ put name.items value self.old) }
+        ensures set { OnOk result (self.new ≡ put name.items value self.old) }
+        ensures refused { OnErr result (self.new ≡ self.old) }
     {
         self.entries.insert(name, value)?;
         Ok(())
+    }
+
+    // Sets a macro to a text behind `front` and a space. Where `front` was the value of this macro
+    // and nothing else holds it, it grows in place: the macro's own hold ends first.
+    pub(crate) fn append(
+        &mut self,
+        name: Vec<u8>,
+        flavour: Flavour,
+        front: Shared<u8>,
+        text: &[u8],
+    ) -> Result<(), AllocError>
+        ensures { OnOk result (self.new ≡ put name.items (set_by_makefile flavour ((front ++ codes " ") ++ text.now)) self.old) }
+    {
+        let mut longer = Macro::of_makefile(flavour, front);
+        match self.entries.get_mut(name.as_slice()) {
+            Some(entry) => {
+                *entry = longer;
+                entry.append(text)
+            }
+            None => {
+                longer.append(text)?;
+                self.insert(name, longer)
+            }
+        }
     }
 }

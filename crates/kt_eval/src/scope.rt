@@ -1,9 +1,9 @@
 //! Where names are looked up that nothing binds, and where rules go.
-ghost use Rattle.std.specs.Prelude.{◌≡◌, ◌++◌, ◌∷◌, [], Bool, List, IfOk, OnErr, OnOk, true, option_map};
+ghost use Rattle.std.specs.Prelude.{◌≡◌, ◌++◌, ◌∷◌, [], Bool, List, IfOk, OnErr, OnOk, codes, true, option_map};
 ghost use Rattle.kt_rules.specs.Book.{added, refusal_of};
 ghost use Rattle.kt_rules.specs.Entry.{Rule};
 ghost use Rattle.kt_rules.specs.Refusals.{Answers};
-ghost use Rattle.kt_eval.specs.Table.{Table, find, put};
+ghost use Rattle.kt_eval.specs.Table.{Table, find, put, set_by_makefile};
 ghost use Rattle.kt_eval.specs.State.{automatic_value, unbound};
 ghost use Rattle.kt_eval.specs.declared.macros.Macro.{Macro};
 ghost use Rattle.kt_eval.specs.declared.state.Automatic.{Automatic};
@@ -39,6 +39,18 @@ pub(crate) trait Scope {
 
     fn put(&mut self, name: Vec<u8>, value: Macro) -> Result<(), AllocError>
         ensures set { OnOk result (table self.new ≡ put name.items value (table self.old)) }
+        ensures kept_automatic { automatic self.new ≡ automatic self.old }
+        ensures kept_book { book self.new ≡ book self.old };
+
+    // Sets a macro to a text behind `front` and a space.
+    fn append(
+        &mut self,
+        name: Vec<u8>,
+        flavour: Flavour,
+        front: Shared<u8>,
+        text: &[u8],
+    ) -> Result<(), AllocError>
+        ensures set { OnOk result (table self.new ≡ put name.items (set_by_makefile flavour ((front ++ codes " ") ++ text.now)) (table self.old)) }
         ensures kept_automatic { automatic self.new ≡ automatic self.old }
         ensures kept_book { book self.new ≡ book self.old };
 
@@ -85,6 +97,16 @@ impl Scope for Makefile {
         self.macros.insert(name, value)
     }
 
+    fn append(
+        &mut self,
+        name: Vec<u8>,
+        flavour: Flavour,
+        front: Shared<u8>,
+        text: &[u8],
+    ) -> Result<(), AllocError> {
+        self.macros.append(name, flavour, front, text)
+    }
+
     fn add(&mut self, rule: Entry) -> Result<Warnings, RuleFault> {
         self.book.add(rule)
     }
@@ -129,6 +151,17 @@ impl<'a> Scope for Frozen<'a> {
 
     // Nothing calls this: where nothing may be written, `eval` is refused.
     fn put(&mut self, _name: Vec<u8>, _value: Macro) -> Result<(), AllocError> {
+        Err(AllocError)
+    }
+
+    // Nor this.
+    fn append(
+        &mut self,
+        _name: Vec<u8>,
+        _flavour: Flavour,
+        _front: Shared<u8>,
+        _text: &[u8],
+    ) -> Result<(), AllocError> {
         Err(AllocError)
     }
 

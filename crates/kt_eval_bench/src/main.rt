@@ -31,6 +31,7 @@ fn print_times(rt: &impl Runtime, alloc: Global, count: u32) -> Result<()> {
     for (kind, front, back) in [
         ("assignments", "", " = value $(A)"),
         ("immediate", "", " := value $(A)"),
+        ("appends", "A += ", ""),
         ("rules", "t", ": source.c ./header.h | folder ; recipe"),
         ("includes", "include a.mk #", ""),
     ] {

@@ -1,5 +1,5 @@
 //! What makefiles say when they are read, by the rows that kati is to read.
-use kt_eval::{Fault, Files, Flavour, Machine, Macro, Macros, MemFiles, Origin, Stop};
+use kt_eval::{Fault, Files, Flavour, Machine, Macro, Macros, MemFiles, Origin, Reading, Stop};
 use kt_list::{Sequence, Shared};
 use kt_rules::{Book, Name, RecipeLine};
 use std::alloc::{AllocError, Global};
@@ -138,20 +138,42 @@ fn read(machine: &mut Machine, files: &mut MemFiles, names: &[&str]) -> Result<(
     machine.read_file(files, names)
 }
 
-/// The messages of reading `Makefile`, the names asked for behind `makefile` and `Makefile`, and how the reading ended.
-fn told(alloc: Global, start: Start<'_>, makefile: &[u8]) -> Result<Vec<u8>, AllocError> {
+fn files_with(alloc: Global, start: Start<'_>, makefile: &[u8]) -> Result<MemFiles, AllocError> {
     let mut pairs = files_of(alloc, start.files)?;
     let makefile = Vec::from_slice(alloc, makefile)?;
     pairs.push(("Makefile".to_string(alloc)?, makefile))?;
-    let mut files = MemFiles::new(alloc, pairs, 0);
+    Ok(MemFiles::new(alloc, pairs, 0))
+}
+
+fn machine_of(alloc: Global, start: Start<'_>) -> Result<Machine, AllocError> {
     let macros = arguments_of(alloc, start.arguments)?;
-    let mut machine = Machine::new(alloc, macros, start.limit)?;
+    Machine::new(alloc, macros, start.limit)
+}
+
+/// The messages of a reading, the names asked for behind `makefile` and `Makefile`, and how it ended.
+fn put_told(
+    out: &mut Vec<u8>,
+    reading: &Reading,
+    asked: &[String],
+    outcome: &Result<(), Stop>,
+) -> Result<(), AllocError> {
+    put_messages(out, reading.messages.as_slice())?;
+    put_asked(out, asked.get(2..).unwrap_or(&[]))?;
+    put_end(out, &reading.book, outcome)
+}
+
+/// What is told of reading `Makefile`. It is cut into small parts, since each value that an early end drops is dear to prove.
+fn told(alloc: Global, start: Start<'_>, makefile: &[u8]) -> Result<Vec<u8>, AllocError> {
+    let files = files_with(alloc, start, makefile)?;
+    let machine = machine_of(alloc, start)?;
+    told_by(alloc, machine, files)
+}
+
+fn told_by(alloc: Global, machine: Machine, files: MemFiles) -> Result<Vec<u8>, AllocError> {
+    let (mut machine, mut files) = (machine, files);
     let outcome = read(&mut machine, &mut files, &["makefile", "Makefile"]);
-    let reading = machine.finish();
     let mut out = Vec::new(alloc);
-    put_messages(&mut out, reading.messages.as_slice())?;
-    put_asked(&mut out, files.asked().get(2..).unwrap_or(&[]))?;
-    put_end(&mut out, &reading.book, &outcome)?;
+    put_told(&mut out, &machine.finish(), files.asked(), &outcome)?;
     Ok(out)
 }
 
@@ -193,6 +215,15 @@ fn assigns(rt: HostRuntime) -> Result<(), Fail> {
             ),
             ("A := x\nA += $(eval A := y)z\n$(info $(A))\n", "x z\n"),
             ("A := x\nA += $(eval A = y)z\n$(info $(value A))\n", "x z\n"),
+            ("A := x\nA += $(eval A += y)z\n$(info $(A))\n", "x z\n"),
+            (
+                "A = $(eval A += y)x\n$(info [$(A)] $(value A))\n",
+                "[x] $(eval A += y)x y\n",
+            ),
+            (
+                "A := x\nA += y\nB := $(A)\nA += z\n$(info $(A) $(B))\n",
+                "x y z x y\n",
+            ),
             ("A += $(B)\nB = y\n$(info $(A))\n", "y\n"),
             ("A = 1\nA ?= 2\nB ?= 3\n$(info $(A)$(B))\n", "13\n"),
             ("A = ok # $(\n$(info [$(A)])\n", "[ok ]\n"),

@@ -1,23 +1,22 @@
 //! A list that several values hold together.
-ghost use Rattle.std.specs.Prelude.{◌≡◌, List, IfOk};
-ghost use Rattle.std.specs.Rc.{rc_slice_items};
+ghost use Rattle.std.specs.Prelude.{◌≡◌, ◌++◌, List, IfOk, OnErr, OnOk};
 
 use std::alloc::AllocError;
 use std::marker::Model;
-use std::rc::RcSlice;
+use std::rc::Rc;
 
 /// A list that several values hold together, as the name of a file is by every place in it.
 ///
-/// A contract sees it as just that list. It isn't changed once it is made.
+/// A contract sees it as just that list. A change of one of those values is none of the others.
 #[derive(Debug, Drop)]
 pub struct Shared<T: Drop> {
-    items: RcSlice<T>,
+    items: Rc<Vec<T>>,
 }
 
 impl<T: Drop> Model for Shared<T> {
     ghost Value = { List T };
 
-    ghost view = { λ s. rc_slice_items s.items };
+    ghost view = { λ s. s.items.value.items };
 }
 
 impl<T: Drop> Shared<T> {
@@ -25,8 +24,9 @@ impl<T: Drop> Shared<T> {
     pub fn from_vec(items: Vec<T>) -> Result<Shared<T>, AllocError>
         ensures { IfOk result (λ s. s ≡ items.items) }
     {
+        let alloc = *items.allocator();
         Ok(Shared {
-            items: RcSlice::from_vec(items)?,
+            items: Rc::new(alloc, items)?,
         })
     }
 
@@ -44,5 +44,24 @@ impl<T: Drop> Shared<T> {
         Ok(Shared {
             items: self.items.clone()?,
         })
+    }
+}
+
+impl<T: Copy + Drop> Shared<T> {
+    /// Puts more items behind these: in place where nothing else holds them, else behind a copy.
+    pub fn extend_from_slice(&mut self, more: &[T]) -> Result<(), AllocError>
+        ensures done { OnOk result (self.new ≡ self.old ++ more.now) }
+        ensures refused { OnErr result (self.new ≡ self.old) }
+    {
+        match Rc::get_mut(&mut self.items) {
+            Some(items) => items.extend_from_slice(more),
+            None => {
+                let alloc = *self.items.allocator();
+                let mut items = Vec::from_slice(alloc, self.as_slice())?;
+                items.extend_from_slice(more)?;
+                self.items = Rc::new(alloc, items)?;
+                Ok(())
+            }
+        }
     }
 }

@@ -18,3 +18,14 @@ fn shares_its_items(rt: HostRuntime) -> Result<(), Fail> {
     assert_eq!(rt; list.as_slice(), [3, 1, 2].as_slice());
     Ok(())
 }
+
+#[test]
+fn grows_apart_from_the_others(rt: HostRuntime) -> Result<(), Fail> {
+    let mut list = Shared::from_vec(vec![in rt.alloc(); 3u8, 1]?)?;
+    list.extend_from_slice([2].as_slice())?;
+    let again = list.share()?;
+    list.extend_from_slice([4].as_slice())?;
+    assert_eq!(rt; list.as_slice(), [3, 1, 2, 4].as_slice());
+    assert_eq!(rt; again.as_slice(), [3, 1, 2].as_slice());
+    Ok(())
+}

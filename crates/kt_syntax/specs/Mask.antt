@@ -1,13 +1,18 @@
 -- A line as it stands in the file, byte by byte: what is outside references (POSIX.1-2024 make, "Macros"), with each
 -- continuation as blanks (kati's own).
-use Rattle.std.specs.Prelude.{ℕ, zero, suc, Bool, false, not, ◌==◌, ◌&&◌, nat_eq, List, [], ◌∷◌, if◌then◌else◌}
+use Rattle.std.specs.Prelude.{ℕ, zero, suc, Bool, false, not, ◌==◌, ◌&&◌, nat_eq, List, [], ◌∷◌, Option, None, Some, if◌then◌else◌}
 use Rattle.std.specs.List.{starts_with}
 use Rattle.kt_text.specs.Words.{Text}
 use Rattle.kt_syntax.specs.Terms.{kept, behind_dollar}
 
--- what stands for a byte of a reference
+-- what stands for a byte of a reference: a number that no byte has
 abbrev pub inside : ℕ
 inside = 256
+
+-- what stands at a place as a number: a byte outside references, or else one of a reference
+abbrev pub symbol_told : Option ℕ → ℕ
+symbol_told None = inside
+symbol_told (Some byte) = byte
 
 -- whether an odd number of backslashes stands before the next byte
 abbrev pub goes_odd : Bool → ℕ → Bool

@@ -28,9 +28,9 @@ fn uncommented(alloc: Global, text: &[u8]) -> Result<Vec<u8>, AllocError>
     let mut run = 0;
     let mut place = 0;
     for symbol in Mask::new(text, text.len()) {
-        if symbol == u16::from(b'\\') {
+        if symbol.is(b'\\') {
             run += 1;
-        } else if symbol == u16::from(b'#') {
+        } else if symbol.is(b'#') {
             put_backslashes(&mut plain, run / 2)?;
             if run % 2 == 0 {
                 return Ok(plain);

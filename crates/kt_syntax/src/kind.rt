@@ -5,8 +5,9 @@ ghost use Rattle.kt_syntax.specs.Kinds.{assignment_parts, block_word, directive_
 ghost use Rattle.kt_syntax.specs.Mask.{mask_of};
 
 use crate::form::{Directive, Form, Operator};
-use crate::mask::{INSIDE, Mask};
+use crate::mask::Mask;
 use crate::places::{comment_place, is_blank, past_blanks, past_line_blanks, past_word};
+use crate::symbol::Symbol;
 
 /// The kind of a line, as the line stands in the file; `tab` says whether it begins with a tab.
 ///
@@ -67,10 +68,10 @@ fn name_end(text: &[u8], begin: usize, end: usize) -> Option<usize>
 {
     let mut place = begin;
     for symbol in Mask::between(text, begin, end) {
-        if ends_name(symbol, &text[place..]) {
+        if ends_name(&symbol, &text[place..]) {
             return Some(place);
         }
-        if symbol == u16::from(b':') {
+        if symbol.is(b':') {
             return None;
         }
         place += 1;
@@ -79,10 +80,11 @@ fn name_end(text: &[u8], begin: usize, end: usize) -> Option<usize>
 }
 
 // Whether the name of an assignment ends at this symbol.
-fn ends_name(symbol: u16, text: &[u8]) -> bool
-    ensures { result ≡ ends_name symbol text.now }
+fn ends_name(symbol: &Symbol, text: &[u8]) -> bool
+    ensures { result ≡ ends_name symbol.now text.now }
 {
-    is_blank(symbol) || symbol != INSIDE && may_begin_operator(text) && operator_of(text).is_some()
+    is_blank(symbol)
+        || !symbol.is_inside() && may_begin_operator(text) && operator_of(text).is_some()
 }
 
 // Whether the first byte is one that operators begin with: few are, and the test is a quick one.

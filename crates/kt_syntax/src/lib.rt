@@ -16,6 +16,7 @@ mod recipe;
 mod role;
 mod rule_line;
 mod step;
+mod symbol;
 mod term;
 mod term_list;
 

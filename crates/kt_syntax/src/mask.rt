@@ -5,20 +5,15 @@ ghost use Rattle.kt_syntax.specs.Mask.{goes_odd, mask_byte, mask_from, mask_of, 
 ghost use Rattle.kt_syntax.specs.Terms.{behind_dollar, kept};
 
 use crate::next_term::behind_dollar;
+use crate::symbol::Symbol;
 use std::marker::Model;
 
-/// What stands for a byte of a reference.
-pub(crate) const INSIDE: u16 = 256;
-
-// A blank.
-const BLANK: u16 = 32;
-
-/// The bytes of a line, those of references as `INSIDE` and those of continuations as spaces.
+/// The symbols of a line: those of its bytes, those of its references and spaces for continuations.
 #[derive(Drop)]
 pub(crate) struct Mask<'a> {
     rest: &'a [u8],
     skip: usize,
-    symbol: u16,
+    symbol: Symbol,
     odd: bool,
     left: usize,
 }
@@ -40,7 +35,7 @@ impl<'a> Mask<'a> {
         Mask {
             rest: text,
             skip: 0,
-            symbol: 0,
+            symbol: Symbol::of(0),
             odd: false,
             left,
         }
@@ -58,33 +53,33 @@ impl<'a> Mask<'a> {
         mask
     }
 
-    // The symbol after so many others, or 0 past the end; those are taken.
-    pub(crate) fn symbol_after(&mut self, count: usize) -> u16
+    // The symbol after so many others, or that of a zero byte past the end; those are taken.
+    pub(crate) fn symbol_after(&mut self, count: usize) -> Symbol
         ensures symbol { result ≡ slice_index self.old count }
         ensures rest { self.new ≡ drop (count + 1) self.old }
     {
         for _place in 0..count {
             let _ = self.next();
         }
-        self.next().unwrap_or(0)
+        self.next().unwrap_or(Symbol::of(0))
     }
 }
 
 impl<'a> Iterator for Mask<'a> {
-    type Item = u16;
+    type Item = Symbol;
 
     ghost next_gives = { YieldsFirst (λ rest. rest) };
 
     ghost remaining = { item_count (λ rest. rest) };
 
-    fn next(&mut self) -> Option<u16> {
+    fn next(&mut self) -> Option<Symbol> {
         if self.left == 0 {
             return None;
         }
         let (byte, text) = self.rest.split_first()?;
-        let (symbol, skip) = first_symbol(self.skip, self.symbol, self.odd, *byte, text);
+        let (symbol, skip) = first_symbol(self.skip, &self.symbol, self.odd, *byte, text);
         self.skip = skip;
-        self.symbol = symbol;
+        self.symbol = symbol.again();
         self.odd = goes_odd(self.odd, *byte);
         self.rest = text;
         self.left -= 1;
@@ -93,11 +88,11 @@ impl<'a> Iterator for Mask<'a> {
 }
 
 // What stands for the first byte, and how many more bytes are masked by the same.
-fn first_symbol(skip: usize, symbol: u16, odd: bool, byte: u8, text: &[u8]) -> (u16, usize)
-    ensures { mask_from skip symbol odd (byte ∷ text.now) ≡ result.0 ∷ mask_from result.1 result.0 (goes_odd odd byte) text.now }
+fn first_symbol(skip: usize, symbol: &Symbol, odd: bool, byte: u8, text: &[u8]) -> (Symbol, usize)
+    ensures { mask_from skip symbol.now odd (byte ∷ text.now) ≡ result.0 ∷ mask_from result.1 result.0 (goes_odd odd byte) text.now }
 {
     if skip > 0 {
-        return (symbol, skip - 1);
+        return (symbol.again(), skip - 1);
     }
     let more = more_masked(odd, byte, text);
     (mask_byte(byte, more), more)
@@ -142,14 +137,14 @@ fn behind_mark(text: &[u8]) -> usize
 }
 
 // What stands for a byte that takes so many more with it.
-fn mask_byte(byte: u8, more: usize) -> u16
+fn mask_byte(byte: u8, more: usize) -> Symbol
     ensures { result ≡ mask_byte byte more }
 {
     if byte == b'$' {
-        INSIDE
+        Symbol::inside()
     } else if more == 0 {
-        u16::from(byte)
+        Symbol::of(byte)
     } else {
-        BLANK
+        Symbol::of(b' ')
     }
 }

@@ -6,6 +6,7 @@ ghost use Rattle.kt_syntax.specs.Kinds.{before_comment, comment_place, past_blan
 ghost use Rattle.kt_syntax.specs.Mask.{mask_of};
 
 use crate::mask::Mask;
+use crate::symbol::Symbol;
 
 // Where the comment of a line begins, or the line's end.
 #[tactic(auto, unfolding(crate::specs::Kinds::before_comment))]
@@ -16,10 +17,10 @@ pub(crate) fn comment_place(text: &[u8]) -> usize
     let mut place = 0;
     let mut odd = false;
     for symbol in Mask::new(text, text.len()) {
-        if symbol == u16::from(b'#') && !odd {
+        if symbol.is(b'#') && !odd {
             return place;
         }
-        odd = symbol == u16::from(b'\\') && !odd;
+        odd = symbol.is(b'\\') && !odd;
         place += 1;
     }
     place
@@ -40,7 +41,7 @@ pub(crate) fn past_blanks(text: &[u8], from: usize, end: usize) -> usize
     }
     let mut place = from;
     for symbol in Mask::between(text, from, end) {
-        if !is_blank(symbol) {
+        if !is_blank(&symbol) {
             return place;
         }
         place += 1;
@@ -68,7 +69,7 @@ pub(crate) fn past_word(text: &[u8], from: usize, end: usize) -> usize
 {
     let mut place = from;
     for symbol in Mask::between(text, from, end) {
-        if is_blank(symbol) {
+        if is_blank(&symbol) {
             return place;
         }
         place += 1;
@@ -77,8 +78,8 @@ pub(crate) fn past_word(text: &[u8], from: usize, end: usize) -> usize
 }
 
 #[tactic(auto, unfolding(kt_text::specs::Words::is_blank))]
-pub(crate) fn is_blank(symbol: u16) -> bool
-    ensures { result ≡ is_blank symbol }
+pub(crate) fn is_blank(symbol: &Symbol) -> bool
+    ensures { result ≡ is_blank symbol.now }
 {
-    symbol == 32 || symbol == 9
+    symbol.is(b' ') || symbol.is(b'\t')
 }

@@ -3,7 +3,8 @@ ghost use Rattle.std.specs.Prelude.{◌≡◌, ◌++◌, IfOk, OnOk};
 ghost use Rattle.kt_text.specs.Lines.{before_backslash};
 ghost use Rattle.kt_syntax.specs.Recipes.{begun, content, ended, joint_of, newline_after, recipe_line, recipe_of, space_before, without_tab};
 
-use crate::mask::{INSIDE, Mask};
+use crate::mask::Mask;
+use crate::symbol::Symbol;
 use kt_text::{is_continued, line_content, trim_end, trim_start};
 use memchr::memchr;
 use std::alloc::{AllocError, Global};
@@ -35,7 +36,7 @@ pub fn recipe_text(alloc: Global, text: &[u8]) -> Result<Vec<u8>, AllocError>
     let mut before = Joint::Edge;
     while let Some(place) = memchr(b'\n', rest) {
         let (line, lines) = rest.split_at(place + 1);
-        let after = joint_of(mask.symbol_after(place), line);
+        let after = joint_of(&mask.symbol_after(place), line);
         add_line(&mut recipe, before, after, line)?;
         before = after;
         rest = lines;
@@ -46,12 +47,12 @@ pub fn recipe_text(alloc: Global, text: &[u8]) -> Result<Vec<u8>, AllocError>
 
 // What the newline at the end of a physical line is.
 #[tactic(auto, unfolding(crate::specs::Recipes::joint_of))]
-fn joint_of(symbol: u16, line: &[u8]) -> Joint
-    ensures { result ≡ joint_of symbol line.now }
+fn joint_of(symbol: &Symbol, line: &[u8]) -> Joint
+    ensures { result ≡ joint_of symbol.now line.now }
 {
     if !is_continued(line) {
         Joint::Newline
-    } else if symbol == INSIDE {
+    } else if symbol.is_inside() {
         Joint::Inside
     } else {
         Joint::Outside

@@ -8,6 +8,7 @@ ghost use Rattle.kt_syntax.specs.Mask.{mask_of};
 use crate::kind::{assignment, is_word};
 use crate::mask::Mask;
 use crate::places::{comment_place, is_blank, past_blanks, past_line_blanks};
+use crate::symbol::Symbol;
 use thiserror::Error;
 
 /// The parts of a rule line, as they stand in the file.
@@ -59,7 +60,7 @@ fn head_end(text: &[u8], comment: usize) -> usize
 {
     let mut place = 0;
     for symbol in Mask::between(text, 0, comment) {
-        if symbol == u16::from(b';') {
+        if symbol.is(b';') {
             return place;
         }
         place += 1;
@@ -90,9 +91,9 @@ fn colon_place(text: &[u8], end: usize) -> Option<usize>
     ensures bound { IfSome result (λ place. place < end) }
 {
     let mut place = 0;
-    let mut previous = 0;
+    let mut previous = Symbol::of(0);
     for symbol in Mask::between(text, 0, end) {
-        if symbol == u16::from(b':') && previous != u16::from(b'\\') {
+        if symbol.is(b':') && !previous.is(b'\\') {
             return Some(place);
         }
         previous = symbol;
@@ -109,7 +110,7 @@ fn after_colon(text: &[u8], colon: usize, end: usize) -> usize
     ensures bound { result ≤ end }
 {
     match Mask::between(text, colon + 1, end).next() {
-        Some(58) => colon + 2,
+        Some(symbol) if symbol.is(b':') => colon + 2,
         _ => colon + 1,
     }
 }
@@ -125,7 +126,7 @@ fn after_modifiers(text: &[u8], from: usize, end: usize) -> usize
     let mut begin = from;
     let mut place = from;
     for symbol in Mask::between(text, from, end) {
-        if is_blank(symbol) {
+        if is_blank(&symbol) {
             if begin < place && !is_modifier(&text[begin..place]) {
                 return found;
             }

@@ -11,12 +11,18 @@ fn put_reading(
     machine: &mut Machine,
     files: &mut MemFiles,
 ) -> Result<(), AllocError> {
-    match &read(machine, files, &["m"]) {
+    let outcome = read(machine, files, &["m"]);
+    put_outcome(out, &outcome)?;
+    put_asked(out, files.asked())
+}
+
+fn put_outcome(out: &mut Vec<u8>, outcome: &Result<(), Stop>) -> Result<(), AllocError> {
+    match outcome {
         Ok(()) => out.extend_from_slice(b"read")?,
         Err(stop) => put_stop(out, stop)?,
     }
     out.push(b'\n')?;
-    put_asked(out, files.asked())
+    Ok(())
 }
 
 /// How two readings end of which the nth read fails, the names asked for until then, and then the messages.

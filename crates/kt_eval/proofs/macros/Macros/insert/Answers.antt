@@ -3,7 +3,7 @@ use Rattle.kt_eval.specs.Table.{put}
 use Rattle.kt_eval.proofs.TableLemmas.{entry_of, put_entries}
 use Rattle.kt_eval.proofs.macros.Macros.insert.Goals as goal
 
-pub returns : goal.returns
-returns c =
+pub returns-clause-set : goal.returns-clause-set
+returns-clause-set c =
     ap (map entry_of) c.in_ok-insert.ensures.entries
     ∙ put_entries c.self.inside.entries.entries c.args.name c.args.value ∙ ap (put c.args.name.items c.args.value) c.self.view_is

@@ -1,4 +1,4 @@
-use Rattle.std.proofs.Common.{◌≡◌, drop, ap, ◌∙◌, arith}
+use Rattle.std.proofs.Common.{◌≡◌, drop, unwrap_or, ap, ◌∙◌, arith}
 use Rattle.kt_syntax.proofs.Masking.{one_taken, symbol_at}
 use Rattle.kt_syntax.proofs.mask.Mask.symbol_after.Goals as goal
 
@@ -9,6 +9,7 @@ pub returns-clause-symbol : goal.returns-clause-symbol
 returns-clause-symbol c =
     let all : c.loop-place._place ≡ c.args.count = omega arith in
     c.unwrap_or.ensures
+    ∙ ap (unwrap_or c.next-2.result) c.of.ensures
     ∙ symbol_at c.loop-place.self c.next-2.new.self c.args.self.now c.args.count c.next-2.result c.next-2.ensures.steps
     (c.loop-place.invariant ∙ ap (λ n. drop n c.args.self.now) all)
 
