@@ -56,9 +56,29 @@ fn print_time(
     text: Vec<u8>,
 ) -> Result<()> {
     let mut files = files(alloc, text)?;
+    print_machine_time(rt, alloc, kind, count, &mut files)
+}
+
+fn print_machine_time(
+    rt: &impl Runtime,
+    alloc: Global,
+    kind: &str,
+    count: u32,
+    files: &mut MemFiles,
+) -> Result<()> {
     let mut machine = Machine::new(alloc, Macros::new(alloc), 100)?;
+    print_reading_time(rt, kind, count, &mut machine, files)
+}
+
+fn print_reading_time(
+    rt: &impl Runtime,
+    kind: &str,
+    count: u32,
+    machine: &mut Machine,
+    files: &mut MemFiles,
+) -> Result<()> {
     let start = Instant::now(rt)?;
-    let is_read = is_read(&mut machine, &mut files);
+    let is_read = is_read(machine, files);
     let micros = start.elapsed(rt)?.as_micros();
     println!(rt; "{kind:<12} {count:>8} {micros:>10} us, read {is_read}")?;
     Ok(())
@@ -70,10 +90,24 @@ fn is_read(machine: &mut Machine, files: &mut MemFiles) -> bool {
 
 fn files(alloc: Global, text: Vec<u8>) -> Result<MemFiles, AllocError> {
     let mut pairs = Vec::new(alloc);
-    pairs.push(("Makefile".to_string(alloc)?, text))?;
-    let included = Vec::from_slice(alloc, b"B = b\n")?;
-    pairs.push(("a.mk".to_string(alloc)?, included))?;
+    add_file(alloc, &mut pairs, "Makefile", text)?;
+    add_file(
+        alloc,
+        &mut pairs,
+        "a.mk",
+        Vec::from_slice(alloc, b"B = b\n")?,
+    )?;
     Ok(MemFiles::new(alloc, pairs, 0))
+}
+
+fn add_file(
+    alloc: Global,
+    pairs: &mut Vec<(String, Vec<u8>)>,
+    name: &str,
+    text: Vec<u8>,
+) -> Result<(), AllocError> {
+    pairs.push((name.to_string(alloc)?, text))?;
+    Ok(())
 }
 
 // So many lines, each with its number between two texts.
