@@ -62,6 +62,10 @@ recipes_of rules name = filter has_recipe (rules_of rules name)
 unfoldable pub explicit_rules : List Rule → Text → List (Rule × Target)
 explicit_rules rules name = filter (λ made. not (is_suffix_rule (suffixes_of rules) name made)) (rules_of rules name)
 
+-- whether a rule is explicit for one of its targets, where these are the suffixes
+abbrev pub is_explicit : List Text → Rule × Target → Bool
+is_explicit suffixes made = is_made made.0 made.1 && not (is_suffix_rule suffixes made.1.name made)
+
 -- the names that are phony: what the special target `.PHONY` needs (POSIX.1-2024 make, "Special Targets")
 abbrev pub phony_of : Rule → List Text
 phony_of rule = option_map_or (λ names. names) (special_needs (codes ".PHONY") rule) []

@@ -1,9 +1,11 @@
 //! The rules of a makefile, as a list of entries.
 ghost use Rattle.std.specs.Prelude.{◌≡◌, ◌++◌, ◌∷◌, [], IfOk, OnErr, OnOk, None, map, option_map};
-ghost use Rattle.kt_rules.specs.Book.{added, explicit_rules, first_goal_of, is_phony, override_messages, patterns_of, refusal_of};
+ghost use Rattle.kt_rules.specs.Book.{added, explicit_rules, first_goal_of, is_explicit, is_phony, override_messages, patterns_of, refusal_of};
 ghost use Rattle.kt_rules.specs.Refusals.{Answers};
+ghost use Rattle.kt_rules.specs.Slots.{rule_told};
 ghost use Rattle.kt_rules.specs.Suffixes.{suffixes_of};
 
+mod entries;
 mod explicit;
 mod goal;
 mod index;
@@ -20,6 +22,7 @@ mod target_rule;
 
 use crate::entry::Entry;
 use crate::fault::RuleFault;
+pub use entries::Entries;
 pub use explicit::Explicit;
 use index::Index;
 use kt_list::Sequence;
@@ -32,6 +35,7 @@ use special::start_suffixes;
 use std::alloc::{AllocError, Global};
 use std::marker::Model;
 use suffix::is_suffix_name;
+use target_rule::{is_bare, is_made};
 pub use target_rule::TargetRule;
 
 /// Message lines, without their newlines.
@@ -99,6 +103,23 @@ impl Book {
             Some(refusal) => Err(fault_of(self.alloc, entry.place(), refusal)),
             None => Ok(self.accept(entry)?),
         }
+    }
+
+    /// All entries, in order. Takes no memory.
+    pub fn entries(&self) -> Entries<'_>
+        ensures { result ≡ self.now }
+    {
+        Entries::new(self.slots.as_slice())
+    }
+
+    /// Whether an entry is an explicit rule for one of its targets, as the present suffixes tell.
+    /// Takes no memory.
+    pub fn is_explicit(&self, rule: TargetRule) -> bool
+        ensures { result ≡ is_explicit (suffixes_of self.now) (rule_told rule.entry) }
+    {
+        let name = rule.target.name.as_slice();
+        is_made(rule.entry, rule.target)
+            && !(is_bare(rule) && is_suffix_name(&self.suffixes, name))
     }
 
     /// The explicit rules of a target, in order. Takes no memory.

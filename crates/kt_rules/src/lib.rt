@@ -16,7 +16,7 @@ mod refusal;
 mod refused;
 mod written;
 
-pub use book::{Book, Explicit, Pattern, TargetRule, Warnings};
+pub use book::{Book, Entries, Explicit, Pattern, TargetRule, Warnings};
 pub use entry::{Entry, Kind, Name, Needs, RecipeLine, Stemmed, Target};
 pub use fault::RuleFault;
 pub use name::without_dots;

@@ -1,6 +1,6 @@
 //! Books of rules, a line each: the head, and a recipe behind the first `;`.
 use crate::telling::{put, put_fault, put_needs, put_place, read};
-use kt_rules::{Book, Entry, Explicit, Pattern, RuleFault, Warnings};
+use kt_rules::{Book, Entry, Explicit, Pattern, RuleFault, TargetRule, Warnings};
 use memchr::memchr;
 use std::alloc::{AllocError, Global};
 use std::process::Abort;
@@ -52,6 +52,29 @@ fn put_explicit(told: &mut Vec<u8>, rules: Explicit) {
     }
 }
 
+/// All entries with their targets, a star behind each that is explicit.
+fn put_entries(told: &mut Vec<u8>, book: &Book) {
+    for entry in book.entries() {
+        put_place(told, entry.place());
+        put_targets(told, book, entry);
+        put(told, b".");
+    }
+}
+
+fn put_targets(told: &mut Vec<u8>, book: &Book, entry: &Entry) {
+    for target in entry.targets() {
+        put(told, target.name.as_slice());
+        put(
+            told,
+            if book.is_explicit(TargetRule { entry, target }) {
+                b"* "
+            } else {
+                b" "
+            },
+        );
+    }
+}
+
 fn put_suffixes(told: &mut Vec<u8>, suffixes: &[Vec<u8>]) {
     for suffix in suffixes {
         put(told, suffix.as_slice());
@@ -88,6 +111,7 @@ fn put_pattern(told: &mut Vec<u8>, pattern: &Pattern) {
 enum Question<'a> {
     /// What `add` answered.
     Messages,
+    Entries,
     Explicit(&'a [u8]),
     IsPhony(&'a [u8]),
     Suffixes,
@@ -98,6 +122,7 @@ enum Question<'a> {
 fn put_answer_to(told: &mut Vec<u8>, book: &Book, question: Question) {
     match question {
         Question::Messages => {}
+        Question::Entries => put_entries(told, book),
         Question::Explicit(name) => put_explicit(told, book.explicit(name)),
         Question::IsPhony(name) => put(told, if book.is_phony(name) { b"yes" } else { b"no" }),
         Question::Suffixes => put_suffixes(told, book.suffixes()),
@@ -243,6 +268,34 @@ fn finds_explicit_rules(rt: HostRuntime) -> Result<(), Fail> {
             (b".c.o: | p;x", Question::Explicit(b".c.o"), b"m:1 .c.o."),
             (b".c.o::;x", Question::Explicit(b".c.o"), b"m:1 .c.o."),
             (b".c.o .z &:;x", Question::Explicit(b".c.o"), b"m:1 .c.o."),
+        ],
+    )?;
+    Ok(())
+}
+
+#[test]
+fn walks_over_entries(rt: HostRuntime) -> Result<(), Fail> {
+    answers(
+        &rt,
+        rt.alloc(),
+        &[
+            // A line without targets is an entry as well.
+            (b": a", Question::Entries, b"m:1 ."),
+            (
+                b"a b: c;x\n%.o: %.c;y\na:: d\nb: e",
+                Question::Entries,
+                b"m:1 a* b* .m:2 %.o .m:4 b* .",
+            ),
+            (
+                b".PHONY x: a\n.c.o:;x\n.c.o: p;y",
+                Question::Entries,
+                b"m:1 .PHONY x* .m:2 .c.o .m:3 .c.o* .",
+            ),
+            (
+                b".q.o:;x\n.c.o:;y\n.SUFFIXES:\n.SUFFIXES: .q .o",
+                Question::Entries,
+                b"m:1 .q.o .m:2 .c.o* .m:3 .SUFFIXES .m:4 .SUFFIXES .",
+            ),
         ],
     )?;
     Ok(())

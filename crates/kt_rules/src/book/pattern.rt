@@ -65,7 +65,7 @@ impl<'a> Pattern<'a> {
     }
 
     /// The lines of its recipe.
-    pub fn recipe(&self) -> Option<&[RecipeLine]>
+    pub fn recipe(&self) -> Option<&'a [RecipeLine]>
         ensures { option_map (λ lines. lines.now) result ≡ self.now.recipe }
     {
         self.entry.recipe()

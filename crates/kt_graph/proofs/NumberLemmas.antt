@@ -1,0 +1,185 @@
+-- Names by their numbers: what was told of numbers stays where more names are reached.
+use Rattle.std.proofs.Common.{◌≡◌, ℕ, suc, zero, Bool, true, false, ◌+◌, ◌<◌, if◌then◌else◌, List, [], ◌∷◌, ◌++◌, length, map, fold, take, drop, get_or, Some, Vec, Global, slice_get, position, refl, sym, ap, subst, ◌∙◌, option_map}
+use Rattle.std.specs.Str.{bytes_eq}
+use Rattle.std.specs.List.{list_any, flat_map}
+use Rattle.std.proofs.lemmas.List.{append-nil, append_assoc, map-append, take_more, drop_more}
+use Rattle.std.proofs.lemmas.List.Concat.{flat_map-append}
+use Rattle.std.proofs.lemmas.List.Folds.{flat_map-map}
+use Rattle.std.proofs.lemmas.List.Sums.{fold-append}
+use Rattle.std.proofs.lemmas.List.Quantifiers.{position-Some}
+use Rattle.std.proofs.lemmas.Option.{slice_get-map, slice_get-get_or}
+use Rattle.std.proofs.lemmas.Slice.Eq.{bytes_eq-Decides}
+use Rattle.kt_text.specs.Words.{Text}
+use Rattle.kt_rules.specs.declared.entry.Needs.{Needs}
+use Rattle.kt_rules.specs.Names.{is_among, with_name}
+use Rattle.kt_rules.specs.Suffixes.{all_needs}
+use Rattle.kt_rules.proofs.NameSetLemmas.{among_keys}
+use Rattle.kt_graph.specs.Node.{Part}
+use Rattle.kt_graph.specs.declared.settled.Numbered.{Numbered}
+use Rattle.kt_graph.specs.declared.settled.Part.{Part as HeldPart}
+use Rattle.kt_graph.specs.Named.{put_together}
+use Rattle.kt_graph.specs.Numbering.{StandFor, SaysNeeds, SaysPart, SayParts}
+
+-- ---- names that grow
+
+-- a list that grew has what it had at each place
+pub place_kept : {A : Type 0} (xs more : List A) (k : ℕ) (x : A) → slice_get xs k ≡ Some x → slice_get (xs ++ more) k ≡ Some x
+place_kept [] more k x h = cc
+place_kept (y ∷ xs) more zero x h = h
+place_kept (y ∷ xs) more (suc k) x h = place_kept xs more k x h
+
+name_added : (names : List Text) (name : Text) (b : Bool) → (more : List Text) × ((if b then names else names ++ name ∷ []) ≡ names ++ more)
+name_added names name true = ([], sym (append-nil names))
+name_added names name false = (name ∷ [], refl)
+
+-- names are put behind those that there are
+pub names_grow : (needed names : List Text) → (more : List Text) × (fold with_name names needed ≡ names ++ more)
+names_grow [] names = ([], sym (append-nil names))
+names_grow (name ∷ needed) names =
+    let one = name_added names name (is_among names name) in
+    let rest = names_grow needed (with_name names name) in
+    (one.0 ++ rest.0, rest.1 ∙ ap (λ l. l ++ rest.0) one.1 ∙ append_assoc names one.0 rest.0)
+
+stand_longer : (names more expected : List Text) (numbers : List ℕ) → StandFor names expected numbers → StandFor (names ++ more) expected numbers
+stand_longer names more [] [] h = refl
+stand_longer names more [] (number ∷ numbers) h = cc
+stand_longer names more (name ∷ expected) [] h = cc
+stand_longer names more (name ∷ expected) (number ∷ numbers) h =
+    let first : slice_get names number ≡ Some name = cc in
+    let rest : map (slice_get names) numbers ≡ map Some expected = cc in
+    let e = place_kept names more number name first in
+    let es = stand_longer names more expected numbers rest in
+    cc
+
+-- numbers stand for their names where more are reached
+pub stand_kept : (names needed expected : List Text) (numbers : List ℕ) → StandFor names expected numbers
+    → StandFor (fold with_name names needed) expected numbers
+stand_kept names needed expected numbers h =
+    let grown = names_grow needed names in
+    subst (λ l. StandFor l expected numbers) (sym grown.1) (stand_longer names grown.0 expected numbers h)
+
+-- one more number behind others
+pub stand_more : (names new earlier : List Text) (name : Text) (numbers : List ℕ) (number : ℕ) → new ≡ with_name names name → slice_get new number ≡ Some name
+    → StandFor names earlier numbers → StandFor new (earlier ++ name ∷ []) (numbers ++ number ∷ [])
+stand_more names new earlier name numbers number grown at h =
+    let kept : StandFor new earlier numbers = subst (λ l. StandFor l earlier numbers) (sym grown) (stand_kept names (name ∷ []) earlier numbers h) in
+    map-append (slice_get new) numbers (number ∷ []) ∙ ap (λ o. map (slice_get new) numbers ++ o ∷ []) at ∙ ap (λ l. l ++ Some name ∷ []) kept
+    ∙ sym (map-append Some earlier (name ∷ []))
+
+-- ---- a name's number
+
+at_key : (keys : List (Vec ℕ Global)) (name : Text) (place : ℕ) (key : Vec ℕ Global) → slice_get keys place ≡ Some key → bytes_eq name key.items ≡ true
+    → slice_get (map (λ (k : Vec ℕ Global). k.items) keys) place ≡ Some name
+at_key keys name place key at same =
+    slice_get-map (λ (k : Vec ℕ Global). k.items) keys place ∙ ap (option_map (λ (k : Vec ℕ Global). k.items)) at
+    ∙ ap Some (sym ((bytes_eq-Decides name key.items).0 same))
+
+-- the number of a name that was found
+pub number_found : (keys : List (Vec ℕ Global)) (name : Text) (place : ℕ) → position (λ (k : Vec ℕ Global). bytes_eq name k.items) keys ≡ Some place
+    → slice_get (map (λ (k : Vec ℕ Global). k.items) keys) place ≡ Some name
+number_found [] name place h = cc
+number_found (key ∷ keys) name place h =
+    let at = position-Some (λ (k : Vec ℕ Global). bytes_eq name k.items) (key ∷ keys) place key h in
+    at_key (key ∷ keys) name place (get_or (key ∷ keys) place key) (slice_get-get_or (key ∷ keys) place key at.0) at.1
+
+-- a name that was found isn't put behind the others
+pub name_there : (keys : List (Vec ℕ Global)) (name : Text) → list_any (λ (k : Vec ℕ Global). bytes_eq name k.items) keys ≡ true
+    → map (λ (k : Vec ℕ Global). k.items) keys ≡ with_name (map (λ (k : Vec ℕ Global). k.items) keys) name
+name_there keys name h =
+    let names = map (λ (k : Vec ℕ Global). k.items) keys in
+    sym (ap (λ b. if b then names else names ++ name ∷ []) (sym (among_keys keys name) ∙ h))
+
+-- the number of a name that was put there
+pub number_put : (keys : List (Vec ℕ Global)) (name : Text) (key stored : Vec ℕ Global) (place : ℕ) → key.items ≡ name → slice_get keys place ≡ Some stored
+    → bytes_eq key.items stored.items ≡ true → slice_get (map (λ (k : Vec ℕ Global). k.items) keys) place ≡ Some name
+number_put keys name key stored place is at same = at_key keys name place stored at (subst (λ n. bytes_eq n stored.items ≡ true) is same)
+
+-- ---- parts
+
+needs_kept : (names needed : List Text) (expected : Needs) (needs : Numbered) → SaysNeeds names expected needs
+    → SaysNeeds (fold with_name names needed) expected needs
+needs_kept names needed expected needs h = record {
+  prerequisites = stand_kept names needed expected.prerequisites needs.prerequisites.items h.prerequisites;
+  order_only = stand_kept names needed expected.order_only needs.order_only.items h.order_only;
+}
+
+part_kept : (names needed : List Text) (expected : Part) (part : HeldPart) → SaysPart names expected part
+    → SaysPart (fold with_name names needed) expected part
+part_kept names needed expected part h = record {
+  recipe = h.recipe;
+  stem = h.stem;
+  needs = needs_kept names needed expected.needs part.needs h.needs;
+}
+
+-- parts say what they say where more names are reached
+pub parts_kept : (names needed : List Text) (expected : List Part) (parts : List HeldPart) → SayParts names expected parts
+    → SayParts (fold with_name names needed) expected parts
+parts_kept names needed [] [] h = h
+parts_kept names needed [] (part ∷ parts) h = absurd h
+parts_kept names needed (one ∷ expected) [] h = absurd h
+parts_kept names needed (one ∷ expected) (part ∷ parts) h =
+    (part_kept names needed one part h.0, parts_kept names needed expected parts h.1)
+
+parts_push : (names : List Text) (expected : List Part) (parts : List HeldPart) (one : Part) (part : HeldPart) → SayParts names expected parts
+    → SaysPart names one part → SayParts names (expected ++ one ∷ []) (parts ++ part ∷ [])
+parts_push names [] [] one part h last = (last, h)
+parts_push names [] (other ∷ parts) one part h last = absurd h
+parts_push names (first ∷ expected) [] one part h last = absurd h
+parts_push names (first ∷ expected) (other ∷ parts) one part h last = (h.0, parts_push names expected parts one part h.1 last)
+
+-- one more part behind others
+pub parts_more : (names new needed : List Text) (expected : List Part) (parts : List HeldPart) (one : Part) (part : HeldPart) → new ≡ fold with_name names needed
+    → SayParts names expected parts → SaysPart new one part → SayParts new (expected ++ one ∷ []) (parts ++ part ∷ [])
+parts_more names new needed expected parts one part grown h last =
+    parts_push new expected parts one part (subst (λ l. SayParts l expected parts) (sym grown) (parts_kept names needed expected parts h)) last
+
+-- ---- loops
+
+-- the names from a place on, where one more is reached
+pub reach_more : (names new all : List Text) (i : ℕ) (name : Text) → i < length all → name ≡ get_or all i name → new ≡ with_name names name
+    → fold with_name new (drop (i + 1) all) ≡ fold with_name names (drop i all)
+reach_more names new all i name h at grown =
+    ap (λ l. fold with_name l (drop (i + 1) all)) grown
+    ∙ sym (ap (λ l. fold with_name names l) (drop_more all i name h ∙ ap (λ x. x ∷ drop (i + 1) all) (sym at)))
+
+-- the numbers of names up to a place, behind earlier ones
+pub names_said : (names new earlier all : List Text) (i : ℕ) (name : Text) (numbers more : List ℕ) (number : ℕ) → i < length all → name ≡ get_or all i name
+    → new ≡ with_name names name → slice_get new number ≡ Some name → more ≡ numbers ++ number ∷ []
+    → StandFor names (earlier ++ take i all) numbers → StandFor new (earlier ++ take (i + 1) all) more
+names_said names new earlier all i name numbers more number h at grown put pushed said =
+    let e : (earlier ++ take i all) ++ name ∷ [] ≡ earlier ++ take (i + 1) all
+    = append_assoc earlier (take i all) (name ∷ []) ∙ ap (λ x. earlier ++ (take i all ++ x ∷ [])) at ∙ ap (λ l. earlier ++ l) (sym (take_more all i name h)) in
+    subst (λ l. StandFor new l more) e
+    (subst (λ l. StandFor new ((earlier ++ take i all) ++ name ∷ []) l) (sym pushed)
+    (stand_more names new (earlier ++ take i all) name numbers number grown put said))
+
+-- what rules need, the prerequisites before the order-only ones
+pub needs_reached : {B : Type 0} (of : B → Needs) (rules : List B) (old mid new : List Text) → mid ≡ fold with_name old (flat_map (λ r. (of r).prerequisites) rules)
+    → new ≡ fold with_name mid (flat_map (λ r. (of r).order_only) rules)
+    → new ≡ fold with_name old (all_needs (put_together (map of rules)))
+needs_reached of rules old mid new first second =
+    second ∙ ap (λ l. fold with_name l (flat_map (λ r. (of r).order_only) rules)) first
+    ∙ sym (fold-append with_name old (flat_map (λ r. (of r).prerequisites) rules) (flat_map (λ r. (of r).order_only) rules))
+    ∙ ap (λ l. fold with_name old (l ++ flat_map (λ r. (of r).order_only) rules)) (sym (flat_map-map (λ (n : Needs). n.prerequisites) of rules))
+    ∙ ap (λ l. fold with_name old (flat_map (λ (n : Needs). n.prerequisites) (map of rules) ++ l)) (sym (flat_map-map (λ (n : Needs). n.order_only) of rules))
+
+pub needs_said : {B : Type 0} (of : B → Needs) (rules : List B) (mid new : List Text) (needs : Numbered)
+    → new ≡ fold with_name mid (flat_map (λ r. (of r).order_only) rules)
+    → StandFor mid (flat_map (λ r. (of r).prerequisites) rules) needs.prerequisites.items
+    → StandFor new (flat_map (λ r. (of r).order_only) rules) needs.order_only.items
+    → SaysNeeds new (put_together (map of rules)) needs
+needs_said of rules mid new needs grown first second = record {
+  prerequisites =
+      subst (λ l. StandFor new l needs.prerequisites.items) (sym (flat_map-map (λ (n : Needs). n.prerequisites) of rules))
+      (subst (λ l. StandFor l (flat_map (λ r. (of r).prerequisites) rules) needs.prerequisites.items) (sym grown)
+      (stand_kept mid (flat_map (λ r. (of r).order_only) rules) (flat_map (λ r. (of r).prerequisites) rules) needs.prerequisites.items first));
+  order_only = subst (λ l. StandFor new l needs.order_only.items) (sym (flat_map-map (λ (n : Needs). n.order_only) of rules)) second;
+}
+
+-- what one more part needs
+pub part_reached : {B : Type 0} (needed : B → List Text) (parts : List B) (part : B) (old mid new : List Text) → mid ≡ fold with_name old (flat_map needed parts)
+    → new ≡ fold with_name mid (needed part) → new ≡ fold with_name old (flat_map needed (parts ++ part ∷ []))
+part_reached needed parts part old mid new first second =
+    second ∙ ap (λ l. fold with_name l (needed part)) first ∙ sym (fold-append with_name old (flat_map needed parts) (needed part))
+    ∙ ap (λ l. fold with_name old (flat_map needed parts ++ l)) (sym (append-nil (needed part)))
+    ∙ ap (λ l. fold with_name old l) (sym (flat_map-append needed parts (part ∷ [])))

@@ -1,0 +1,11 @@
+use Rattle.std.proofs.Common.{◌≡◌, drop}
+use Rattle.std.specs.List.{find}
+use Rattle.kt_graph.specs.Search.{is_met}
+use Rattle.kt_graph.specs.Views.{candidates_told}
+use Rattle.kt_graph.proofs.chains.Chains.first_met.Given as goal
+
+-- what is found from here is what is found from the start
+abbrev pub invariant-loop-candidate : goal.invariant-loop-candidate
+invariant-loop-candidate l =
+    find (is_met l.self.known.now) (candidates_told l.self.patterns.items l.name (drop l.candidate-index l.candidates))
+    ≡ find (is_met l.self.known.now) (candidates_told l.self.patterns.items l.name l.candidates)

@@ -1,0 +1,7 @@
+use Rattle.std.proofs.Common.{refl}
+use Rattle.kt_graph.specs.Paths.{parts_of, canon_of}
+use Rattle.kt_graph.proofs.laws.rows_of_paths.Goals as goal
+
+pub returns : goal.returns
+unfolding parts_of canon_of
+returns c = record { doubled = refl; idle = refl; up = refl; front = refl; root = refl; reserved = refl }

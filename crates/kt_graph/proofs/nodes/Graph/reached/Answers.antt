@@ -1,0 +1,45 @@
+use Rattle.std.proofs.Common.{◌≡◌, ◌∙◌, List, Bor, ap, fold, subst}
+use Rattle.std.proofs.lemmas.Result.{IfOk-weaker}
+use Rattle.kt_text.specs.Words.{Text}
+use Rattle.kt_rules.specs.Entry.{Rule}
+use Rattle.kt_rules.specs.Names.{with_name}
+use Rattle.kt_graph.specs.declared.settling.Settling.{Settling}
+use Rattle.kt_graph.specs.Reach.{IsGraph}
+use Rattle.kt_graph.specs.Settling.{IsBegun, IsDone}
+use Rattle.kt_graph.proofs.SettlingLemmas.{done_numbers}
+use Rattle.kt_graph.proofs.nodes.Graph.reached.Goals as goal
+
+pub whole-requires-clause-numbers : goal.whole-requires-clause-numbers
+whole-requires-clause-numbers c =
+    let reach = c.in_ok-reach.ensures in
+    let start = c.in_ok-settling.ensures.begun in
+    let begun : IsBegun c.args.goals.now c.reach.new.self = record {
+      names = ap (λ (s : Settling). s.numbers) reach ∙ ap (λ (l : List Text). fold with_name l c.args.goals.now) start.2;
+      nodes = ap (λ (s : Settling). s.nodes.items) reach ∙ start.3;
+    } in
+    let self = c.settle_all.new.self in
+    done_numbers c.reach.new.self.book.now c.reach.new.self.known.now c.args.goals.now c.into_names.result.keys self.instances.keys self.nodes.items
+    (c.in_ok-settle_all.ensures c.args.goals.now begun c.into_names.result.keys c.into_names.ensures)
+
+pub returns : goal.returns
+returns c =
+    let goals = c.args.goals.now in
+    let reach = c.in_ok-reach.ensures in
+    let start = c.in_ok-settling.ensures.begun in
+    let begun : IsBegun goals c.reach.new.self = record {
+      names = ap (λ (s : Settling). s.numbers) reach ∙ ap (λ (l : List Text). fold with_name l goals) start.2;
+      nodes = ap (λ (s : Settling). s.nodes.items) reach ∙ start.3;
+    } in
+    let self = c.settle_all.new.self in
+    let keys = c.into_names.result.keys in
+    let by_book : c.reach.new.self.book.now ≡ c.args.book.now
+    = ap (λ (s : Settling). s.book.now) reach ∙ ap (λ (b : Bor (List Rule)). b.now) start.0 in
+    let by_known : c.reach.new.self.known.now ≡ c.args.known.now
+    = ap (λ (s : Settling). s.known.now) reach ∙ ap (λ (b : Bor (List Text)). b.now) start.1 in
+    let done : IsDone c.args.book.now c.args.known.now goals keys self.instances.keys self.nodes.items
+    = subst (λ r. IsDone r c.args.known.now goals keys self.instances.keys self.nodes.items) by_book
+    (subst (λ k. IsDone c.reach.new.self.book.now k goals keys self.instances.keys self.nodes.items) by_known
+    (c.in_ok-settle_all.ensures goals begun keys c.into_names.ensures)) in
+    IfOk-weaker c.whole.result
+    (λ graph. (rules : List Rule) (known others : List Text) → IsDone rules known others keys self.instances.keys self.nodes.items → IsGraph rules known others graph)
+    (IsGraph c.args.book.now c.args.known.now goals) (λ graph h. h c.args.book.now c.args.known.now goals done) c.whole.ensures

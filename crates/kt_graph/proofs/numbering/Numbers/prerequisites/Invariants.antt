@@ -1,0 +1,11 @@
+use Rattle.std.proofs.Common.{◌≡◌, drop, fold, take}
+use Rattle.std.specs.List.{flat_map}
+use Rattle.kt_rules.specs.Names.{with_name}
+use Rattle.kt_graph.specs.Numbering.{StandFor}
+use Rattle.kt_graph.proofs.numbering.Numbers.prerequisites.Given as goal
+
+abbrev pub invariant-loop-needs : goal.invariant-loop-needs
+invariant-loop-needs l = record {
+  reached : fold with_name l.self (flat_map (λ needs. needs.now.prerequisites) (drop l.needs-index l.rules)) ≡ fold with_name l.fn.self (flat_map (λ needs. needs.now.prerequisites) l.rules);
+  say : StandFor l.self (flat_map (λ needs. needs.now.prerequisites) (take l.needs-index l.rules)) l.numbers.items;
+}

@@ -1,0 +1,26 @@
+use Rattle.std.proofs.Common.{◌≡◌, ◌∙◌, ap, map}
+use Rattle.kt_text.specs.Words.{Text}
+use Rattle.kt_rules.specs.Slots.{rule_told}
+use Rattle.kt_rules.specs.Suffixes.{suffixes_of}
+use Rattle.kt_graph.specs.Named.{named_told}
+use Rattle.kt_graph.specs.Node.{double_node}
+use Rattle.kt_graph.proofs.StepLemmas.{grown_too, said_too}
+use Rattle.kt_graph.proofs.settling.Settling.double_node.Goals as goal
+
+pub returns-clause-says : goal.returns-clause-says
+returns-clause-says c =
+    let made = map rule_told c.args.rules.now in
+    let suffixes = suffixes_of c.args.self.now.book.now in
+    let same : (name : Text) → named_told name c.in_ok-named.named ≡ double_node suffixes name made
+    = λ name. c.in_ok-named.ensures name ∙ ap (λ s. double_node s name made) c.suffixes.ensures in
+    said_too c.hold.result c.hold.new.self.numbers c.hold.new.self.instances.keys (λ name. named_told name c.in_ok-named.named)
+    (λ name. double_node suffixes name made) same c.hold.ensures.says
+
+pub returns-clause-grown : goal.returns-clause-grown
+returns-clause-grown c =
+    let made = map rule_told c.args.rules.now in
+    let suffixes = suffixes_of c.args.self.now.book.now in
+    let same : (name : Text) → named_told name c.in_ok-named.named ≡ double_node suffixes name made
+    = λ name. c.in_ok-named.ensures name ∙ ap (λ s. double_node s name made) c.suffixes.ensures in
+    grown_too c.hold.result c.args.self.now c.hold.new.self (λ name. named_told name c.in_ok-named.named)
+    (λ name. double_node suffixes name made) same c.hold.ensures.grown

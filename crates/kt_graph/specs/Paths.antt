@@ -1,0 +1,53 @@
+-- Which names are names of one file, and which name is kati's own.
+use Rattle.std.specs.Prelude.{Bool, true, false, not, ◌||◌, ◌==◌, List, [], ◌∷◌, ◌++◌, fold, reverse, codes, bytes_eq, if◌then◌else◌}
+use Rattle.std.specs.List.{slice_split, join_with_byte}
+use Rattle.kt_text.specs.Words.{Text}
+
+-- `.`, `..`
+abbrev pub here_name : Text
+here_name = 46 ∷ []
+
+abbrev pub above_name : Text
+above_name = 46 ∷ 46 ∷ []
+
+abbrev pub is_rooted : Text → Bool
+is_rooted [] = false
+is_rooted (byte ∷ name) = byte == 47
+
+-- a component that leads nowhere
+abbrev pub is_idle : Text → Bool
+is_idle part = bytes_eq part [] || bytes_eq part here_name
+
+-- whether the last of components, the last first, is a name
+abbrev pub ends_in_name : List Text → Bool
+ends_in_name [] = false
+ends_in_name (last ∷ parts) = not (bytes_eq last above_name)
+
+-- `..` behind components, the last of them first: it takes the one before it away, unless that is `..`, too; at the front it
+-- stays, but not under the root
+abbrev pub step_up : Bool → List Text → List Text
+step_up true [] = []
+step_up false [] = above_name ∷ []
+step_up rooted (last ∷ parts) = if bytes_eq last above_name then above_name ∷ last ∷ parts else parts
+
+-- a component behind others, the last of them first
+abbrev pub with_part : Bool → List Text → Text → List Text
+with_part rooted parts part =
+    if is_idle part then parts else (if bytes_eq part above_name then step_up rooted parts else part ∷ parts)
+
+-- the components of a name's file
+unfoldable pub parts_of : Text → List Text
+parts_of name = reverse (fold (with_part (is_rooted name)) [] (slice_split (λ byte. byte == 47) name))
+
+-- Canon: the one spelling of a name's file (POSIX.1-2024, "Pathname Resolution", with no look at any file; that `..` takes a name
+-- away is kati's own)
+unfoldable pub canon_of : Text → Text
+canon_of name = (if is_rooted name then 47 ∷ [] else []) ++ join_with_byte 47 (parts_of name)
+
+-- the name that phony statements with a command need (kati's own)
+abbrev pub always_name : Text
+always_name = codes "_kati_always_build_"
+
+-- Reserved: a spelling of that name's file
+abbrev pub is_reserved : Text → Bool
+is_reserved name = bytes_eq (canon_of name) always_name

@@ -1,0 +1,58 @@
+-- The names that were reached so far, and the nodes of the first of them, as the code holds them (kati's own).
+use Rattle.std.specs.Prelude.{◌≡◌, ℕ, ◌≤◌, List, [], length, map, fold, take, All, Some, slice_get}
+use Rattle.std.specs.List.{Contains}
+use Rattle.std.specs.declared.vec.Vec.{Vec}
+use Rattle.std.specs.declared.alloc.Global.{Global}
+use Rattle.kt_text.specs.Words.{Text}
+use Rattle.kt_rules.specs.Book.{patterns_of}
+use Rattle.kt_rules.specs.Entry.{Rule}
+use Rattle.kt_rules.specs.Names.{with_name}
+use Rattle.kt_graph.specs.declared.node.Instance.{Instance as Held}
+use Rattle.kt_graph.specs.declared.settled.Settled.{Settled}
+use Rattle.kt_graph.specs.declared.settling.Settling.{Settling}
+use Rattle.kt_graph.specs.Node.{node_of}
+use Rattle.kt_graph.specs.Numbering.{Says, SaysNode}
+use Rattle.kt_graph.specs.Reach.{IsReached}
+use Rattle.kt_graph.specs.Views.{name_at}
+
+-- rules are searched for in the book, over its known names
+pub record IsOver (settling : Settling) : Type 0 where
+  pub rules : settling.search.rules ≡ patterns_of settling.book.now
+  pub known_names : settling.search.known ≡ settling.known.now
+
+-- names are reached; those that were reached before keep their numbers, as makings do, and all else stays
+pub record Grows (old : Settling) (needed : List Text) (new : Settling) : Type 0 where
+  pub book : new.book ≡ old.book
+  pub known_names : new.known ≡ old.known
+  pub searched_rules : new.search.rules ≡ old.search.rules
+  pub searched_names : new.search.known ≡ old.search.known
+  pub nodes : new.nodes ≡ old.nodes
+  pub names : new.numbers ≡ fold with_name old.numbers needed
+  pub instances : take (length old.instances.keys) new.instances.keys ≡ old.instances.keys
+
+-- goals are reached, and nothing is settled yet
+pub record IsBegun (goals : List Text) (settling : Settling) : Type 0 where
+  pub names : settling.numbers ≡ fold with_name [] goals
+  pub nodes : settling.nodes.items ≡ []
+
+-- what was reached is needed by goals, and what has a node has the right one
+pub record IsUnderWay (rules : List Rule) (known goals names : List Text) (instances : List Held) (nodes : List Settled) : Type 0 where
+  pub reached : All (IsReached rules known goals) names
+  pub named : All (Contains names) goals
+  pub within : length nodes ≤ length names
+  pub settled : (number : ℕ) (name : Text) (node : Settled) → slice_get names number ≡ Some name → slice_get nodes number ≡ Some node
+      → SaysNode names instances (node_of rules known name) node
+
+-- each name has its node
+pub record IsDone (rules : List Rule) (known goals : List Text) (names : List (Vec ℕ Global)) (instances : List Held) (nodes : List Settled) : Type 0 where
+  pub reached : All (λ name. IsReached rules known goals name.items) names
+  pub named : All (λ goal. Contains (map (λ name. name.items) names) goal) goals
+  pub settled : (number : ℕ) (node : Settled) → slice_get nodes number ≡ Some node
+      → Says names instances (name_at names number) (node_of rules known (name_at names number)) node
+  pub all : length nodes ≡ length names
+
+-- nothing is left to be settled
+abbrev pub IsSettled : List Rule → List Text → List Text → Settling → Type 0
+IsSettled rules known goals settling =
+    (names : List (Vec ℕ Global)) → map (λ name. name.items) names ≡ settling.numbers
+    → IsDone rules known goals names settling.instances.keys settling.nodes.items

@@ -1,0 +1,236 @@
+//! The nodes of names by their explicit rules.
+ghost use Rattle.std.specs.Prelude.{◌≡◌, ◌++◌, ◌∷◌, None, Some, List, MatchOption, find, map, nat_eq, option_map, IfOk, OnOk};
+ghost use Rattle.std.specs.List.{ends_with, list_any};
+ghost use Rattle.kt_text.specs.Words.{Text};
+ghost use Rattle.kt_rules.specs.Book.{is_double};
+ghost use Rattle.kt_rules.specs.Entry.{Rule};
+ghost use Rattle.kt_rules.specs.declared.entry.Target.{Target as HeldTarget};
+ghost use Rattle.kt_rules.specs.Slots.{rule_told};
+ghost use Rattle.kt_graph.specs.Building.{IsCut};
+ghost use Rattle.kt_graph.specs.Node.{double_node, explicit_node, first_name, group_of, kind_without, part_of, plain_node, stem_for, suffix_stem, used_rule};
+ghost use Rattle.kt_graph.specs.Named.{named_told, needs_of_each, part_named, put_together};
+ghost use Rattle.kt_graph.specs.Views.{instance_told};
+
+use crate::named::{Named, NamedPart};
+use crate::node::{Instance, NodeKind};
+use kt_rules::{Entry, Kind, Needs, Target, TargetRule};
+use std::alloc::{AllocError, Global};
+
+/// The rule whose recipe is used, and the rules before it and behind it.
+#[derive(Clone, Copy)]
+pub(crate) struct Used<'a, 'r> {
+    pub(crate) rule: TargetRule<'a>,
+    pub(crate) earlier: &'r [TargetRule<'a>],
+    pub(crate) later: &'r [TargetRule<'a>],
+}
+
+/// The last rule with a recipe, whose recipe is used.
+pub(crate) fn used_rule<'a, 'r>(rules: &'r [TargetRule<'a>]) -> Option<Used<'a, 'r>>
+    ensures { MatchOption result (used_rule (map rule_told rules.now) ≡ None) (λ used. (used_rule (map rule_told rules.now) ≡ Some (rule_told used.rule)) × IsCut (map rule_told rules.now) used) }
+{
+    let mut left = rules;
+    while let [earlier @ .., rule] = left {
+        if rule.entry.recipe().is_some() {
+            return Some(Used {
+                rule: *rule,
+                earlier,
+                later: &rules[earlier.len() + 1..],
+            });
+        }
+        left = earlier;
+    }
+    None
+}
+
+/// Each rule is a part.
+pub(crate) fn double_node<'a>(
+    alloc: Global,
+    suffixes: &[Vec<u8>],
+    rules: &[TargetRule<'a>],
+) -> Result<Named<'a, 'a>, AllocError>
+    ensures { IfOk result (λ named. (name : Text) → named_told name named ≡ double_node (map (λ suffix. suffix.items) suffixes.now) name (map rule_told rules.now)) }
+{
+    let mut parts = Vec::with_capacity(alloc, rules.len())?;
+    for rule in rules {
+        let needs = Vec::from_array(alloc, [rule.entry.needs(rule.target)])?;
+        parts.push(rule_part(alloc, suffixes, *rule, needs)?)?;
+    }
+    Ok(Named {
+        kind: NodeKind::DoubleColon,
+        parts,
+        making: None,
+    })
+}
+
+/// The rule whose recipe is used comes first with what it needs.
+pub(crate) fn explicit_node<'a>(
+    alloc: Global,
+    suffixes: &[Vec<u8>],
+    used: Used<'a, '_>,
+) -> Result<Named<'a, 'a>, AllocError>
+    ensures { IfOk result (λ named. (name : Text) (rules : List (Rule × HeldTarget)) → IsCut rules used.entry
+        → named_told name named ≡ explicit_node (map (λ suffix. suffix.items) suffixes.now) name rules (rule_told used.entry.rule)) }
+{
+    let rule = used.rule;
+    let mut needs = Vec::from_array(alloc, [rule.entry.needs(rule.target)])?;
+    add_needs(&mut needs, used.earlier)?;
+    add_needs(&mut needs, used.later)?;
+    let part = rule_part(alloc, suffixes, rule, needs)?;
+    let parts = Vec::from_array(alloc, [part])?;
+    Ok(Named {
+        kind: NodeKind::Explicit,
+        parts,
+        making: group_of(alloc, rule.entry)?,
+    })
+}
+
+/// Where no recipe makes the name.
+pub(crate) fn plain_node<'a>(
+    alloc: Global,
+    suffixes: &[Vec<u8>],
+    name: &[u8],
+    rules: &[TargetRule<'a>],
+    is_phony: bool,
+) -> Result<Named<'a, 'a>, AllocError>
+    ensures { IfOk result (λ named. named_told name.now named ≡ plain_node (map (λ suffix. suffix.items) suffixes.now) name.now (map rule_told rules.now) is_phony) }
+{
+    let mut needs = Vec::new(alloc);
+    add_needs(&mut needs, rules)?;
+    let part = NamedPart {
+        recipe: None,
+        stem: Vec::from_slice(alloc, suffix_stem(suffixes, name))?,
+        needs,
+    };
+    Ok(Named {
+        kind: kind_without(rules, is_phony),
+        parts: Vec::from_array(alloc, [part])?,
+        making: None,
+    })
+}
+
+/// What rules need behind what is needed first.
+pub(crate) fn with_needs<'a: 'n, 'n>(
+    alloc: Global,
+    first: &'n Needs,
+    rules: &[TargetRule<'a>],
+) -> Result<Vec<&'n Needs>, AllocError>
+    ensures { IfOk result (λ needs. map (λ some. some.now) needs.items ≡ first.now ∷ needs_of_each (map rule_told rules.now)) }
+{
+    let mut needs = Vec::new(alloc);
+    needs.push(first)?;
+    add_needs(&mut needs, rules)?;
+    Ok(needs)
+}
+
+// Puts what rules need behind what is needed.
+fn add_needs<'a: 'n, 'n>(
+    needs: &mut Vec<&'n Needs>,
+    rules: &[TargetRule<'a>],
+) -> Result<(), AllocError>
+    ensures { OnOk result (map (λ some. some.now) needs.new.items ≡ map (λ some. some.now) needs.old.items ++ needs_of_each (map rule_told rules.now)) }
+{
+    for rule in rules {
+        needs.push(rule.entry.needs(rule.target))?;
+    }
+    Ok(())
+}
+
+/// Whether one of the rules has two colons.
+pub(crate) fn has_double(rules: &[TargetRule]) -> bool
+    ensures { result ≡ list_any (λ rule. is_double rule.0.kind) (map rule_told rules.now) }
+{
+    for rule in rules {
+        if is_double(*rule) {
+            return true;
+        }
+    }
+    false
+}
+
+fn is_double(rule: TargetRule) -> bool
+    ensures { result ≡ is_double (rule_told rule.entry).0.kind }
+{
+    matches!(rule.entry.kind(), Kind::DoubleColon)
+}
+
+// A rule of its target with what it needs.
+fn rule_part<'a>(
+    alloc: Global,
+    suffixes: &[Vec<u8>],
+    rule: TargetRule<'a>,
+    needs: Vec<&'a Needs>,
+) -> Result<NamedPart<'a, 'a>, AllocError>
+    ensures { IfOk result (λ part. part_named part ≡ part_of (map (λ suffix. suffix.items) suffixes.now) (rule_told rule.entry) (put_together (map (λ some. some.now) needs.entry.items))) }
+{
+    Ok(NamedPart {
+        recipe: rule.entry.recipe(),
+        stem: Vec::from_slice(alloc, stem_for(suffixes, rule))?,
+        needs,
+    })
+}
+
+// The making of a group's rule.
+fn group_of(alloc: Global, entry: &Entry) -> Result<Option<Instance>, AllocError>
+    ensures { IfOk result (λ making. option_map instance_told making ≡ group_of entry.now) }
+{
+    if !matches!(entry.kind(), Kind::Group) {
+        return Ok(None);
+    }
+    let first = Vec::from_slice(alloc, first_name(entry.targets()))?;
+    Ok(Some(Instance::Group(first)))
+}
+
+fn first_name(targets: &[Target]) -> &[u8]
+    ensures { result.now ≡ first_name targets.now }
+{
+    match targets {
+        [first, ..] => first.name.as_slice(),
+        [] => b"",
+    }
+}
+
+// The kind of a name without recipe.
+fn kind_without(rules: &[TargetRule], is_phony: bool) -> NodeKind
+    ensures { result ≡ kind_without (map rule_told rules.now) is_phony }
+{
+    if !rules.is_empty() {
+        NodeKind::Explicit
+    } else if is_phony {
+        NodeKind::Phony
+    } else {
+        NodeKind::Leaf
+    }
+}
+
+// The stem in an explicit rule: that of its static pattern, if it has one.
+fn stem_for<'r>(suffixes: &[Vec<u8>], rule: TargetRule<'r>) -> &'r [u8]
+    ensures { result.now ≡ stem_for (map (λ suffix. suffix.items) suffixes.now) (rule_told rule.entry) }
+{
+    match &rule.target.stemmed {
+        Some(stemmed) => stemmed.stem.as_slice(),
+        None => suffix_stem(suffixes, rule.target.name.as_slice()),
+    }
+}
+
+// The name without the first of the suffixes that it ends with; without one there is no stem.
+#[tactic(auto, unfolding(crate::specs::Node::suffix_stem))]
+fn suffix_stem<'n>(suffixes: &[Vec<u8>], name: &'n [u8]) -> &'n [u8]
+    ensures { result.now ≡ suffix_stem (map (λ suffix. suffix.items) suffixes.now) name.now }
+{
+    match suffix_of(suffixes, name) {
+        Some(suffix) => &name[..name.len().saturating_sub(suffix.len())],
+        None => b"",
+    }
+}
+
+// The first of the suffixes that the name ends with.
+fn suffix_of<'s>(suffixes: &'s [Vec<u8>], name: &[u8]) -> Option<&'s [u8]>
+    ensures { option_map (λ suffix. suffix.now) result ≡ find (λ suffix. ends_with nat_eq name.now suffix) (map (λ suffix. suffix.items) suffixes.now) }
+{
+    for suffix in suffixes {
+        if name.ends_with(suffix.as_slice()) {
+            return Some(suffix.as_slice());
+        }
+    }
+    None
+}

@@ -1,0 +1,28 @@
+//! Names in byte order.
+ghost use Rattle.std.specs.Prelude.{◌≡◌, map, IfOk};
+ghost use Rattle.kt_graph.specs.Files.{AreDistinct, IsByteOrder};
+
+use std::alloc::{AllocError, Global};
+
+/// The numbers of names, in byte order of these.
+pub(crate) fn byte_order(alloc: Global, names: &[Vec<u8>]) -> Result<Vec<usize>, AllocError>
+    requires { AreDistinct names.now }
+    ensures { IfOk result (λ order. IsByteOrder names.now order.items) }
+{
+    let mut named = Vec::with_capacity(alloc, names.len())?;
+    for (number, name) in names.iter().enumerate() {
+        named.push((name.as_slice(), number))?;
+    }
+    named.sort_unstable();
+    numbers(alloc, named.as_slice())
+}
+
+fn numbers(alloc: Global, named: &[(&[u8], usize)]) -> Result<Vec<usize>, AllocError>
+    ensures { IfOk result (λ numbers. numbers.items ≡ map (λ pair. pair.1) named.now) }
+{
+    let mut numbers = Vec::with_capacity(alloc, named.len())?;
+    for (_, number) in named {
+        numbers.push(*number)?;
+    }
+    Ok(numbers)
+}

@@ -1,0 +1,108 @@
+//! The files that the names of a graph stand for.
+ghost use Rattle.std.specs.Prelude.{◌≡◌, ◌++◌, ◌∷◌, ◌||◌, ◌&&◌, [], List, Some, false, bytes_eq, find, is_some, map, not, option_map, unwrap_or, IfOk, OnOk, if◌then◌else◌};
+ghost use Rattle.std.specs.List.{list_any};
+ghost use Rattle.kt_text.specs.Words.{Text};
+ghost use Rattle.kt_graph.specs.Files.{HasFiles, held_for, is_repeated, made_names};
+ghost use Rattle.kt_graph.specs.Node.{is_leaf};
+ghost use Rattle.kt_graph.specs.Paths.{always_name, is_reserved};
+
+use crate::node::Node;
+use crate::nodes::Nodes;
+use crate::paths::{canon, is_always};
+use indexmap::IndexMap;
+use std::alloc::{AllocError, Global};
+
+/// The files of made names, and whether a name, made or not, is kati's own.
+#[derive(Drop)]
+pub(crate) struct Files {
+    alloc: Global,
+    // Each file with whether several made names have it.
+    several: IndexMap<Vec<u8>, bool>,
+    has_always: bool,
+}
+
+impl Files {
+    /// The files of nodes.
+    pub(crate) fn of(alloc: Global, nodes: Nodes<'_>) -> Result<Files, AllocError>
+        ensures reserved { IfOk result (λ files. files.has_always ≡ list_any (λ node. is_reserved node.name) nodes.entry) }
+        ensures made { IfOk result (λ files. HasFiles files (made_names nodes.entry)) }
+    {
+        let mut files = Files {
+            alloc,
+            several: IndexMap::new(alloc),
+            has_always: false,
+        };
+        for node in nodes {
+            files.add(&node)?;
+        }
+        Ok(files)
+    }
+
+    fn add(&mut self, node: &Node<'_>) -> Result<(), AllocError>
+        ensures reserved { OnOk result (self.new.has_always ≡ (self.old.has_always || is_reserved node.now.name)) }
+        ensures made { OnOk result ((names : List Text) → HasFiles self.old names → HasFiles self.new (names ++ made_names (node.now ∷ []))) }
+    {
+        let file = canon(self.alloc, node.name())?;
+        self.has_always = self.has_always_with(file.as_slice());
+        if node.is_made() {
+            self.add_file(file)?;
+        }
+        Ok(())
+    }
+
+    fn has_always_with(&self, file: &[u8]) -> bool
+        ensures { result ≡ (self.now.has_always || bytes_eq file.now always_name) }
+    {
+        self.has_always || is_always(file)
+    }
+
+    fn add_file(&mut self, file: Vec<u8>) -> Result<(), AllocError>
+        ensures same { OnOk result (self.new.has_always ≡ self.old.has_always) }
+        ensures added { OnOk result ((other : Text) → held_for self.new.several.entries other
+            ≡ (if bytes_eq other file.items then Some (is_some (held_for self.old.several.entries file.items)) else held_for self.old.several.entries other)) }
+    {
+        let is_known = self.several.contains_key(file.as_slice());
+        self.several.insert(file, is_known)?;
+        Ok(())
+    }
+
+    /// Whether a name is kati's own.
+    pub(crate) fn has_always(&self) -> bool
+        ensures { result ≡ self.now.has_always }
+    {
+        self.has_always
+    }
+
+    /// The first made name whose file has another made name.
+    pub(crate) fn first_repeated<'g>(
+        &self,
+        nodes: Nodes<'g>,
+    ) -> Result<Option<&'g [u8]>, AllocError>
+        ensures { IfOk result (λ found. (names : List Text) → HasFiles self.now names
+            → option_map (λ name. name.now) found ≡ find (is_repeated names) (made_names nodes.entry)) }
+    {
+        for node in nodes {
+            if self.is_repeated(&node)? {
+                return Ok(Some(node.name()));
+            }
+        }
+        Ok(None)
+    }
+
+    fn is_repeated(&self, node: &Node<'_>) -> Result<bool, AllocError>
+        ensures { IfOk result (λ is. (names : List Text) → HasFiles self.now names
+            → is ≡ (not (is_leaf node.now.kind) && is_repeated names node.now.name)) }
+    {
+        if !node.is_made() {
+            return Ok(false);
+        }
+        let file = canon(self.alloc, node.name())?;
+        Ok(self.is_several(file.as_slice()))
+    }
+
+    fn is_several(&self, file: &[u8]) -> bool
+        ensures { result ≡ unwrap_or (held_for self.now.several.entries file.now) false }
+    {
+        self.several.get(file).copied().unwrap_or(false)
+    }
+}

@@ -1,0 +1,97 @@
+//! What is to be made.
+ghost use Rattle.std.specs.Prelude.{◌≡◌, ◌≤◌, length, map, IfOk, option_to_list};
+ghost use Rattle.std.specs.List.{prefix_len, suffix_len};
+ghost use Rattle.kt_text.specs.Words.{is_separator};
+ghost use Rattle.kt_graph.specs.Goals.{begun, default_goals, ended, named_goals, trimmed};
+
+use indexmap::IndexSet;
+use kt_list::Sequence;
+use kt_rules::{Book, Name, without_dots};
+use std::alloc::{AllocError, Global};
+
+/// The goals that the words of a command line name, each once (GNU make manual, "Arguments to
+/// Specify the Goals").
+#[tactic(auto, using(crate::proofs::NameKeys::key_added), unfolding(crate::specs::Goals::named_goals, kt_rules::specs::Names::without_repeats))]
+pub fn named_goals(alloc: Global, words: &[Name]) -> Result<Vec<Name>, AllocError>
+    ensures { IfOk result (λ goals. goals.items ≡ named_goals words.now) }
+{
+    let mut goals = IndexSet::new(alloc);
+    for word in words {
+        goals.insert(Vec::from_slice(alloc, without_dots(word.as_slice()))?)?;
+    }
+    in_order(alloc, goals)
+}
+
+// The names of a set.
+fn in_order(alloc: Global, names: IndexSet<Vec<u8>>) -> Result<Vec<Name>, AllocError>
+    ensures { IfOk result (λ list. list.items ≡ map (λ name. name.items) names.keys) }
+{
+    names.into_iter().map(Sequence::from).collect(alloc)
+}
+
+/// The goal where the command line names none: that of `.DEFAULT_GOAL`, expanded, or else the first
+/// target (GNU make manual, "How `make` Processes a Makefile").
+#[tactic(auto, unfolding(crate::specs::Goals::default_goals))]
+pub fn default_goal(alloc: Global, book: &Book, text: &[u8]) -> Result<Option<Name>, AllocError>
+    ensures { IfOk result (λ goal. option_to_list goal ≡ default_goals book.now text.now) }
+{
+    let name = trimmed(text);
+    if !name.is_empty() {
+        return Ok(Some(copied(alloc, without_dots(name))?));
+    }
+    match book.first_goal() {
+        Some(goal) => Ok(Some(copied(alloc, goal)?)),
+        None => Ok(None),
+    }
+}
+
+fn copied(alloc: Global, name: &[u8]) -> Result<Name, AllocError>
+    ensures { IfOk result (λ copy. copy ≡ name.now) }
+{
+    Ok(Sequence::from(Vec::from_slice(alloc, name)?))
+}
+
+// The text without the separators round it.
+fn trimmed(text: &[u8]) -> &[u8]
+    ensures { result.now ≡ trimmed text.now }
+{
+    ended(begun(text))
+}
+
+// The text without the separators at its begin.
+fn begun(text: &[u8]) -> &[u8]
+    ensures { result.now ≡ begun text.now }
+{
+    &text[leading_separators(text)..]
+}
+
+// The text without those at its end.
+fn ended(text: &[u8]) -> &[u8]
+    ensures { result.now ≡ ended text.now }
+{
+    &text[..text.len() - trailing_separators(text)]
+}
+
+fn leading_separators(text: &[u8]) -> usize
+    ensures value { result ≡ prefix_len is_separator text.now }
+    ensures bound { result ≤ length text.now }
+{
+    text.iter().take_while(|byte| is_separator(**byte)).count()
+}
+
+fn trailing_separators(text: &[u8]) -> usize
+    ensures value { result ≡ suffix_len is_separator text.now }
+    ensures bound { result ≤ length text.now }
+{
+    text.iter()
+        .rev()
+        .take_while(|byte| is_separator(**byte))
+        .count()
+}
+
+#[tactic(auto, unfolding(kt_text::specs::Words::is_separator))]
+fn is_separator(byte: u8) -> bool
+    ensures { result ≡ is_separator byte }
+{
+    matches!(byte, b' ' | b'\t' | b'\n')
+}

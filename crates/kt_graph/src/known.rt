@@ -1,0 +1,134 @@
+//! The names that the search takes for there.
+ghost use Rattle.std.specs.Prelude.{◌≡◌, [], codes, flat_map, fold, option_map, IfOk, OnOk};
+ghost use Rattle.kt_rules.specs.Names.{is_among, with_name};
+ghost use Rattle.kt_rules.specs.Suffixes.{all_needs, special_needs, suffixes_of};
+ghost use Rattle.kt_graph.specs.Known.{known_names, listed_names, named_by, named_with};
+
+use bstr::ByteSlice;
+use indexmap::IndexSet;
+use kt_rules::{Book, Entry, Name, Needs, TargetRule, without_dots};
+use std::alloc::{AllocError, Global};
+use std::marker::Model;
+
+/// The names that are known: those of a list of files, those of explicit rules, and the phony ones.
+///
+/// A known name needs no rule where a pattern rule needs it.
+#[derive(Drop)]
+pub struct Known {
+    alloc: Global,
+    names: IndexSet<Vec<u8>>,
+}
+
+impl Model for Known {
+    ghost use Rattle.std.specs.Prelude.{ℕ, List, map};
+
+    ghost Value = { List (List ℕ) };
+
+    ghost view = { λ known. map (λ name. name.items) known.names.keys };
+}
+
+impl Known {
+    /// The names that a book and a list of files make known. The list has a name a line; empty lines
+    /// say nothing.
+    #[tactic(auto, unfolding(crate::specs::Known::known_names, kt_rules::specs::Names::without_repeats))]
+    pub fn of(alloc: Global, book: &Book, files: &[u8]) -> Result<Known, AllocError>
+        ensures { IfOk result (λ known. known ≡ known_names book.now files.now) }
+    {
+        let mut known = Known::none(alloc);
+        known.add_listed(files)?;
+        for entry in book.entries() {
+            known.add_entry(book, entry)?;
+        }
+        Ok(known)
+    }
+
+    /// Whether a name is known. Takes no memory.
+    pub fn contains(&self, name: &[u8]) -> bool
+        ensures { result ≡ is_among self.now name.now }
+    {
+        self.names.contains(name)
+    }
+
+    fn none(alloc: Global) -> Known
+        ensures { result ≡ [] }
+    {
+        Known {
+            alloc,
+            names: IndexSet::new(alloc),
+        }
+    }
+
+    // Adds the names of a list, one a line.
+    #[tactic(auto, unfolding(crate::specs::Known::listed_names))]
+    fn add_listed(&mut self, files: &[u8]) -> Result<(), AllocError>
+        ensures { OnOk result (self.new ≡ fold with_name self.old (listed_names files.now)) }
+    {
+        for name in files.lines() {
+            if !name.is_empty() {
+                self.add(without_dots(name))?;
+            }
+        }
+        Ok(())
+    }
+
+    // Adds what an entry makes known.
+    fn add_entry(&mut self, book: &Book, entry: &Entry) -> Result<(), AllocError>
+        ensures { OnOk result (self.new ≡ fold with_name self.old (named_by (suffixes_of book.now) entry.now)) }
+    {
+        self.add_explicit(book, entry)?;
+        match phony_needs(entry) {
+            Some(needs) => self.add_needs(needs),
+            None => Ok(()),
+        }
+    }
+
+    // Adds the targets for which an entry is an explicit rule, and what they need.
+    fn add_explicit(&mut self, book: &Book, entry: &Entry) -> Result<(), AllocError>
+        ensures { OnOk result (self.new ≡ fold with_name self.old (flat_map (named_with (suffixes_of book.now) entry.now) entry.now.targets)) }
+    {
+        for target in entry.targets() {
+            if book.is_explicit(TargetRule { entry, target }) {
+                self.add(target.name.as_slice())?;
+                self.add_needs(entry.needs(target))?;
+            }
+        }
+        Ok(())
+    }
+
+    fn add_needs(&mut self, needs: &Needs) -> Result<(), AllocError>
+        ensures { OnOk result (self.new ≡ fold with_name self.old (all_needs needs.now)) }
+    {
+        self.add_all(needs.prerequisites.as_slice())?;
+        self.add_all(needs.order_only.as_slice())
+    }
+
+    fn add_all(&mut self, names: &[Name]) -> Result<(), AllocError>
+        ensures { OnOk result (self.new ≡ fold with_name self.old names.now) }
+    {
+        for name in names {
+            self.add(name.as_slice())?;
+        }
+        Ok(())
+    }
+
+    // Adds a name behind the others, if it isn't among them.
+    fn add(&mut self, name: &[u8]) -> Result<(), AllocError>
+        ensures { OnOk result (self.new ≡ with_name self.old name.now) }
+    {
+        if !self.contains(name) {
+            self.names.insert(Vec::from_slice(self.alloc, name)?)?;
+        }
+        Ok(())
+    }
+}
+
+// What the entry's `.PHONY` needs.
+fn phony_needs(entry: &Entry) -> Option<&Needs>
+    ensures { option_map (λ needs. all_needs needs.now) result ≡ special_needs (codes ".PHONY") entry.now }
+{
+    let target = entry
+        .targets()
+        .iter()
+        .find(|target| target.name.as_slice() == b".PHONY".as_slice())?;
+    Some(entry.needs(target))
+}

@@ -1,0 +1,42 @@
+//! Laws of the definitions. These functions do nothing: their contracts are what counts.
+ghost use Rattle.std.specs.Prelude.{List};
+ghost use Rattle.kt_text.specs.Words.{Text};
+ghost use Rattle.kt_rules.specs.Entry.{Rule};
+ghost use Rattle.kt_graph.specs.Faults.{TellsFirst};
+ghost use Rattle.kt_graph.specs.Rows.{RowsOfChoices, RowsOfGoals, RowsOfKnown, RowsOfNodes, RowsOfPaths, RowsOfQuestions};
+ghost use Rattle.kt_graph.specs.declared.fault.GraphFault.TheVariants.{Memory};
+
+/// Worked known names.
+pub fn rows_of_known()
+    ensures { RowsOfKnown }
+{}
+
+/// Worked choices.
+pub fn rows_of_choices()
+    ensures { RowsOfChoices }
+{}
+
+/// Worked questions.
+pub fn rows_of_questions()
+    ensures { RowsOfQuestions }
+{}
+
+/// Worked nodes.
+pub fn rows_of_nodes()
+    ensures { RowsOfNodes }
+{}
+
+/// Worked goals.
+pub fn rows_of_goals()
+    ensures { RowsOfGoals }
+{}
+
+/// Worked names of files.
+pub fn rows_of_paths()
+    ensures { RowsOfPaths }
+{}
+
+/// Want of memory is excused, whatever is wrong.
+pub fn memory_is_excused()
+    ensures { (rules : List Rule) (known goals : List Text) → TellsFirst rules known goals Memory }
+{}

@@ -1,0 +1,119 @@
+//! What a pattern rule needs for a name.
+ghost use Rattle.std.specs.Prelude.{◌≡◌, ◌+◌, ◌-◌, ◌^◌, ◌<◌, ◌++◌, drop, length, min, take, IfOk, nat_le};
+ghost use Rattle.std.specs.List.{list_all, slice_range};
+ghost use Rattle.kt_graph.specs.Candidates.{are_short, name_limit, needed_name, needed_names, needs_with, spelled_out};
+ghost use Rattle.kt_graph.specs.Views.{IsWithin};
+
+use crate::candidate::Fit;
+use kt_list::Sequence;
+use kt_rules::{Name, Needs, without_dots};
+use memchr::memchr;
+use std::alloc::{AllocError, Global};
+
+/// How many bytes a prerequisite has at most, before a leading `./` is removed. So that a search
+/// whose rules make names longer and longer ends.
+const NAME_LIMIT: usize = 4096;
+
+/// Stems put into patterns: of one fit in one name.
+#[derive(Clone, Copy)]
+pub(crate) struct Stemming<'n> {
+    pub(crate) directory: &'n [u8],
+    pub(crate) stem: &'n [u8],
+}
+
+impl<'n> Stemming<'n> {
+    pub(crate) fn new(fit: &Fit, name: &'n [u8]) -> Stemming<'n>
+        requires { IsWithin name.now fit.now }
+        ensures directory { result.directory.now ≡ take fit.now.directory name.now }
+        ensures stem { result.stem.now ≡ slice_range name.now fit.now.start fit.now.end }
+    {
+        Stemming {
+            directory: fit.directory(name),
+            stem: fit.stem(name),
+        }
+    }
+
+    /// Whether nothing that is needed gets too long.
+    pub(crate) fn keeps_short(self, needs: &Needs) -> bool
+        ensures { result ≡ are_short self.entry.directory.now self.entry.stem.now needs.now }
+    {
+        self.all_short(needs.prerequisites.as_slice())
+            && self.all_short(needs.order_only.as_slice())
+    }
+
+    fn all_short(self, names: &[Name]) -> bool
+        ensures { result ≡ list_all (λ name. nat_le (length (spelled_out self.entry.directory.now self.entry.stem.now name)) name_limit) names.now }
+    {
+        names.iter().all(|name| self.is_short(name.as_slice()))
+    }
+
+    fn is_short(self, name: &[u8]) -> bool
+        ensures { result ≡ nat_le (length (spelled_out self.entry.directory.now self.entry.stem.now name.now)) name_limit }
+    {
+        self.len(name) <= NAME_LIMIT
+    }
+
+    // How many bytes a prerequisite has, before a leading `./` is removed; where a number can't tell,
+    // the greatest one.
+    fn len(self, name: &[u8]) -> usize
+        ensures { result ≡ min (length (spelled_out self.entry.directory.now self.entry.stem.now name.now)) (2 ^ 64 - 1) }
+    {
+        match memchr(b'%', name) {
+            None => name.len(),
+            Some(_percent) => (name.len() - 1)
+                .saturating_add(self.directory.len())
+                .saturating_add(self.stem.len()),
+        }
+    }
+
+    /// A prerequisite with the stem put in, the directory before it; one without percent sign is
+    /// itself.
+    pub(crate) fn name(self, alloc: Global, name: &[u8]) -> Result<Vec<u8>, AllocError>
+        ensures { IfOk result (λ made. made.items ≡ needed_name self.entry.directory.now self.entry.stem.now name.now) }
+    {
+        match memchr(b'%', name) {
+            None => Vec::from_slice(alloc, name),
+            Some(percent) => {
+                let text = self.put_at(percent, alloc, name)?;
+                Vec::from_slice(alloc, without_dots(text.as_slice()))
+            }
+        }
+    }
+
+    // A name with the stem in the place of a byte, and the directory before it.
+    fn put_at(self, place: usize, alloc: Global, name: &[u8]) -> Result<Vec<u8>, AllocError>
+        requires { place < length name.now }
+        ensures { IfOk result (λ text. text.items ≡ self.entry.directory.now ++ (take place name.now ++ (self.entry.stem.now ++ drop (place + 1) name.now))) }
+    {
+        let mut text = Vec::with_capacity(alloc, self.len(name))?;
+        text.extend_from_slice(self.directory)?;
+        text.extend_from_slice(&name[..place])?;
+        text.extend_from_slice(self.stem)?;
+        text.extend_from_slice(&name[place + 1..])?;
+        Ok(text)
+    }
+
+    // Prerequisites with the stem put in.
+    #[tactic(auto, unfolding(crate::specs::Candidates::needed_names))]
+    fn names(self, alloc: Global, names: &[Name]) -> Result<Vec<Name>, AllocError>
+        ensures { IfOk result (λ made. made.items ≡ needed_names self.entry.directory.now self.entry.stem.now names.now) }
+    {
+        let mut made = Vec::with_capacity(alloc, names.len())?;
+        for name in names {
+            made.push(Sequence::from(self.name(alloc, name.as_slice())?))?;
+        }
+        Ok(made)
+    }
+
+    /// All that is needed.
+    pub(crate) fn needs(self, alloc: Global, needs: &Needs) -> Result<Needs, AllocError>
+        ensures { IfOk result (λ made. made ≡ needs_with self.entry.directory.now self.entry.stem.now needs.now) }
+    {
+        let prerequisites = self.names(alloc, needs.prerequisites.as_slice())?;
+        let order_only = self.names(alloc, needs.order_only.as_slice())?;
+        Ok(Needs {
+            prerequisites: Sequence::from(prerequisites),
+            order_only: Sequence::from(order_only),
+        })
+    }
+}

@@ -1,0 +1,222 @@
+//! What makes a name and what it needs.
+ghost use Rattle.std.specs.Prelude.{◌≡◌, length, not, option_map, slice_get};
+ghost use Rattle.std.specs.Iterator.{YieldsFirstRef, item_count};
+ghost use Rattle.kt_graph.specs.Node.{inputs_of, is_leaf, order_only_of};
+ghost use Rattle.kt_graph.specs.Views.{instance_told, name_at, part_lines, part_needed, part_order_only, part_stem};
+
+use crate::settled::Settled;
+use kt_rules::RecipeLine;
+use std::marker::Model;
+
+/// What makes a name.
+#[derive(Clone, Copy, Debug, PartialEq, Eq)]
+pub enum NodeKind {
+    /// All its rules, which have two colons (GNU make manual, "Double-Colon Rules").
+    DoubleColon,
+    /// Rules that name it.
+    Explicit,
+    /// A pattern rule, which was searched for (GNU make manual, "Using Implicit Rules").
+    Implicit,
+    /// That it is phony, and nothing else (GNU make manual, "Phony Targets").
+    Phony,
+    /// Nothing.
+    Leaf,
+}
+
+/// One making of several names.
+#[derive(Debug, PartialEq, Eq, Hash, Drop)]
+pub enum Instance {
+    /// A group, by its first target: no other group has that target (GNU make manual, "Multiple
+    /// Targets in a Rule").
+    Group(Vec<u8>),
+    /// A pattern rule with several targets, by its number among the book's `patterns`, for a directory
+    /// and a stem (GNU make manual, "Introduction to Pattern Rules").
+    Pattern {
+        rule: usize,
+        directory: Vec<u8>,
+        stem: Vec<u8>,
+    },
+}
+
+/// A name with what makes it and what it needs.
+///
+/// A double-colon node has a part for each of its rules, numbered from 0; any other node has part 0
+/// alone. Of a part that it doesn't have, a node tells nothing.
+#[derive(Drop)]
+pub struct Node<'g> {
+    names: &'g [Vec<u8>],
+    instances: &'g [Instance],
+    number: usize,
+    settled: &'g Settled<'g>,
+}
+
+impl<'g> Model for Node<'g> {
+    ghost use Rattle.kt_graph.specs.Node.{Node};
+
+    ghost Value = { Node };
+
+    ghost use Rattle.kt_graph.specs.Views.{node_told};
+
+    ghost view = { λ node. node_told node.names.now node.instances.now node.number node.settled.now };
+
+    ghost use Rattle.kt_graph.specs.Whole.{IsHeld};
+
+    ghost invariant = { λ node. IsHeld node.names.now node.instances.now node.settled.now };
+}
+
+impl<'g> Node<'g> {
+    ghost use Rattle.kt_graph.specs.Views.{node_told};
+    ghost use Rattle.kt_graph.specs.Whole.{IsHeld};
+
+    pub(crate) fn new(
+        names: &'g [Vec<u8>],
+        instances: &'g [Instance],
+        number: usize,
+        settled: &'g Settled<'g>,
+    ) -> Node<'g>
+        requires { IsHeld names.now instances.now settled.now }
+        ensures { result ≡ node_told names.now instances.now number settled.now }
+    {
+        Node {
+            names,
+            instances,
+            number,
+            settled,
+        }
+    }
+
+    pub fn name(&self) -> &'g [u8]
+        ensures { result.now ≡ self.now.name }
+    {
+        name_of(self.names, self.number)
+    }
+
+    pub fn kind(&self) -> NodeKind
+        ensures { result ≡ self.now.kind }
+    {
+        self.settled.kind
+    }
+
+    /// Whether a rule makes it.
+    pub fn is_made(&self) -> bool
+        ensures { result ≡ not (is_leaf self.now.kind) }
+    {
+        !matches!(self.settled.kind, NodeKind::Leaf)
+    }
+
+    /// The making that it shares with other names, if they are reached too.
+    pub fn instance(&self) -> Option<&'g Instance>
+        ensures { option_map (λ instance. instance_told instance.now) result ≡ self.now.made_with }
+    {
+        self.instances.get(self.settled.made_with?)
+    }
+
+    /// How many parts it has.
+    pub fn parts(&self) -> usize
+        ensures { result ≡ length self.now.parts }
+    {
+        self.settled.parts.as_slice().len()
+    }
+
+    /// The recipe of a part, if it has one.
+    pub fn recipe(&self, part: usize) -> Option<&'g [RecipeLine]>
+        ensures { option_map (λ lines. lines.now) result ≡ part_lines (slice_get self.now.parts part) }
+    {
+        self.settled.parts.as_slice().get(part)?.recipe
+    }
+
+    /// The stem of a part, as `$*` gives it (GNU make manual, "Automatic Variables").
+    pub fn stem(&self, part: usize) -> &'g [u8]
+        ensures { result.now ≡ part_stem (slice_get self.now.parts part) }
+    {
+        match self.settled.parts.as_slice().get(part) {
+            Some(part) => part.stem.as_slice(),
+            None => b"",
+        }
+    }
+
+    /// The prerequisites of a part, in order and with repeats.
+    pub fn prerequisites(&self, part: usize) -> Inputs<'g>
+        ensures { result ≡ part_needed (slice_get self.now.parts part) }
+    {
+        match self.settled.parts.as_slice().get(part) {
+            Some(part) => Inputs::of(self.names, part.needs.prerequisites.as_slice()),
+            None => Inputs::of(self.names, &[]),
+        }
+    }
+
+    /// The order-only prerequisites of a part, in order and with repeats.
+    pub fn order_only_prerequisites(&self, part: usize) -> Inputs<'g>
+        ensures { result ≡ part_order_only (slice_get self.now.parts part) }
+    {
+        match self.settled.parts.as_slice().get(part) {
+            Some(part) => Inputs::of(self.names, part.needs.order_only.as_slice()),
+            None => Inputs::of(self.names, &[]),
+        }
+    }
+
+    /// The prerequisites of all parts, each once.
+    pub fn inputs(&self) -> Inputs<'g>
+        ensures { result ≡ inputs_of self.now }
+    {
+        Inputs::of(self.names, self.settled.inputs.as_slice())
+    }
+
+    /// The order-only ones, each once, without the inputs.
+    pub fn order_only(&self) -> Inputs<'g>
+        ensures { result ≡ order_only_of self.now }
+    {
+        Inputs::of(self.names, self.settled.order_only.as_slice())
+    }
+}
+
+/// Names that a node needs, in order.
+#[derive(Drop)]
+pub struct Inputs<'g> {
+    names: &'g [Vec<u8>],
+    numbers: &'g [usize],
+}
+
+impl<'g> Model for Inputs<'g> {
+    ghost use Rattle.std.specs.Prelude.{ℕ, List};
+
+    ghost Value = { List (List ℕ) };
+
+    ghost use Rattle.kt_graph.specs.Views.{names_at};
+
+    ghost view = { λ inputs. names_at inputs.names.now inputs.numbers.now };
+}
+
+impl<'g> Inputs<'g> {
+    ghost use Rattle.kt_graph.specs.Views.{names_at};
+
+    fn of(names: &'g [Vec<u8>], numbers: &'g [usize]) -> Inputs<'g>
+        ensures { result ≡ names_at names.now numbers.now }
+    {
+        Inputs { names, numbers }
+    }
+}
+
+impl<'g> Iterator for Inputs<'g> {
+    type Item = &'g [u8];
+
+    ghost next_gives = { YieldsFirstRef (λ inputs. inputs) };
+
+    ghost remaining = { item_count (λ inputs. inputs) };
+
+    fn next(&mut self) -> Option<&'g [u8]> {
+        let (number, after) = self.numbers.split_first()?;
+        self.numbers = after;
+        Some(name_of(self.names, *number))
+    }
+}
+
+/// The name of a number.
+pub(crate) fn name_of(names: &[Vec<u8>], number: usize) -> &[u8]
+    ensures { result.now ≡ name_at names.now number }
+{
+    match names.get(number) {
+        Some(name) => name.as_slice(),
+        None => b"",
+    }
+}

@@ -1,0 +1,167 @@
+//! Names by numbers.
+ghost use Rattle.std.specs.Prelude.{◌≡◌, ◌^◌, ◌<◌, ◌++◌, [], List, Some, flat_map, fold, length, map, option_map, slice_get, IfOk, OnOk};
+ghost use Rattle.kt_text.specs.Words.{Text};
+ghost use Rattle.kt_rules.specs.Names.{with_name};
+ghost use Rattle.kt_rules.specs.Suffixes.{all_needs};
+ghost use Rattle.kt_graph.specs.Named.{part_named, put_together};
+ghost use Rattle.kt_graph.specs.Numbering.{SaysNeeds, SaysPart, SayParts, StandFor};
+
+use crate::named::NamedPart;
+use crate::settled::{Numbered, Part};
+use indexmap::IndexSet;
+use kt_rules::{Name, Needs};
+use std::alloc::{AllocError, Global};
+use std::marker::Model;
+
+/// The names that were reached so far. Each has its place as its number.
+#[derive(Drop)]
+pub(crate) struct Numbers {
+    alloc: Global,
+    names: IndexSet<Vec<u8>>,
+}
+
+impl Model for Numbers {
+    ghost use Rattle.std.specs.Prelude.{ℕ, List, map};
+
+    ghost Value = { List (List ℕ) };
+
+    ghost view = { λ numbers. map (λ name. name.items) numbers.names.keys };
+}
+
+impl Numbers {
+    pub(crate) fn new(alloc: Global) -> Numbers
+        ensures { result ≡ [] }
+    {
+        Numbers {
+            alloc,
+            names: IndexSet::new(alloc),
+        }
+    }
+
+    pub(crate) fn into_names(self) -> IndexSet<Vec<u8>>
+        ensures { map (λ name. name.items) result.keys ≡ self }
+    {
+        let Numbers { alloc: _, names } = self;
+        names
+    }
+
+    /// How many names there are.
+    pub(crate) fn len(&self) -> usize
+        ensures len { result ≡ length self.now }
+        ensures small { result < 2 ^ 63 }
+    {
+        self.names.len()
+    }
+
+    /// A copy of the name with a number.
+    pub(crate) fn name(&self, number: usize) -> Result<Option<Vec<u8>>, AllocError>
+        ensures { IfOk result (λ name. option_map (λ some. some.items) name ≡ slice_get self.now number) }
+    {
+        match self.names.get_index(number) {
+            Some(name) => Ok(Some(Vec::from_slice(self.alloc, name.as_slice())?)),
+            None => Ok(None),
+        }
+    }
+
+    /// The number of a name, which is reached from then on.
+    fn number(&mut self, name: &[u8]) -> Result<usize, AllocError>
+        ensures numbered { IfOk result (λ number. slice_get self.new number ≡ Some name.now) }
+        ensures reached { OnOk result (self.new ≡ with_name self.old name.now) }
+    {
+        match self.names.get_index_of(name) {
+            Some(number) => Ok(number),
+            None => {
+                let (number, _) = self.names.insert_full(Vec::from_slice(self.alloc, name)?)?;
+                Ok(number)
+            }
+        }
+    }
+
+    /// Reaches names.
+    pub(crate) fn reach(&mut self, names: &[Name]) -> Result<(), AllocError>
+        ensures { OnOk result (self.new ≡ fold with_name self.old names.now) }
+    {
+        for name in names {
+            let _ = self.number(name.as_slice())?;
+        }
+        Ok(())
+    }
+
+    /// Parts with numbers. What they need is reached from then on.
+    pub(crate) fn parts<'a>(
+        &mut self,
+        parts: Vec<NamedPart<'a, '_>>,
+    ) -> Result<Vec<Part<'a>>, AllocError>
+        ensures say { IfOk result (λ numbered. SayParts self.new (map part_named parts.entry.items) numbered.items) }
+        ensures reached { OnOk result (self.new ≡ fold with_name self.old (flat_map (λ part. all_needs (part_named part).needs) parts.entry.items)) }
+    {
+        let mut numbered = Vec::with_capacity(self.alloc, parts.len())?;
+        for part in parts {
+            numbered.push(self.part(part)?)?;
+        }
+        Ok(numbered)
+    }
+
+    fn part<'a>(&mut self, part: NamedPart<'a, '_>) -> Result<Part<'a>, AllocError>
+        ensures says { IfOk result (SaysPart self.new (part_named part.entry)) }
+        ensures reached { OnOk result (self.new ≡ fold with_name self.old (all_needs (part_named part.entry).needs)) }
+    {
+        let NamedPart {
+            recipe,
+            stem,
+            needs,
+        } = part;
+        let needs = self.needs(needs.as_slice())?;
+        Ok(Part {
+            recipe,
+            stem,
+            needs,
+        })
+    }
+
+    // What several rules need, put together.
+    fn needs(&mut self, rules: &[&Needs]) -> Result<Numbered, AllocError>
+        ensures says { IfOk result (SaysNeeds self.new (put_together (map (λ needs. needs.now) rules.now))) }
+        ensures reached { OnOk result (self.new ≡ fold with_name self.old (all_needs (put_together (map (λ needs. needs.now) rules.now)))) }
+    {
+        let prerequisites = self.prerequisites(rules)?;
+        let order_only = self.order_only(rules)?;
+        Ok(Numbered {
+            prerequisites,
+            order_only,
+        })
+    }
+
+    fn prerequisites(&mut self, rules: &[&Needs]) -> Result<Vec<usize>, AllocError>
+        ensures say { IfOk result (λ numbers. StandFor self.new (flat_map (λ needs. needs.now.prerequisites) rules.now) numbers.items) }
+        ensures reached { OnOk result (self.new ≡ fold with_name self.old (flat_map (λ needs. needs.now.prerequisites) rules.now)) }
+    {
+        let mut numbers = Vec::new(self.alloc);
+        for needs in rules {
+            self.add_names(&mut numbers, needs.prerequisites.as_slice())?;
+        }
+        Ok(numbers)
+    }
+
+    fn order_only(&mut self, rules: &[&Needs]) -> Result<Vec<usize>, AllocError>
+        ensures say { IfOk result (λ numbers. StandFor self.new (flat_map (λ needs. needs.now.order_only) rules.now) numbers.items) }
+        ensures reached { OnOk result (self.new ≡ fold with_name self.old (flat_map (λ needs. needs.now.order_only) rules.now)) }
+    {
+        let mut numbers = Vec::new(self.alloc);
+        for needs in rules {
+            self.add_names(&mut numbers, needs.order_only.as_slice())?;
+        }
+        Ok(numbers)
+    }
+
+    // Puts the numbers of names behind others.
+    fn add_names(&mut self, numbers: &mut Vec<usize>, names: &[Name]) -> Result<(), AllocError>
+        ensures say { OnOk result ((earlier : List Text) → StandFor self.old earlier numbers.old.items → StandFor self.new (earlier ++ names.now) numbers.new.items) }
+        ensures reached { OnOk result (self.new ≡ fold with_name self.old names.now) }
+    {
+        for name in names {
+            numbers.push(self.number(name.as_slice())?)?;
+        }
+        Ok(())
+    }
+}

@@ -1,0 +1,25 @@
+//! What the search asks.
+use std::alloc::{AllocError, Global};
+
+/// The numbers of the rules in a chain, rising.
+pub type Used = Vec<usize>;
+
+/// What makes a name, behind the rules of a chain.
+#[derive(Debug, PartialEq, Eq, Hash, Drop)]
+pub struct Question {
+    pub name: Vec<u8>,
+    pub used: Used,
+}
+
+impl Question {
+    ghost use Rattle.std.specs.Prelude.{◌≡◌, IfOk};
+
+    pub(crate) fn new(alloc: Global, name: &[u8], used: &[usize]) -> Result<Question, AllocError>
+        ensures { IfOk result (λ question. (question.name.items ≡ name.now) × (question.used.items ≡ used.now)) }
+    {
+        Ok(Question {
+            name: Vec::from_slice(alloc, name)?,
+            used: Vec::from_slice(alloc, used)?,
+        })
+    }
+}

@@ -1,0 +1,92 @@
+//! The search for a pattern rule that makes a name.
+ghost use Rattle.std.specs.Prelude.{◌≡◌, [], map, option_map, IfOk, OnErr, OnOk};
+ghost use Rattle.std.specs.List.{IsDistinct};
+ghost use Rattle.kt_rules.specs.Book.{patterns_of};
+ghost use Rattle.kt_graph.specs.Search.{IsFoundByTrees, asked_after, asked_eq, choice_of};
+ghost use Rattle.kt_graph.specs.Views.{asked_told, choice_told};
+
+use crate::chains::Chains;
+use crate::choice::Choice;
+use crate::known::Known;
+use crate::question::Question;
+use crate::tried::Tried;
+use kt_rules::{Book, Pattern};
+use std::alloc::{AllocError, Global};
+use std::marker::Model;
+
+/// A search for the pattern rules that make names (GNU make manual, "Implicit Rule Search
+/// Algorithm").
+///
+/// No question is answered twice.
+#[derive(Drop)]
+pub struct Search<'a> {
+    chains: Chains<'a>,
+    // What was asked so far.
+    tried: Tried,
+}
+
+impl<'a> Model for Search<'a> {
+    ghost use Rattle.kt_graph.specs.Search.{Searching};
+
+    ghost Value = { Searching };
+
+    ghost use Rattle.std.specs.Prelude.{map};
+    ghost use Rattle.kt_graph.specs.Chaining.{IsRight};
+    ghost use Rattle.kt_graph.specs.Views.{asked_told};
+
+    ghost view = { λ search. record {
+      rules = search.chains.patterns.items;
+      known = search.chains.known.now;
+      asked = map asked_told search.tried.questions.keys;
+    } };
+
+    ghost invariant = { λ search. IsRight search.chains.patterns.items search.chains.known.now search.tried.questions.keys search.tried.answers.items 0 };
+}
+
+impl<'a> Search<'a> {
+    ghost use Rattle.kt_graph.specs.Search.{Searching};
+
+    /// A search that was asked nothing yet.
+    pub fn new(alloc: Global, book: &'a Book, known: &'a Known) -> Result<Search<'a>, AllocError>
+        ensures { IfOk result (λ search. search ≡ record { rules = patterns_of book.now; known = known.now; asked = [] }) }
+    {
+        Ok(Search {
+            chains: Chains::new(alloc, book.patterns()?, known),
+            tried: Tried::new(alloc),
+        })
+    }
+
+    /// The rule that makes a name.
+    ///
+    /// It is the first whose prerequisites are known, or else the first whose other prerequisites each
+    /// find a rule by the same search; a chain has at most 8 rules, each once. Where memory is refused,
+    /// the search is as it was.
+    pub fn choose(&mut self, name: &[u8]) -> Result<Choice, AllocError>
+        ensures chosen { IfOk result (λ choice. choice ≡ option_map choice_told (choice_of self.old.rules self.old.known name.now)) }
+        ensures trees { IfOk result (IsFoundByTrees self.old.rules self.old.known name.now) }
+        ensures asked { OnOk result (self.new ≡ record self.old { asked = asked_after self.old.rules self.old.known self.old.asked name.now }) }
+        ensures refused { OnErr result (self.new ≡ self.old) }
+    {
+        let count = self.tried.count();
+        let choice = self.chains.choice(&mut self.tried, name);
+        if choice.is_err() {
+            self.tried.truncate(count);
+        }
+        choice
+    }
+
+    /// The questions that were put so far, each once and in this order. Takes no memory.
+    pub fn tried(&self) -> &[Question]
+        ensures asked { map asked_told result.now ≡ self.now.asked }
+        ensures once { IsDistinct asked_eq self.now.asked }
+    {
+        self.tried.questions()
+    }
+
+    /// The pattern rules among which it chooses.
+    pub(crate) fn patterns(&self) -> &[Pattern<'a>]
+        ensures { result.now ≡ self.now.rules }
+    {
+        self.chains.patterns()
+    }
+}

@@ -1,0 +1,112 @@
+//! Nodes as the graph holds them: names by their numbers.
+ghost use Rattle.std.specs.Prelude.{◌≡◌, [], flat_map, fold, IfOk, OnOk};
+ghost use Rattle.kt_graph.specs.Numbering.{input_numbers, numbers_without, order_only_numbers, with_number};
+
+use crate::node::NodeKind;
+use indexmap::IndexSet;
+use kt_rules::RecipeLine;
+use std::alloc::{AllocError, Global};
+
+/// What makes a name and what it needs.
+#[derive(Drop)]
+pub(crate) struct Settled<'a> {
+    pub(crate) kind: NodeKind,
+    /// A part for each rule of a double-colon node, else one.
+    pub(crate) parts: Vec<Part<'a>>,
+    /// The number of the making that makes other names, too.
+    pub(crate) made_with: Option<usize>,
+    /// The prerequisites, each once.
+    pub(crate) inputs: IndexSet<usize>,
+    /// The order-only ones, each once and without these.
+    pub(crate) order_only: IndexSet<usize>,
+}
+
+/// A recipe with what its automatic macros tell.
+#[derive(Drop)]
+pub(crate) struct Part<'a> {
+    pub(crate) recipe: Option<&'a [RecipeLine]>,
+    pub(crate) stem: Vec<u8>,
+    pub(crate) needs: Numbered,
+}
+
+/// What is needed, in order and with repeats.
+#[derive(Drop)]
+pub(crate) struct Numbered {
+    pub(crate) prerequisites: Vec<usize>,
+    pub(crate) order_only: Vec<usize>,
+}
+
+impl<'a> Settled<'a> {
+    /// A node of these parts; its inputs are what they need, without repeats.
+    pub(crate) fn new(
+        alloc: Global,
+        kind: NodeKind,
+        parts: Vec<Part<'a>>,
+        made_with: Option<usize>,
+    ) -> Result<Settled<'a>, AllocError>
+        ensures held { IfOk result (λ node. (node.kind ≡ kind) × (node.parts ≡ parts.entry) × (node.made_with ≡ made_with)) }
+        ensures inputs { IfOk result (λ node. node.inputs.keys ≡ input_numbers parts.entry.items) }
+        ensures order_only { IfOk result (λ node. node.order_only.keys ≡ order_only_numbers parts.entry.items) }
+    {
+        let inputs = inputs(alloc, parts.as_slice())?;
+        let order_only = order_only(alloc, parts.as_slice(), &inputs)?;
+        Ok(Settled {
+            kind,
+            parts,
+            made_with,
+            inputs,
+            order_only,
+        })
+    }
+}
+
+// The prerequisites of parts, each once.
+fn inputs(alloc: Global, parts: &[Part]) -> Result<IndexSet<usize>, AllocError>
+    ensures { IfOk result (λ inputs. inputs.keys ≡ input_numbers parts.now) }
+{
+    let mut inputs = IndexSet::new(alloc);
+    for part in parts {
+        add_all(&mut inputs, part.needs.prerequisites.as_slice())?;
+    }
+    Ok(inputs)
+}
+
+// The order-only prerequisites of parts, each once and without the inputs.
+fn order_only(
+    alloc: Global,
+    parts: &[Part],
+    inputs: &IndexSet<usize>,
+) -> Result<IndexSet<usize>, AllocError>
+    ensures { IfOk result (λ others. others.keys ≡ fold with_number [] (numbers_without inputs.now.keys (flat_map (λ part. part.needs.order_only.items) parts.now))) }
+{
+    let mut others = IndexSet::new(alloc);
+    for part in parts {
+        add_others(&mut others, inputs, part.needs.order_only.as_slice())?;
+    }
+    Ok(others)
+}
+
+fn add_all(set: &mut IndexSet<usize>, numbers: &[usize]) -> Result<(), AllocError>
+    ensures { OnOk result (set.new.keys ≡ fold with_number set.old.keys numbers.now) }
+{
+    for number in numbers {
+        set.insert(*number)?;
+    }
+    Ok(())
+}
+
+// Adds those numbers that aren't among others.
+fn add_others(
+    set: &mut IndexSet<usize>,
+    others: &IndexSet<usize>,
+    numbers: &[usize],
+) -> Result<(), AllocError>
+    ensures { OnOk result (set.new.keys ≡ fold with_number set.old.keys (numbers_without others.now.keys numbers.now)) }
+{
+    for number in numbers {
+        if !others.contains(number) {
+            set.insert(*number)?;
+        }
+    }
+    Ok(())
+}

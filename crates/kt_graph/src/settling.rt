@@ -1,0 +1,263 @@
+//! Settles what makes each name that goals need, by a list of work.
+ghost use Rattle.std.specs.Prelude.{◌≡◌, ◌<◌, ◌^◌, [], List, None, fold, length, map, option_map, slice_get, take, IfOk, OnOk};
+ghost use Rattle.kt_text.specs.Words.{Text};
+ghost use Rattle.kt_rules.specs.Book.{explicit_rules, is_phony};
+ghost use Rattle.kt_rules.specs.Entry.{Rule};
+ghost use Rattle.kt_rules.specs.declared.entry.Target.{Target as HeldTarget};
+ghost use Rattle.kt_rules.specs.Names.{with_name};
+ghost use Rattle.kt_rules.specs.Slots.{rule_told};
+ghost use Rattle.kt_rules.specs.Suffixes.{suffixes_of};
+ghost use Rattle.kt_graph.specs.Building.{IsCut};
+ghost use Rattle.kt_graph.specs.Inferring.{Infers, Tells, inferred_node};
+ghost use Rattle.kt_graph.specs.Named.{named_told, needed_by};
+ghost use Rattle.kt_graph.specs.Node.{double_node, explicit_node, node_by, node_of, node_with, plain_node, searched};
+ghost use Rattle.kt_graph.specs.Numbering.{IsMaking, SaysNode};
+ghost use Rattle.kt_graph.specs.Settling.{Grows, IsBegun, IsOver, IsSettled};
+ghost use Rattle.kt_graph.specs.Views.{instance_told};
+
+use crate::building::{
+    Used, double_node, explicit_node, has_double, plain_node, used_rule, with_needs,
+};
+use crate::choice::Chosen;
+use crate::inferring::Inferred;
+use crate::known::Known;
+use crate::named::{Named, NamedPart};
+use crate::node::{Instance, NodeKind};
+use crate::numbering::Numbers;
+use crate::search::Search;
+use crate::settled::Settled;
+use indexmap::IndexSet;
+use kt_rules::{Book, Name, TargetRule};
+use std::alloc::{AllocError, Global};
+
+/// The names that were reached so far, by numbers, and the nodes of the first of them.
+///
+/// The names behind those that have nodes are the work that is left.
+#[derive(Drop)]
+pub(crate) struct Settling<'a> {
+    alloc: Global,
+    book: &'a Book,
+    known: &'a Known,
+    // Over this book and these names.
+    search: Search<'a>,
+    pub(crate) numbers: Numbers,
+    pub(crate) nodes: Vec<Settled<'a>>,
+    pub(crate) instances: IndexSet<Instance>,
+}
+
+impl<'a> Settling<'a> {
+    pub(crate) fn new(
+        alloc: Global,
+        book: &'a Book,
+        known: &'a Known,
+    ) -> Result<Settling<'a>, AllocError>
+        ensures over { IfOk result IsOver }
+        ensures begun { IfOk result (λ settling. (settling.book ≡ book.entry) × (settling.known ≡ known.entry) × (settling.numbers ≡ []) × (settling.nodes.items ≡ []) × (settling.instances.keys ≡ [])) }
+    {
+        Ok(Settling {
+            alloc,
+            book,
+            known,
+            search: Search::new(alloc, book, known)?,
+            numbers: Numbers::new(alloc),
+            nodes: Vec::new(alloc),
+            instances: IndexSet::new(alloc),
+        })
+    }
+
+    /// Reaches names.
+    pub(crate) fn reach(&mut self, goals: &[Name]) -> Result<(), AllocError>
+        ensures { OnOk result (self.new ≡ record self.old { numbers = fold with_name self.old.numbers goals.now }) }
+    {
+        self.numbers.reach(goals)
+    }
+
+    /// Settles each name that was reached, and those that are reached by it.
+    pub(crate) fn settle_all(&mut self) -> Result<(), AllocError>
+        requires { IsOver self.old }
+        ensures { OnOk result ((goals : List Text) → IsBegun goals self.old → IsSettled self.old.book.now self.old.known.now goals self.new) }
+    {
+        while let Some(name) = self.next_name()? {
+            let node = self.settle(name.as_slice())?;
+            self.nodes.push(node)?;
+        }
+        Ok(())
+    }
+
+    // The first name that has no node yet.
+    fn next_name(&self) -> Result<Option<Vec<u8>>, AllocError>
+        ensures next { IfOk result (λ name. option_map (λ some. some.items) name ≡ slice_get self.now.numbers (length self.now.nodes.items)) }
+        ensures small { length self.now.numbers < 2 ^ 63 }
+    {
+        let _count = self.numbers.len();
+        self.numbers.name(self.nodes.len())
+    }
+
+    // The node of a name. What it needs is reached from then on.
+    #[tactic(auto, unfolding(crate::specs::Node::node_of))]
+    fn settle(&mut self, name: &[u8]) -> Result<Settled<'a>, AllocError>
+        requires { IsOver self.old }
+        ensures says { IfOk result (SaysNode self.new.numbers self.new.instances.keys (node_of self.old.book.now self.old.known.now name.now)) }
+        ensures grown { OnOk result (Grows self.old (needed_by (node_of self.old.book.now self.old.known.now name.now)) self.new) }
+    {
+        let rules = self.rules(name)?;
+        self.settle_by(name, rules.as_slice())
+    }
+
+    // The node of a name that has these explicit rules.
+    fn settle_by(
+        &mut self,
+        name: &[u8],
+        rules: &[TargetRule<'a>],
+    ) -> Result<Settled<'a>, AllocError>
+        requires { IsOver self.old }
+        ensures says { IfOk result (SaysNode self.new.numbers self.new.instances.keys (node_with self.old.book.now self.old.known.now name.now (map rule_told rules.now))) }
+        ensures grown { OnOk result (Grows self.old (needed_by (node_with self.old.book.now self.old.known.now name.now (map rule_told rules.now))) self.new) }
+    {
+        if has_double(rules) {
+            return self.double_node(rules);
+        }
+        match used_rule(rules) {
+            Some(used) => self.explicit_node(used),
+            None => self.searched_node(name, rules),
+        }
+    }
+
+    fn double_node(&mut self, rules: &[TargetRule<'a>]) -> Result<Settled<'a>, AllocError>
+        ensures says { IfOk result (λ node. (name : Text) → SaysNode self.new.numbers self.new.instances.keys (double_node (suffixes_of self.old.book.now) name (map rule_told rules.now)) node) }
+        ensures grown { OnOk result ((name : Text) → Grows self.old (needed_by (double_node (suffixes_of self.old.book.now) name (map rule_told rules.now))) self.new) }
+    {
+        let named = double_node(self.alloc, self.book.suffixes(), rules)?;
+        self.hold(named)
+    }
+
+    fn explicit_node(&mut self, used: Used<'a, '_>) -> Result<Settled<'a>, AllocError>
+        ensures says { IfOk result (λ node. (name : Text) (rules : List (Rule × HeldTarget)) → IsCut rules used.entry
+            → SaysNode self.new.numbers self.new.instances.keys (explicit_node (suffixes_of self.old.book.now) name rules (rule_told used.entry.rule)) node) }
+        ensures grown { OnOk result ((name : Text) (rules : List (Rule × HeldTarget)) → IsCut rules used.entry
+            → Grows self.old (needed_by (explicit_node (suffixes_of self.old.book.now) name rules (rule_told used.entry.rule))) self.new) }
+    {
+        let named = explicit_node(self.alloc, self.book.suffixes(), used)?;
+        self.hold(named)
+    }
+
+    // The explicit rules of a name.
+    fn rules(&self, name: &[u8]) -> Result<Vec<TargetRule<'a>>, AllocError>
+        ensures { IfOk result (λ rules. map rule_told rules.items ≡ explicit_rules self.now.book.now name.now) }
+    {
+        let mut rules = Vec::new(self.alloc);
+        for rule in self.book.explicit(name) {
+            rules.push(rule)?;
+        }
+        Ok(rules)
+    }
+
+    // The node of a name whose rules have no recipe.
+    fn searched_node(
+        &mut self,
+        name: &[u8],
+        rules: &[TargetRule<'a>],
+    ) -> Result<Settled<'a>, AllocError>
+        requires { IsOver self.old }
+        ensures says { IfOk result (SaysNode self.new.numbers self.new.instances.keys (node_by self.old.book.now name.now (map rule_told rules.now) None (searched self.old.book.now self.old.known.now name.now))) }
+        ensures grown { OnOk result (Grows self.old (needed_by (node_by self.old.book.now name.now (map rule_told rules.now) None (searched self.old.book.now self.old.known.now name.now))) self.new) }
+    {
+        match self.inferred(name)? {
+            Some(inferred) => self.implicit_node(inferred, rules),
+            None => self.plain_node(name, rules),
+        }
+    }
+
+    fn plain_node(
+        &mut self,
+        name: &[u8],
+        rules: &[TargetRule<'a>],
+    ) -> Result<Settled<'a>, AllocError>
+        ensures says { IfOk result (SaysNode self.new.numbers self.new.instances.keys (plain_node (suffixes_of self.old.book.now) name.now (map rule_told rules.now) (is_phony self.old.book.now name.now))) }
+        ensures grown { OnOk result (Grows self.old (needed_by (plain_node (suffixes_of self.old.book.now) name.now (map rule_told rules.now) (is_phony self.old.book.now name.now))) self.new) }
+    {
+        let is_phony = self.book.is_phony(name);
+        let named = plain_node(self.alloc, self.book.suffixes(), name, rules, is_phony)?;
+        self.hold(named)
+    }
+
+    // The chosen rule comes first with what it needs.
+    fn implicit_node(
+        &mut self,
+        inferred: Inferred<'a>,
+        rules: &[TargetRule<'a>],
+    ) -> Result<Settled<'a>, AllocError>
+        ensures says { IfOk result (λ node. (name : Text) → SaysNode self.new.numbers self.new.instances.keys (inferred_node name (map rule_told rules.now) inferred.entry) node) }
+        ensures grown { OnOk result ((name : Text) → Grows self.old (needed_by (inferred_node name (map rule_told rules.now) inferred.entry)) self.new) }
+    {
+        let Inferred {
+            recipe,
+            stem,
+            needs: first,
+            making,
+        } = inferred;
+        let needs = with_needs(self.alloc, &first, rules)?;
+        let part = NamedPart {
+            recipe,
+            stem,
+            needs,
+        };
+        let named = Named::of_part(self.alloc, NodeKind::Implicit, part, making)?;
+        self.hold(named)
+    }
+
+    // What the pattern rule gives that makes a name; for a phony name none is searched for.
+    fn inferred(&mut self, name: &[u8]) -> Result<Option<Inferred<'a>>, AllocError>
+        requires { IsOver self.old }
+        ensures tells { IfOk result (Tells (searched self.old.book.now self.old.known.now name.now)) }
+        ensures kept { OnOk result (Grows self.old [] self.new) }
+    {
+        if self.book.is_phony(name) {
+            return Ok(None);
+        }
+        match self.search.choose(name)? {
+            Some(chosen) => self.inference(chosen),
+            None => Ok(None),
+        }
+    }
+
+    // What a chosen rule gives.
+    fn inference(&self, chosen: Chosen) -> Result<Option<Inferred<'a>>, AllocError>
+        ensures { IfOk result (Infers self.now.search.rules chosen) }
+    {
+        match self.search.patterns().get(chosen.rule) {
+            Some(pattern) => Ok(Some(Inferred::of(self.alloc, pattern, chosen)?)),
+            None => Ok(None),
+        }
+    }
+
+    // A node with numbers. What it needs is reached from then on.
+    fn hold(&mut self, named: Named<'a, '_>) -> Result<Settled<'a>, AllocError>
+        ensures says { IfOk result (λ node. (name : Text) → SaysNode self.new.numbers self.new.instances.keys (named_told name named.entry) node) }
+        ensures grown { OnOk result ((name : Text) → Grows self.old (needed_by (named_told name named.entry)) self.new) }
+    {
+        let Named {
+            kind,
+            parts,
+            making,
+        } = named;
+        let parts = self.numbers.parts(parts)?;
+        let made_with = self.making(making)?;
+        Settled::new(self.alloc, kind, parts, made_with)
+    }
+
+    // The number of a making, if there is one.
+    fn making(&mut self, making: Option<Instance>) -> Result<Option<usize>, AllocError>
+        ensures making { IfOk result (IsMaking self.new.instances.keys (option_map instance_told making)) }
+        ensures kept { OnOk result (take (length self.old.instances.keys) self.new.instances.keys ≡ self.old.instances.keys) }
+        ensures others { OnOk result (self.new ≡ record self.old { instances = self.new.instances }) }
+    {
+        match making {
+            Some(making) => {
+                let (number, _) = self.instances.insert_full(making)?;
+                Ok(Some(number))
+            }
+            None => Ok(None),
+        }
+    }
+}
