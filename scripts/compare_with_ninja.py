@@ -3,7 +3,7 @@
 
     scripts/compare_with_ninja.py [PROGRAM]
 
-PROGRAM is the built kt_ninja_bench. For each text in scripts/ninja_texts, and each beginning of printed.ninja that is
+PROGRAM is the built kati_bench. For each text in scripts/ninja_texts, and each beginning of printed.ninja that is
 read, statements with their outputs, inputs and commands are compared with what `ninja -t targets all`, `-t query` and
 `-t commands -s` say. The exit status is 0 where only the texts differ that are known to.
 """
@@ -13,7 +13,7 @@ import tempfile
 from pathlib import Path
 
 HERE = Path(__file__).resolve().parent
-BUILT = HERE.parent / "crates/kt_ninja_bench/out/kt_ninja_bench"
+BUILT = HERE.parent / "crates/kati_bench/out/kati_bench"
 
 # Where kati goes its own way.
 KNOWN = {

@@ -1,6 +1,6 @@
 //! Texts that are makefiles of one rule, and texts that are not.
-use crate::laws::one_reading;
-use crate::one_rule::recognise;
+use kati::laws::one_reading;
+use kati::recognise;
 use std::alloc::{AllocError, Global};
 
 /// Texts, and the parts of the rules that they are: target, line and prerequisites, a newline behind each.

@@ -1,22 +1,10 @@
-//! Translates a makefile to a Ninja file.
+//! The program: kati on the host's words, files and outputs.
 #![tactic(auto)]
 
-mod args;
-mod cutting;
-mod faults;
 mod host;
-mod laws;
-mod one_rule;
-mod outcome;
-mod plain;
-mod program;
-mod running;
-mod status;
-mod translating;
 
-use faults::RunFault;
 use host::{HostFiles, HostSink};
-use program::{USAGE, finish, whole};
+use kati::{RunFault, USAGE, finish, whole};
 use std::env;
 use std::io::ErrorKind;
 use std::process::ExitCode;
@@ -47,6 +35,3 @@ fn main(rt: HostRuntime) -> ExitCode {
     };
     ExitCode::from(code)
 }
-
-#[cfg(test)]
-mod tests;

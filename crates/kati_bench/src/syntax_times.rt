@@ -1,29 +1,16 @@
 //! Times of the syntax layer over texts of 16 MB.
-//!
-//! With no argument it does nothing; with the argument `run` it prints the times.
-#![tactic(auto)]
 
 use anyhow::Result;
 use kt_syntax::{blocks, classify, plain, recipe_text, rule_parts, terms};
 use kt_text::logical_lines;
 use std::alloc::{AllocError, Global};
-use std::env;
 use std::rt::Runtime;
 use std::time::Instant;
 
 // The greatest makefile that kati reads has so many bytes.
 const SIZE: usize = 16_777_216;
 
-fn main(rt: HostRuntime) -> Result<()> {
-    for argument in env::args(&rt)?.skip(1) {
-        if argument.as_str() == "run" {
-            print_all(&rt, rt.alloc())?;
-        }
-    }
-    Ok(())
-}
-
-fn print_all(rt: &impl Runtime, alloc: Global) -> Result<()> {
+pub fn print_all(rt: &impl Runtime, alloc: Global) -> Result<()> {
     let inputs: [(&str, &[u8], &[u8]); 7] = [
         ("plain words", b"", b"word "),
         ("references", b"", b"$(x)"),

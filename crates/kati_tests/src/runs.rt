@@ -1,9 +1,5 @@
 //! Runs over memory.
-use crate::args::Args;
-use crate::faults::RunFault;
-use crate::program::whole;
-use crate::running::run;
-use crate::status::Status;
+use kati::{Args, RunFault, Status, run, whole};
 use kt_eval::{Files, MemFiles};
 use kt_ninja::MemSink;
 use std::alloc::Global;

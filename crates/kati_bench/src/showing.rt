@@ -1,10 +1,27 @@
 //! A plan in lines of a word and a text.
-use kt_ninja::{Made, Name, Plan, Statement};
+use itoa::Buffer;
+use kt_ninja::{Made, Name, Plan, ReadFault, Statement, read_plan};
 use std::alloc::{AllocError, Global};
+
+/// The plan that a Ninja file says, or the line of its fault.
+pub fn told(alloc: Global, text: &[u8]) -> Result<Vec<u8>, AllocError> {
+    match read_plan(alloc, text) {
+        Ok(plan) => shown(alloc, &plan),
+        Err(ReadFault::NotNinja(line)) => fault_line(alloc, line),
+        Err(ReadFault::Memory) => Err(AllocError),
+    }
+}
+
+fn fault_line(alloc: Global, line: u64) -> Result<Vec<u8>, AllocError> {
+    let mut text = Vec::from_slice(alloc, b"not Ninja, line ")?;
+    text.extend_from_slice(Buffer::new().format(line).as_bytes())?;
+    text.push(b'\n')?;
+    Ok(text)
+}
 
 /// A line for each part of each statement, and for each default target: a word, a space and its text, in which `\n` is a
 /// newline and `\\` a backslash. A statement begins with a line `statement`.
-pub fn shown(alloc: Global, plan: &Plan) -> Result<Vec<u8>, AllocError> {
+fn shown(alloc: Global, plan: &Plan) -> Result<Vec<u8>, AllocError> {
     let mut lines = Vec::new(alloc);
     for statement in plan.statements.as_slice() {
         add_statement(&mut lines, statement)?;

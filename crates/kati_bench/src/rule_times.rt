@@ -1,26 +1,14 @@
 //! Times of the rules layer over long books.
-//!
-//! With no argument it does nothing; with the argument `run` it prints the times.
-#![tactic(auto)]
 
+use crate::numbers::numbered;
 use anyhow::Result;
 use kt_list::{Sequence, Shared};
 use kt_rules::{Book, Entry, Place, RuleFault, read_rule};
 use std::alloc::{AllocError, Global};
-use std::env;
 use std::rt::Runtime;
 use std::time::Instant;
 
-fn main(rt: HostRuntime) -> Result<()> {
-    for argument in env::args(&rt)?.skip(1) {
-        if argument.as_str() == "run" {
-            print_all(&rt, rt.alloc())?;
-        }
-    }
-    Ok(())
-}
-
-fn print_all(rt: &impl Runtime, alloc: Global) -> Result<()> {
+pub fn print_all(rt: &impl Runtime, alloc: Global) -> Result<()> {
     for count in [100_000, 1_000_000] {
         print_book_times(rt, alloc, count)?;
     }
@@ -168,16 +156,4 @@ fn names(alloc: Global, count: u32) -> Result<Vec<Vec<u8>>, AllocError> {
         names.push(numbered(alloc, b"t", number, b"")?)?;
     }
     Ok(names)
-}
-
-// A number of ten digits between two texts.
-fn numbered(alloc: Global, front: &[u8], number: u32, back: &[u8]) -> Result<Vec<u8>, AllocError> {
-    let mut text = Vec::from_slice(alloc, front)?;
-    let mut rest = number;
-    for _ in 0..10 {
-        text.push(b'0' + (rest % 10) as u8)?;
-        rest /= 10;
-    }
-    text.extend_from_slice(back)?;
-    Ok(text)
 }

@@ -1,15 +1,10 @@
 //! Times of the text layer over long lists of words and lines.
-//!
-//! With no argument it does nothing; with a call's name and numbers of words it prints the time
-//! of that call over so many words: `sort`, `sort-distinct`, `filter`, `patsubst`, `logical_lines`.
-#![tactic(auto)]
 
 ghost use Rattle.std.specs.Prelude.{◌<◌};
 
 use anyhow::Result;
 use kt_text::{functions, logical_lines};
 use std::alloc::{AllocError, Global};
-use std::env;
 use std::rt::Runtime;
 use std::time::Instant;
 
@@ -19,11 +14,11 @@ const NAMES: u64 = 50_000;
 // Of so many, hardly a name is drawn twice.
 const MANY_NAMES: u64 = 10_000_000_000;
 
-fn main(rt: HostRuntime) -> Result<()> {
-    let mut arguments = env::args(&rt)?.skip(1);
-    if let Some(call) = arguments.next() {
-        for count in arguments {
-            print_time(&rt, rt.alloc(), call.as_str(), count.as_str().parse()?)?;
+/// The times of a call over lists of so many words: `sort`, `sort-distinct`, `filter`, `patsubst`, `logical_lines`.
+pub fn print_all(rt: &impl Runtime, alloc: Global, words: &[String]) -> Result<()> {
+    if let Some((call, counts)) = words.split_first() {
+        for count in counts {
+            print_time(rt, alloc, call.as_str(), count.as_str().parse()?)?;
         }
     }
     Ok(())

@@ -1,25 +1,13 @@
 //! Times of reading long makefiles.
-//!
-//! With no argument it does nothing; with the argument `run` it prints the times.
-#![tactic(auto)]
 
+use crate::numbers::put_number;
 use anyhow::Result;
 use kt_eval::{Machine, Macros, MemFiles};
 use std::alloc::{AllocError, Global};
-use std::env;
 use std::rt::Runtime;
 use std::time::Instant;
 
-fn main(rt: HostRuntime) -> Result<()> {
-    for argument in env::args(&rt)?.skip(1) {
-        if argument.as_str() == "run" {
-            print_all(&rt, rt.alloc())?;
-        }
-    }
-    Ok(())
-}
-
-fn print_all(rt: &impl Runtime, alloc: Global) -> Result<()> {
+pub fn print_all(rt: &impl Runtime, alloc: Global) -> Result<()> {
     for count in [10_000, 100_000] {
         print_times(rt, alloc, count)?;
     }
@@ -132,14 +120,4 @@ fn list(alloc: Global, count: u32, front: &str, back: &str) -> Result<Vec<u8>, A
     text.extend_from_slice(back.as_bytes())?;
     text.push(b'\n')?;
     Ok(text)
-}
-
-// A number of ten digits, the lowest first.
-fn put_number(text: &mut Vec<u8>, number: u32) -> Result<(), AllocError> {
-    let mut rest = number;
-    for _ in 0..10 {
-        text.push(b'0' + (rest % 10) as u8)?;
-        rest /= 10;
-    }
-    Ok(())
 }

@@ -1,3 +1,0 @@
-//! Tests of the crate, by what they call.
-mod recognising;
-mod runs;

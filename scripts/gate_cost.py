@@ -1,0 +1,83 @@
+#!/usr/bin/env python3
+"""Runs the gate on a clean checkout of HEAD and tells what it cost.
+
+    scripts/gate_cost.py [REVISION]
+
+Prints the gate's last line, the minutes that it took and the processor minutes, and then the processor seconds of each crate: its
+proof, its tests and its edits, told apart by the folder and the arguments of each process of the prover. A machine with other work on it
+takes longer, but hardly more processor time.
+"""
+
+import os
+import resource
+import subprocess
+import sys
+import tempfile
+import threading
+import time
+from pathlib import Path
+
+ROOT = Path(__file__).resolve().parent.parent
+TICKS = os.sysconf("SC_CLK_TCK")
+PARTS = ("proof", "tests", "edits", "other")
+
+
+class Sampler(threading.Thread):
+    """The processor time of each process below a folder, as last seen, by its crate and what it is for."""
+
+    def __init__(self, folder):
+        super().__init__(daemon=True)
+        self.folder, self.seen, self.ended = str(folder), {}, False
+
+    def run(self):
+        while not self.ended:
+            for process in Path("/proc").iterdir():
+                if process.name.isdigit():
+                    self.look_at(process)
+            time.sleep(1)
+
+    def look_at(self, process):
+        try:
+            words = (process / "cmdline").read_bytes().decode(errors="replace").split("\0")
+            if not words[0].endswith("/rattle"):
+                return
+            where = os.readlink(process / "cwd")
+            fields = (process / "stat").read_text().rpartition(")")[2].split()
+        except OSError:
+            return
+        if "--crate-name" not in words:
+            return
+        crate = words[words.index("--crate-name") + 1]
+        part = "edits" if not where.startswith(self.folder) else "tests" if "--test" in words else "proof"
+        self.seen[process.name, fields[19]] = crate, part, (int(fields[11]) + int(fields[12])) / TICKS
+
+    def table(self):
+        costs = {}
+        for crate, part, seconds in self.seen.values():
+            row = costs.setdefault(crate, dict.fromkeys(PARTS, 0))
+            row[part] += seconds
+        return costs
+
+
+def main():
+    revision = sys.argv[1] if len(sys.argv) > 1 else "HEAD"
+    with tempfile.TemporaryDirectory(prefix="gate_") as name:
+        folder = Path(name) / "checkout"
+        subprocess.run(["git", "clone", "-q", str(ROOT), str(folder)], check=True)
+        subprocess.run(["git", "checkout", "-q", revision], cwd=folder, check=True)
+        sampler, started = Sampler(folder), time.time()
+        sampler.start()
+        with open(Path(name) / "log", "wb") as log:
+            status = subprocess.run([folder / ".ci/run"], stdout=log, stderr=subprocess.STDOUT).returncode
+        sampler.ended = True
+        used = resource.getrusage(resource.RUSAGE_CHILDREN)
+        print((Path(name) / "log").read_text(errors="replace").rstrip().splitlines()[-1])
+        print(f"{(time.time() - started) / 60:.0f} minutes, {(used.ru_utime + used.ru_stime) / 60:.0f} processor minutes")
+        print("| Crate | " + " | ".join(PARTS) + " |")
+        for crate, row in sorted(sampler.table().items()):
+            print(f"| {crate} | " + " | ".join(f"{row[part]:.0f}" for part in PARTS) + " |")
+        sys.exit(status)
+
+
+if __name__ == "__main__":
+    main()
