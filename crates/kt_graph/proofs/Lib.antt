@@ -35,4 +35,5 @@ pub mod CyclicLemmas
 pub mod GraphLemmas
 pub mod GroupLemmas
 pub mod GroupLaw
+pub mod ResolutionLemmas
 pub mod GroupingLemmas
