@@ -26,7 +26,7 @@ use Rattle.kt_graph.specs.Whole.{AreApart, IsWhole}
 use Rattle.kt_graph.proofs.MemberLemmas.{Contains-from_map, Contains-map, Contains-slice_get, slice_get-Contains}
 use Rattle.kt_graph.proofs.NodeLemmas.{inputs_are, others_are}
 use Rattle.kt_graph.proofs.TroubleLemmas.{any_nowhere}
-use Rattle.kt_graph.proofs.WholeLemmas.{at_place, find_nowhere, find_there, needed_in, node_there, numbers_of}
+use Rattle.kt_graph.proofs.WholeLemmas.{all_below, at_place, find_nowhere, find_there, names_in_order, needed_in, node_there, numbers_of}
 
 -- ---- keys of sets
 
@@ -87,14 +87,6 @@ module _ (names : List (Vec ℕ Global)) (instances : List Held) (nodes : List S
       let at : (node : Settled) × (slice_get nodes number ≡ Some node) = node_there names instances nodes order whole number below in
       (node_told names instances number at.0, ap (option_map (node_told names instances number)) at.1, refl, is_told number at.0 at.1)
 
-  names_told : (numbers : List ℕ) → AreBelow (length names) numbers → map (λ (node : Node). node.name) (nodes_told names instances nodes numbers) ≡ names_at names numbers
-  names_told [] below = refl
-  names_told (number ∷ numbers) below =
-      let at = told_at number (All-head (λ n. n < length names) number numbers below) in
-      ap (λ (o : Option Node). map (λ (node : Node). node.name) (cons_option o (nodes_told names instances nodes numbers))) at.1
-      ∙ ap (λ (rest : List Text). at.0.name ∷ rest) (names_told numbers (All-tail (λ n. n < length names) number numbers below))
-      ∙ ap (λ (name : Text). name ∷ names_at names numbers) at.2
-
   each_settled : (numbers : List ℕ) → AreBelow (length names) numbers
       → nodes_told names instances nodes numbers ≡ map (node_of rules known) (map (λ (node : Node). node.name) (nodes_told names instances nodes numbers))
   each_settled [] below = refl
@@ -106,9 +98,6 @@ module _ (names : List (Vec ℕ Global)) (instances : List Held) (nodes : List S
       ≡ map (node_of rules known) (map (λ (node : Node). node.name) (cons_option o (nodes_told names instances nodes numbers)))) (sym at.1)
       (ap (λ (node : Node). node ∷ nodes_told names instances nodes numbers) own
       ∙ ap (λ (others : List Node). node_of rules known at.0.name ∷ others) rest)
-
-  all_below : AreBelow (length names) order
-  all_below k d within = (whole.rises.all (get_or order k d)).0 (Rattle.std.proofs.lemmas.List.Elements.Contains-get_or order k d within)
 
   -- ---- what is reached
 
@@ -152,21 +141,21 @@ module _ (names : List (Vec ℕ Global)) (instances : List Held) (nodes : List S
 
   pub graph_is : IsGraph rules known goals (nodes_told names instances nodes order)
   graph_is = record {
-    rises = subst (IsStrictlySortedBy (slice_cmp nat_cmp)) (sym (names_told order all_below)) whole.rises.rises;
+    rises = subst (IsStrictlySortedBy (slice_cmp nat_cmp)) (sym (names_in_order names instances nodes order whole)) whole.rises.rises;
     reached = λ name. (
       λ has.
           let from : (number : ℕ) × Contains order number × (name_at names number ≡ name) =
-          Contains-from_map (name_at names) order name (subst (λ (xs : List Text). Contains xs name) (names_told order all_below) has) in
+          Contains-from_map (name_at names) order name (subst (λ (xs : List Text). Contains xs name) (names_in_order names instances nodes order whole) has) in
           subst (IsReached rules known goals) from.2 (name_reached from.0 ((whole.rises.all from.0).0 from.1)),
       λ reached.
           let begun : (number : ℕ) × (number < length names) × (name_at names number ≡ reached.goal) = goal_at reached.goal reached.named in
           let at : (to : ℕ) × (to < length names) × (name_at names to ≡ name) =
           all_reached reached.path.0 begun.0 name begun.1
           (subst (λ (n : Text). Leads (HasInput rules known) n reached.path.0 name) (sym begun.2) reached.path.1) in
-          subst (λ (xs : List Text). Contains xs name) (sym (names_told order all_below))
+          subst (λ (xs : List Text). Contains xs name) (sym (names_in_order names instances nodes order whole))
           (subst (λ (n : Text). Contains (names_at names order) n) at.2 (Contains-map (name_at names) order at.0 ((whole.rises.all at.0).1 at.1))),
     );
-    settled = each_settled order all_below;
+    settled = each_settled order (all_below names instances nodes order whole);
   }
 
 -- ---- names by keys

@@ -18,15 +18,17 @@ use Rattle.kt_text.specs.Words.{Text}
 use Rattle.kt_graph.specs.declared.grouping.Grouping.{Grouping}
 use Rattle.kt_graph.specs.declared.node.Instance.{Instance as Held}
 use Rattle.kt_graph.specs.declared.settled.Settled.{Settled}
-use Rattle.kt_graph.specs.Grouping.{AreGrouped, IsAfter, IsGrouping, IsGroupingOf, MayFollow, groups_held, making_of, makings_of, place_of, places_with, with_member}
-use Rattle.kt_graph.specs.Groups.{groups_behind, is_one_making, made_nodes}
+use Rattle.kt_graph.specs.Grouping.{AreGrouped, IsAfter, IsGrouping, IsGroupingOf, MayFollow, groups_behind, groups_held, making_of, makings_of, place_of, places_with, with_member}
+use Rattle.kt_graph.specs.Groups.{groups_of, is_one_making, made_nodes}
 use Rattle.kt_graph.specs.Node.{Instance, Node, is_leaf}
 use Rattle.kt_graph.specs.Numbering.{HasNumbers}
 use Rattle.kt_graph.specs.Views.{instance_at, name_at, names_at, node_at, node_told, nodes_told}
 use Rattle.kt_graph.specs.Whole.{AreHeld, IsWhole}
 use Rattle.kt_graph.proofs.GroupLemmas.{alone_behind, any_together, at_end, behind_more, grown, kept_at, last_at, makings_kept, no_making, none_grown, one_grown, one_same, some_making}
 use Rattle.kt_graph.proofs.MemberLemmas.{Contains-here, Contains-map, Contains-slice_get}
-use Rattle.kt_graph.proofs.WholeLemmas.{instance_there}
+use Rattle.kt_graph.proofs.GroupLaw.{begun_in_turn}
+use Rattle.kt_graph.proofs.TroubleLemmas.{rises_made}
+use Rattle.kt_graph.proofs.WholeLemmas.{instance_there, names_in_order}
 
 -- ---- one more node
 
@@ -300,3 +302,10 @@ next_after names instances nodes order place d whole within =
     (subst (λ (ns : List ℕ). IsStrictlySortedBy (slice_cmp nat_cmp) (names_at names ns))
     (sym (take-append-drop place order) ∙ ap (λ (ns : List ℕ). take place order ++ ns) (drop-cons order place d within))
     whole.rises.rises)
+
+pub grouped_as_told : (names : List (Vec ℕ Global)) (instances : List Held) (nodes : List Settled) (order : List ℕ) (grouping : Grouping) → IsWhole names instances nodes order
+    → IsGroupingOf names instances nodes order grouping → groups_held grouping ≡ groups_of (nodes_told names instances nodes order)
+grouped_as_told names instances nodes order grouping whole grouped =
+    let rises : IsStrictlySortedBy (slice_cmp nat_cmp) (map (λ (node : Node). node.name) (nodes_told names instances nodes order))
+    = subst (IsStrictlySortedBy (slice_cmp nat_cmp)) (sym (names_in_order names instances nodes order whole)) whole.rises.rises in
+    grouped.told ∙ begun_in_turn (made_nodes (nodes_told names instances nodes order)) (rises_made (nodes_told names instances nodes order) rises)

@@ -34,4 +34,6 @@ pub mod TroubleLemmas
 pub mod CyclicLemmas
 pub mod GraphLemmas
 pub mod GroupLemmas
+pub mod GroupLaw
+pub mod ResolutionLemmas
 pub mod GroupingLemmas

@@ -16,7 +16,7 @@ told parts = map (λ (part : Bor Text). part.now) parts
 last_first : (front : List (Bor Text)) (last : Bor Text) → reverse (told (front ++ last ∷ [])) ≡ last.now ∷ reverse (told front)
 last_first front last = ap reverse (map-append (λ (part : Bor Text). part.now) front (last ∷ [])) ∙ reverse-append (told front) (last.now ∷ [])
 
-name_taken : (rooted : Bool) (last : Text) (parts : List Text) → not (bytes_eq last above_name) ≡ true → step_up rooted (last ∷ parts) ≡ parts
+pub name_taken : (rooted : Bool) (last : Text) (parts : List Text) → not (bytes_eq last above_name) ≡ true → step_up rooted (last ∷ parts) ≡ parts
 name_taken true last parts h = by (bytes_eq last above_name) refl
   where
     by : (b : Bool) → bytes_eq last above_name ≡ b → step_up true (last ∷ parts) ≡ parts
@@ -28,7 +28,7 @@ name_taken false last parts h = by (bytes_eq last above_name) refl
     by true e = absurd (false≢true (rw e at h))
     by false e = rw e refl
 
-above_stays : (rooted : Bool) (last : Text) (parts : List Text) → not (bytes_eq last above_name) ≡ false → step_up rooted (last ∷ parts) ≡ above_name ∷ last ∷ parts
+pub above_stays : (rooted : Bool) (last : Text) (parts : List Text) → not (bytes_eq last above_name) ≡ false → step_up rooted (last ∷ parts) ≡ above_name ∷ last ∷ parts
 above_stays true last parts h = by (bytes_eq last above_name) refl
   where
     by : (b : Bool) → bytes_eq last above_name ≡ b → step_up true (last ∷ parts) ≡ above_name ∷ last ∷ parts

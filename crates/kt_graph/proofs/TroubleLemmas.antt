@@ -154,10 +154,11 @@ first_of P p names name rises found holds back = record {
 
 -- ---- made names
 
-rises_made : (nodes : List Node) → Rises (map (λ node. node.name) nodes) → Rises (made_names nodes)
-rises_made [] rises = rises_none
-rises_made (node ∷ nodes) rises =
-    by (rises_made nodes (sorted_tail order node.name (map (λ (one : Node). one.name) nodes) rises)) (not (is_leaf node.kind))
+-- what is left of names that rise rises
+pub kept_rises : (p : Node → Bool) (nodes : List Node) → Rises (map (λ node. node.name) nodes) → Rises (map (λ node. node.name) (filter p nodes))
+kept_rises p [] rises = rises_none
+kept_rises p (node ∷ nodes) rises =
+    by (kept_rises p nodes (sorted_tail order node.name (map (λ (one : Node). one.name) nodes) rises)) (p node)
   where
     above : All (λ (one : Node). order node.name one.name ≡ Less) nodes
     above k d within =
@@ -165,13 +166,16 @@ rises_made (node ∷ nodes) rises =
         let inside : k < length (map (λ (one : Node). one.name) nodes) = subst (λ n. k < n) (sym (length-map nodes (λ (one : Node). one.name))) within in
         subst (λ (name : Text). order node.name name ≡ Less) (Rattle.std.proofs.lemmas.List.get_or-map (λ (one : Node). one.name) nodes k d d.name within) (all k d.name inside)
 
-    by : Rises (made_names nodes) → (b : Bool) → Rises (map (λ (one : Node). one.name) (cond b (node ∷ made_nodes nodes) (made_nodes nodes)))
-    by rest true = rises_more node.name (made_names nodes)
-        (All-map (λ (name : Text). order node.name name ≡ Less) (λ (one : Node). one.name) (made_nodes nodes)
-        (All-filter (λ (one : Node). not (is_leaf one.kind)) (λ (one : Node). order node.name one.name ≡ Less) nodes above)) rest
+    by : Rises (map (λ (one : Node). one.name) (filter p nodes)) → (b : Bool) → Rises (map (λ (one : Node). one.name) (cond b (node ∷ filter p nodes) (filter p nodes)))
+    by rest true = rises_more node.name (map (λ (one : Node). one.name) (filter p nodes))
+        (All-map (λ (name : Text). order node.name name ≡ Less) (λ (one : Node). one.name) (filter p nodes)
+        (All-filter p (λ (one : Node). order node.name one.name ≡ Less) nodes above)) rest
     by rest false = rest
 
-filter_there : {A : Type 0} (p : A → Bool) (xs : List A) (x : A) → Contains xs x → p x ≡ true → Contains (filter p xs) x
+pub rises_made : (nodes : List Node) → Rises (map (λ node. node.name) nodes) → Rises (made_names nodes)
+rises_made nodes rises = kept_rises (λ (node : Node). not (is_leaf node.kind)) nodes rises
+
+pub filter_there : {A : Type 0} (p : A → Bool) (xs : List A) (x : A) → Contains xs x → p x ≡ true → Contains (filter p xs) x
 filter_there p [] x has on = Contains-none x has
 filter_there {A} p (first ∷ xs) x has on = ⊎_elim
     (λ (same : first ≡ x).
@@ -184,7 +188,7 @@ filter_there {A} p (first ∷ xs) x has on = ⊎_elim
     by true h = Contains-there first (filter p xs) x h
     by false h = h
 
-from_filter : {A : Type 0} (p : A → Bool) (xs : List A) (x : A) → Contains (filter p xs) x → Contains xs x × (p x ≡ true)
+pub from_filter : {A : Type 0} (p : A → Bool) (xs : List A) (x : A) → Contains (filter p xs) x → Contains xs x × (p x ≡ true)
 from_filter p [] x has = Contains-none x has
 from_filter {A} p (first ∷ xs) x has =
     by (λ h. let rest = from_filter p xs x h in (Contains-there first xs x rest.0, rest.1)) (p first) refl has

@@ -5,7 +5,7 @@ use Rattle.std.specs.Str.{bytes_eq}
 use Rattle.std.proofs.lemmas.Bool.{false≢true}
 use Rattle.std.proofs.lemmas.Slice.Eq.{bytes_eq-Decides}
 use Rattle.std.proofs.lemmas.List.{get_or-map, length-map, map-append}
-use Rattle.std.proofs.lemmas.List.Elements.{All-contains, Contains-append_cases, Contains-append_left, Contains-append_right}
+use Rattle.std.proofs.lemmas.List.Elements.{All-contains, All-head, All-tail, Contains-append_cases, Contains-append_left, Contains-append_right}
 use Rattle.std.proofs.lemmas.Option.{none-some, same_Some, slice_get-get_or, slice_get_within}
 use Rattle.kt_text.specs.Words.{Text}
 use Rattle.kt_rules.specs.Entry.{Rule}
@@ -14,7 +14,7 @@ use Rattle.kt_graph.specs.declared.node.Instance.{Instance as Held}
 use Rattle.kt_graph.specs.declared.settled.Settled.{Settled}
 use Rattle.kt_graph.specs.Edges.{AreEdgesOf, AreMadeBelow, AreNeededBelow, HasNext, IsEdge, LeadsBack, LeadsOn, LeadsTo, needed_by}
 use Rattle.kt_graph.specs.Node.{Instance, Node, all_inputs, inputs_of, node_of}
-use Rattle.kt_graph.specs.Numbering.{HasNumbers}
+use Rattle.kt_graph.specs.Numbering.{AreBelow, HasNumbers}
 use Rattle.kt_graph.specs.Reach.{AreOneMaking, HasEdge, HasInput, IsCyclic, IsGraph, IsInGroup, IsReached, Leads, Reaches, itself, beside}
 use Rattle.kt_graph.specs.Views.{instance_at, instance_told, name_at, names_at, node_at, node_told, nodes_told}
 use Rattle.kt_graph.specs.Whole.{IsWhole}
@@ -76,7 +76,7 @@ find_none {A} p (first ∷ xs) none =
     ∙ find_none p xs (λ x has. none x (Contains-there first xs x has))
 
 -- each of a list that is mapped to itself is
-mapped_itself : {A B : Type 0} (f : B → A) (v : A → B) (xs : List A) (x : A) → xs ≡ map f (map v xs) → Contains xs x → f (v x) ≡ x
+pub mapped_itself : {A B : Type 0} (f : B → A) (v : A → B) (xs : List A) (x : A) → xs ≡ map f (map v xs) → Contains xs x → f (v x) ≡ x
 mapped_itself {A} f v xs x same has =
     let within : has.0 < length xs = has.1 in
     let inside : has.0 < length (map v xs) = subst (λ n. has.0 < n) (sym (length-map xs v)) within in
@@ -93,7 +93,7 @@ instance_there instances making within =
     let at : (one : Held) × (slice_get instances making ≡ Some one) = at_place instances making within in
     (instance_told at.0, ap (option_map instance_told) at.1)
 
-group_cases : (rules : List Rule) (known goals : List Text) (name member : Text) → IsInGroup rules known goals name member
+pub group_cases : (rules : List Rule) (known goals : List Text) (name member : Text) → IsInGroup rules known goals name member
     → (name ≡ member) ⊎ (IsReached rules known goals member × AreOneMaking rules known name member)
 group_cases rules known goals name _ itself = inl refl
 group_cases rules known goals name _ (beside reached made) = inr (reached, made)
@@ -123,6 +123,20 @@ module _ (names : List (Vec ℕ Global)) (instances : List Held) (nodes : List S
       let below = needed_in k (get_or nodes k d) (get_or (needed_by (get_or nodes k d)) l e) at
       (Rattle.std.proofs.lemmas.List.Elements.Contains-get_or (needed_by (get_or nodes k d)) l e inside) in
       subst (λ n. get_or (needed_by (get_or nodes k d)) l e < n) (sym long) below
+
+  pub all_below : AreBelow (length names) order
+  all_below k d within = (whole.rises.all (get_or order k d)).0 (Rattle.std.proofs.lemmas.List.Elements.Contains-get_or order k d within)
+
+  names_told : (numbers : List ℕ) → AreBelow (length names) numbers → map (λ (node : Node). node.name) (nodes_told names instances nodes numbers) ≡ names_at names numbers
+  names_told [] below = refl
+  names_told (number ∷ numbers) below =
+      let at = node_there number (All-head (λ n. n < length names) number numbers below) in
+      ap (λ (o : Option Settled). map (λ (node : Node). node.name) (cons_option (option_map (node_told names instances number) o) (nodes_told names instances nodes numbers))) at.1
+      ∙ ap (λ (rest : List Text). name_at names number ∷ rest) (names_told numbers (All-tail (λ n. n < length names) number numbers below))
+
+  -- the nodes have the names of the order
+  pub names_in_order : map (λ (node : Node). node.name) (nodes_told names instances nodes order) ≡ names_at names order
+  names_in_order = names_told order all_below
 
   told_in : (number : ℕ) (node : Settled) → slice_get nodes number ≡ Some node → Contains (nodes_told names instances nodes order) (node_told names instances number node)
   told_in number node at =

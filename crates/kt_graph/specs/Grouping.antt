@@ -1,15 +1,22 @@
 -- Groups of nodes, while nodes are put into them one by one (kati's own).
-use Rattle.std.specs.Prelude.{◌≡◌, ◌↔◌, ℕ, ◌<◌, false, List, [], ◌∷◌, ◌++◌, bytes_eq, get_or, length, map, set, IfSome, Option, Some, None}
+use Rattle.std.specs.Prelude.{◌≡◌, ◌↔◌, ℕ, ◌<◌, false, List, [], ◌∷◌, ◌++◌, bytes_eq, filter, get_or, length, map, set, IfSome, Option, Some, None, if◌then◌else◌}
 use Rattle.std.specs.List.{list_any}
 use Rattle.std.specs.declared.vec.Vec.{Vec}
 use Rattle.std.specs.declared.alloc.Global.{Global}
 use Rattle.kt_graph.specs.declared.grouping.Grouping.{Grouping}
 use Rattle.kt_graph.specs.declared.node.Instance.{Instance as Held}
 use Rattle.kt_graph.specs.declared.settled.Settled.{Settled}
-use Rattle.kt_graph.specs.Groups.{groups_behind, is_one_making, made_nodes}
+use Rattle.kt_graph.specs.Groups.{are_together, is_one_making, made_nodes}
 use Rattle.kt_graph.specs.Node.{Instance, Node}
 use Rattle.kt_graph.specs.Views.{instance_at, name_at, nodes_told}
 use Rattle.kt_graph.specs.Whole.{AreApart}
+
+-- the groups of nodes behind others: a node that stands with none before it begins one, of all later nodes that stand with it
+unfoldable pub groups_behind : List Node → List Node → List (List Node)
+groups_behind earlier [] = []
+groups_behind earlier (node ∷ nodes) =
+    (if list_any (are_together node) earlier then [] else (node ∷ filter (are_together node) nodes) ∷ [])
+    ++ groups_behind (earlier ++ node ∷ []) nodes
 
 abbrev pub groups_held : Grouping → List (List Node)
 groups_held grouping = map (λ group. group.items) grouping.groups.items

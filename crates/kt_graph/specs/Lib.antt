@@ -5,6 +5,7 @@ pub mod Node
 pub mod Goals
 pub mod Paths
 pub mod Reach
+pub mod Resolution
 pub mod Groups
 pub mod Faults
 pub mod Views

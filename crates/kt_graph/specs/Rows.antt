@@ -4,6 +4,7 @@ use Rattle.std.specs.Prelude.{◌≡◌, ℕ, true, List, [], ◌∷◌, ◌++�
 use Rattle.kt_text.specs.Words.{Text}
 use Rattle.kt_rules.specs.declared.entry.Kind.TheVariants.{SingleColon, TerminalPattern}
 use Rattle.kt_rules.specs.Entry.{Rule}
+use Rattle.kt_rules.specs.Suffixes.{all_needs}
 use Rattle.kt_rules.specs.BookRows.{rule, made, needing, pattern}
 use Rattle.kt_graph.specs.declared.node.NodeKind.TheVariants as kinds
 use Rattle.kt_graph.specs.Known.{known_names, listed_names}
@@ -37,21 +38,23 @@ objects = pattern (codes "%.o") (codes "%.c") 1 ∷ pattern (codes "%.c") (codes
 abbrev pub circle : List Rule
 circle = pattern (codes "%.a") (codes "%.b") 1 ∷ pattern (codes "%.b") (codes "%.a") 2 ∷ []
 
--- the number of the rule that is chosen
-abbrev pub chosen_number : List Rule → List Text → Text → Option ℕ
-chosen_number rules known name = option_map (λ candidate. candidate.rule) (choice_of rules known name)
+-- the rule that is chosen, by its number, with the directory, the stem and all that it needs
+abbrev pub chosen_as : List Rule → List Text → Text → Option (ℕ × Text × Text × List Text)
+chosen_as rules known name =
+    option_map (λ candidate. (candidate.rule, candidate.directory, candidate.stem, all_needs candidate.needs)) (choice_of rules known name)
 
 -- choices
 pub record RowsOfChoices : Type 0 where
-  pub direct : chosen_number objects (codes "x.c" ∷ []) (codes "x.o") ≡ Some 0
-  pub chain : chosen_number objects (codes "x.y" ∷ []) (codes "x.o") ≡ Some 0
-  pub nothing_known : chosen_number objects [] (codes "x.o") ≡ None
-  pub circular : chosen_number circle [] (codes "x.a") ≡ None
-  pub empty_stem : chosen_number objects (codes ".c" ∷ []) (codes ".o") ≡ None
-  pub directory : chosen_number objects (codes "d/x.c" ∷ []) (codes "d/x.o") ≡ Some 0
-  pub shortest : chosen_number (pattern (codes "%.o") (codes "k") 1 ∷ pattern (codes "x%.o") (codes "k") 2 ∷ []) (codes "k" ∷ []) (codes "xy.o") ≡ Some 1
-  pub any_name_dropped : chosen_number (pattern (codes "%.o") (codes "q") 1 ∷ pattern (codes "%") (codes "k") 2 ∷ []) (codes "k" ∷ []) (codes "x.o") ≡ None
-  pub terminal : chosen_number (rule TerminalPattern (codes "%.o") (codes "%.c" ∷ []) [] true 1 ∷ pattern (codes "%.c") (codes "%.y") 2 ∷ []) (codes "x.y" ∷ []) (codes "x.o") ≡ None
+  pub direct : chosen_as objects (codes "x.c" ∷ []) (codes "x.o") ≡ Some (0, [], codes "x", codes "x.c" ∷ [])
+  pub chain : chosen_as objects (codes "x.y" ∷ []) (codes "x.o") ≡ Some (0, [], codes "x", codes "x.c" ∷ [])
+  pub nothing_known : chosen_as objects [] (codes "x.o") ≡ None
+  pub circular : chosen_as circle [] (codes "x.a") ≡ None
+  pub empty_stem : chosen_as objects (codes ".c" ∷ []) (codes ".o") ≡ None
+  pub directory : chosen_as objects (codes "d/x.c" ∷ []) (codes "d/x.o") ≡ Some (0, codes "d/", codes "x", codes "d/x.c" ∷ [])
+  pub shortest : chosen_as (pattern (codes "%.o") (codes "k") 1 ∷ pattern (codes "x%.o") (codes "k") 2 ∷ []) (codes "k" ∷ []) (codes "xy.o")
+      ≡ Some (1, [], codes "y", codes "k" ∷ [])
+  pub any_name_dropped : chosen_as (pattern (codes "%.o") (codes "q") 1 ∷ pattern (codes "%") (codes "k") 2 ∷ []) (codes "k" ∷ []) (codes "x.o") ≡ None
+  pub terminal : chosen_as (rule TerminalPattern (codes "%.o") (codes "%.c" ∷ []) [] true 1 ∷ pattern (codes "%.c") (codes "%.y") 2 ∷ []) (codes "x.y" ∷ []) (codes "x.o") ≡ None
 
 -- questions
 pub record RowsOfQuestions : Type 0 where

@@ -3,6 +3,10 @@ ghost use Rattle.std.specs.Prelude.{List};
 ghost use Rattle.kt_text.specs.Words.{Text};
 ghost use Rattle.kt_rules.specs.Entry.{Rule};
 ghost use Rattle.kt_graph.specs.Faults.{TellsFirst};
+ghost use Rattle.kt_graph.specs.Groups.{AreGroups, groups_of};
+ghost use Rattle.kt_graph.specs.Node.{Node};
+ghost use Rattle.kt_graph.specs.Reach.{IsGraph};
+ghost use Rattle.kt_graph.specs.Resolution.{IsResolution};
 ghost use Rattle.kt_graph.specs.Rows.{RowsOfChoices, RowsOfGoals, RowsOfKnown, RowsOfNodes, RowsOfPaths, RowsOfQuestions};
 ghost use Rattle.kt_graph.specs.declared.fault.GraphFault.TheVariants.{Memory};
 
@@ -39,4 +43,17 @@ pub fn rows_of_paths()
 /// Want of memory is excused, whatever is wrong.
 pub fn memory_is_excused()
     ensures { (rules : List Rule) (known goals : List Text) → TellsFirst rules known goals Memory }
+{}
+
+/// The groups of a graph are those of the names that one making makes: each made node stands in
+/// exactly one.
+pub fn groups_are_makings()
+    ensures { (rules : List Rule) (known goals : List Text) (nodes : List Node)
+        → IsGraph rules known goals nodes → AreGroups rules known goals nodes (groups_of nodes) }
+{}
+
+/// The components of a file's one spelling are what is left of a name's once all has gone that may,
+/// in whatever order it goes.
+pub fn canon_is_resolution()
+    ensures { (name : Text) → IsResolution name }
 {}

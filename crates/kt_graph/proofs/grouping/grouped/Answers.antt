@@ -1,7 +1,7 @@
 use Rattle.std.proofs.Common.{◌≡◌, ℕ, ◌<◌, List, length, get_or, take, sym, subst, arith}
 use Rattle.std.proofs.lemmas.List.{take_all, take_more}
 use Rattle.kt_graph.specs.Grouping.{IsGroupingOf}
-use Rattle.kt_graph.proofs.GroupingLemmas.{next_after, none_grouped}
+use Rattle.kt_graph.proofs.GroupingLemmas.{grouped_as_told, next_after, none_grouped}
 use Rattle.kt_graph.proofs.grouping.grouped.Goals as goal
 
 pub loop-number-init : goal.loop-number-init
@@ -23,4 +23,4 @@ pub returns : goal.returns
 returns c =
     let all : take c.loop-number.number-index c.args.order.now ≡ c.args.order.now = take_all c.loop-number.number-index c.args.order.now (omega arith) in
     let held = subst (λ (numbers : List ℕ). IsGroupingOf c.args.names.now c.args.instances.now c.args.nodes.now numbers c.loop-number.grouping) all c.loop-number.invariant in
-    held.told
+    grouped_as_told c.args.names.now c.args.instances.now c.args.nodes.now c.args.order.now c.loop-number.grouping c.requires held

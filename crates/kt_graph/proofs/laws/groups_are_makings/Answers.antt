@@ -1,0 +1,5 @@
+use Rattle.kt_graph.proofs.GroupLaw.{are_groups}
+use Rattle.kt_graph.proofs.laws.groups_are_makings.Goals as goal
+
+pub returns : goal.returns
+returns c = are_groups
