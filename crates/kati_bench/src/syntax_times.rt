@@ -48,7 +48,7 @@ fn print_times(rt: &impl Runtime, alloc: Global, name: &str, text: &[u8]) -> Res
     report(rt, name, "classify", start, 0)?;
 
     let start = Instant::now(rt)?;
-    let size = rule_parts(text).map_or(0, |parts| parts.head.len());
+    let size = rule_parts(text, text).map_or(0, |parts| parts.head.len());
     report(rt, name, "rule_parts", start, size)?;
 
     let start = Instant::now(rt)?;

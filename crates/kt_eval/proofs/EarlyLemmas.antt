@@ -3,7 +3,7 @@ use Rattle.std.proofs.Common.{◌≡◌, ℕ, suc, ◌+◌, ◌<◌, ◌==◌, �
 use Rattle.std.specs.List.{slice_get}
 use Rattle.kt_text.specs.Words.{Text, words_of}
 use Rattle.kt_syntax.specs.Blocks.{Items, Branches, definition, conditional, no_branch, branch, late}
-use Rattle.kt_syntax.specs.Kinds.{Kind, kind_of}
+use Rattle.kt_syntax.specs.Kinds.{Kind, line_kind}
 use Rattle.kt_syntax.specs.declared.step.Step.{Step as Found}
 use Rattle.kt_syntax.specs.declared.step.Step.TheVariants as step
 use Rattle.kt_syntax.specs.Reading.{left_at, AreTried}
@@ -115,7 +115,7 @@ module _ (reads : Bool) (store : Store) (levels : ℕ) where
 
 module _ (reads : Bool) (store : Store) (levels : ℕ) (sheet : Sheet) where
   pub definition_fails : (stop : Stop) (w v : World) (items next : Items) (place end : ℕ) (kind : Kind) (body : Text) → items ≡ definition place end next
-      → kind ≡ kind_of (line_at sheet.lines place).text false → body ≡ body_at sheet (place + 1) end
+      → kind ≡ line_kind (line_at sheet.lines place).text false → body ≡ body_at sheet (place + 1) end
       → Fails stop v (read_define (evaluator reads store levels) kind body (at_line sheet place w))
       → Fails stop v (read_items (evaluator reads store levels) sheet items w)
   unfolding read_items

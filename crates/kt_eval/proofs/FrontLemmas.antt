@@ -23,10 +23,10 @@ use Rattle.kt_eval.specs.Assignments.{assign, assign_named, assign_line, define}
 use Rattle.kt_eval.specs.Conditionals.{is_set, holds, text_holds}
 use Rattle.kt_eval.specs.Including.{each_include, include_line}
 use Rattle.kt_eval.specs.Rules.{enter_rule, close_rule, open_rule, rule_of_parts, rule_line}
-use Rattle.kt_eval.specs.Reading.{Sheet, branch_holds, read_items, read_end, read_sheet, read_without_nul, read_text, read_file, read_included, read_first}
+use Rattle.kt_eval.specs.Reading.{Sheet, branch_holds, read_bare_tab, read_define, read_kind, read_items, read_end, read_sheet, read_without_nul, read_text, read_file, read_included, read_first}
 use Rattle.kt_eval.specs.Levels.{evaluator}
 use Rattle.kt_eval.specs.Growing.{world_of, Grows}
-use Rattle.kt_eval.proofs.GrowingLemmas.{one_more_level, value_of_related, each_argument_related, accepted_related, apply_or_related, apply_and_related, each_word_related, called_related, call_by_name_related, value_named_related, referred_related, each_term_related, expanded_related, assign_related, assign_named_related, assign_line_related, define_related, holds_related, text_holds_related, each_include_related, include_line_related, rule_of_parts_related, rule_line_related, read_sheet_related, read_text_related, read_without_nul_related, read_file_related, read_included_related, read_items_related, branch_holds_related, read_first_related, is_set_grows, close_rule_grows, open_rule_grows, read_end_grows, enter_rule_grows}
+use Rattle.kt_eval.proofs.GrowingLemmas.{one_more_level, read_bare_tab_related, read_define_related, read_kind_related, value_of_related, each_argument_related, accepted_related, apply_or_related, apply_and_related, each_word_related, called_related, call_by_name_related, value_named_related, referred_related, each_term_related, expanded_related, assign_related, assign_named_related, assign_line_related, define_related, holds_related, text_holds_related, each_include_related, include_line_related, rule_of_parts_related, rule_line_related, read_sheet_related, read_text_related, read_without_nul_related, read_file_related, read_included_related, read_items_related, branch_holds_related, read_first_related, is_set_grows, close_rule_grows, open_rule_grows, read_end_grows, enter_rule_grows}
 
 pub grown_front : {A : Type 0} (w : World) (o : Outcome A) → Grows w (world_of o) → IsFront w.said (said_of o)
 grown_front w (Gave v x) g = g.0
@@ -276,8 +276,23 @@ module _ (reads : Bool) (store : Store) (levels : ℕ) where
   pub read_items_same : (sheet : Sheet) (items : Items) (w : World) (count : ℕ) → count ≤ length w.said → take count (said_of (read_items (evaluator reads store levels) sheet items w)) ≡ take count w.said
   read_items_same sheet items w count le = (read_items_front sheet items w).1 count le
 
+  pub read_kind_front : (text : Text) (kind : Kind) (w : World) → IsFront w.said (said_of (read_kind (evaluator reads store levels) text kind w))
+  read_kind_front text kind w = grown_front w (read_kind (evaluator reads store levels) text kind w) ((read_kind_related (evaluator reads store levels) (evaluator reads store (suc levels)) (one_more_level reads store levels) text kind w).0)
+
+  pub read_bare_tab_front : (kind : Kind) (w : World) → IsFront w.said (said_of (read_bare_tab (evaluator reads store levels) kind w))
+  read_bare_tab_front kind w = grown_front w (read_bare_tab (evaluator reads store levels) kind w) ((read_bare_tab_related (evaluator reads store levels) (evaluator reads store (suc levels)) (one_more_level reads store levels) kind w).0)
+
+  pub read_define_front : (kind : Kind) (body : Text) (w : World) → IsFront w.said (said_of (read_define (evaluator reads store levels) kind body w))
+  read_define_front kind body w = grown_front w (read_define (evaluator reads store levels) kind body w) ((read_define_related (evaluator reads store levels) (evaluator reads store (suc levels)) (one_more_level reads store levels) kind body w).0)
+
   pub branch_holds_front : (sheet : Sheet) (place : ℕ) (condition : Bool) (w : World) → IsFront w.said (said_of (branch_holds (evaluator reads store levels) sheet place condition w))
   branch_holds_front sheet place condition w = grown_front w (branch_holds (evaluator reads store levels) sheet place condition w) ((branch_holds_related (evaluator reads store levels) (evaluator reads store (suc levels)) (one_more_level reads store levels) sheet place condition w).0)
+
+  pub branch_holds_longer : (sheet : Sheet) (place : ℕ) (condition : Bool) (w : World) → length w.said ≤ length (said_of (branch_holds (evaluator reads store levels) sheet place condition w))
+  branch_holds_longer sheet place condition w = (branch_holds_front sheet place condition w).0
+
+  pub branch_holds_same : (sheet : Sheet) (place : ℕ) (condition : Bool) (w : World) (count : ℕ) → count ≤ length w.said → take count (said_of (branch_holds (evaluator reads store levels) sheet place condition w)) ≡ take count w.said
+  branch_holds_same sheet place condition w count le = (branch_holds_front sheet place condition w).1 count le
 
   pub read_first_front : (names : List Text) (w : World) → IsFront w.said (said_of (read_first store (evaluator reads store levels) names w))
   read_first_front names w = grown_front w (read_first store (evaluator reads store levels) names w) ((read_first_related (evaluator reads store levels) (evaluator reads store (suc levels)) (one_more_level reads store levels) store names w).0)

@@ -15,11 +15,11 @@ use Rattle.kt_syntax.specs.declared.part.Missing.{Missing}
 use Rattle.kt_syntax.specs.declared.part.Missing.TheVariants as missing
 use Rattle.kt_syntax.specs.declared.part.Stray.{Stray}
 use Rattle.kt_syntax.specs.declared.part.Stray.TheVariants as stray
-use Rattle.kt_syntax.specs.Kinds.{Kind, blank, assignment, directive, refused, rule, kind_of}
+use Rattle.kt_syntax.specs.Kinds.{Kind, blank, assignment, directive, refused, rule, kind_of, line_kind}
 use Rattle.kt_syntax.specs.Terms.{Piece, literal, dollar, reference, unclosed, terms_of}
 use Rattle.kt_syntax.specs.Blocks.{Items, Branches, none, line, fault, definition, conditional, no_branch, branch, late, tree_of}
 use Rattle.kt_syntax.specs.Comments.{plain_of}
-use Rattle.kt_syntax.specs.Heads.{RuleTexts, rule_texts}
+use Rattle.kt_syntax.specs.Heads.{RuleTexts, line_parts}
 use Rattle.kt_syntax.specs.Recipes.{recipe_of}
 use Rattle.kt_rules.specs.Entry.{Rule, rule_of}
 use Rattle.kt_rules.specs.Refusals.{Fault as RuleFault}
@@ -466,7 +466,7 @@ module _ (e e' : Evaluator) (h : Related e e') where
 
   pub rule_line_related : (text : Text) (w : World) → Relates w (rule_line e text w) (rule_line e' text w)
   unfolding rule_line
-  rule_line_related text w = rule_of_parts_related (rule_texts text) w
+  rule_line_related text w = rule_of_parts_related (line_parts text) w
 
   pub recipe_line_grows : (entry : Rule) (text : Text) (w : World) → Grows w (world_of (recipe_line entry text w))
   unfolding recipe_line
@@ -516,7 +516,7 @@ module _ (e e' : Evaluator) (h : Related e e') where
   read_bare_tab_related rule w = plain_step w _ (still w)
 
   pub read_tab_in_related : (text : Text) (entry : Option Rule) (w : World) → Relates w (read_tab_in e text entry w) (read_tab_in e' text entry w)
-  read_tab_in_related text None w = read_bare_tab_related (kind_of text true) w
+  read_tab_in_related text None w = read_bare_tab_related (line_kind text true) w
   read_tab_in_related text (Some entry) w = plain_step w _ (recipe_line_grows entry text w)
 
   pub read_tab_related : (text : Text) (w : World) → Relates w (read_tab e text w) (read_tab e' text w)
@@ -528,9 +528,9 @@ module _ (e e' : Evaluator) (h : Related e e') where
   read_line_related raw w =
       tabbed_related raw.tab
     where
-      tabbed_related : (b : Bool) → Relates w (cond b (read_tab e raw.text w) (read_kind e raw.text (kind_of raw.text false) w)) (cond b (read_tab e' raw.text w) (read_kind e' raw.text (kind_of raw.text false) w))
+      tabbed_related : (b : Bool) → Relates w (cond b (read_tab e raw.text w) (read_kind e raw.text (line_kind raw.text false) w)) (cond b (read_tab e' raw.text w) (read_kind e' raw.text (line_kind raw.text false) w))
       tabbed_related true = read_tab_related raw.text w
-      tabbed_related false = read_kind_related raw.text (kind_of raw.text false) w
+      tabbed_related false = read_kind_related raw.text (line_kind raw.text false) w
 
   pub read_define_related : (kind : Kind) (body : Text) (w : World) → Relates w (read_define e kind body w) (read_define e' kind body w)
   unfolding read_define
@@ -571,7 +571,7 @@ module _ (e e' : Evaluator) (h : Related e e') where
     unfolding branch_holds
     branch_holds_related place condition w =
         related_after w (at_line sheet place w) _ _ (at_line_grows place w)
-        (line_holds_related condition (kind_of (line_at sheet.lines place).text false) (at_line sheet place w))
+        (line_holds_related condition (line_kind (line_at sheet.lines place).text false) (at_line sheet place w))
 
     mutual
       unfolding read_items
@@ -589,7 +589,7 @@ module _ (e e' : Evaluator) (h : Related e e') where
           (related_then v (read_stray kind v) (read_stray kind v) _ _ (plain_step v _ (read_stray_grows kind v)) (λ _ u. read_items_related next u))
       read_items_related (definition place body_end next) w =
           let v : World = at_line sheet place w in
-          let kind : Kind = kind_of (line_at sheet.lines place).text false in
+          let kind : Kind = line_kind (line_at sheet.lines place).text false in
           let body : Text = body_at sheet (place + 1) body_end in
           related_after w v _ _ (at_line_grows place w)
           (related_then v (read_define e kind body v) (read_define e' kind body v) _ _ (read_define_related kind body v) (λ _ u. read_items_related next u))

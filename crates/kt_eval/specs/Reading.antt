@@ -6,7 +6,7 @@ use Rattle.kt_text.specs.declared.line.Line.{Line}
 use Rattle.kt_text.specs.Words.{Text}
 use Rattle.kt_text.specs.Lines.{logical_lines_of, nul_line}
 use Rattle.kt_syntax.specs.declared.form.Directive.TheVariants as word
-use Rattle.kt_syntax.specs.Kinds.{Kind, blank, assignment, directive, refused, rule, kind_of}
+use Rattle.kt_syntax.specs.Kinds.{Kind, blank, assignment, directive, refused, rule, kind_of, line_kind}
 use Rattle.kt_syntax.specs.Blocks.{Items, Branches, Flat, none, line, fault, definition, conditional, no_branch, branch, late, blocks_of, tree_of}
 use Rattle.kt_syntax.specs.Comments.{plain_of}
 use Rattle.kt_syntax.specs.Roles.{line_text, heads_of}
@@ -87,14 +87,14 @@ read_bare_tab e other = stop 6 (codes "recipe before a target")
 
 -- a line that begins with a tab is one of the open rule's recipe, if there is one
 abbrev pub read_tab_in : Evaluator → Text → Option Rule → Step (Unit {0})
-read_tab_in e text None = read_bare_tab e (kind_of text true)
+read_tab_in e text None = read_bare_tab e (line_kind text true)
 read_tab_in e text (Some started) = recipe_line started text
 
 unfoldable pub read_tab : Evaluator → Text → Step (Unit {0})
 read_tab e text w = read_tab_in e text w.rule (set_rule None w)
 
 unfoldable pub read_line : Evaluator → Raw → Step (Unit {0})
-read_line e raw w = if raw.tab then read_tab e raw.text w else read_kind e raw.text (kind_of raw.text false) w
+read_line e raw w = if raw.tab then read_tab e raw.text w else read_kind e raw.text (line_kind raw.text false) w
 
 -- the lines from one place up to another as the value of a define
 abbrev pub body_at : Sheet → ℕ → ℕ → Text
@@ -126,7 +126,7 @@ late_else sheet (late place items others) = do
 unfoldable pub branch_holds : Evaluator → Sheet → ℕ → Bool → Step Bool
 branch_holds e sheet place condition = do
   change (at_line sheet place)
-  line_holds e condition (kind_of (line_at sheet.lines place).text false)
+  line_holds e condition (line_kind (line_at sheet.lines place).text false)
 
 -- items one after another; of a conditional the first branch that is taken is read
 unfoldable mutual
@@ -142,7 +142,7 @@ unfoldable mutual
     read_items e sheet next
   read_items e sheet (definition place body_end next) = do
     change (at_line sheet place)
-    read_define e (kind_of (line_at sheet.lines place).text false) (body_at sheet (place + 1) body_end)
+    read_define e (line_kind (line_at sheet.lines place).text false) (body_at sheet (place + 1) body_end)
     read_items e sheet next
   read_items e sheet (conditional place first others next) = do
     chosen ← branch_holds e sheet place true

@@ -3,7 +3,7 @@
 use Rattle.std.specs.Prelude.{List, [], ◌∷◌, ◌++◌, drop, Option, Some, None, option_map, Result, Ok, Err, codes}
 use Rattle.kt_text.specs.Words.{Text}
 use Rattle.kt_syntax.specs.Comments.{plain_of}
-use Rattle.kt_syntax.specs.Heads.{RuleTexts, rule_texts}
+use Rattle.kt_syntax.specs.Heads.{RuleTexts, line_parts}
 use Rattle.kt_syntax.specs.Recipes.{recipe_of}
 use Rattle.kt_rules.specs.declared.place.Place.{Place}
 use Rattle.kt_rules.specs.Entry.{Rule, rule_of, with_line}
@@ -57,7 +57,7 @@ rule_of_parts e (Some parts) = do
   open_rule (option_map recipe_of parts.recipe) head
 
 unfoldable pub rule_line : Evaluator → Text → Step (Unit {0})
-rule_line e text = rule_of_parts e (rule_texts text)
+rule_line e line = rule_of_parts e (line_parts line)
 
 -- one more line of the open rule's recipe; the tab before it is no part of it
 unfoldable pub recipe_line : Rule → Text → Step (Unit {0})

@@ -5,7 +5,7 @@ ghost use Rattle.kt_syntax.specs.Reading.{IsAhead, ReadsOn, left_at};
 ghost use Rattle.kt_syntax.specs.Blocks.{none, tree_of};
 ghost use Rattle.kt_syntax.specs.declared.step.Step.TheVariants as step;
 ghost use Rattle.kt_syntax.specs.Roles.{line_text};
-ghost use Rattle.kt_text.specs.Lines.{logical_lines_of};
+ghost use Rattle.kt_text.specs.Lines.{AreInOrder, logical_lines_of};
 ghost use Rattle.kt_eval.specs.Assignments.{body_text};
 ghost use Rattle.kt_eval.specs.Reading.{line_at, sheet_of};
 ghost use Rattle.kt_eval.specs.Views.{raw_told};
@@ -67,7 +67,8 @@ impl<'a> Page<'a> {
         text: &'a [u8],
         lines: Vec<Line>,
     ) -> Result<Page<'a>, AllocError>
-        requires { lines.items ≡ logical_lines_of text.now }
+        requires lines { lines.items ≡ logical_lines_of text.now }
+        requires order { AreInOrder (length text.now) lines.items }
         ensures { IfOk result (λ page. page ≡ sheet_of source.now text.now) }
     {
         let blocks = blocks(alloc, text, &lines)?;

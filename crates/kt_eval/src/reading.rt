@@ -1,7 +1,8 @@
 //! Makefiles read, line by line.
-ghost use Rattle.std.specs.Prelude.{◌≡◌, ◌<◌, ◌≤◌, ◌+◌, length, option_map, IfOk, Some, true};
+ghost use Rattle.std.specs.Prelude.{◌≡◌, ◌<◌, ◌≤◌, ◌+◌, length, option_map, IfOk, Some, false, true};
 ghost use Rattle.std.specs.List.{slice_get, slice_range};
-ghost use Rattle.kt_syntax.specs.Kinds.{kind_of, kind_told};
+ghost use Rattle.kt_text.specs.Lines.{condensed_of};
+ghost use Rattle.kt_syntax.specs.Kinds.{kind_of, kind_told, line_kind};
 ghost use Rattle.kt_syntax.specs.Blocks.{tree_of};
 ghost use Rattle.kt_syntax.specs.Reading.{IsAhead, IsConditional, ReadsOn, left_at};
 ghost use Rattle.kt_syntax.specs.declared.step.Step.TheVariants as step;
@@ -25,7 +26,7 @@ use kt_syntax::{
     Directive, Form, Missing, Operator, Step, Stray, TargetSpecific, classify, plain, recipe_text,
     rule_parts,
 };
-use kt_text::{LineFault, logical_lines};
+use kt_text::{LineFault, joined, logical_lines};
 use std::alloc::{AllocError, Global};
 
 impl<'a, M: Scope, F: Files> Evaluation<'a, M, F> {
@@ -156,7 +157,7 @@ impl<'a, M: Scope, F: Files> Evaluation<'a, M, F> {
             Step::Define { end } => {
                 let line = self.at_line(page, place)?;
                 let body = page.body(self.alloc, page.behind(place), end)?;
-                self.read_define(below, classify(line.text, false), &body)?;
+                self.read_define(below, line.text, &body)?;
                 Ok(end)
             }
             Step::Conditional { next, after } => {
@@ -203,7 +204,7 @@ impl<'a, M: Scope, F: Files> Evaluation<'a, M, F> {
     }
 
     #[cycle(evaluate)]
-    #[tactic(auto, using(crate::proofs::FrontLemmas::branch_holds_front), unfolding(crate::specs::Reading::branch_holds))]
+    #[tactic(auto, using(crate::proofs::FrontLemmas::branch_holds_front, crate::proofs::FrontLemmas::branch_holds_longer, crate::proofs::FrontLemmas::branch_holds_same), unfolding(crate::specs::Reading::branch_holds))]
     pub(crate) fn branch_holds(
         &mut self,
         below: u64,
@@ -217,11 +218,12 @@ impl<'a, M: Scope, F: Files> Evaluation<'a, M, F> {
         ensures blames { Blames result self.old.failed self.new.failed }
     {
         let line = self.at_line(page, place)?;
-        self.line_holds(below, condition, classify(line.text, false))
+        let text = joined(self.alloc, line.text)?;
+        self.line_holds(below, condition, classify(text.as_slice(), false))
     }
 
     #[cycle(evaluate)]
-    #[tactic(auto, unfolding(crate::specs::Reading::read_line))]
+    #[tactic(auto, using(crate::proofs::FrontLemmas::read_kind_front), unfolding(crate::specs::Reading::read_line))]
     pub(crate) fn read_line(&mut self, below: u64, line: RawLine<'_>) -> Result<(), Stop>
         requires { M.writable ≡ true }
         ensures gives { AreKnown self.old.known → Gives (λ u. u) result self.new.world (read_line (evaluator M.writable (store_of self.old.known) below) (raw_told line.entry) self.old.world) }
@@ -231,7 +233,13 @@ impl<'a, M: Scope, F: Files> Evaluation<'a, M, F> {
         if line.tab {
             return self.read_tab(below, line.text);
         }
-        self.read_kind(below, line.text, classify(line.text, false))
+        let text = joined(self.alloc, line.text)?;
+        self.read_kind(
+            below,
+            line.text,
+            text.as_slice(),
+            classify(text.as_slice(), false),
+        )
     }
 
     // A line that begins with a tab is one of the open rule's recipe, if there is one.
@@ -244,14 +252,27 @@ impl<'a, M: Scope, F: Files> Evaluation<'a, M, F> {
         ensures blames { Blames result self.old.failed self.new.failed }
     {
         match self.take_rule() {
-            None => self.read_bare_tab(below, classify(text, true)),
+            None => self.read_bare_tab(below, text),
             Some(rule) => self.recipe_line(rule, text),
         }
     }
 
+    // A line that begins with a tab while no rule is open.
+    #[cycle(evaluate)]
+    #[tactic(auto, using(crate::proofs::FrontLemmas::read_bare_tab_front))]
+    pub(crate) fn read_bare_tab(&mut self, below: u64, line: &[u8]) -> Result<(), Stop>
+        requires { M.writable ≡ true }
+        ensures gives { AreKnown self.old.known → Gives (λ u. u) result self.new.world (read_bare_tab (evaluator M.writable (store_of self.old.known) below) (line_kind line.now true) self.old.world) }
+        ensures kept { Keeps self.old self.new }
+        ensures blames { Blames result self.old.failed self.new.failed }
+    {
+        let text = joined(self.alloc, line)?;
+        self.read_bare_form(below, classify(text.as_slice(), true))
+    }
+
     #[cycle(evaluate)]
     #[tactic(auto, unfolding(crate::specs::Reading::read_bare_tab))]
-    pub(crate) fn read_bare_tab(&mut self, below: u64, form: Form<'_>) -> Result<(), Stop>
+    pub(crate) fn read_bare_form(&mut self, below: u64, form: Form<'_>) -> Result<(), Stop>
         requires { M.writable ≡ true }
         ensures gives { AreKnown self.old.known → Gives (λ u. u) result self.new.world (read_bare_tab (evaluator M.writable (store_of self.old.known) below) (kind_told form.entry) self.old.world) }
         ensures kept { Keeps self.old self.new }
@@ -285,12 +306,19 @@ impl<'a, M: Scope, F: Files> Evaluation<'a, M, F> {
         self.assign_line(below, &name, operator, &value)
     }
 
-    // An assignment, an include and a rule line close the rule that is open.
+    // A line by its kind; an assignment, an include and a rule line close the rule that is open.
     #[cycle(evaluate)]
     #[tactic(auto, using(crate::proofs::FrontLemmas::assign_line_longer, crate::proofs::FrontLemmas::assign_line_same, crate::proofs::FrontLemmas::rule_line_longer, crate::proofs::FrontLemmas::rule_line_same), unfolding(crate::specs::Reading::read_kind))]
-    pub(crate) fn read_kind(&mut self, below: u64, text: &[u8], form: Form<'_>) -> Result<(), Stop>
-        requires { M.writable ≡ true }
-        ensures gives { AreKnown self.old.known → Gives (λ u. u) result self.new.world (read_kind (evaluator M.writable (store_of self.old.known) below) text.now (kind_told form.entry) self.old.world) }
+    pub(crate) fn read_kind(
+        &mut self,
+        below: u64,
+        line: &[u8],
+        text: &[u8],
+        form: Form<'_>,
+    ) -> Result<(), Stop>
+        requires writable { M.writable ≡ true }
+        requires text { text.now ≡ condensed_of line.now }
+        ensures gives { AreKnown self.old.known → Gives (λ u. u) result self.new.world (read_kind (evaluator M.writable (store_of self.old.known) below) line.now (kind_told form.entry) self.old.world) }
         ensures kept { Keeps self.old self.new }
         ensures blames { Blames result self.old.failed self.new.failed }
     {
@@ -308,7 +336,7 @@ impl<'a, M: Scope, F: Files> Evaluation<'a, M, F> {
             Form::Refused(word) => Err(Stop::Fault(self.fault(17, b"refused form ", word)?)),
             Form::Rule => {
                 self.close_rule()?;
-                self.rule_line(below, text)
+                self.rule_line(below, line, text)
             }
         }
     }
@@ -331,9 +359,22 @@ impl<'a, M: Scope, F: Files> Evaluation<'a, M, F> {
         self.include_line(below, optional, &text)
     }
 
+    // The first line of a define, and its body.
+    #[cycle(evaluate)]
+    #[tactic(auto, using(crate::proofs::FrontLemmas::read_define_front))]
+    pub(crate) fn read_define(&mut self, below: u64, line: &[u8], body: &[u8]) -> Result<(), Stop>
+        requires { M.writable ≡ true }
+        ensures gives { AreKnown self.old.known → Gives (λ u. u) result self.new.world (read_define (evaluator M.writable (store_of self.old.known) below) (line_kind line.now false) body.now self.old.world) }
+        ensures kept { Keeps self.old self.new }
+        ensures blames { Blames result self.old.failed self.new.failed }
+    {
+        let text = joined(self.alloc, line)?;
+        self.read_define_form(below, classify(text.as_slice(), false), body)
+    }
+
     #[cycle(evaluate)]
     #[tactic(auto, using(crate::proofs::FrontLemmas::define_longer, crate::proofs::FrontLemmas::define_same), unfolding(crate::specs::Reading::read_define))]
-    pub(crate) fn read_define(
+    pub(crate) fn read_define_form(
         &mut self,
         below: u64,
         form: Form<'_>,
@@ -355,13 +396,14 @@ impl<'a, M: Scope, F: Files> Evaluation<'a, M, F> {
 
     #[cycle(evaluate)]
     #[tactic(auto, unfolding(crate::specs::Rules::rule_line, crate::specs::Rules::rule_of_parts))]
-    pub(crate) fn rule_line(&mut self, below: u64, text: &[u8]) -> Result<(), Stop>
-        requires { M.writable ≡ true }
-        ensures gives { AreKnown self.old.known → Gives (λ u. u) result self.new.world (rule_line (evaluator M.writable (store_of self.old.known) below) text.now self.old.world) }
+    pub(crate) fn rule_line(&mut self, below: u64, line: &[u8], text: &[u8]) -> Result<(), Stop>
+        requires writable { M.writable ≡ true }
+        requires text { text.now ≡ condensed_of line.now }
+        ensures gives { AreKnown self.old.known → Gives (λ u. u) result self.new.world (rule_line (evaluator M.writable (store_of self.old.known) below) line.now self.old.world) }
         ensures kept { Keeps self.old self.new }
         ensures blames { Blames result self.old.failed self.new.failed }
     {
-        match rule_parts(text) {
+        match rule_parts(line, text) {
             Err(TargetSpecific) => Err(Stop::Fault(self.fault(23, b"target-specific macro", b"")?)),
             Ok(parts) => self.read_rule(below, parts.head, parts.recipe),
         }

@@ -6,7 +6,7 @@ use Rattle.kt_syntax.specs.Mask.{mask_of}
 use Rattle.std.specs.Prelude.{option_map, is_some, ◌==◌}
 use Rattle.std.proofs.lemmas.List.{take_rest}
 use Rattle.kt_syntax.specs.Kinds.{Parts, assignment_parts, comment_place, past_blanks}
-use Rattle.kt_syntax.specs.Heads.{after_modifier, after_modifiers, found_or, head_end, colon_place, after_colon, assigns_after, is_target_specific, parts_of, rule_texts}
+use Rattle.kt_syntax.specs.Heads.{after_modifier, after_modifiers, found_or, head_end, colon_place, after_colon, assigns_after, is_target_specific, head_text, first_recipe, RuleTexts, rule_texts}
 use Rattle.kt_syntax.proofs.Masking.{length-front}
 
 -- one more word
@@ -42,26 +42,30 @@ specific_found text end colon after from place parts within c a f p e =
     ∙ ap (λ x. is_some (assignment_parts text mask (past_blanks (after_modifiers (length mask) text mask x) mask))) a
     ∙ ap (assigns_after text mask) c
 
-pub texts_none : (text : Text) (end : ℕ) → end ≡ head_end text → is_target_specific text (take end (mask_of text)) ≡ true → None ≡ rule_texts text
+pub texts_none : (line text : Text) (end : ℕ) → end ≡ head_end text → is_target_specific text (take end (mask_of text)) ≡ true → None ≡ rule_texts line text
 unfolding rule_texts
-texts_none text end e h = let here = ap (λ x. is_target_specific text (take x (mask_of text))) (sym e) ∙ h in sym (rw here refl)
+texts_none line text end e h = let here = ap (λ x. is_target_specific text (take x (mask_of text))) (sym e) ∙ h in sym (rw here refl)
 
-texts_some : (text : Text) (end : ℕ) → end ≡ head_end text → is_target_specific text (take end (mask_of text)) ≡ false → Some (parts_of text end) ≡ rule_texts text
+pub texts_some : (line text head : Text) (recipe : Option Text) (end : ℕ) → end ≡ head_end text → is_target_specific text (take end (mask_of text)) ≡ false
+    → head ≡ head_text text → recipe ≡ first_recipe line → Some (record { head = head; recipe = recipe }) ≡ rule_texts line text
 unfolding rule_texts
-texts_some text end e h =
+texts_some line text head recipe end e h t r =
     let here = ap (λ x. is_target_specific text (take x (mask_of text))) (sym e) ∙ h in
-    ap (λ x. Some (parts_of text x)) e ∙ sym (rw here refl)
+    ap (λ (x : Text). Some (record { head = x; recipe = recipe })) t
+    ∙ ap (λ (x : Option Text). Some (record { head = head_text text; recipe = x })) r
+    ∙ sym (rw here refl)
 
-pub texts_whole : (text : Text) (end comment : ℕ) → end ≡ head_end text → is_target_specific text (take end (mask_of text)) ≡ false → comment ≡ comment_place text → end ≡ comment
-    → Some (record { head = text; recipe = None }) ≡ rule_texts text
-texts_whole text end comment e h c same =
-    let at : (end == comment_place text) ≡ true = eq-eqb end (comment_place text) (same ∙ c) in
-    sym (rw at refl) ∙ texts_some text end e h
+pub recipe_none : (line : Text) (end comment : ℕ) → end ≡ head_end line → comment ≡ comment_place line → end ≡ comment → None ≡ first_recipe line
+unfolding first_recipe
+recipe_none line end comment e c same =
+    let at : (head_end line == comment_place line) ≡ true = eq-eqb (head_end line) (comment_place line) (sym e ∙ same ∙ c) in
+    sym (rw at refl)
 
-pub texts_cut : (text : Text) (end comment recipe : ℕ) → end ≡ head_end text → is_target_specific text (take end (mask_of text)) ≡ false → comment ≡ comment_place text → (end ≡ comment → ⊥)
-    → recipe ≡ past_blanks (end + 1) (mask_of text)
-    → Some (record { head = take end text; recipe = Some (take (length text - recipe) (drop recipe text)) }) ≡ rule_texts text
-texts_cut text end comment recipe e h c other r =
-    let at : (end == comment_place text) ≡ false = false_from_ne_true (end == comment_place text) (λ k. other (eqb-true end (comment_place text) k ∙ sym c)) in
-    ap (λ x. Some (record { head = take end text; recipe = Some x })) (take_rest text recipe ∙ ap (λ x. drop x text) r)
-    ∙ sym (rw at refl) ∙ texts_some text end e h
+pub recipe_some : (line : Text) (end comment recipe : ℕ) → end ≡ head_end line → comment ≡ comment_place line → (end ≡ comment → ⊥) → recipe ≡ past_blanks (end + 1) (mask_of line)
+    → Some (take (length line - recipe) (drop recipe line)) ≡ first_recipe line
+unfolding first_recipe
+recipe_some line end comment recipe e c other r =
+    let at : (head_end line == comment_place line) ≡ false =
+    false_from_ne_true (head_end line == comment_place line) (λ k. other (e ∙ eqb-true (head_end line) (comment_place line) k ∙ sym c)) in
+    let begins : recipe ≡ past_blanks (head_end line + 1) (mask_of line) = r ∙ ap (λ x. past_blanks (x + 1) (mask_of line)) e in
+    ap (λ (x : Text). Some x) (take_rest line recipe ∙ ap (λ x. drop x line) begins) ∙ sym (rw at refl)

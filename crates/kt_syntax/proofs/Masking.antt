@@ -97,14 +97,22 @@ pub symbol_at : (before after whole : List ℕ) (place : ℕ) (taken : Option �
 symbol_at before after whole place None y e = ap (λ m. slice_index m 0) (sym y.0 ∙ e) ∙ first_dropped whole place
 symbol_at before after whole place (Some symbol) y e = ap (λ m. slice_index m 0) (sym y ∙ e) ∙ first_dropped whole place
 
--- what a dollar takes with it where a carriage return may stand in a continuation
+-- what a dollar takes with it before a continuation
+pub behind-newline : (text : Text) → starts_with nat_eq text (92 ∷ 10 ∷ []) ≡ true → 2 ≡ (behind_dollar kept text).1
+unfolding behind_dollar
+behind-newline text h =
+    let begins : text ≡ 92 ∷ 10 ∷ drop 2 text = (starts_is Decides-eqb text (92 ∷ 10 ∷ []) true (sym h)).0 refl in
+    sym (ap (λ t. (behind_dollar kept t).1) begins)
+
 pub behind-return : (text : Text) → starts_with nat_eq text (92 ∷ 13 ∷ 10 ∷ []) ≡ true → 3 ≡ (behind_dollar kept text).1
 unfolding behind_dollar
 behind-return text h =
     let begins : text ≡ 92 ∷ 13 ∷ 10 ∷ drop 3 text = (starts_is Decides-eqb text (92 ∷ 13 ∷ 10 ∷ []) true (sym h)).0 refl in
     sym (ap (λ t. (behind_dollar kept t).1) begins)
 
-pub behind-other : (text : Text) → starts_with nat_eq text (92 ∷ 13 ∷ 10 ∷ []) ≡ false → behind_dollar dropped text ≡ behind_dollar kept text
+-- before none it takes what it takes in a text without any
+pub behind-other : (text : Text) → starts_with nat_eq text (92 ∷ 10 ∷ []) ≡ false → starts_with nat_eq text (92 ∷ 13 ∷ 10 ∷ []) ≡ false
+    → behind_dollar dropped text ≡ behind_dollar kept text
 unfolding behind_dollar
-behind-other [] h = refl
-behind-other (byte ∷ text) h = rw h refl
+behind-other [] g h = refl
+behind-other (byte ∷ text) g h = rw (g, h) refl

@@ -1,9 +1,11 @@
--- The parts of a rule line (POSIX.1-2024 make, "Target Rules"), as it stands in the file, and target-specific macros, which
--- are refused (GNU make manual, "Target-specific Variable Values").
+-- The parts of a rule line (POSIX.1-2024 make, "Target Rules") and target-specific macros, which are refused (GNU make
+-- manual, "Target-specific Variable Values"). The head is that of the line's text, in which continuations are condensed; the
+-- recipe is cut from the line as it stands in the file.
 use Rattle.std.specs.Prelude.{ℕ, zero, suc, ◌+◌, Bool, false, not, ◌==◌, ◌&&◌, ◌||◌, nat_eq, nat_lt, List, [], ◌∷◌, length, take, drop, codes, Option, Some, None, option_map, Result, Ok, Err, is_some, if◌then◌else◌}
 use Rattle.std.specs.List.{starts_with, position_or_len, slice_range}
 use Rattle.std.specs.Str.{bytes_eq}
 use Rattle.kt_text.specs.Words.{Text}
+use Rattle.kt_text.specs.Lines.{condensed_of}
 use Rattle.kt_syntax.specs.declared.rule_line.RuleParts.{RuleParts}
 use Rattle.kt_syntax.specs.declared.rule_line.TargetSpecific.{TargetSpecific}
 use Rattle.kt_syntax.specs.Mask.{mask_of}
@@ -64,12 +66,20 @@ assigns_after text mask (Some colon) =
 unfoldable pub is_target_specific : Text → List ℕ → Bool
 is_target_specific text mask = assigns_after text mask (colon_place 0 0 mask)
 
--- the parts of a rule line whose head ends at a place: without a semicolon the head keeps its comment
-abbrev pub parts_of : Text → ℕ → RuleTexts
-parts_of text end =
-    if end == comment_place text then record { head = text; recipe = None }
-    else record { head = take end text; recipe = Some (drop (past_blanks (end + 1) (mask_of text)) text) }
+-- the head: without a semicolon it keeps its comment
+unfoldable pub head_text : Text → Text
+head_text text = if head_end text == comment_place text then text else take (head_end text) text
 
--- the parts of a rule line, or none where it assigns a target-specific macro
-unfoldable pub rule_texts : Text → Option RuleTexts
-rule_texts text = if is_target_specific text (take (head_end text) (mask_of text)) then None else Some (parts_of text (head_end text))
+-- the recipe behind the first semicolon, without the blanks at its begin
+unfoldable pub first_recipe : Text → Option Text
+first_recipe line = if head_end line == comment_place line then None else Some (drop (past_blanks (head_end line + 1) (mask_of line)) line)
+
+-- the parts of a rule line with this text, or none where it assigns a target-specific macro
+unfoldable pub rule_texts : Text → Text → Option RuleTexts
+rule_texts line text =
+    if is_target_specific text (take (head_end text) (mask_of text)) then None
+    else Some (record { head = head_text text; recipe = first_recipe line })
+
+-- those of a line as it stands in the file
+abbrev pub line_parts : Text → Option RuleTexts
+line_parts line = rule_texts line (condensed_of line)

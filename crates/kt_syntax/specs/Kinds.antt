@@ -1,9 +1,11 @@
--- The kinds of lines (POSIX.1-2024 make, "Makefile Syntax"; GNU make manual, "What Makefiles Contain"), on a line as it
--- stands in the file. The order of the tests is kati's own.
+-- The kinds of lines (POSIX.1-2024 make, "Makefile Syntax"; GNU make manual, "What Makefiles Contain" and "Splitting Long
+-- Lines"): what a line says is what its text says once its continuations are condensed. The order of the tests is kati's
+-- own.
 use Rattle.std.specs.Prelude.{ℕ, suc, ◌+◌, Bool, false, not, ◌==◌, ◌&&◌, ◌||◌, nat_eq, List, [], ◌∷◌, length, take, drop, codes, Option, Some, None, is_some, if◌then◌else◌}
 use Rattle.std.specs.List.{starts_with, prefix_len, slice_range}
 use Rattle.std.specs.Str.{bytes_eq}
 use Rattle.kt_text.specs.Words.{Text, is_blank}
+use Rattle.kt_text.specs.Lines.{condensed_of}
 use Rattle.kt_syntax.specs.declared.form.Operator.{Operator}
 use Rattle.kt_syntax.specs.declared.form.Operator.TheVariants.{Deferred, Immediate, Escaped, Conditional, Append, Shell}
 use Rattle.kt_syntax.specs.declared.form.Directive.{Directive}
@@ -12,7 +14,7 @@ use Rattle.kt_syntax.specs.declared.form.Form.{Form}
 use Rattle.kt_syntax.specs.declared.form.Form.TheVariants as told
 use Rattle.kt_syntax.specs.Mask.{inside, goes_odd, mask_of}
 
--- a kind of line, with its parts as they stand in the file
+-- a kind of line, with its parts as they stand in the line's text
 pub data Kind : Type 0 where
   blank : Kind
   assignment : (name : Text) (operator : Operator) (value : Text) → Kind
@@ -142,7 +144,11 @@ unfoldable pub kind_within : Bool → Text → List ℕ → ℕ → Kind
 kind_within tab text mask begin =
     if begin == length mask then blank else kind_by_parts tab text mask begin (assignment_parts text mask begin)
 
--- the kind of a line
+-- the kind of a line whose continuations are condensed
 unfoldable pub kind_of : Text → Bool → Kind
 kind_of text tab =
     kind_within tab text (take (comment_place text) (mask_of text)) (past_blanks 0 (take (comment_place text) (mask_of text)))
+
+-- the kind of a line as it stands in the file
+abbrev pub line_kind : Text → Bool → Kind
+line_kind line tab = kind_of (condensed_of line) tab

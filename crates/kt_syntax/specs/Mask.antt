@@ -1,5 +1,5 @@
--- A line as it stands in the file, byte by byte: what is outside references (POSIX.1-2024 make, "Macros"), with each
--- continuation as blanks (kati's own).
+-- A line byte by byte: what is outside references (POSIX.1-2024 make, "Macros"), with each continuation that it still has
+-- as blanks (kati's own).
 use Rattle.std.specs.Prelude.{ℕ, zero, suc, Bool, false, not, ◌==◌, ◌&&◌, nat_eq, List, [], ◌∷◌, Option, None, Some, if◌then◌else◌}
 use Rattle.std.specs.List.{starts_with}
 use Rattle.kt_text.specs.Words.{Text}

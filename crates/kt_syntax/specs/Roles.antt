@@ -10,7 +10,7 @@ use Rattle.kt_syntax.specs.declared.role.Role.{Role}
 use Rattle.kt_syntax.specs.declared.role.Role.TheVariants.{Ordinary, Conditional, Else, Endif, Define, Endef}
 use Rattle.kt_text.specs.Words.{Text}
 use Rattle.kt_syntax.specs.Mask.{mask_of}
-use Rattle.kt_syntax.specs.Kinds.{Kind, blank, assignment, directive, refused, rule, block_word, comment_place, kind_of, past_word}
+use Rattle.kt_syntax.specs.Kinds.{Kind, blank, assignment, directive, refused, rule, block_word, comment_place, line_kind, past_word}
 
 -- the first word of a text that begins with no blank, before its comment
 unfoldable pub first_word : Text → Text
@@ -63,7 +63,7 @@ line_text text line =
 
 -- a line's role and number
 abbrev pub head_of : Text → Line → Head
-head_of text line = record { role = role_of (kind_of (line_text text line) line.tab); number = line.number }
+head_of text line = record { role = role_of (line_kind (line_text text line) line.tab); number = line.number }
 
 -- the roles and numbers of a text's lines
 abbrev pub heads_of : Text → List Line → List Head

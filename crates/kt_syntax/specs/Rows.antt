@@ -5,8 +5,8 @@ use Rattle.kt_syntax.specs.declared.term.Mark.TheVariants.{Byte, Parentheses, Br
 use Rattle.kt_syntax.specs.declared.form.Operator.TheVariants.{Deferred, Escaped}
 use Rattle.kt_syntax.specs.declared.form.Directive.TheVariants.{Endef}
 use Rattle.kt_syntax.specs.Terms.{literal, dollar, reference, unclosed, terms_of}
-use Rattle.kt_syntax.specs.Kinds.{assignment, directive, rule, kind_of}
-use Rattle.kt_syntax.specs.Heads.{RuleTexts, rule_texts}
+use Rattle.kt_syntax.specs.Kinds.{assignment, directive, rule, kind_of, line_kind}
+use Rattle.kt_syntax.specs.Heads.{RuleTexts, line_parts}
 use Rattle.kt_syntax.specs.Comments.{plain_of}
 use Rattle.kt_syntax.specs.Recipes.{recipe_of}
 
@@ -33,7 +33,7 @@ pub record RowsOfTerms : Type 0 where
   pub unterminated : terms_of (codes "x$(a") ≡ literal (codes "x") ∷ unclosed ∷ []
   pub own_marks : terms_of (codes "${a)}") ≡ reference Braces (codes "a)") ∷ []
   pub nested : terms_of (codes "$(a(b)c)d") ≡ reference Parentheses (codes "a(b)c") ∷ literal (codes "d") ∷ []
-  pub continuation : terms_of (codes "a$" ++ continued (codes "b")) ≡ literal (codes "a") ∷ reference Byte (continued []) ∷ literal (codes "b") ∷ []
+  pub no_continuation : terms_of (codes "a$" ++ continued (codes "b")) ≡ literal (codes "a") ∷ reference Byte (quoted []) ∷ literal (10 ∷ codes "b") ∷ []
   pub carriage_return :
       terms_of (codes "a$" ++ quoted (13 ∷ 10 ∷ codes "b")) ≡ literal (codes "a") ∷ reference Byte (quoted []) ∷ literal (13 ∷ 10 ∷ codes "b") ∷ []
 
@@ -45,13 +45,16 @@ pub record RowsOfKinds : Type 0 where
   pub longest : kind_of (codes "a:::=b") false ≡ assignment (codes "a") Escaped (codes "b")
   pub comment : kind_of (codes "endef#c") false ≡ directive Endef (codes "#c")
   pub tab : kind_of (9 ∷ codes "endif") true ≡ rule
+  pub continued_name : line_kind (codes "A$ " ++ continued (continued (codes " B = 1"))) false ≡ assignment (codes "A$ B") Deferred (codes "1")
 
 -- parts of rule lines
 pub record RowsOfRules : Type 0 where
-  pub semicolon : rule_texts (codes "t: a ; b") ≡ both (codes "t: a ") (codes "b")
-  pub in_reference : rule_texts (codes "a: b$; c") ≡ only (codes "a: b$; c")
-  pub in_comment : rule_texts (codes "a: c # ; no") ≡ only (codes "a: c # ; no")
-  pub specific : rule_texts (codes "t: export override A = b") ≡ None
+  pub semicolon : line_parts (codes "t: a ; b") ≡ both (codes "t: a ") (codes "b")
+  pub in_reference : line_parts (codes "a: b$; c") ≡ only (codes "a: b$; c")
+  pub in_comment : line_parts (codes "a: c # ; no") ≡ only (codes "a: c # ; no")
+  pub specific : line_parts (codes "t: export override A = b") ≡ None
+  pub continued_specific : line_parts (codes "a: x$" ++ continued (codes " y = z")) ≡ None
+  pub continued_head : line_parts (codes "a$" ++ continued (codes " b: ; c " ++ continued (codes "d"))) ≡ both (codes "a$ b: ") (codes "c " ++ continued (codes "d"))
 
 -- plain texts and recipe lines
 pub record RowsOfTexts : Type 0 where

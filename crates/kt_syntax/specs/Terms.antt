@@ -36,16 +36,16 @@ pub record IsBalanced (opener closer : ℕ) (text : Text) : Type 0 where
 abbrev pub IsUnclosed : ℕ → ℕ → Text → Type 0
 IsUnclosed opener closer text = (body rest : Text) → text ≡ body ++ closer ∷ rest → ¬ IsBalanced opener closer body
 
--- whether a text has the carriage returns before its newlines, as a line of a file has, or they are dropped, as in the
--- value of a macro
-pub data Returns : Type 0 where
-  kept : Returns
-  dropped : Returns
+-- whether a text has continuations, as a line of a file has, or none, as the value of a macro: there a backslash and a
+-- newline are two bytes
+pub data Continuations : Type 0 where
+  kept : Continuations
+  dropped : Continuations
 
--- how many bytes stand for one at the begin of a text: a backslash and a newline are a continuation, which counts as one
--- blank; one carriage return before the newline counts to it, where it isn't dropped yet (kati's own)
-abbrev pub unit_length : Returns → Text → ℕ
-unit_length dropped text = if starts_with nat_eq text (92 ∷ 10 ∷ []) then 2 else 1
+-- how many bytes stand for one at the begin of a text: a continuation, in which one carriage return may stand before the
+-- newline, counts as one blank (kati's own)
+abbrev pub unit_length : Continuations → Text → ℕ
+unit_length dropped text = 1
 unit_length kept text =
     if starts_with nat_eq text (92 ∷ 10 ∷ []) then 2
     else (if starts_with nat_eq text (92 ∷ 13 ∷ 10 ∷ []) then 3 else 1)
@@ -60,30 +60,30 @@ EndsRun [] = Unit {0}
 EndsRun (byte ∷ rest) = byte ≡ 36
 
 -- the text is a byte that is no mark, or a continuation, before the rest
-pub record IsSingle (returns : Returns) (body rest : Text) : Type 0 where
+pub record IsSingle (continuations : Continuations) (body rest : Text) : Type 0 where
   pub some : 0 < length body
-  pub unit : length body ≡ unit_length returns (body ++ rest)
+  pub unit : length body ≡ unit_length continuations (body ++ rest)
   pub plain : list_all (λ byte. not (is_special byte)) (take 1 body) ≡ true
 
 -- how a term is spelled before the rest of a text: a literal is a maximal run without dollar, and the one without bytes is
 -- a dollar at the end (kati's own)
-abbrev pub IsTerm : Returns → Piece → Text → Text → Type 0
-IsTerm returns (literal []) spelled rest = (spelled ≡ 36 ∷ []) × (rest ≡ [])
-IsTerm returns (literal (byte ∷ bytes)) spelled rest = (spelled ≡ byte ∷ bytes) × (count_of 36 spelled ≡ 0) × EndsRun rest
-IsTerm returns dollar spelled rest = spelled ≡ 36 ∷ 36 ∷ []
-IsTerm returns (reference Byte body) spelled rest = (spelled ≡ 36 ∷ body) × IsSingle returns body rest
-IsTerm returns (reference Parentheses body) spelled rest = (spelled ≡ 36 ∷ 40 ∷ (body ++ 41 ∷ [])) × IsBalanced 40 41 body
-IsTerm returns (reference Braces body) spelled rest = (spelled ≡ 36 ∷ 123 ∷ (body ++ 125 ∷ [])) × IsBalanced 123 125 body
-IsTerm returns unclosed spelled rest =
+abbrev pub IsTerm : Continuations → Piece → Text → Text → Type 0
+IsTerm continuations (literal []) spelled rest = (spelled ≡ 36 ∷ []) × (rest ≡ [])
+IsTerm continuations (literal (byte ∷ bytes)) spelled rest = (spelled ≡ byte ∷ bytes) × (count_of 36 spelled ≡ 0) × EndsRun rest
+IsTerm continuations dollar spelled rest = spelled ≡ 36 ∷ 36 ∷ []
+IsTerm continuations (reference Byte body) spelled rest = (spelled ≡ 36 ∷ body) × IsSingle continuations body rest
+IsTerm continuations (reference Parentheses body) spelled rest = (spelled ≡ 36 ∷ 40 ∷ (body ++ 41 ∷ [])) × IsBalanced 40 41 body
+IsTerm continuations (reference Braces body) spelled rest = (spelled ≡ 36 ∷ 123 ∷ (body ++ 125 ∷ [])) × IsBalanced 123 125 body
+IsTerm continuations unclosed spelled rest =
     (rest ≡ []) × ((tail : Text) × (((spelled ≡ 36 ∷ 40 ∷ tail) × IsUnclosed 40 41 tail) ⊎ ((spelled ≡ 36 ∷ 123 ∷ tail) × IsUnclosed 123 125 tail)))
 
 -- the text is the spellings of these terms put together
-abbrev pub IsSplittingIn : Returns → Text → List Piece → Type 0
-IsSplittingIn returns text [] = text ≡ []
-IsSplittingIn returns text (piece ∷ pieces) =
-    (spelled : Text) × (rest : Text) × (text ≡ spelled ++ rest) × IsTerm returns piece spelled rest × IsSplittingIn returns rest pieces
+abbrev pub IsSplittingIn : Continuations → Text → List Piece → Type 0
+IsSplittingIn continuations text [] = text ≡ []
+IsSplittingIn continuations text (piece ∷ pieces) =
+    (spelled : Text) × (rest : Text) × (text ≡ spelled ++ rest) × IsTerm continuations piece spelled rest × IsSplittingIn continuations rest pieces
 
--- the same for a text that is no line of a file
+-- the same for a text without continuations
 abbrev pub IsSplitting : Text → List Piece → Type 0
 IsSplitting text pieces = IsSplittingIn dropped text pieces
 
@@ -105,31 +105,31 @@ referred mark text None = (unclosed, 1 + length text)
 referred mark text (Some place) = (reference mark (take place text), place + 2)
 
 -- the one-byte reference, and how many bytes it takes
-abbrev pub single : Returns → Text → Piece × ℕ
-single returns text = (reference Byte (take (unit_length returns text) text), unit_length returns text)
+abbrev pub single : Continuations → Text → Piece × ℕ
+single continuations text = (reference Byte (take (unit_length continuations text) text), unit_length continuations text)
 
 -- the term behind a dollar, and how many bytes it takes there
-unfoldable pub behind_dollar : Returns → Text → Piece × ℕ
-behind_dollar returns [] = (literal [], 0)
-behind_dollar returns (byte ∷ text) =
+unfoldable pub behind_dollar : Continuations → Text → Piece × ℕ
+behind_dollar continuations [] = (literal [], 0)
+behind_dollar continuations (byte ∷ text) =
     if byte == 36 then (dollar, 1)
     else (if byte == 40 then referred Parentheses text (closing 40 41 0 0 text)
     else (if byte == 123 then referred Braces text (closing 123 125 0 0 text)
-    else single returns (byte ∷ text)))
+    else single continuations (byte ∷ text)))
 
 -- the literal that begins with this byte, and how many more bytes it takes
 abbrev pub literal_run : ℕ → Text → Piece × ℕ
 literal_run byte text = let more = position_or_len (λ b. b == 36) text in (literal (byte ∷ take more text), more)
 
 -- the first term of a text that begins with this byte, and how many more bytes it takes
-unfoldable pub first_term : Returns → ℕ → Text → Piece × ℕ
-first_term returns byte text = if byte == 36 then behind_dollar returns text else literal_run byte text
+unfoldable pub first_term : Continuations → ℕ → Text → Piece × ℕ
+first_term continuations byte text = if byte == 36 then behind_dollar continuations text else literal_run byte text
 
 -- the terms of what follows so many bytes
-unfoldable pub terms_after : Returns → ℕ → Text → List Piece
-terms_after returns skip [] = []
-terms_after returns (suc skip) (byte ∷ text) = terms_after returns skip text
-terms_after returns zero (byte ∷ text) = (first_term returns byte text).0 ∷ terms_after returns (first_term returns byte text).1 text
+unfoldable pub terms_after : Continuations → ℕ → Text → List Piece
+terms_after continuations skip [] = []
+terms_after continuations (suc skip) (byte ∷ text) = terms_after continuations skip text
+terms_after continuations zero (byte ∷ text) = (first_term continuations byte text).0 ∷ terms_after continuations (first_term continuations byte text).1 text
 
 -- the terms of a text, from left to right
 unfoldable pub terms_of : Text → List Piece

@@ -6,9 +6,9 @@ use crate::term_list::Terms;
 
 /// The terms of `text`, from left to right.
 ///
-/// Takes no memory, and each byte is looked at once. POSIX.1-2024 make, "Macros"; GNU make manual,
-/// "Basics of Variable References".
-
+/// There are no continuations in it: a backslash and a newline are two bytes. Takes no memory, and
+/// each byte is looked at once. POSIX.1-2024 make, "Macros"; GNU make manual, "Basics of Variable
+/// References".
 pub fn terms(text: &[u8]) -> Terms<'_>
     ensures value { result ≡ terms_of text.now }
     ensures splits { IsSplitting text.now result }

@@ -34,7 +34,7 @@ pub enum Directive {
     OptionalInclude,
 }
 
-/// The kind of a line, with its parts as they stand in the file; the last of them keeps its comment.
+/// The kind of a line, with its parts as they stand in its text; the last of them keeps its comment.
 #[derive(Clone, Copy, Debug, PartialEq, Eq)]
 pub enum Form<'a> {
     /// Nothing but blanks before the comment.

@@ -9,10 +9,11 @@ use crate::mask::Mask;
 use crate::places::{comment_place, is_blank, past_blanks, past_line_blanks, past_word};
 use crate::symbol::Symbol;
 
-/// The kind of a line, as the line stands in the file; `tab` says whether it begins with a tab.
+/// The kind of a line whose continuations are condensed, as `joined` gives it; `tab` says whether
+/// the line begins with a tab.
 ///
-/// Takes no memory. POSIX.1-2024 make, "Makefile Syntax"; GNU make manual, "What Makefiles
-/// Contain".
+/// Takes no memory. POSIX.1-2024 make, "Makefile Syntax"; GNU make manual, "What Makefiles Contain"
+/// and "Splitting Long Lines".
 #[tactic(auto, unfolding(crate::specs::Kinds::kind_of, crate::specs::Kinds::kind_within))]
 pub fn classify(text: &[u8], tab: bool) -> Form<'_>
     ensures { kind_told result ≡ kind_of text.now tab }

@@ -124,12 +124,14 @@ fn more_masked(odd: bool, byte: u8, text: &[u8]) -> usize
     }
 }
 
-// How many bytes the term behind a dollar takes, of a continuation the carriage return as well.
+// How many bytes the term behind a dollar takes: a continuation counts as one byte there.
 fn behind_mark(text: &[u8]) -> usize
     ensures value { result ≡ (behind_dollar kept text.now).1 }
     ensures bound { result ≤ length text.now }
 {
-    if text.starts_with(b"\\\r\n") {
+    if text.starts_with(b"\\\n") {
+        2
+    } else if text.starts_with(b"\\\r\n") {
         3
     } else {
         behind_dollar(text).1

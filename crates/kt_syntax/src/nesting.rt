@@ -1,5 +1,6 @@
 //! The blocks of a text found, by one pass over its lines and one back over their parts.
 ghost use Rattle.std.specs.Prelude.{◌≡◌, length, IfOk};
+ghost use Rattle.kt_text.specs.Lines.{AreInOrder};
 ghost use Rattle.kt_syntax.specs.Blocks.{blocks_of, tree_of};
 ghost use Rattle.kt_syntax.specs.Grammar.{IsTreeOf};
 ghost use Rattle.kt_syntax.specs.Parts.{missing_end, parts_of};
@@ -15,10 +16,11 @@ use kt_text::Line;
 use std::alloc::{AllocError, Global};
 use std::collections::VecDeque;
 
-/// The blocks of a text with these lines.
+/// The blocks of a text with these lines, which are its own, as `logical_lines` gives them.
 ///
 /// GNU make manual, "Syntax of Conditionals" and "Defining Multi-Line Variables".
 pub fn blocks(alloc: Global, text: &[u8], lines: &[Line]) -> Result<Blocks, AllocError>
+    requires { AreInOrder (length text.now) lines.now }
     ensures flat { IfOk result (λ blocks. blocks ≡ blocks_of (heads_of text.now lines.now)) }
     ensures tree { IfOk result (λ blocks. IsTreeOf (tree_of blocks.steps) blocks.missing (heads_of text.now lines.now)) }
     ensures lines { IfOk result (λ blocks. length blocks.steps ≡ length lines.now) }
@@ -35,13 +37,14 @@ fn parts(
     text: &[u8],
     lines: &[Line],
 ) -> Result<(Vec<Part>, Option<Missing>), AllocError>
+    requires { AreInOrder (length text.now) lines.now }
     ensures parts { IfOk result (λ found. found.0.items ≡ parts_of (heads_of text.now lines.now)) }
     ensures missing { IfOk result (λ found. found.1 ≡ missing_end (heads_of text.now lines.now)) }
 {
     let mut parts = Vec::new(alloc);
     let mut scan = Scan::new(alloc);
     for line in lines {
-        parts.push(scan.advance(head_of(text, line))?)?;
+        parts.push(scan.advance(head_of(alloc, text, line)?)?)?;
     }
     let missing = scan.missing();
     Ok((parts, missing))

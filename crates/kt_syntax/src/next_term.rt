@@ -1,7 +1,7 @@
 //! The first term of a text.
 ghost use Rattle.std.specs.Prelude.{◌≡◌, ◌==◌, ◌+◌, ◌^◌, ◌∷◌, ◌<◌, ◌≤◌, [], length, MatchOption, IfSome};
 ghost use Rattle.std.specs.List.{position_or_len};
-ghost use Rattle.kt_syntax.specs.Terms.{behind_dollar, closing, dropped, first_term, piece_of, referred, terms_of, unit_length};
+ghost use Rattle.kt_syntax.specs.Terms.{behind_dollar, closing, dropped, first_term, piece_of, referred, terms_of};
 
 use crate::term::{Mark, Term, Unterminated};
 use memchr::memchr;
@@ -55,10 +55,7 @@ pub(crate) fn behind_dollar(text: &[u8]) -> (Result<Term<'_>, Unterminated>, usi
         [b'$', ..] => (Ok(Term::Dollar), 1),
         [b'(', rest @ ..] => reference(Mark::Parentheses, rest, closing(b'(', b')', rest)),
         [b'{', rest @ ..] => reference(Mark::Braces, rest, closing(b'{', b'}', rest)),
-        _ => {
-            let size = unit_length(text);
-            (Ok(Term::Ref(Mark::Byte, &text[..size])), size)
-        }
+        _ => (Ok(Term::Ref(Mark::Byte, &text[..1])), 1),
     }
 }
 
@@ -77,18 +74,6 @@ fn reference(
     match place {
         None => (Err(Unterminated), text.len() + 1),
         Some(place) => (Ok(Term::Ref(mark, &text[..place])), place + 2),
-    }
-}
-
-// How many bytes stand for one: those of a continuation, or one.
-fn unit_length(text: &[u8]) -> usize
-    requires { 0 < length text.now }
-    ensures value { result ≡ unit_length dropped text.now }
-    ensures bound { result ≤ length text.now }
-{
-    match text {
-        [b'\\', b'\n', ..] => 2,
-        _ => 1,
     }
 }
 

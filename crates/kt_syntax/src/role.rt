@@ -1,5 +1,5 @@
 //! What lines are to the blocks round them.
-ghost use Rattle.std.specs.Prelude.{◌≡◌};
+ghost use Rattle.std.specs.Prelude.{◌≡◌, ◌≤◌, length, IfOk};
 ghost use Rattle.std.specs.List.{slice_range};
 ghost use Rattle.kt_syntax.specs.Kinds.{block_word, kind_of};
 ghost use Rattle.kt_syntax.specs.Roles.{first_word, head_of, line_text, opens_conditional, role_by_word, role_of, starts_condition};
@@ -7,7 +7,8 @@ ghost use Rattle.kt_syntax.specs.Roles.{first_word, head_of, line_text, opens_co
 use crate::form::{Directive, Form};
 use crate::kind::{block_word, classify};
 use crate::places::{comment_place, past_word};
-use kt_text::Line;
+use kt_text::{Line, joined};
+use std::alloc::{AllocError, Global};
 
 /// What a line is to the blocks round it.
 #[derive(Clone, Copy, Debug, PartialEq, Eq)]
@@ -33,25 +34,24 @@ pub(crate) struct Head {
     pub number: u64,
 }
 
-pub(crate) fn head_of(text: &[u8], line: &Line) -> Head
-    ensures { result ≡ head_of text.now line.now }
+pub(crate) fn head_of(alloc: Global, text: &[u8], line: &Line) -> Result<Head, AllocError>
+    requires order { line.now.span.start ≤ line.now.span.end }
+    requires within { line.now.span.end ≤ length text.now }
+    ensures { IfOk result (λ head. head ≡ head_of text.now line.now) }
 {
-    Head {
-        role: role_of(line_text(text, line), line.tab),
+    let text = joined(alloc, line_text(text, line))?;
+    Ok(Head {
+        role: role_of(text.as_slice(), line.tab),
         number: line.number,
-    }
+    })
 }
 
 fn line_text<'a>(text: &'a [u8], line: &Line) -> &'a [u8]
+    requires order { line.now.span.start ≤ line.now.span.end }
+    requires within { line.now.span.end ≤ length text.now }
     ensures { result.now ≡ line_text text.now line.now }
 {
-    let start = line.span.start;
-    let end = line.span.end;
-    if start <= end && end <= text.len() {
-        &text[start..end]
-    } else {
-        b""
-    }
+    &text[line.span.start..line.span.end]
 }
 
 #[tactic(auto, unfolding(crate::specs::Roles::role_of))]

@@ -1,8 +1,8 @@
 //! Rule lines cut into head and recipe.
-ghost use Rattle.std.specs.Prelude.{◌≡◌, ◌≤◌, ◌<◌, ◌+◌, ◌==◌, ◌||◌, drop, length, take, true, IfSome, MatchOption};
+ghost use Rattle.std.specs.Prelude.{◌≡◌, ◌≤◌, ◌<◌, ◌+◌, ◌==◌, ◌||◌, drop, length, option_map, take, true, IfSome, MatchOption};
 ghost use Rattle.std.specs.List.{position_or_len};
 ghost use Rattle.kt_syntax.specs.Kinds.{comment_place};
-ghost use Rattle.kt_syntax.specs.Heads.{after_colon, after_modifiers, colon_place, head_end, is_modifier, is_target_specific, rule_texts, texts_told};
+ghost use Rattle.kt_syntax.specs.Heads.{after_colon, after_modifiers, colon_place, first_recipe, head_end, head_text, is_modifier, is_target_specific, rule_texts, texts_told};
 ghost use Rattle.kt_syntax.specs.Mask.{mask_of};
 
 use crate::kind::{assignment, is_word};
@@ -11,12 +11,13 @@ use crate::places::{comment_place, is_blank, past_blanks, past_line_blanks};
 use crate::symbol::Symbol;
 use thiserror::Error;
 
-/// The parts of a rule line, as they stand in the file.
+/// The parts of a rule line.
 #[derive(Clone, Copy, Debug, PartialEq, Eq)]
 pub struct RuleParts<'a> {
-    /// What stands before the first `;`; without one, the whole line with its comment.
+    /// What stands before the first `;`; without one, the whole line with its comment. In it
+    /// continuations are condensed.
     pub head: &'a [u8],
-    /// The first recipe line without its leading blanks; it keeps its `#`.
+    /// The first recipe line without its leading blanks, as it stands in the file; it keeps its `#`.
     pub recipe: Option<&'a [u8]>,
 }
 
@@ -25,29 +26,52 @@ pub struct RuleParts<'a> {
 #[error("target-specific macro")]
 pub struct TargetSpecific;
 
-/// The head and the recipe of a rule line, as the line stands in the file.
+/// The head and the recipe of a rule line, by the line as it stands in the file and by its text with
+/// condensed continuations, as `joined` gives it.
 ///
 /// Takes no memory. POSIX.1-2024 make, "Target Rules"; GNU make manual, "Target-specific Variable
 /// Values".
-pub fn rule_parts(text: &[u8]) -> Result<RuleParts<'_>, TargetSpecific>
-    ensures { texts_told result ≡ rule_texts text.now }
+#[tactic(auto, unfolding(crate::specs::Heads::rule_texts))]
+pub fn rule_parts<'a>(line: &'a [u8], text: &'a [u8]) -> Result<RuleParts<'a>, TargetSpecific>
+    ensures { texts_told result ≡ rule_texts line.now text.now }
 {
     let comment = comment_place(text);
     let end = head_end(text, comment);
     if is_target_specific(text, end) {
         return Err(TargetSpecific);
     }
-    if end == comment {
-        return Ok(RuleParts {
-            head: text,
-            recipe: None,
-        });
-    }
-    let recipe = past_line_blanks(text, end + 1);
     Ok(RuleParts {
-        head: &text[..end],
-        recipe: Some(&text[recipe..]),
+        head: head_text(text, comment, end),
+        recipe: first_recipe(line),
     })
+}
+
+// The head that ends at a place.
+#[tactic(auto, unfolding(crate::specs::Heads::head_text))]
+fn head_text(text: &[u8], comment: usize, end: usize) -> &[u8]
+    requires before { comment ≡ comment_place text.now }
+    requires end { end ≡ head_end text.now }
+    requires within { end ≤ length text.now }
+    ensures { result.now ≡ head_text text.now }
+{
+    if end == comment {
+        return text;
+    }
+    &text[..end]
+}
+
+// The recipe behind the first semicolon of a line.
+#[tactic(auto, unfolding(crate::specs::Heads::first_recipe))]
+fn first_recipe(line: &[u8]) -> Option<&[u8]>
+    ensures { option_map (λ recipe. recipe.now) result ≡ first_recipe line.now }
+{
+    let comment = comment_place(line);
+    let end = head_end(line, comment);
+    if end == comment {
+        return None;
+    }
+    let recipe = past_line_blanks(line, end + 1);
+    Some(&line[recipe..])
 }
 
 // Where the head of a rule line ends.

@@ -4,7 +4,7 @@ use thiserror::Error;
 /// How a reference is spelled.
 #[derive(Clone, Copy, Debug, PartialEq, Eq)]
 pub enum Mark {
-    /// A dollar and one byte, or a dollar and a continuation, which counts as one blank.
+    /// A dollar and one byte.
     Byte,
     /// `$(..)`
     Parentheses,

@@ -1,8 +1,10 @@
 -- A text condensed physical line by physical line.
-use Rattle.std.proofs.Common.{◌≡◌, ℕ, Bool, true, false, List, [], ◌∷◌, ◌++◌, ◌&&◌, ◌==◌, refl, sym, ◌∙◌, ap, append_assoc, append-nil, length, if◌then◌else◌, ⊎_elim, arith}
-use Rattle.std.proofs.lemmas.Bool.{cases_Bool}
+use Rattle.std.proofs.Common.{◌≡◌, ℕ, Bool, true, false, List, [], ◌∷◌, ◌++◌, ◌&&◌, ◌==◌, refl, sym, ◌∙◌, ap, append_assoc, append-nil, length, if◌then◌else◌, ⊎_elim, arith, suc, ◌<◌, ◌-◌, None}
+use Rattle.std.proofs.lemmas.Bool.{cases_Bool, eqb-true, eq-eqb, false_from_ne_true, lt-ltb}
 use Rattle.std.proofs.lemmas.List.{nil_from_length}
+use Rattle.std.specs.Prelude.{slice_index}
 use Rattle.std.specs.List.{onto_first, flat_map}
+use Rattle.memchr.specs.Find.{IsFirstByte, is_byte}
 use Rattle.kt_text.specs.Words.{Text}
 use Rattle.kt_text.specs.Lines.{is_continued, is_ended, groups, pieces_of, condensed_line, condensed_rest, condensed_group, condensed_of}
 use Rattle.kt_text.proofs.GroupLemmas.{groups-ended, groups-continued, groups-begins}
@@ -117,3 +119,38 @@ condensed_end false [] whole out none before = ap (λ t. out ++ t) (sym (append-
 condensed_end continued (byte ∷ rest) whole out none before = absurd (omega arith)
 
 pub ruleset condensed_steps = (condensed_of-start, condensed_more, condensed_end)
+
+-- ---- a text without newline
+
+abbrev HasNoNewline : Text → Type 0
+HasNoNewline text = (k : ℕ) → k < length text → slice_index text k ≡ 10 → ⊥
+
+one_piece : (text : Text) → HasNoNewline text → pieces_of text ≡ text ∷ []
+unfolding pieces_of
+one_piece [] free = refl
+one_piece (byte ∷ text) free =
+    let other : (byte == 10) ≡ false = false_from_ne_true _ (λ h. free 0 (omega arith) (eqb-true byte 10 h)) in
+    rw other (ap (onto_first byte) (one_piece text (λ k l e. free (suc k) (omega arith) e)))
+
+one_group : (more : Bool) (text : Text) → is_continued text ≡ more → groups (text ∷ []) ≡ (text ∷ []) ∷ []
+unfolding groups
+one_group true text h = groups-continued text [] h
+one_group false text h = groups-ended text [] h
+
+-- it is one line, and stays as it is
+alone_itself : (text : Text) → HasNoNewline text → condensed_line false false text ≡ text
+unfolding condensed_line is_ended
+alone_itself [] free = refl
+alone_itself (byte ∷ text) free =
+    let other : (slice_index (byte ∷ text) (length (byte ∷ text) - 1) == 10) ≡ false =
+    false_from_ne_true _ (λ h. free (length (byte ∷ text) - 1) (omega arith) (eqb-true _ 10 h)) in
+    rw (other, lt-ltb 0 (suc (length text)) (omega arith)) (append-nil (byte ∷ text))
+
+pub condensed_alone : (text : Text) → HasNoNewline text → condensed_of text ≡ text
+unfolding condensed_of condensed_group
+condensed_alone text free =
+    ap (flat_map condensed_group) (ap groups (one_piece text free) ∙ one_group (is_continued text) text refl)
+    ∙ append-nil (condensed_line false false text) ∙ alone_itself text free
+
+pub without_newline : (text : Text) → IsFirstByte (is_byte 10) text None → condensed_of text ≡ text
+without_newline text found = condensed_alone text (λ k l e. found k (omega arith) l (eq-eqb _ _ e))

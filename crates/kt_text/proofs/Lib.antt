@@ -4,6 +4,7 @@ pub mod ListLemmas
 pub mod LogicalLemmas
 pub mod MatchLemmas
 pub mod NameLemmas
+pub mod OrderLemmas
 pub mod PatternLemmas
 pub mod PhysicalLemmas
 pub mod PlaceLemmas

@@ -1,6 +1,6 @@
 -- The logical lines of a text (POSIX.1-2024 make, "Makefile Syntax"; GNU make manual, "Splitting Long Lines").
-use Rattle.std.specs.Prelude.{◌≡◌, ℕ, ◌+◌, ◌-◌, ◌%◌, Bool, true, false, ◌==◌, List, [], ◌∷◌, ◌++◌, length, take, count_by, Option, Some, None, slice_index, if◌then◌else◌}
-use Rattle.std.specs.List.{list_any, before_first, suffix_len, onto_first, flat_map, concat}
+use Rattle.std.specs.Prelude.{◌≡◌, ◌≤◌, ℕ, ◌+◌, ◌-◌, ◌%◌, Bool, true, false, ◌==◌, List, [], ◌∷◌, ◌++◌, length, take, count_by, Option, Some, None, slice_index, if◌then◌else◌}
+use Rattle.std.specs.List.{All, AllAdjacentBelow, list_any, before_first, suffix_len, onto_first, flat_map, concat}
 use Rattle.bstr.specs.Text.{lines_of, without_terminator}
 use Rattle.kt_text.specs.declared.line.Line.{Line}
 use Rattle.kt_text.specs.declared.line.LineFault.{LineFault}
@@ -50,6 +50,11 @@ lines_from start number (group ∷ later) =
 -- the logical lines of a text without NUL
 unfoldable pub logical_lines_of : Text → List Line
 logical_lines_of text = lines_from 0 1 (groups (lines_of text))
+
+-- lines that stand in a text of this size, each behind the one before it
+pub record AreInOrder (size : ℕ) (lines : List Line) : Type 0 where
+  pub within : All (λ line. (line.span.start ≤ line.span.end) × (line.span.end ≤ size)) lines
+  pub ordered : AllAdjacentBelow (λ line next. line.span.end ≤ next.span.start) lines (length lines)
 
 -- the number of the physical line of the first NUL, if there is one (kati's own)
 unfoldable pub nul_line : Text → Option ℕ

@@ -1,10 +1,23 @@
 //! Continuations condensed to spaces.
 ghost use Rattle.std.specs.Prelude.{◌≡◌, ◌++◌, ◌-◌, length, take, IfOk, OnOk};
+ghost use Rattle.std.specs.Cow.{cow_slice_items};
 ghost use Rattle.kt_text.specs.Lines.{condensed_line, condensed_of, newline_after, space_before, trimmed_line};
 
 use crate::blanks::{trim_end, trim_start};
 use crate::physical::{first_line, joins_next, line_content};
+use memchr::memchr;
 use std::alloc::{AllocError, Global};
+use std::borrow::CowSlice;
+
+/// `text` as `condensed` gives it; what has no newline is borrowed, for it stays as it is.
+pub fn joined<'a>(alloc: Global, text: &'a [u8]) -> Result<CowSlice<'a, u8>, AllocError>
+    ensures { IfOk result (λ joined. cow_slice_items joined ≡ condensed_of text.now) }
+{
+    match memchr(b'\n', text) {
+        None => Ok(CowSlice::Borrowed(text)),
+        Some(_) => Ok(CowSlice::Owned(condensed(alloc, text)?)),
+    }
+}
 
 /// `text` with each continuation, with the blanks on both sides, as one space.
 ///

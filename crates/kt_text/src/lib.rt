@@ -15,7 +15,7 @@ mod physical;
 mod word_runs;
 
 pub use blanks::{trim_end, trim_start};
-pub use condense::condensed;
+pub use condense::{condensed, joined};
 pub use cut::words;
 pub use fault::TextFault;
 pub use line::{Line, LineFault};

@@ -1,6 +1,6 @@
 //! A text cut into logical lines.
 ghost use Rattle.std.specs.Prelude.{◌≡◌, ◌+◌, ◌==◌, None, Some, MatchResult, IfOk, count_by, if◌then◌else◌, ◌≤◌, length};
-ghost use Rattle.kt_text.specs.Lines.{NulFault, kept_of_last, logical_lines_of, nul_line};
+ghost use Rattle.kt_text.specs.Lines.{AreInOrder, NulFault, kept_of_last, logical_lines_of, nul_line};
 
 use crate::line::{Line, LineFault};
 use crate::physical::{first_line, goes_on, is_continued, line_content};
@@ -14,6 +14,7 @@ use std::alloc::{AllocError, Global};
 /// "Makefile Syntax"; GNU make manual, "Splitting Long Lines".
 pub fn logical_lines(alloc: Global, text: &[u8]) -> Result<Vec<Line>, LineFault>
     ensures ok { IfOk result (λ lines. lines.items ≡ logical_lines_of text.now) }
+    ensures order { IfOk result (λ lines. AreInOrder (length text.now) lines.items) }
     ensures nul { MatchResult result (λ _. nul_line text.now ≡ None) (NulFault (nul_line text.now)) }
 {
     if let Some(number) = nul_line(text) {
@@ -41,7 +42,6 @@ fn count_newlines(text: &[u8]) -> usize
 }
 
 // The logical lines of a text without NUL.
-
 fn cut_lines(alloc: Global, text: &[u8]) -> Result<Vec<Line>, AllocError>
     ensures { IfOk result (λ lines. lines.items ≡ logical_lines_of text.now) }
 {

@@ -149,16 +149,22 @@ abbrev pub decreases-read_kind : goal.decreases-read_kind
 decreases-read_kind g l = 64 * l.below + 13
 
 abbrev pub decreases-read_bare_tab : goal.decreases-read_bare_tab
-decreases-read_bare_tab g l = 64 * l.below + 13
+decreases-read_bare_tab g l = 64 * l.below + 14
+
+abbrev pub decreases-read_bare_form : goal.decreases-read_bare_form
+decreases-read_bare_form g l = 64 * l.below + 13
 
 abbrev pub decreases-read_tab : goal.decreases-read_tab
-decreases-read_tab g l = 64 * l.below + 14
+decreases-read_tab g l = 64 * l.below + 15
 
 abbrev pub decreases-read_line : goal.decreases-read_line
-decreases-read_line g l = 64 * l.below + 15
+decreases-read_line g l = 64 * l.below + 16
 
 abbrev pub decreases-read_define : goal.decreases-read_define
-decreases-read_define g l = 64 * l.below + 13
+decreases-read_define g l = 64 * l.below + 14
+
+abbrev pub decreases-read_define_form : goal.decreases-read_define_form
+decreases-read_define_form g l = 64 * l.below + 13
 
 abbrev pub decreases-read_conditional : goal.decreases-read_conditional
 decreases-read_conditional g l = 64 * l.below + 16
