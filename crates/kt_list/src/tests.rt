@@ -29,3 +29,13 @@ fn grows_apart_from_the_others(rt: HostRuntime) -> Result<(), Fail> {
     assert_eq!(rt; again.as_slice(), [3, 1, 2].as_slice());
     Ok(())
 }
+
+#[test]
+fn compares_its_items(rt: HostRuntime) -> Result<(), Fail> {
+    let list = Sequence::from(vec![in rt.alloc(); 3u8, 1]?);
+    let same = Sequence::from(vec![in rt.alloc(); 3u8, 1]?);
+    let longer = Sequence::from(vec![in rt.alloc(); 3u8, 1, 0]?);
+    assert!(rt; list == same);
+    assert!(rt; list != longer);
+    Ok(())
+}
