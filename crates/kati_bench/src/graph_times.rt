@@ -1,7 +1,7 @@
 //! Times of the graph layer over large makefiles.
 use crate::numbers::{numbered, put_number};
 use anyhow::Result;
-use kt_graph::{GraphFault, Known, graph};
+use kt_graph::{Graph, GraphFault, Known, graph};
 use kt_list::{Sequence, Shared};
 use kt_rules::{Book, Name, Place, RuleFault, read_rule};
 use std::alloc::{AllocError, Global};
@@ -87,10 +87,18 @@ fn size(alloc: Global, book: &Book, known: &Known) -> usize {
 
 fn size_of(alloc: Global, book: &Book, known: &Known, goals: &[Name]) -> usize {
     match graph(alloc, book, known, goals) {
-        Ok(graph) => graph.nodes().count(),
+        Ok(graph) => node_count(&graph),
         Err(GraphFault::Refused { number, .. }) => usize::from(number),
         Err(GraphFault::Memory) => 0,
     }
+}
+
+fn node_count(graph: &Graph) -> usize {
+    let mut count: usize = 0;
+    for _ in graph.nodes() {
+        count = count.saturating_add(1);
+    }
+    count
 }
 
 fn goals(alloc: Global) -> Result<Vec<Name>, AllocError> {

@@ -74,6 +74,7 @@ fn expands(rt: HostRuntime) -> Result<(), Fail> {
             ("p", Flavour::Deferred, "z"),
             ("r", Flavour::Deferred, "$(call r)"),
             ("i", Flavour::Immediate, "$(S)"),
+            ("\\", Flavour::Deferred, "\\"),
         ],
     )?;
     for (text, expected) in [
@@ -105,6 +106,8 @@ fn expands(rt: HostRuntime) -> Result<(), Fail> {
         ("$(call r)", "*** nesting too deep"),
         ("x$(a", "*** unterminated reference"),
         ("$(words ${a)})", "*** unterminated reference"),
+        ("a$\\\nb", "a\\\nb"),
+        ("[$ \\\nb]", "[\\\nb]"),
     ] {
         let found = told(alloc, &macros, text, 100)?;
         assert_eq!(rt; found.as_slice(), expected.as_bytes());

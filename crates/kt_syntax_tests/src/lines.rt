@@ -2,6 +2,7 @@
 use kt_syntax::{
     Directive, Form, Mark, Operator, Term, classify, plain, recipe_text, rule_parts, terms,
 };
+use kt_text::joined;
 use std::test::Fail;
 
 /// Each term in brackets, with a letter for its mark.
@@ -26,7 +27,7 @@ fn told(text: &[u8], rt: &HostRuntime) -> Result<Vec<u8>, Fail> {
 
 #[test]
 fn cuts_texts(rt: HostRuntime) -> Result<(), Fail> {
-    let rows: [(&[u8], &[u8]); 12] = [
+    let rows: [(&[u8], &[u8]); 13] = [
         (b"", b""),
         (b"a$(b$$)c$$$d$", b"l[a]p[b$$]l[c]d[]b[d]l[]"),
         (b"x$(a", b"l[x]u[]"),
@@ -35,7 +36,8 @@ fn cuts_texts(rt: HostRuntime) -> Result<(), Fail> {
         (b"$((a)", b"u[]"),
         (b"$\\#b", b"b[\\]l[#b]"),
         (b"$#$;", b"b[#]b[;]"),
-        (b"a$\\\n b", b"l[a]b[\\\n]l[ b]"),
+        (b"a$\\\n b", b"l[a]b[\\]l[\n b]"),
+        (b"$(\\\n)$ \\\n", b"p[\\\n]b[ ]l[\\\n]"),
         (b"a$\\\r\nb", b"l[a]b[\\]l[\r\nb]"),
         (b"a$\\\\\\\nb", b"l[a]b[\\]l[\\\\\nb]"),
         (b"$)", b"b[)]"),
@@ -47,7 +49,7 @@ fn cuts_texts(rt: HostRuntime) -> Result<(), Fail> {
     Ok(())
 }
 
-/// The kind of a line in one letter, and its parts, each in brackets.
+/// The kind of a condensed line in one letter, and its parts, each in brackets.
 fn kind_told(text: &[u8], tab: bool, rt: &HostRuntime) -> Result<Vec<u8>, Fail> {
     let mut told = Vec::new(rt.alloc());
     let (kind, first, second) = match classify(text, tab) {
@@ -78,7 +80,7 @@ fn kind_told(text: &[u8], tab: bool, rt: &HostRuntime) -> Result<Vec<u8>, Fail> 
 
 #[test]
 fn tells_kinds(rt: HostRuntime) -> Result<(), Fail> {
-    let rows: [(&[u8], bool, &[u8]); 45] = [
+    let rows: [(&[u8], bool, &[u8]); 53] = [
         (b"", false, b"b[][]"),
         (b" \t# x", false, b"b[][]"),
         (b"ifeq = 3", false, b"=[ifeq][3]"),
@@ -112,8 +114,16 @@ fn tells_kinds(rt: HostRuntime) -> Result<(), Fail> {
         (b"Z != z", false, b"![Z][z]"),
         (b"A \\\n += \\\n b", false, b"+[A][b]"),
         (b"-include\\\n a", false, b"S[a][]"),
-        (b"$\\\nA = 1", false, b"=[$\\\nA][1]"),
-        (b"A$ \\\nB = 1", false, b"r[][]"),
+        (b"$\\\nA = 1", false, b"=[$ A][1]"),
+        (b"A$ \\\nB = 1", false, b"=[A$ B][1]"),
+        (b"A$\\\n  B = 1", false, b"=[A$ B][1]"),
+        (b"A$\\\n\\\nB = 1", false, b"=[A$ B][1]"),
+        (b"A$ \t\\\r\n \\\n B = 1", false, b"=[A$ B][1]"),
+        (b"$\\\n y = 1", false, b"=[$ y][1]"),
+        (b"A$ B = 1", false, b"=[A$ B][1]"),
+        (b"A$\\\\\\\nB = 1", false, b"r[][]"),
+        (b"define $\\\n A :=", false, b"d[$ A :=][]"),
+        (b"A = a$\\\nb # \\\n c", false, b"=[A][a$ b # c]"),
         (b"define := y", false, b":[define][y]"),
         (b"define A = $(", false, b"d[A = $(][]"),
         (b"else ifeq(a,a)", false, b"E[ifeq(a,a)][]"),
@@ -126,16 +136,17 @@ fn tells_kinds(rt: HostRuntime) -> Result<(), Fail> {
         (b"= b", false, b"=[][b]"),
     ];
     for (text, tab, expected) in rows {
-        let found = kind_told(text, tab, &rt)?;
+        let line = joined(rt.alloc(), text)?;
+        let found = kind_told(line.as_slice(), tab, &rt)?;
         assert_eq!(rt; found.as_slice(), expected);
     }
     Ok(())
 }
 
 /// Head and recipe, each in brackets, or a star for a target-specific macro.
-fn parts_told(text: &[u8], rt: &HostRuntime) -> Result<Vec<u8>, Fail> {
+fn parts_told(line: &[u8], text: &[u8], rt: &HostRuntime) -> Result<Vec<u8>, Fail> {
     let mut told = Vec::new(rt.alloc());
-    match rule_parts(text) {
+    match rule_parts(line, text) {
         Err(_) => told.push(b'*')?,
         Ok(parts) => {
             told.push(b'[')?;
@@ -153,7 +164,7 @@ fn parts_told(text: &[u8], rt: &HostRuntime) -> Result<Vec<u8>, Fail> {
 
 #[test]
 fn cuts_rule_lines(rt: HostRuntime) -> Result<(), Fail> {
-    let rows: [(&[u8], &[u8]); 26] = [
+    let rows: [(&[u8], &[u8]); 34] = [
         (b"a\\#b: c ; echo $@ # yes", b"[a\\#b: c ][echo $@ # yes]"),
         (b"a: c # ; no", b"[a: c # ; no]"),
         (b"a: b$; c", b"[a: b$; c]"),
@@ -177,12 +188,21 @@ fn cuts_rule_lines(rt: HostRuntime) -> Result<(), Fail> {
         (b"t: export  private\tA = b # c", b"*"),
         (b"t: export A", b"[t: export A]"),
         (b"t: exports A = b", b"[t: exports A = b]"),
-        (b"t: \\\n a ; $(error x)", b"[t: \\\n a ][$(error x)]"),
+        (b"t: \\\n a ; $(error x)", b"[t: a ][$(error x)]"),
+        (b"a: x$\\\n y = z", b"*"),
+        (b"t: A$ \\\nB = 1", b"*"),
+        (b"t: override$\\\n A = b", b"*"),
+        (b"t: override\\\n A = b", b"*"),
+        (b"a$\\\n b: ; c \\\n\td", b"[a$ b: ][c \\\n\td]"),
+        (b"a$\\\n;b", b"[a$ ][b]"),
+        (b"a: b \\\n# ; no", b"[a: b # ; no]"),
+        (b"a: b \\\n\\# ; c \\\n d", b"[a: b \\# ][c \\\n d]"),
         (b"a: b\\\tc ; x", b"[a: b\\\tc ][x]"),
         (b"a", b"[a]"),
     ];
     for (text, expected) in rows {
-        let found = parts_told(text, &rt)?;
+        let line = joined(rt.alloc(), text)?;
+        let found = parts_told(text, line.as_slice(), &rt)?;
         assert_eq!(rt; found.as_slice(), expected);
     }
     Ok(())
@@ -190,7 +210,7 @@ fn cuts_rule_lines(rt: HostRuntime) -> Result<(), Fail> {
 
 #[test]
 fn drops_comments(rt: HostRuntime) -> Result<(), Fail> {
-    let rows: [(&[u8], &[u8]); 11] = [
+    let rows: [(&[u8], &[u8]); 15] = [
         (b"a\\#b\\\\# c", b"a#b\\"),
         (b"a$\\#b", b"a$\\"),
         (b"a$\\\\#b", b"a$\\#b"),
@@ -202,6 +222,10 @@ fn drops_comments(rt: HostRuntime) -> Result<(), Fail> {
         (b"${a)#}#)", b"${a)#}"),
         (b"a\\\\b\\", b"a\\\\b\\"),
         (b"# c", b""),
+        (b"a\\\\\\#b", b"a\\#b"),
+        (b"a\\\\\\\\# c", b"a\\\\"),
+        (b"a\\\\\\\\\\#b", b"a\\\\#b"),
+        (b"a\\\\\\\\\\\\\\#\\\\\\# # c", b"a\\\\\\#\\# "),
     ];
     for (text, expected) in rows {
         let found = plain(rt.alloc(), text)?;
@@ -271,6 +295,52 @@ fn joins_references_of_recipe_lines(rt: HostRuntime) -> Result<(), Fail> {
     for (text, expected) in rows {
         let found = recipe_text(rt.alloc(), text)?;
         assert_eq!(rt; found.as_slice(), expected);
+    }
+    Ok(())
+}
+
+/// A text of so many equal bytes.
+fn repeated(byte: u8, count: usize, rt: &HostRuntime) -> Result<Vec<u8>, Fail> {
+    let mut text = Vec::new(rt.alloc());
+    for _ in 0..count {
+        text.push(byte)?;
+    }
+    Ok(text)
+}
+
+#[test]
+fn takes_long_texts(rt: HostRuntime) -> Result<(), Fail> {
+    let long = repeated(b'y', 70_000, &rt)?;
+    let found = plain(rt.alloc(), &long)?;
+    assert_eq!(rt; found.as_slice(), long.as_slice());
+    let found = recipe_text(rt.alloc(), &long)?;
+    assert_eq!(rt; found.as_slice(), long.as_slice());
+    let found = terms(&long).count();
+    assert_eq!(rt; found, 1);
+    Ok(())
+}
+
+#[test]
+fn halves_long_runs(rt: HostRuntime) -> Result<(), Fail> {
+    let mut text = repeated(b'\\', 10_001, &rt)?;
+    text.push(b'#')?;
+    let mut half = repeated(b'\\', 5_000, &rt)?;
+    half.push(b'#')?;
+    let found = plain(rt.alloc(), &text)?;
+    assert_eq!(rt; found.as_slice(), half.as_slice());
+    Ok(())
+}
+
+#[test]
+fn tells_long_assignments(rt: HostRuntime) -> Result<(), Fail> {
+    let mut line = repeated(b'y', 5_000, &rt)?;
+    line.extend_from_slice(b" = z")?;
+    match classify(&line, false) {
+        Form::Assignment(name, _, value) => {
+            assert_eq!(rt; name.len(), 5_000);
+            assert_eq!(rt; value, b"z".as_slice());
+        }
+        _ => assert!(rt; false, "no assignment"),
     }
     Ok(())
 }

@@ -57,7 +57,7 @@ fn told(text: &[u8], rt: &HostRuntime) -> Result<Vec<u8>, Fail> {
 
 #[test]
 fn finds_blocks(rt: HostRuntime) -> Result<(), Fail> {
-    let rows: [(&[u8], &[u8]); 24] = [
+    let rows: [(&[u8], &[u8]); 27] = [
         (b"", b""),
         (b"ifdef X\na\nelse\nb\nendif\nc\n", b"c24lp44lCl"),
         (
@@ -94,6 +94,9 @@ fn finds_blocks(rt: HostRuntime) -> Result<(), Fail> {
         (b"ifdef X\nifdef Y\ndefine Z\n", b"c33c33d3#3"),
         (b"ifdef X\ndefine A !=\ndefine B\nx\nendef\n", b"c55d5bbb#2"),
         (b"a \\\nb\nifdef X\n", b"lc22!3"),
+        (b"define $\\\n A :=\nx\nendef\n", b"d2bD"),
+        (b"ifdef Q\nelse$\\\n ifdef X\nendif\n", b"c22lC"),
+        (b"ifdef Q\nelse \\\n \\\n ifdef$\\\n X\nendif\n", b"c12p22C"),
     ];
     for (text, expected) in rows {
         let found = told(text, &rt)?;

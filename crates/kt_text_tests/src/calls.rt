@@ -1,6 +1,6 @@
 //! Worked values of each call, by the manuals and by GNU make.
 use kt_text::{
-    LineFault, TextFault, condensed, functions, is_continued, line_content, logical_lines,
+    LineFault, TextFault, condensed, functions, is_continued, joined, line_content, logical_lines,
     match_pattern, trim_end, trim_start, words,
 };
 use std::process::Abort;
@@ -116,6 +116,48 @@ fn continuations_are_condensed(rt: HostRuntime) -> Result<(), Fail> {
             "of {text:?}"
         );
     }
+    Ok(())
+}
+
+#[test]
+fn lines_are_joined_to_one(rt: HostRuntime) -> Result<(), Fail> {
+    let rows: [(&[u8], &[u8]); 5] = [
+        (b"a b", b"a b"),
+        (b"a\\", b"a\\"),
+        (b"a\r", b"a\r"),
+        (b"a$ \\\n \\\r\n\tb", b"a$ b"),
+        (b"", b""),
+    ];
+    for (line, wanted) in rows {
+        let found = joined(rt.alloc(), line)?;
+        assert_eq!(rt; found.as_slice(), wanted, "of {line:?}");
+    }
+    Ok(())
+}
+
+#[test]
+fn long_lines_are_condensed(rt: HostRuntime) -> Result<(), Fail> {
+    let mut text = Vec::new(rt.alloc());
+    for _ in 0..5_000 {
+        text.extend_from_slice(b"y \\\n\t")?;
+    }
+    let found = condensed(rt.alloc(), &text)?;
+    assert_eq!(rt; found.len(), 10_000);
+    assert_eq!(rt; found.starts_with(b"y y "), true);
+    Ok(())
+}
+
+#[test]
+fn late_lines_have_great_numbers(rt: HostRuntime) -> Result<(), Fail> {
+    let mut text = Vec::new(rt.alloc());
+    for _ in 0..70_000 {
+        text.push(b'\n')?;
+    }
+    text.push(b'x')?;
+    let lines = logical_lines(rt.alloc(), &text)?;
+    let last = lines.last().ok_or("a line")?;
+    assert_eq!(rt; last.number, 70_001);
+    assert_eq!(rt; last.span.start, 70_000);
     Ok(())
 }
 
