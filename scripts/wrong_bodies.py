@@ -106,6 +106,8 @@ def span(text, name):
         if header and within_impl(lines, start, header.group(1)) + header.group(2) == name:
             indent = header.group(1)
             end = next((i for i in range(start, len(lines)) if re.match(rf"{indent}(\}}|\{{\}})", lines[i])), len(lines))
+            while start and re.match(r"\s*(#\[|///|//)", lines[start - 1]):
+                start -= 1
             return start + 1, end + 1
     return 0, 0
 
@@ -175,7 +177,7 @@ class Report:
             if name == file and first <= line <= last and "not proved" in words:
                 return "goal at line %d" % line
         folder = "/".join(path.split("::")[1:])
-        found = [words for where, words in self.answers if where == folder]
+        found = self.answers_of(folder)
         if found and not all(ONLY_A_NAME.search(words) for words in found):
             return "answer: " + found[0][:60]
         if any(self.blames_closure(path, name, state) for name, state in self.states.items()):
@@ -188,9 +190,16 @@ class Report:
         return name.startswith(module + "::fn::" + function + "::") and "did not prove" in state
 
     def misses_only_a_name(self, path):
-        folder = "/".join(path.split("::")[1:])
-        found = [words for where, words in self.answers if where == folder]
+        found = self.answers_of("/".join(path.split("::")[1:]))
         return bool(found) and all(ONLY_A_NAME.search(words) for words in found)
+
+    def answers_of(self, folder):
+        """What is wrong with a function's answers: in a cycle they stand in one folder, and a goal's name begins with the function's."""
+        parent, _, name = folder.rpartition("/")
+        return [
+            words for where, words in self.answers
+            if where == folder or where.startswith(parent + "/+") and words.startswith("`" + name + "-")
+        ]
 
     def compile_errors(self):
         return [(name, line) for name, line, words in self.notes if "error" in words or not words.startswith("it is not")]
@@ -294,9 +303,9 @@ class Trial:
             edit.outcome, edit.why = "let through", "; ".join(state[:80] for state in states)
 
 
-def edits_of(crate, folders, word):
+def edits_of(crate, folders, words):
     paths = [path for folder in folders for path in sorted((ROOT / "crates" / crate / folder).glob("*.edit"))]
-    return [Edit.read(path) for path in paths if word in path.stem]
+    return [Edit.read(path) for path in paths if not words or any(word in path.stem for word in words)]
 
 
 def tell(trial, started):
@@ -320,7 +329,7 @@ def main():
     parser = argparse.ArgumentParser(description=__doc__, formatter_class=argparse.RawDescriptionHelpFormatter)
     parser.add_argument("crates", nargs="*", metavar="CRATE")
     parser.add_argument("--jobs", type=int, default=2, help="jobs of each check")
-    parser.add_argument("--only", default="", metavar="WORD", help="edits with this word in their names")
+    parser.add_argument("--only", action="append", metavar="WORD", help="edits with this word in their names; may stand again")
     parser.add_argument("--must-fail", action="store_true", help="the edits of must-fail as well")
     parser.add_argument("--self-test", action="store_true", help="see that edits without a meaning are let through")
     asked = parser.parse_args()

@@ -35,8 +35,8 @@ use special::start_suffixes;
 use std::alloc::{AllocError, Global};
 use std::marker::Model;
 use suffix::is_suffix_name;
-use target_rule::{is_bare, is_made};
 pub use target_rule::TargetRule;
+use target_rule::{is_bare, is_made};
 
 /// Message lines, without their newlines.
 pub type Warnings = Sequence<Sequence<u8>>;
@@ -118,8 +118,7 @@ impl Book {
         ensures { result ≡ is_explicit (suffixes_of self.now) (rule_told rule.entry) }
     {
         let name = rule.target.name.as_slice();
-        is_made(rule.entry, rule.target)
-            && !(is_bare(rule) && is_suffix_name(&self.suffixes, name))
+        is_made(rule.entry, rule.target) && !(is_bare(rule) && is_suffix_name(&self.suffixes, name))
     }
 
     /// The explicit rules of a target, in order. Takes no memory.
