@@ -1,11 +1,10 @@
 //! Times of kati's layers, and what is read of a Ninja file.
 //!
-//! The first argument says of which layer: `text`, `syntax`, `rules`, `reading`, `graph` or `ninja`; with no argument nothing is
+//! The first argument says of which layer: `text`, `syntax`, `rules`, `reading` or `ninja`; with no argument nothing is
 //! done. `text` takes a call and numbers of words after it. `ninja-text` prints the file that `ninja` times, and `show` the plan
 //! that the standard input says.
 #![tactic(auto)]
 
-mod graph_times;
 mod ninja_times;
 mod numbers;
 mod reading_times;
@@ -32,7 +31,6 @@ fn run(rt: &HostRuntime, layer: &str, rest: &[String]) -> Result<()> {
         "syntax" => syntax_times::print_all(rt, rt.alloc()),
         "rules" => rule_times::print_all(rt, rt.alloc()),
         "reading" => reading_times::print_all(rt, rt.alloc()),
-        "graph" => graph_times::print_all(rt, rt.alloc()),
         "ninja" => ninja_times::print_time(rt, rt.alloc()),
         "ninja-text" => print_ninja_text(rt),
         "show" => print_plan(rt),
