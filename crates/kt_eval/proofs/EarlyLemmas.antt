@@ -1,4 +1,4 @@
--- Messages so far, where something is refused: they are a beginning of those of the step that it stands in.
+-- Messages and names so far, where something is refused: they are a beginning of those of the step that it stands in.
 use Rattle.std.proofs.Common.{◌≡◌, ℕ, suc, ◌+◌, ◌<◌, ◌==◌, ◌||◌, Bool, true, cond, false, List, [], ◌∷◌, ◌++◌, length, map, drop, get_or, drop-cons, Some, refl, sym, ap, subst, ◌∙◌, arith, Bor}
 use Rattle.std.specs.List.{slice_get}
 use Rattle.kt_text.specs.Words.{Text, words_of}
@@ -10,9 +10,8 @@ use Rattle.kt_syntax.specs.Reading.{left_at, AreTried}
 use Rattle.kt_eval.specs.declared.stop.Stop.{Stop}
 use Rattle.kt_eval.specs.declared.stop.Stop.TheVariants as stops
 use Rattle.kt_eval.specs.Files.{Store}
-use Rattle.kt_eval.specs.Fronts.{IsFront}
 use Rattle.kt_eval.specs.State.{World}
-use Rattle.kt_eval.specs.Step.{Step, Outcome, Gave, Stopped, Fails, then_do, said_of}
+use Rattle.kt_eval.specs.Step.{Step, Outcome, Gave, Stopped, Trail, trail, GoesOn, Fails, then_do, world_of}
 use Rattle.kt_eval.specs.Calls.{stripped}
 use Rattle.kt_eval.specs.Conditions.{Compared}
 use Rattle.kt_eval.specs.Conditionals.{are_equal}
@@ -21,21 +20,27 @@ use Rattle.kt_eval.specs.Levels.{evaluator}
 use Rattle.kt_eval.specs.Reading.{Sheet, at_line, line_at, body_at, branch_holds, late_else, read_bytes, read_define, read_first, read_items, read_branches, read_or}
 use Rattle.kt_eval.proofs.LevelLemmas.{evaluator_reads}
 use Rattle.kt_eval.proofs.ReadingLemmas.{Tries}
-use Rattle.kt_eval.proofs.GrowingLemmas.{front_same, front_next, one_more_level, behind_first_related, behind_branch_related, read_first_related, read_or_related}
+use Rattle.kt_eval.proofs.GrowingLemmas.{front_next, one_more_level, behind_first_related, behind_branch_related, read_first_related, read_or_related}
 use Rattle.kt_eval.proofs.FrontLemmas.{grown_front, expand_front, eval_front, each_word_front, expanded_front, each_argument_front, apply_or_front, apply_and_front, read_items_front}
 
--- messages before the end of a step are before that of a longer one
-early_then : {A B : Type 0} (said : List Text) (o : Outcome A) (f : A → Step B) → ((x : A) (w : World) → IsFront w.said (said_of (f x w))) → IsFront said (said_of o) → IsFront said (said_of (then_do o f))
-early_then said (Gave w x) f more h = front_next said w.said (said_of (f x w)) h (more x w)
-early_then said (Stopped w x) f more h = h
+stands : (w : World) → GoesOn w w
+stands w = (λ of. omega arith, λ of count le. refl)
+
+goes_further : (u v w : World) → GoesOn u v → GoesOn v w → GoesOn u w
+goes_further u v w p q = (λ of. (front_next (trail of u) (trail of v) (trail of w) (p.0 of, p.1 of) (q.0 of, q.1 of)).0, λ of. (front_next (trail of u) (trail of v) (trail of w) (p.0 of, p.1 of) (q.0 of, q.1 of)).1)
+
+-- what is before the end of a step is before that of a longer one
+early_then : {A B : Type 0} (v : World) (o : Outcome A) (f : A → Step B) → ((x : A) (w : World) → GoesOn w (world_of (f x w))) → GoesOn v (world_of o) → GoesOn v (world_of (then_do o f))
+early_then v (Gave w x) f more h = goes_further v w (world_of (f x w)) h (more x w)
+early_then v (Stopped w x) f more h = h
 
 -- a step that fails in its first part
-fails_then : {A B : Type 0} (stop : Stop) (w : World) (o : Outcome A) (f : A → Step B) → ((x : A) (v : World) → IsFront v.said (said_of (f x v))) → Fails stop w o → Fails stop w (then_do o f)
+fails_then : {A B : Type 0} (stop : Stop) (w : World) (o : Outcome A) (f : A → Step B) → ((x : A) (v : World) → GoesOn v (world_of (f x v))) → Fails stop w o → Fails stop w (then_do o f)
 fails_then (stops.Fault fault) w o f more h = rw h refl
-fails_then (stops.Device name) w o f more h = early_then w.said o f more h
-fails_then stops.Memory w o f more h = early_then w.said o f more h
+fails_then (stops.Device name) w o f more h = early_then w o f more h
+fails_then stops.Memory w o f more h = early_then w o f more h
 
-front_cond : {A : Type 0} (b : Bool) (s t : Step A) (w : World) → IsFront w.said (said_of (s w)) → IsFront w.said (said_of (t w)) → IsFront w.said (said_of (cond b s t w))
+front_cond : {A : Type 0} (b : Bool) (s t : Step A) (w : World) → GoesOn w (world_of (s w)) → GoesOn w (world_of (t w)) → GoesOn w (world_of (cond b s t w))
 front_cond true s t w p q = p
 front_cond false s t w p q = q
 
@@ -49,14 +54,14 @@ module _ (reads : Bool) (store : Store) (levels : ℕ) where
   eval_fails stop w v text is h =
       rw (evaluator_reads reads store levels ∙ is)
       (fails_then stop v ((evaluator reads store levels).expand text w) _
-      (λ x u. early_then u.said ((evaluator reads store levels).eval x u) _ (λ _ t. front_same t.said) (eval_front reads store levels x u)) h)
+      (λ x u. early_then u ((evaluator reads store levels).eval x u) _ (λ _ t. stands t) (eval_front reads store levels x u)) h)
 
   pub foreach_fails : (stop : Stop) (w v : World) (variable list body : Text)
       → Fails stop v ((evaluator reads store levels).expand variable w) → Fails stop v (apply_foreach (evaluator reads store levels) variable list body w)
   unfolding apply_foreach
   foreach_fails stop w v variable list body h =
       fails_then stop v ((evaluator reads store levels).expand variable w) _
-      (λ name u. early_then u.said ((evaluator reads store levels).expand list u) _
+      (λ name u. early_then u ((evaluator reads store levels).expand list u) _
       (λ words t. each_word_front reads store levels (stripped name) body [] [] (words_of words) t) (expand_front reads store levels list u)) h
 
   pub equal_fails : (stop : Stop) (w v : World) (compared : Compared)
@@ -64,7 +69,7 @@ module _ (reads : Bool) (store : Store) (levels : ℕ) where
   unfolding are_equal
   equal_fails stop w v compared h =
       fails_then stop v (expanded (evaluator reads store levels) compared.first w) _
-      (λ x u. early_then u.said (expanded (evaluator reads store levels) compared.second u) _ (λ y t. front_same t.said) (expanded_front reads store levels compared.second u)) h
+      (λ x u. early_then u (expanded (evaluator reads store levels) compared.second u) _ (λ y t. stands t) (expanded_front reads store levels compared.second u)) h
 
   pub argument_fails : (stop : Stop) (w v : World) (out : List Text) (text : Text) (texts : List Text)
       → Fails stop v ((evaluator reads store levels).expand text w) → Fails stop v (each_argument (evaluator reads store levels) out (text ∷ texts) w)
@@ -77,14 +82,14 @@ module _ (reads : Bool) (store : Store) (levels : ℕ) where
   unfolding apply_or
   or_fails stop w v text texts h =
       fails_then stop v ((evaluator reads store levels).expand (stripped text) w) _
-      (λ x u. front_cond (length x == 0) _ _ u (apply_or_front reads store levels texts u) (front_same u.said)) h
+      (λ x u. front_cond (length x == 0) _ _ u (apply_or_front reads store levels texts u) (stands u)) h
 
   pub and_fails : (stop : Stop) (w v : World) (text : Text) (texts : List Text)
       → Fails stop v ((evaluator reads store levels).expand (stripped text) w) → Fails stop v (apply_and (evaluator reads store levels) (text ∷ texts) w)
   unfolding apply_and
   and_fails stop w v text texts h =
       fails_then stop v ((evaluator reads store levels).expand (stripped text) w) _
-      (λ x u. front_cond (length x == 0 || length texts == 0) _ _ u (front_same u.said) (apply_and_front reads store levels texts u)) h
+      (λ x u. front_cond (length x == 0 || length texts == 0) _ _ u (stands u) (apply_and_front reads store levels texts u)) h
 
   -- the same at a place of texts
   pub argument_at_fails : (stop : Stop) (w v : World) (out : List Text) (texts : List (Bor Text)) (place : ℕ) (d : Bor Text) → place < length texts
@@ -108,7 +113,7 @@ module _ (reads : Bool) (store : Store) (levels : ℕ) where
   -- once the text at a place is expanded
   pub argument_at_front : (w v : World) (out : List Text) (texts : List (Bor Text)) (place : ℕ) (d : Bor Text) (x : Text) → place < length texts
       → (evaluator reads store levels).expand (get_or texts place d).now w ≡ Gave v x
-      → IsFront v.said (said_of (each_argument (evaluator reads store levels) out (map (λ a. a.now) (drop place texts)) w))
+      → GoesOn v (world_of (each_argument (evaluator reads store levels) out (map (λ a. a.now) (drop place texts)) w))
   unfolding each_argument
   argument_at_front w v out texts place d x within h =
       rw (texts_left texts place d within, h) (each_argument_front reads store levels (out ++ x ∷ []) (map (λ a. a.now) (drop (suc place) texts)) v)

@@ -37,7 +37,7 @@ use Rattle.kt_eval.specs.Table.{Assigning, keeps, defers, expands, escapes, assi
 use Rattle.kt_eval.specs.Files.{Store}
 use Rattle.kt_eval.specs.Fronts.{IsFront}
 use Rattle.kt_eval.specs.State.{World, lookup, bind, unbind, say, set_rule}
-use Rattle.kt_eval.specs.Step.{Step, Outcome, Gave, Stopped, then_do, stop}
+use Rattle.kt_eval.specs.Step.{Step, Outcome, Gave, Stopped, then_do, stop, world_of}
 use Rattle.kt_eval.specs.Calls.{Asked, calls, refuses, refers, asked_by, Naming, plainly, substituting, naming_of, arity, text_result, text_function_name, stripped, is_function_name}
 use Rattle.kt_eval.specs.Conditions.{Compared, compared_of, trimmed}
 use Rattle.kt_eval.specs.Expansion.{Evaluator, too_deep, flavoured, value_of, each_argument, accepted, apply_text, apply_if, apply_or, apply_and, each_word, apply_foreach, called, call_by_name, apply_call, apply_value, apply_eval, apply_error, apply_warning, apply_info, apply_other, apply, body_of, value_named, referred, term_of, each_term, expanded}
@@ -47,7 +47,7 @@ use Rattle.kt_eval.specs.Including.{is_pattern, include_named, each_include, inc
 use Rattle.kt_eval.specs.Rules.{rule_place, entered, enter_rule, close, close_rule, opened, open_rule, rule_of_parts, rule_line, recipe_line}
 use Rattle.kt_eval.specs.Reading.{Raw, line_at, Sheet, sheet_of, at_number, at_line, read_include, read_kind, read_bare_tab, read_tab_in, read_tab, read_line, body_at, read_define, read_stray, late_else, branch_holds, read_items, read_branches, read_end, read_sheet, read_without_nul, read_text, read_held, largest, read_file, read_included, read_bytes, included, read_or, read_first}
 use Rattle.kt_eval.specs.Levels.{above, none_left, evaluator}
-use Rattle.kt_eval.specs.Growing.{world_of, Grows, TakesNothingBack, IsTooDeep, StaysOneDeeper}
+use Rattle.kt_eval.specs.Growing.{Grows, TakesNothingBack, IsTooDeep, StaysOneDeeper}
 
 pub front_same : {A : Type 0} (xs : List A) → IsFront xs xs
 front_same xs = (omega arith, λ count le. refl)

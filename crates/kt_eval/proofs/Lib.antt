@@ -12,3 +12,4 @@ pub mod RootLemmas
 pub mod TextLemmas
 pub mod MachineLemmas
 mod ReadingRowLemmas
+pub mod LastLemmas

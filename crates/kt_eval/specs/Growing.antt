@@ -2,12 +2,7 @@
 use Rattle.std.specs.Prelude.{◌≡◌, ℕ, suc}
 use Rattle.kt_eval.specs.Fronts.{IsFront}
 use Rattle.kt_eval.specs.State.{World}
-use Rattle.kt_eval.specs.Step.{Step, Outcome, Gave, Stopped}
-
--- the world that is left
-abbrev pub world_of : {A : Type 0} → Outcome A → World
-world_of (Gave w x) = w
-world_of (Stopped w fault) = w
+use Rattle.kt_eval.specs.Step.{Step, Outcome, Gave, Stopped, world_of}
 
 -- no message is taken back, and no name that was asked for
 abbrev pub Grows : World → World → Type 0

@@ -13,6 +13,7 @@ pub mod Including
 pub mod Rules
 pub mod Reading
 pub mod Views
+pub mod Faults
 pub mod Levels
 pub mod Growing
 pub mod Machines

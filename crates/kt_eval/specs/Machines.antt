@@ -74,13 +74,18 @@ abbrev pub messages_of : Ending → List Text
 messages_of (read_all table book said asked) = said
 messages_of (at_fault said asked fault) = said
 
+-- and the names that it asks for
+abbrev pub names_of : Ending → List Text
+names_of (read_all table book said asked) = asked
+names_of (at_fault said asked fault) = asked
+
 -- what a call answered, and the macros, rules, messages and names asked for that it left, are that ending; where memory is
--- wanted or a device failed, the messages are a beginning of its messages
+-- wanted or a device failed, the messages and the names are a beginning of its messages and names
 abbrev pub Reads : Result (Unit {0}) Stop → Table → List Rule → List Text → List Text → Ending → Type 0
 Reads (Ok x) table book said asked expected = expected ≡ read_all table book said asked
 Reads (Err (stops.Fault fault)) table book said asked expected = expected ≡ at_fault said asked fault
-Reads (Err (stops.Device name)) table book said asked expected = IsFront said (messages_of expected)
-Reads (Err stops.Memory) table book said asked expected = IsFront said (messages_of expected)
+Reads (Err (stops.Device name)) table book said asked expected = IsFront said (messages_of expected) × IsFront asked (names_of expected)
+Reads (Err stops.Memory) table book said asked expected = IsFront said (messages_of expected) × IsFront asked (names_of expected)
 
 abbrev pub IsDeviceOf : Text → Stop → Type 0
 IsDeviceOf name (stops.Fault fault) = ⊥

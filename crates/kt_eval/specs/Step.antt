@@ -1,5 +1,5 @@
 -- A step takes a world and gives a value, or stops at a fault; both leave a world.
-use Rattle.std.specs.Prelude.{◌≡◌, ℕ, ◌≤◌, true, Option, is_some, unwrap_or, List, [], Result, Ok, Err, IfErr, Vec}
+use Rattle.std.specs.Prelude.{◌≡◌, ℕ, ◌≤◌, true, Option, Some, is_some, unwrap_or, List, [], length, take, Result, Ok, Err, Vec, string_bytes}
 use Rattle.std.specs.declared.alloc.Global.{Global}
 use Rattle.kt_list.specs.Counters.{Rises}
 use Rattle.kt_text.specs.Words.{Text}
@@ -8,7 +8,7 @@ use Rattle.kt_eval.specs.declared.fault.Fault.{Fault}
 use Rattle.kt_eval.specs.declared.stop.Stop.{Stop}
 use Rattle.kt_eval.specs.declared.stop.Stop.TheVariants as stops
 use Rattle.kt_eval.specs.Files.{Store}
-use Rattle.kt_eval.specs.Fronts.{IsFront}
+use Rattle.kt_eval.specs.Fronts.{IsFront, last}
 use Rattle.kt_eval.specs.State.{World}
 
 -- what is seen of an evaluation: its world, the bytes behind the names of its files, where they are known, how often a read
@@ -19,19 +19,36 @@ pub record Seen : Type 0 where
   pub failed : ℕ
   pub lender : ℕ
 
--- the files are the same, with the same bytes; no failure is forgotten, and no message is taken back
+-- the lists that reading and expanding only add to: the messages, and the names asked for
+pub data Trail : Type 0 where
+  told : Trail
+  asked_for : Trail
+
+abbrev pub one_of : Trail → List Text → List Text → List Text
+one_of told said asked = said
+one_of asked_for said asked = asked
+
+abbrev pub trail : Trail → World → List Text
+trail of w = one_of of w.said w.asked
+
+-- each list of the first world is a beginning of that of the second
+abbrev pub GoesOn : World → World → Type 0
+GoesOn old new =
+    ((of : Trail) → length (trail of old) ≤ length (trail of new)) × ((of : Trail) (count : ℕ) → count ≤ length (trail of old) → take count (trail of new) ≡ take count (trail of old))
+
+-- the files are the same, with the same bytes; no failure is forgotten, no message is taken back, and no name asked for
 abbrev pub Keeps : Seen → Seen → Type 0
 Keeps old new =
-    (new.known ≡ old.known) × (new.lender ≡ old.lender) × (old.failed ≤ new.failed) × IsFront old.world.said new.world.said
+    (new.known ≡ old.known) × (new.lender ≡ old.lender) × (old.failed ≤ new.failed) × GoesOn old.world new.world
 
 pub data Outcome (A : Type 0) : Type 0 where
   Gave : (world : World) (value : A) → Outcome A
   Stopped : (world : World) (fault : Fault) → Outcome A
 
--- the messages at the end of a step
-abbrev pub said_of : {A : Type 0} → Outcome A → List Text
-said_of (Gave w x) = w.said
-said_of (Stopped w fault) = w.said
+-- the world at the end of a step
+abbrev pub world_of : {A : Type 0} → Outcome A → World
+world_of (Gave w x) = w
+world_of (Stopped w fault) = w
 
 abbrev pub Step : Type 0 → Type 0
 Step A = World → Outcome A
@@ -63,11 +80,11 @@ abbrev pub change : (World → World) → Step (Unit {0})
 change f w = Gave (f w) tt
 
 -- the fault that is answered is the one that the step stops at; where memory is wanted or a device failed, the messages so
--- far are a beginning of those of the step
+-- far and the names asked for are a beginning of those of the step
 abbrev pub Fails : {A : Type 0} → Stop → World → Outcome A → Type 0
 Fails (stops.Fault fault) w outcome = outcome ≡ Stopped w fault
-Fails (stops.Device name) w outcome = IsFront w.said (said_of outcome)
-Fails stops.Memory w outcome = IsFront w.said (said_of outcome)
+Fails (stops.Device name) w outcome = GoesOn w (world_of outcome)
+Fails stops.Memory w outcome = GoesOn w (world_of outcome)
 
 -- what a call answered, seen by `see`, and the world that it left are what the step gives
 abbrev pub Gives : {A B : Type 0} → (A → B) → Result A Stop → World → Outcome B → Type 0
@@ -109,12 +126,10 @@ AreKnown known = is_some known ≡ true
 abbrev pub store_of : Option Store → Store
 store_of known = unwrap_or known []
 
--- a failed device shows in the count of failures
-abbrev pub IsCounted : Stop → ℕ → ℕ → Type 0
-IsCounted (stops.Fault fault) old new = Unit {0}
-IsCounted (stops.Device name) old new = Rises old new
-IsCounted stops.Memory old new = Unit {0}
-
--- a failed device is answered only where the count of failures rose
-abbrev pub Blames : {A : Type 0} → Result A Stop → ℕ → ℕ → Type 0
-Blames result old new = IfErr result (λ e. IsCounted e old new)
+-- a failed device is answered where the count of failures rose, by the name that was asked for last; nothing else is answered
+-- where a device failed
+abbrev pub Blames : {A : Type 0} → Result A Stop → ℕ → ℕ → List Text → Type 0
+Blames (Ok x) old new asked = new ≡ old
+Blames (Err (stops.Fault fault)) old new asked = new ≡ old
+Blames (Err (stops.Device name)) old new asked = Rises old new × (last asked ≡ Some (string_bytes name))
+Blames (Err stops.Memory) old new asked = new ≡ old

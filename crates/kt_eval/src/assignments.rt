@@ -13,6 +13,7 @@ use crate::assigning::{Assigning, doubled};
 use crate::compared::trimmed;
 use crate::evaluation::Evaluation;
 use crate::files::Files;
+use crate::kind::FaultKind;
 use crate::macros::Flavour;
 use crate::scope::Scope;
 use crate::stop::Stop;
@@ -50,7 +51,7 @@ impl<'a, M: Scope, F: Files> Evaluation<'a, M, F> {
         requires { M.writable ≡ true }
         ensures gives { AreKnown self.old.known → Gives (λ u. u) result self.new.world (assign (evaluator M.writable (store_of self.old.known) below) name.items text.now (assigning_told does) self.old.world) }
         ensures kept { Keeps self.old self.new }
-        ensures blames { Blames result self.old.failed self.new.failed }
+        ensures blames { Blames result self.old.failed self.new.failed self.new.world.asked }
     {
         match does {
             Assigning::Keeps => Ok(()),
@@ -68,7 +69,7 @@ impl<'a, M: Scope, F: Files> Evaluation<'a, M, F> {
     }
 
     #[cycle(evaluate)]
-    #[tactic(auto, using(crate::proofs::FrontLemmas::assign_front), unfolding(crate::specs::Assignments::assign_named))]
+    #[tactic(auto, using(crate::proofs::FrontLemmas::assign_longer, crate::proofs::FrontLemmas::assign_same), unfolding(crate::specs::Assignments::assign_named))]
     pub(crate) fn assign_named(
         &mut self,
         below: u64,
@@ -79,10 +80,10 @@ impl<'a, M: Scope, F: Files> Evaluation<'a, M, F> {
         requires { M.writable ≡ true }
         ensures gives { AreKnown self.old.known → Gives (λ u. u) result self.new.world (assign_named (evaluator M.writable (store_of self.old.known) below) operator text.now name.items self.old.world) }
         ensures kept { Keeps self.old self.new }
-        ensures blames { Blames result self.old.failed self.new.failed }
+        ensures blames { Blames result self.old.failed self.new.failed self.new.world.asked }
     {
         if is_bad_name(&name) {
-            return Err(Stop::Fault(self.fault(9, b"bad macro name", b"")?));
+            return Err(Stop::Fault(self.fault(FaultKind::BadMacroName, b"")?));
         }
         let does = self.assigning(operator, &name)?;
         self.assign(below, name, text, does)
@@ -101,10 +102,10 @@ impl<'a, M: Scope, F: Files> Evaluation<'a, M, F> {
         requires { M.writable ≡ true }
         ensures gives { AreKnown self.old.known → Gives (λ u. u) result self.new.world (assign_line (evaluator M.writable (store_of self.old.known) below) name.now operator text.now self.old.world) }
         ensures kept { Keeps self.old self.new }
-        ensures blames { Blames result self.old.failed self.new.failed }
+        ensures blames { Blames result self.old.failed self.new.failed self.new.world.asked }
     {
         if operator == Operator::Shell {
-            return Err(Stop::Fault(self.fault(17, b"refused form ", b"!=")?));
+            return Err(Stop::Fault(self.fault(FaultKind::RefusedForm, b"!=")?));
         }
         let name = self.expand_here(below, name)?;
         self.assign_named(below, operator, text, name)
@@ -112,7 +113,7 @@ impl<'a, M: Scope, F: Files> Evaluation<'a, M, F> {
 
     // What follows the operator of a define is ignored.
     #[cycle(evaluate)]
-    #[tactic(auto, using(crate::proofs::FrontLemmas::assign_line_front), unfolding(crate::specs::Assignments::define))]
+    #[tactic(auto, using(crate::proofs::FrontLemmas::assign_line_longer, crate::proofs::FrontLemmas::assign_line_same), unfolding(crate::specs::Assignments::define))]
     pub(crate) fn define(
         &mut self,
         below: u64,
@@ -123,7 +124,7 @@ impl<'a, M: Scope, F: Files> Evaluation<'a, M, F> {
         requires { M.writable ≡ true }
         ensures gives { AreKnown self.old.known → Gives (λ u. u) result self.new.world (define (evaluator M.writable (store_of self.old.known) below) rest.now (kind_told form.entry) body.now self.old.world) }
         ensures kept { Keeps self.old self.new }
-        ensures blames { Blames result self.old.failed self.new.failed }
+        ensures blames { Blames result self.old.failed self.new.failed self.new.world.asked }
     {
         match form {
             Form::Assignment(name, operator, _) => {

@@ -11,6 +11,7 @@ ghost use Rattle.kt_eval.specs.Views.{compared_told};
 use crate::compared::{Compared, compared_texts, text_after_word, word_before_blank};
 use crate::evaluation::Evaluation;
 use crate::files::Files;
+use crate::kind::FaultKind;
 use crate::scope::Scope;
 use crate::stop::Stop;
 use kt_syntax::{Directive, Form, classify, plain};
@@ -19,16 +20,16 @@ use kt_text::words;
 impl<'a, M: Scope, F: Files> Evaluation<'a, M, F> {
     fn bad_conditional(&self) -> Result<bool, Stop>
         ensures gives { Gives (λ b. b) result self.now.world (bad_conditional self.now.world) }
-        ensures blames { Blames result self.now.failed self.now.failed }
+        ensures blames { Blames result self.now.failed self.now.failed self.now.world.asked }
     {
-        Err(Stop::Fault(self.fault(15, b"bad conditional", b"")?))
+        Err(Stop::Fault(self.fault(FaultKind::BadConditional, b"")?))
     }
 
     // Whether the one macro that is named has a value, as it stands.
     #[tactic(auto, unfolding(crate::specs::Conditionals::is_set))]
     fn is_set(&self, names: &[u8]) -> Result<bool, Stop>
         ensures gives { Gives (λ b. b) result self.now.world (is_set (words_of names.now) self.now.world) }
-        ensures blames { Blames result self.now.failed self.now.failed }
+        ensures blames { Blames result self.now.failed self.now.failed self.now.world.asked }
     {
         let mut rest = words(names);
         let Some(name) = rest.next() else {
@@ -49,7 +50,7 @@ impl<'a, M: Scope, F: Files> Evaluation<'a, M, F> {
         requires { M.writable ≡ true }
         ensures gives { AreKnown self.old.known → Gives (λ b. b) result self.new.world (is_defined (evaluator M.writable (store_of self.old.known) below) text.now self.old.world) }
         ensures kept { Keeps self.old self.new }
-        ensures blames { Blames result self.old.failed self.new.failed }
+        ensures blames { Blames result self.old.failed self.new.failed self.new.world.asked }
     {
         let x = self.expand_here(below, text)?;
         self.is_set(&x)
@@ -65,7 +66,7 @@ impl<'a, M: Scope, F: Files> Evaluation<'a, M, F> {
         requires { M.writable ≡ true }
         ensures gives { AreKnown self.old.known → Gives (λ b. b) result self.new.world (are_equal (evaluator M.writable (store_of self.old.known) below) (option_map compared_told compared.entry) self.old.world) }
         ensures kept { Keeps self.old self.new }
-        ensures blames { Blames result self.old.failed self.new.failed }
+        ensures blames { Blames result self.old.failed self.new.failed self.new.world.asked }
     {
         let Some(compared) = compared else {
             return self.bad_conditional();
@@ -81,7 +82,7 @@ impl<'a, M: Scope, F: Files> Evaluation<'a, M, F> {
         requires { M.writable ≡ true }
         ensures gives { AreKnown self.old.known → Gives (λ b. b) result self.new.world (holds (evaluator M.writable (store_of self.old.known) below) word text.now self.old.world) }
         ensures kept { Keeps self.old self.new }
-        ensures blames { Blames result self.old.failed self.new.failed }
+        ensures blames { Blames result self.old.failed self.new.failed self.new.world.asked }
     {
         match word {
             Directive::Ifdef => self.is_defined(below, text),
@@ -103,7 +104,7 @@ impl<'a, M: Scope, F: Files> Evaluation<'a, M, F> {
         requires { M.writable ≡ true }
         ensures gives { AreKnown self.old.known → Gives (λ b. b) result self.new.world (worded_holds (evaluator M.writable (store_of self.old.known) below) (kind_told form.entry) text.now self.old.world) }
         ensures kept { Keeps self.old self.new }
-        ensures blames { Blames result self.old.failed self.new.failed }
+        ensures blames { Blames result self.old.failed self.new.failed self.new.world.asked }
     {
         match form {
             Form::Directive(word, _) => self.holds(below, word, text),
@@ -117,7 +118,7 @@ impl<'a, M: Scope, F: Files> Evaluation<'a, M, F> {
         requires { M.writable ≡ true }
         ensures gives { AreKnown self.old.known → Gives (λ b. b) result self.new.world (text_holds (evaluator M.writable (store_of self.old.known) below) text.now self.old.world) }
         ensures kept { Keeps self.old self.new }
-        ensures blames { Blames result self.old.failed self.new.failed }
+        ensures blames { Blames result self.old.failed self.new.failed self.new.world.asked }
     {
         self.worded_holds(
             below,
@@ -128,7 +129,7 @@ impl<'a, M: Scope, F: Files> Evaluation<'a, M, F> {
 
     // An `else` without a condition is always taken.
     #[cycle(evaluate)]
-    #[tactic(auto, using(crate::proofs::FrontLemmas::text_holds_front), unfolding(crate::specs::Conditionals::else_holds))]
+    #[tactic(auto, using(crate::proofs::FrontLemmas::text_holds_longer, crate::proofs::FrontLemmas::text_holds_same), unfolding(crate::specs::Conditionals::else_holds))]
     pub(crate) fn else_holds(
         &mut self,
         below: u64,
@@ -138,7 +139,7 @@ impl<'a, M: Scope, F: Files> Evaluation<'a, M, F> {
         requires { M.writable ≡ true }
         ensures gives { AreKnown self.old.known → Gives (λ b. b) result self.new.world (else_holds (evaluator M.writable (store_of self.old.known) below) condition rest.now self.old.world) }
         ensures kept { Keeps self.old self.new }
-        ensures blames { Blames result self.old.failed self.new.failed }
+        ensures blames { Blames result self.old.failed self.new.failed self.new.world.asked }
     {
         if !condition {
             return Ok(true);
@@ -148,7 +149,7 @@ impl<'a, M: Scope, F: Files> Evaluation<'a, M, F> {
     }
 
     #[cycle(evaluate)]
-    #[tactic(auto, using(crate::proofs::FrontLemmas::holds_front), unfolding(crate::specs::Conditionals::line_holds))]
+    #[tactic(auto, using(crate::proofs::FrontLemmas::holds_longer, crate::proofs::FrontLemmas::holds_same), unfolding(crate::specs::Conditionals::line_holds))]
     pub(crate) fn line_holds(
         &mut self,
         below: u64,
@@ -158,7 +159,7 @@ impl<'a, M: Scope, F: Files> Evaluation<'a, M, F> {
         requires { M.writable ≡ true }
         ensures gives { AreKnown self.old.known → Gives (λ b. b) result self.new.world (line_holds (evaluator M.writable (store_of self.old.known) below) condition (kind_told form.entry) self.old.world) }
         ensures kept { Keeps self.old self.new }
-        ensures blames { Blames result self.old.failed self.new.failed }
+        ensures blames { Blames result self.old.failed self.new.failed self.new.world.asked }
     {
         match form {
             Form::Directive(Directive::Else, rest) => self.else_holds(below, condition, rest),

@@ -14,6 +14,7 @@ use crate::calls::{Asked, Naming, asked_by, is_function_name, name_in, stripped}
 use crate::evaluation::Evaluation;
 use crate::files::Files;
 use crate::function::{Function, TextFunction};
+use crate::kind::FaultKind;
 use crate::macros::Flavour;
 use crate::scope::Scope;
 use crate::state::Frame;
@@ -37,21 +38,21 @@ impl<'a, M: Scope, F: Files> Evaluation<'a, M, F> {
     pub(crate) fn expand(&mut self, levels: u64, text: &[u8]) -> Result<Vec<u8>, Stop>
         ensures gives { AreKnown self.old.known → Gives (λ v. v.items) result self.new.world ((evaluator M.writable (store_of self.old.known) levels).expand text.now self.old.world) }
         ensures kept { Keeps self.old self.new }
-        ensures blames { Blames result self.old.failed self.new.failed }
+        ensures blames { Blames result self.old.failed self.new.failed self.new.world.asked }
     {
         if levels == 0 {
-            return Err(Stop::Fault(self.fault(8, b"nesting too deep", b"")?));
+            return Err(Stop::Fault(self.fault(FaultKind::NestingTooDeep, b"")?));
         }
         self.expand_here(levels - 1, text)
     }
 
     // Expands a text at the level where it stands.
     #[cycle(evaluate)]
-    #[tactic(auto, using(crate::proofs::FrontLemmas::each_term_front, crate::proofs::FrontLemmas::each_term_longer, crate::proofs::FrontLemmas::each_term_same), unfolding(crate::specs::Expansion::each_term, crate::specs::Expansion::expanded))]
+    #[tactic(auto, using(crate::proofs::FrontLemmas::each_term_longer, crate::proofs::FrontLemmas::each_term_same), unfolding(crate::specs::Expansion::each_term, crate::specs::Expansion::expanded))]
     pub(crate) fn expand_here(&mut self, below: u64, text: &[u8]) -> Result<Vec<u8>, Stop>
         ensures gives { AreKnown self.old.known → Gives (λ v. v.items) result self.new.world (expanded (evaluator M.writable (store_of self.old.known) below) text.now self.old.world) }
         ensures kept { Keeps self.old self.new }
-        ensures blames { Blames result self.old.failed self.new.failed }
+        ensures blames { Blames result self.old.failed self.new.failed self.new.world.asked }
     {
         let mut out = Vec::new(self.alloc);
         let mut rest = terms(text);
@@ -63,7 +64,7 @@ impl<'a, M: Scope, F: Files> Evaluation<'a, M, F> {
     }
 
     #[cycle(evaluate)]
-    #[tactic(auto, using(crate::proofs::FrontLemmas::referred_front), unfolding(crate::specs::Expansion::term_of))]
+    #[tactic(auto, using(crate::proofs::FrontLemmas::referred_longer, crate::proofs::FrontLemmas::referred_same), unfolding(crate::specs::Expansion::term_of))]
     pub(crate) fn expand_term(
         &mut self,
         below: u64,
@@ -71,7 +72,7 @@ impl<'a, M: Scope, F: Files> Evaluation<'a, M, F> {
     ) -> Result<Vec<u8>, Stop>
         ensures gives { AreKnown self.old.known → Gives (λ v. v.items) result self.new.world (term_of (evaluator M.writable (store_of self.old.known) below) (piece_of term.entry) self.old.world) }
         ensures kept { Keeps self.old self.new }
-        ensures blames { Blames result self.old.failed self.new.failed }
+        ensures blames { Blames result self.old.failed self.new.failed self.new.world.asked }
     {
         match term {
             Ok(Term::Lit(bytes)) => Ok(Vec::from_slice(self.alloc, bytes)?),
@@ -81,7 +82,7 @@ impl<'a, M: Scope, F: Files> Evaluation<'a, M, F> {
                 self.refer(below, asked)
             }
             Err(Unterminated) => {
-                Err(Stop::Fault(self.fault(7, b"unterminated reference", b"")?))
+                Err(Stop::Fault(self.fault(FaultKind::UnterminatedReference, b"")?))
             }
         }
     }
@@ -91,12 +92,12 @@ impl<'a, M: Scope, F: Files> Evaluation<'a, M, F> {
     pub(crate) fn refer(&mut self, below: u64, asked: Asked<'_>) -> Result<Vec<u8>, Stop>
         ensures gives { AreKnown self.old.known → Gives (λ v. v.items) result self.new.world (referred (evaluator M.writable (store_of self.old.known) below) (asked_told asked.entry) self.old.world) }
         ensures kept { Keeps self.old self.new }
-        ensures blames { Blames result self.old.failed self.new.failed }
+        ensures blames { Blames result self.old.failed self.new.failed self.new.world.asked }
     {
         match asked {
             Asked::Calls(function, arguments) => self.apply(below, function, &arguments),
             Asked::Refuses(name) => {
-                Err(Stop::Fault(self.fault(16, b"refused function ", name)?))
+                Err(Stop::Fault(self.fault(FaultKind::RefusedFunction, name)?))
             }
             Asked::Refers(body) => {
                 let name = self.body_of(below, body)?;
@@ -111,7 +112,7 @@ impl<'a, M: Scope, F: Files> Evaluation<'a, M, F> {
     pub(crate) fn body_of(&mut self, below: u64, body: &[u8]) -> Result<Vec<u8>, Stop>
         ensures gives { AreKnown self.old.known → Gives (λ v. v.items) result self.new.world (body_of (evaluator M.writable (store_of self.old.known) below) body.now self.old.world) }
         ensures kept { Keeps self.old self.new }
-        ensures blames { Blames result self.old.failed self.new.failed }
+        ensures blames { Blames result self.old.failed self.new.failed self.new.world.asked }
     {
         if has_dollar(body) {
             return self.expand(below, body);
@@ -120,11 +121,11 @@ impl<'a, M: Scope, F: Files> Evaluation<'a, M, F> {
     }
 
     #[cycle(evaluate)]
-    #[tactic(auto, using(crate::proofs::FrontLemmas::value_named_front, crate::proofs::FrontLemmas::accepted_longer, crate::proofs::FrontLemmas::accepted_same), unfolding(crate::specs::Expansion::value_named))]
+    #[tactic(auto, using(crate::proofs::FrontLemmas::value_named_longer, crate::proofs::FrontLemmas::value_named_same, crate::proofs::FrontLemmas::accepted_longer, crate::proofs::FrontLemmas::accepted_same), unfolding(crate::specs::Expansion::value_named))]
     pub(crate) fn value_named(&mut self, below: u64, body: &[u8]) -> Result<Vec<u8>, Stop>
         ensures gives { AreKnown self.old.known → Gives (λ v. v.items) result self.new.world (value_named (evaluator M.writable (store_of self.old.known) below) (naming_of body.now) self.old.world) }
         ensures kept { Keeps self.old self.new }
-        ensures blames { Blames result self.old.failed self.new.failed }
+        ensures blames { Blames result self.old.failed self.new.failed self.new.world.asked }
     {
         match name_in(self.alloc, body)? {
             Naming::Plainly(name) => self.value_of(below, name),
@@ -137,11 +138,11 @@ impl<'a, M: Scope, F: Files> Evaluation<'a, M, F> {
     }
 
     #[cycle(evaluate)]
-    #[tactic(auto, using(crate::proofs::FrontLemmas::value_of_front), unfolding(crate::specs::Expansion::value_of))]
+    #[tactic(auto, using(crate::proofs::FrontLemmas::value_of_longer, crate::proofs::FrontLemmas::value_of_same), unfolding(crate::specs::Expansion::value_of))]
     pub(crate) fn value_of(&mut self, below: u64, name: &[u8]) -> Result<Vec<u8>, Stop>
         ensures gives { AreKnown self.old.known → Gives (λ v. v.items) result self.new.world (value_of (evaluator M.writable (store_of self.old.known) below) (lookup name.now self.old.world) self.old.world) }
         ensures kept { Keeps self.old self.new }
-        ensures blames { Blames result self.old.failed self.new.failed }
+        ensures blames { Blames result self.old.failed self.new.failed self.new.world.asked }
     {
         let Some(found) = self.lookup(name)? else {
             return Ok(Vec::new(self.alloc));
@@ -162,7 +163,7 @@ impl<'a, M: Scope, F: Files> Evaluation<'a, M, F> {
     ) -> Result<Vec<u8>, Stop>
         ensures gives { AreKnown self.old.known → Gives (λ v. v.items) result self.new.world (apply (evaluator M.writable (store_of self.old.known) below) function (map (λ a. a.now) arguments.now) self.old.world) }
         ensures kept { Keeps self.old self.new }
-        ensures blames { Blames result self.old.failed self.new.failed }
+        ensures blames { Blames result self.old.failed self.new.failed self.new.world.asked }
     {
         match function {
             Function::Text(text_function) => self.apply_text(below, text_function, arguments),
@@ -214,7 +215,7 @@ impl<'a, M: Scope, F: Files> Evaluation<'a, M, F> {
     ) -> Result<Vec<u8>, Stop>
         ensures gives { AreKnown self.old.known → Gives (λ v. v.items) result self.new.world (apply_text (evaluator M.writable (store_of self.old.known) below) function (map (λ a. a.now) texts.now) self.old.world) }
         ensures kept { Keeps self.old self.new }
-        ensures blames { Blames result self.old.failed self.new.failed }
+        ensures blames { Blames result self.old.failed self.new.failed self.new.world.asked }
     {
         if texts.len() != function.arity() {
             return self.bad_argument(function.name());
@@ -235,7 +236,7 @@ impl<'a, M: Scope, F: Files> Evaluation<'a, M, F> {
     ) -> Result<Vec<Shared<u8>>, Stop>
         ensures gives { AreKnown self.old.known → Gives (λ v. v.items) result self.new.world (each_argument (evaluator M.writable (store_of self.old.known) below) first.items (map (λ a. a.now) texts.now) self.old.world) }
         ensures kept { Keeps self.old self.new }
-        ensures blames { Blames result self.old.failed self.new.failed }
+        ensures blames { Blames result self.old.failed self.new.failed self.new.world.asked }
     {
         let mut out = first;
         let mut place = 0;
@@ -258,7 +259,7 @@ impl<'a, M: Scope, F: Files> Evaluation<'a, M, F> {
     ) -> Result<Vec<u8>, Stop>
         ensures gives { AreKnown self.old.known → Gives (λ v. v.items) result self.new.world (apply_if (evaluator M.writable (store_of self.old.known) below) condition.now chosen.now (option_map (λ t. t.now) other.entry) self.old.world) }
         ensures kept { Keeps self.old self.new }
-        ensures blames { Blames result self.old.failed self.new.failed }
+        ensures blames { Blames result self.old.failed self.new.failed self.new.world.asked }
     {
         let x = self.expand(below, stripped(condition))?;
         if !x.is_empty() {
@@ -275,7 +276,7 @@ impl<'a, M: Scope, F: Files> Evaluation<'a, M, F> {
     pub(crate) fn apply_or(&mut self, below: u64, texts: &[&[u8]]) -> Result<Vec<u8>, Stop>
         ensures gives { AreKnown self.old.known → Gives (λ v. v.items) result self.new.world (apply_or (evaluator M.writable (store_of self.old.known) below) (map (λ a. a.now) texts.now) self.old.world) }
         ensures kept { Keeps self.old self.new }
-        ensures blames { Blames result self.old.failed self.new.failed }
+        ensures blames { Blames result self.old.failed self.new.failed self.new.world.asked }
     {
         let mut place = 0;
         'arguments: while place < texts.len() {
@@ -293,7 +294,7 @@ impl<'a, M: Scope, F: Files> Evaluation<'a, M, F> {
     pub(crate) fn apply_and(&mut self, below: u64, texts: &[&[u8]]) -> Result<Vec<u8>, Stop>
         ensures gives { AreKnown self.old.known → Gives (λ v. v.items) result self.new.world (apply_and (evaluator M.writable (store_of self.old.known) below) (map (λ a. a.now) texts.now) self.old.world) }
         ensures kept { Keeps self.old self.new }
-        ensures blames { Blames result self.old.failed self.new.failed }
+        ensures blames { Blames result self.old.failed self.new.failed self.new.world.asked }
     {
         let mut place = 0;
         'arguments: while place < texts.len() {
@@ -317,7 +318,7 @@ impl<'a, M: Scope, F: Files> Evaluation<'a, M, F> {
     ) -> Result<Vec<u8>, Stop>
         ensures gives { AreKnown self.old.known → Gives (λ v. v.items) result self.new.world (apply_foreach (evaluator M.writable (store_of self.old.known) below) variable.now list.now body.now self.old.world) }
         ensures kept { Keeps self.old self.new }
-        ensures blames { Blames result self.old.failed self.new.failed }
+        ensures blames { Blames result self.old.failed self.new.failed self.new.world.asked }
     {
         let expanded = self.expand(below, variable)?;
         let list = self.expand(below, list)?;
@@ -327,7 +328,7 @@ impl<'a, M: Scope, F: Files> Evaluation<'a, M, F> {
 
     // The body for each word in turn.
     #[cycle(evaluate)]
-    #[tactic(auto, using(crate::proofs::FrontLemmas::each_word_front, crate::proofs::FrontLemmas::each_word_longer, crate::proofs::FrontLemmas::each_word_same), unfolding(crate::specs::Expansion::each_word))]
+    #[tactic(auto, using(crate::proofs::FrontLemmas::each_word_longer, crate::proofs::FrontLemmas::each_word_same), unfolding(crate::specs::Expansion::each_word))]
     pub(crate) fn each_word(
         &mut self,
         below: u64,
@@ -337,7 +338,7 @@ impl<'a, M: Scope, F: Files> Evaluation<'a, M, F> {
     ) -> Result<Vec<u8>, Stop>
         ensures gives { AreKnown self.old.known → Gives (λ v. v.items) result self.new.world (each_word (evaluator M.writable (store_of self.old.known) below) name.now body.now [] [] (words_of list.now) self.old.world) }
         ensures kept { Keeps self.old self.new }
-        ensures blames { Blames result self.old.failed self.new.failed }
+        ensures blames { Blames result self.old.failed self.new.failed self.new.world.asked }
     {
         let mut out = Vec::new(self.alloc);
         let mut separator: &[u8] = b"";
@@ -359,7 +360,7 @@ impl<'a, M: Scope, F: Files> Evaluation<'a, M, F> {
     pub(crate) fn apply_call(&mut self, below: u64, texts: &[&[u8]]) -> Result<Vec<u8>, Stop>
         ensures gives { AreKnown self.old.known → Gives (λ v. v.items) result self.new.world (apply_call (evaluator M.writable (store_of self.old.known) below) (map (λ a. a.now) texts.now) self.old.world) }
         ensures kept { Keeps self.old self.new }
-        ensures blames { Blames result self.old.failed self.new.failed }
+        ensures blames { Blames result self.old.failed self.new.failed self.new.world.asked }
     {
         let Some((text, others)) = texts.split_first() else {
             return Ok(Vec::new(self.alloc));
@@ -369,7 +370,7 @@ impl<'a, M: Scope, F: Files> Evaluation<'a, M, F> {
     }
 
     #[cycle(evaluate)]
-    #[tactic(auto, using(crate::proofs::FrontLemmas::call_by_name_front, crate::proofs::FrontLemmas::called_longer, crate::proofs::FrontLemmas::called_same), unfolding(crate::specs::Expansion::call_by_name))]
+    #[tactic(auto, using(crate::proofs::FrontLemmas::call_by_name_longer, crate::proofs::FrontLemmas::call_by_name_same, crate::proofs::FrontLemmas::called_longer, crate::proofs::FrontLemmas::called_same), unfolding(crate::specs::Expansion::call_by_name))]
     pub(crate) fn call_by_name(
         &mut self,
         below: u64,
@@ -378,10 +379,10 @@ impl<'a, M: Scope, F: Files> Evaluation<'a, M, F> {
     ) -> Result<Vec<u8>, Stop>
         ensures gives { AreKnown self.old.known → Gives (λ v. v.items) result self.new.world (call_by_name (evaluator M.writable (store_of self.old.known) below) name.now (map (λ a. a.now) texts.now) self.old.world) }
         ensures kept { Keeps self.old self.new }
-        ensures blames { Blames result self.old.failed self.new.failed }
+        ensures blames { Blames result self.old.failed self.new.failed self.new.world.asked }
     {
         if is_function_name(name) {
-            return Err(Stop::Fault(self.fault(16, b"refused function ", name)?));
+            return Err(Stop::Fault(self.fault(FaultKind::RefusedFunction, name)?));
         }
         let mut first = Vec::new(self.alloc);
         first.push(Shared::from_vec(Vec::from_slice(self.alloc, name)?)?)?;
@@ -391,7 +392,7 @@ impl<'a, M: Scope, F: Files> Evaluation<'a, M, F> {
 
     // The value of a macro with its name and arguments bound.
     #[cycle(evaluate)]
-    #[tactic(auto, using(crate::proofs::FrontLemmas::called_front, crate::proofs::FrontLemmas::value_of_longer, crate::proofs::FrontLemmas::value_of_same), unfolding(crate::specs::Expansion::called))]
+    #[tactic(auto, using(crate::proofs::FrontLemmas::called_longer, crate::proofs::FrontLemmas::called_same, crate::proofs::FrontLemmas::value_of_longer, crate::proofs::FrontLemmas::value_of_same), unfolding(crate::specs::Expansion::called))]
     pub(crate) fn call(
         &mut self,
         below: u64,
@@ -400,7 +401,7 @@ impl<'a, M: Scope, F: Files> Evaluation<'a, M, F> {
     ) -> Result<Vec<u8>, Stop>
         ensures gives { AreKnown self.old.known → Gives (λ v. v.items) result self.new.world (called (evaluator M.writable (store_of self.old.known) below) name.now arguments.items self.old.world) }
         ensures kept { Keeps self.old self.new }
-        ensures blames { Blames result self.old.failed self.new.failed }
+        ensures blames { Blames result self.old.failed self.new.failed self.new.world.asked }
     {
         self.bind(Frame::Call(Sequence::from(arguments)))?;
         let x = self.value_of(below, name)?;
@@ -413,7 +414,7 @@ impl<'a, M: Scope, F: Files> Evaluation<'a, M, F> {
     pub(crate) fn apply_value(&mut self, below: u64, text: &[u8]) -> Result<Vec<u8>, Stop>
         ensures gives { AreKnown self.old.known → Gives (λ v. v.items) result self.new.world (apply_value (evaluator M.writable (store_of self.old.known) below) text.now self.old.world) }
         ensures kept { Keeps self.old self.new }
-        ensures blames { Blames result self.old.failed self.new.failed }
+        ensures blames { Blames result self.old.failed self.new.failed self.new.world.asked }
     {
         let name = self.expand(below, text)?;
         match self.lookup(&name)? {
@@ -427,10 +428,10 @@ impl<'a, M: Scope, F: Files> Evaluation<'a, M, F> {
     pub(crate) fn apply_eval(&mut self, below: u64, text: &[u8]) -> Result<Vec<u8>, Stop>
         ensures gives { AreKnown self.old.known → Gives (λ v. v.items) result self.new.world (apply_eval (evaluator M.writable (store_of self.old.known) below) text.now self.old.world) }
         ensures kept { Keeps self.old self.new }
-        ensures blames { Blames result self.old.failed self.new.failed }
+        ensures blames { Blames result self.old.failed self.new.failed self.new.world.asked }
     {
         if !self.is_writable() {
-            return Err(Stop::Fault(self.fault(32, b"eval in a recipe", b"")?));
+            return Err(Stop::Fault(self.fault(FaultKind::EvalInRecipe, b"")?));
         }
         let x = self.expand(below, text)?;
         self.eval(below, &x)?;
@@ -442,10 +443,10 @@ impl<'a, M: Scope, F: Files> Evaluation<'a, M, F> {
     pub(crate) fn apply_error(&mut self, below: u64, text: &[u8]) -> Result<Vec<u8>, Stop>
         ensures gives { AreKnown self.old.known → Gives (λ v. v.items) result self.new.world (apply_error (evaluator M.writable (store_of self.old.known) below) text.now self.old.world) }
         ensures kept { Keeps self.old self.new }
-        ensures blames { Blames result self.old.failed self.new.failed }
+        ensures blames { Blames result self.old.failed self.new.failed self.new.world.asked }
     {
         let x = self.expand(below, text)?;
-        Err(Stop::Fault(self.fault(19, b"", &x)?))
+        Err(Stop::Fault(self.fault(FaultKind::ErrorCalled, &x)?))
     }
 
     #[cycle(evaluate)]
@@ -453,7 +454,7 @@ impl<'a, M: Scope, F: Files> Evaluation<'a, M, F> {
     pub(crate) fn apply_warning(&mut self, below: u64, text: &[u8]) -> Result<Vec<u8>, Stop>
         ensures gives { AreKnown self.old.known → Gives (λ v. v.items) result self.new.world (apply_warning (evaluator M.writable (store_of self.old.known) below) text.now self.old.world) }
         ensures kept { Keeps self.old self.new }
-        ensures blames { Blames result self.old.failed self.new.failed }
+        ensures blames { Blames result self.old.failed self.new.failed self.new.world.asked }
     {
         let x = self.expand(below, text)?;
         self.warn(&x)?;
@@ -465,7 +466,7 @@ impl<'a, M: Scope, F: Files> Evaluation<'a, M, F> {
     pub(crate) fn apply_info(&mut self, below: u64, text: &[u8]) -> Result<Vec<u8>, Stop>
         ensures gives { AreKnown self.old.known → Gives (λ v. v.items) result self.new.world (apply_info (evaluator M.writable (store_of self.old.known) below) text.now self.old.world) }
         ensures kept { Keeps self.old self.new }
-        ensures blames { Blames result self.old.failed self.new.failed }
+        ensures blames { Blames result self.old.failed self.new.failed self.new.world.asked }
     {
         let x = self.expand(below, text)?;
         self.say(x)?;
@@ -479,10 +480,10 @@ impl<'a, M: Scope, F: Files> Evaluation<'a, M, F> {
         requires { M.writable ≡ true }
         ensures gives { AreKnown self.old.known → Gives (λ u. u) result self.new.world ((evaluator M.writable (store_of self.old.known) levels).eval text.now self.old.world) }
         ensures kept { Keeps self.old self.new }
-        ensures blames { Blames result self.old.failed self.new.failed }
+        ensures blames { Blames result self.old.failed self.new.failed self.new.world.asked }
     {
         if levels == 0 {
-            return Err(Stop::Fault(self.fault(8, b"nesting too deep", b"")?));
+            return Err(Stop::Fault(self.fault(FaultKind::NestingTooDeep, b"")?));
         }
         self.read_held(levels - 1, text)
     }

@@ -1,19 +1,19 @@
 //! An evaluation in progress: what it knows, and the small steps that change it.
 ghost use Rattle.std.specs.Prelude.{◌≡◌, ◌++◌, ◌≤◌, IfOk, OnErr, OnOk, None, drop, option_map, true};
 ghost use Rattle.kt_eval.specs.State.{innermost, lookup};
-ghost use Rattle.kt_eval.specs.Views.{rule_stop};
 
 use crate::assigning::{Assigning, assignment_of};
-use crate::fault::Fault;
+use crate::fault::{Fault, append_place};
 use crate::files::{FileFault, Files};
 use crate::frames::innermost;
+use crate::kind::FaultKind;
 use crate::macros::{Flavour, Macro};
 use crate::page::{Page, RawLine, Source};
 use crate::scope::Scope;
 use crate::state::{Found, Frame};
 use crate::stop::Stop;
 use kt_list::{Sequence, Shared};
-use kt_rules::{Entry, Place, RuleFault, read_rule};
+use kt_rules::{Entry, Place, read_rule};
 use kt_syntax::{Operator, recipe_text};
 use kt_text::TextFault;
 use std::alloc::{AllocError, Global};
@@ -60,6 +60,7 @@ impl<'a, M: Scope, F: Files> Evaluation<'a, M, F> {
     ghost use Rattle.kt_eval.specs.Expansion.{accepted, bad_argument};
     ghost use Rattle.kt_eval.specs.Step.{Blames, Gives};
     ghost use Rattle.kt_eval.specs.State.{bind, unbind, say, warn, message_place};
+    ghost use Rattle.kt_eval.specs.Faults.{number_of, wording};
     ghost use Rattle.kt_eval.specs.Step.{fault_at};
 
     // What a name stands for.
@@ -72,7 +73,7 @@ impl<'a, M: Scope, F: Files> Evaluation<'a, M, F> {
                 flavour: Flavour::Immediate,
                 value,
             })),
-            None => self.macros.find(name),
+            None => self.macros.find(self.alloc, name),
         }
     }
 
@@ -121,47 +122,35 @@ impl<'a, M: Scope, F: Files> Evaluation<'a, M, F> {
         ensures { IfOk result (λ text. text.items ≡ message_place self.now.world.place) }
     {
         let mut text = Vec::new(self.alloc);
-        match &self.place {
-            None => text.extend_from_slice(b"kati")?,
-            Some(place) => place.append_to(&mut text)?,
-        }
+        append_place(&self.place, &mut text)?;
         Ok(text)
     }
 
-    // A fault at the place that is being read, with these words before a name.
-    pub(crate) fn fault(&self, number: u8, words: &[u8], name: &[u8]) -> Result<Fault, AllocError>
-        ensures { IfOk result (λ fault. fault ≡ fault_at self.now.world.place number (words.now ++ name.now)) }
+    // A fault of this kind at the place that is being read, which tells of this name.
+    pub(crate) fn fault(&self, kind: FaultKind, name: &[u8]) -> Result<Fault, AllocError>
+        ensures { IfOk result (λ fault. fault ≡ fault_at self.now.world.place (number_of kind) (wording kind ++ name.now)) }
     {
-        let mut text = Vec::from_slice(self.alloc, words)?;
-        text.extend_from_slice(name)?;
-        let place = match &self.place {
-            None => None,
-            Some(place) => Some(place.share()?),
-        };
-        Ok(Fault {
-            place,
-            number,
-            words: Sequence::from(text),
-        })
+        let place = self.place()?;
+        Fault::new(self.alloc, kind, name, place)
     }
 
     // The refusal of an argument of a function.
     pub(crate) fn bad_argument(&self, name: &[u8]) -> Result<Vec<u8>, Stop>
         ensures gives { Gives (λ v. v.items) result self.now.world (bad_argument name.now self.now.world) }
-        ensures blames { Blames result self.now.failed self.now.failed }
+        ensures blames { Blames result self.now.failed self.now.failed self.now.world.asked }
     {
-        Err(Stop::Fault(self.fault(18, b"bad argument of ", name)?))
+        Err(Stop::Fault(self.fault(FaultKind::BadArgument, name)?))
     }
 
     // What a function of texts answered.
-    #[tactic(auto, using(crate::proofs::FrontLemmas::accepted_front))]
+    #[tactic(auto, using(crate::proofs::FrontLemmas::accepted_longer, crate::proofs::FrontLemmas::accepted_same))]
     pub(crate) fn accept(
         &self,
         name: &[u8],
         outcome: Result<Vec<u8>, TextFault>,
     ) -> Result<Vec<u8>, Stop>
         ensures gives { (expected : Option (List ℕ)) → Answers outcome expected → Gives (λ v. v.items) result self.now.world (accepted name.now expected self.now.world) }
-        ensures blames { Blames result self.now.failed self.now.failed }
+        ensures blames { Blames result self.now.failed self.now.failed self.now.world.asked }
     {
         match outcome {
             Ok(text) => Ok(text),
@@ -185,6 +174,7 @@ impl<'a, M: Scope, F: Files> Evaluation<'a, M, F> {
         ensures refused { OnErr result (self.new ≡ self.old) }
         ensures done { OnOk result (self.new ≡ record self.old { world = at_number source.now number self.old.world }) }
         ensures said { self.new.world.said ≡ self.old.world.said }
+        ensures asked { self.new.world.asked ≡ self.old.world.asked }
     {
         match source {
             Source::Held => Ok(()),
@@ -205,6 +195,7 @@ impl<'a, M: Scope, F: Files> Evaluation<'a, M, F> {
         ensures refused { OnErr result (self.new ≡ self.old) }
         ensures done { OnOk result (self.new ≡ record self.old { world = at_line page.now place self.old.world }) }
         ensures said { self.new.world.said ≡ self.old.world.said }
+        ensures asked { self.new.world.asked ≡ self.old.world.asked }
         ensures line { IfOk result (λ line. raw_told line ≡ line_at page.now.lines place) }
     {
         let line = page.line(place);
@@ -248,6 +239,7 @@ impl<'a, M: Scope, F: Files> Evaluation<'a, M, F> {
         ensures kept { Keeps self.old self.new }
         ensures unfailed { self.new.failed ≡ self.old.failed }
         ensures said { self.new.world.said ≡ self.old.world.said }
+        ensures asked { self.new.world.asked ≡ self.old.world.asked }
     {
         match front {
             Some(front) => self.macros.append(name, flavour, front, text),
@@ -291,7 +283,7 @@ impl<'a, M: Scope, F: Files> Evaluation<'a, M, F> {
         requires { M.writable ≡ true }
         ensures gives { Gives (λ u. u) result self.new.world (close_rule self.old.world) }
         ensures kept { Keeps self.old self.new }
-        ensures blames { Blames result self.old.failed self.new.failed }
+        ensures blames { Blames result self.old.failed self.new.failed self.new.world.asked }
         ensures unfailed { self.new.failed ≡ self.old.failed }
     {
         match self.take_rule() {
@@ -301,12 +293,12 @@ impl<'a, M: Scope, F: Files> Evaluation<'a, M, F> {
     }
 
     // Puts a rule into the book.
-    #[tactic(auto, using(crate::proofs::FrontLemmas::enter_rule_front), unfolding(crate::specs::Rules::enter_rule))]
+    #[tactic(auto, using(crate::proofs::FrontLemmas::enter_rule_longer, crate::proofs::FrontLemmas::enter_rule_same), unfolding(crate::specs::Rules::enter_rule))]
     fn enter_rule(&mut self, rule: Entry) -> Result<(), Stop>
         requires { M.writable ≡ true }
         ensures gives { Gives (λ u. u) result self.new.world (enter_rule rule self.old.world) }
         ensures kept { Keeps self.old self.new }
-        ensures blames { Blames result self.old.failed self.new.failed }
+        ensures blames { Blames result self.old.failed self.new.failed self.new.world.asked }
         ensures unfailed { self.new.failed ≡ self.old.failed }
     {
         match self.macros.add(rule) {
@@ -314,12 +306,12 @@ impl<'a, M: Scope, F: Files> Evaluation<'a, M, F> {
                 self.messages.append(&mut warnings.into_vec())?;
                 Ok(())
             }
-            Err(refused) => Err(rule_stop(refused)),
+            Err(refused) => Err(Stop::from(refused)),
         }
     }
 
     // Opens the rule of an expanded head.
-    #[tactic(auto, using(crate::proofs::FrontLemmas::open_rule_front), unfolding(crate::specs::Rules::open_rule))]
+    #[tactic(auto, using(crate::proofs::FrontLemmas::open_rule_longer, crate::proofs::FrontLemmas::open_rule_same), unfolding(crate::specs::Rules::open_rule))]
     pub(crate) fn open_rule(
         &mut self,
         recipe: Option<Sequence<u8>>,
@@ -327,7 +319,7 @@ impl<'a, M: Scope, F: Files> Evaluation<'a, M, F> {
     ) -> Result<(), Stop>
         ensures gives { Gives (λ u. u) result self.new.world (open_rule recipe head.now self.old.world) }
         ensures kept { Keeps self.old self.new }
-        ensures blames { Blames result self.old.failed self.new.failed }
+        ensures blames { Blames result self.old.failed self.new.failed self.new.world.asked }
         ensures unfailed { self.new.failed ≡ self.old.failed }
     {
         let place = self.rule_place()?;
@@ -336,7 +328,7 @@ impl<'a, M: Scope, F: Files> Evaluation<'a, M, F> {
                 self.rule = Some(rule);
                 Ok(())
             }
-            Err(refused) => Err(rule_stop(refused)),
+            Err(refused) => Err(Stop::from(refused)),
         }
     }
 
@@ -345,7 +337,7 @@ impl<'a, M: Scope, F: Files> Evaluation<'a, M, F> {
     pub(crate) fn recipe_line(&mut self, rule: Entry, text: &[u8]) -> Result<(), Stop>
         ensures gives { Gives (λ u. u) result self.new.world (recipe_line rule text.now self.old.world) }
         ensures kept { Keeps self.old self.new }
-        ensures blames { Blames result self.old.failed self.new.failed }
+        ensures blames { Blames result self.old.failed self.new.failed self.new.world.asked }
         ensures unfailed { self.new.failed ≡ self.old.failed }
     {
         let mut rule = rule;
@@ -356,36 +348,20 @@ impl<'a, M: Scope, F: Files> Evaluation<'a, M, F> {
         Ok(())
     }
 
-    // Reads the bytes of a file, if it is there.
-    #[tactic(auto, unfolding(crate::specs::Reading::read_bytes))]
+    // Reads the bytes of a file, if it is there. Its name is copied first, so that no failure of the device ends in want of
+    // memory.
+    #[tactic(auto, using(crate::proofs::FrontLemmas::asked_longer, crate::proofs::FrontLemmas::asked_same, crate::proofs::LastLemmas::last_behind), unfolding(crate::specs::Reading::read_bytes))]
     pub(crate) fn read_bytes(&mut self, name: &str) -> Result<Option<Vec<u8>>, Stop>
         ensures gives { AreKnown self.old.known → Gives (λ found. option_map (λ v. v.items) found) result self.new.world (read_bytes (store_of self.old.known) name.now self.old.world) }
         ensures kept { Keeps self.old self.new }
-        ensures blames { Blames result self.old.failed self.new.failed }
+        ensures blames { Blames result self.old.failed self.new.failed self.new.world.asked }
     {
+        let copy = name.to_string(self.alloc)?;
         match self.files.read(name) {
             Ok(found) => Ok(found),
-            Err(FileFault::Device) => Err(Stop::Device(name.to_string(self.alloc)?)),
+            Err(FileFault::Device) => Err(Stop::Device(copy)),
             Err(FileFault::Memory) => Err(Stop::Memory),
         }
-    }
-}
-
-// What a rule is refused for, as what stops the reading.
-fn rule_stop(refused: RuleFault) -> Stop
-    ensures { result ≡ rule_stop refused }
-{
-    match refused {
-        RuleFault::Refused {
-            number,
-            place,
-            words,
-        } => Stop::Fault(Fault {
-            place: Some(place),
-            number,
-            words,
-        }),
-        RuleFault::Memory => Stop::Memory,
     }
 }
 

@@ -1,7 +1,6 @@
 //! Where makefiles are read from.
-ghost use Rattle.std.specs.Prelude.{◌≡◌, ℕ, List, Option, option_map, map, string_bytes, IfOk, IfErr, IfSome, ◌≤◌};
-ghost use Rattle.kt_list.specs.Counters.{Rises};
-ghost use Rattle.kt_eval.specs.Files.{AskedAfter, IsDevice, Store, look};
+ghost use Rattle.std.specs.Prelude.{◌≡◌, ℕ, List, Option, option_map, map, string_bytes, IfOk, IfSome, ◌≤◌};
+ghost use Rattle.kt_eval.specs.Files.{AskedAfter, CountedAfter, Store, look};
 
 use thiserror::Error;
 
@@ -11,7 +10,7 @@ pub enum FileFault {
     /// The device failed. A file that isn't there is no failure.
     #[error("cannot read")]
     Device,
-    #[error("no memory")]
+    #[error("out of memory")]
     Memory,
 }
 
@@ -27,13 +26,13 @@ pub trait Files {
     ghost failed: { Self → ℕ };
 
     /// The bytes of the file, or `None` where there is none of this name. The name counts as asked for, but where
-    /// memory was refused.
+    /// memory was refused. A failure of the device is counted, and nothing else is.
     fn read(&mut self, name: &str) -> Result<Option<Vec<u8>>, FileFault>
         ensures found { IfSome (known self.old) (λ store. IfOk result (λ found. option_map (λ v. v.items) found ≡ look store name.now)) }
         ensures keeps { known self.new ≡ known self.old }
         ensures asked { AskedAfter result (names self.old) (names self.new) name.now }
         ensures counts { failed self.old ≤ failed self.new }
-        ensures fails { IfErr result (λ e. IsDevice e → Rises (failed self.old) (failed self.new)) };
+        ensures fails { CountedAfter result (failed self.old) (failed self.new) };
 
     /// The names that were asked for, in order.
     fn asked(&self) -> &[String]

@@ -10,6 +10,7 @@ ghost use Rattle.kt_eval.specs.Step.{AreKnown, Blames, Gives, store_of, Keeps};
 
 use crate::evaluation::Evaluation;
 use crate::files::Files;
+use crate::kind::FaultKind;
 use crate::page::Source;
 use crate::scope::Scope;
 use crate::stop::Stop;
@@ -61,7 +62,7 @@ impl<'a, M: Scope, F: Files> Evaluation<'a, M, F> {
         requires { M.writable ≡ true }
         ensures gives { AreKnown self.old.known → Gives (λ u. u) result self.new.world (include_line (evaluator M.writable (store_of self.old.known) below) optional text.now self.old.world) }
         ensures kept { Keeps self.old self.new }
-        ensures blames { Blames result self.old.failed self.new.failed }
+        ensures blames { Blames result self.old.failed self.new.failed self.new.world.asked }
     {
         let x = self.expand_here(below, text)?;
         self.each_include(below, optional, &x)
@@ -78,7 +79,7 @@ impl<'a, M: Scope, F: Files> Evaluation<'a, M, F> {
         requires { M.writable ≡ true }
         ensures gives { AreKnown self.old.known → Gives (λ u. u) result self.new.world (each_include (evaluator M.writable (store_of self.old.known) below) optional (words_of names.now) self.old.world) }
         ensures kept { Keeps self.old self.new }
-        ensures blames { Blames result self.old.failed self.new.failed }
+        ensures blames { Blames result self.old.failed self.new.failed self.new.world.asked }
     {
         let mut rest = words(names);
         'names: while let Some(name) = rest.next() {
@@ -98,13 +99,13 @@ impl<'a, M: Scope, F: Files> Evaluation<'a, M, F> {
         requires { M.writable ≡ true }
         ensures gives { AreKnown self.old.known → Gives (λ u. u) result self.new.world (include_named (evaluator M.writable (store_of self.old.known) below) optional name.now self.old.world) }
         ensures kept { Keeps self.old self.new }
-        ensures blames { Blames result self.old.failed self.new.failed }
+        ensures blames { Blames result self.old.failed self.new.failed self.new.world.asked }
     {
         let Some(text) = as_text(name) else {
-            return Err(Stop::Fault(self.fault(34, b"include name is not UTF-8", b"")?));
+            return Err(Stop::Fault(self.fault(FaultKind::IncludeNameNotUtf8, b"")?));
         };
         if is_pattern(name) {
-            return Err(Stop::Fault(self.fault(20, b"refused name ", name)?));
+            return Err(Stop::Fault(self.fault(FaultKind::RefusedName, name)?));
         }
         self.include(below, optional, text)
     }
@@ -116,10 +117,10 @@ impl<'a, M: Scope, F: Files> Evaluation<'a, M, F> {
         requires { M.writable ≡ true }
         ensures gives { AreKnown self.old.known → Gives (λ u. u) result self.new.world ((evaluator M.writable (store_of self.old.known) levels).include optional name.now self.old.world) }
         ensures kept { Keeps self.old self.new }
-        ensures blames { Blames result self.old.failed self.new.failed }
+        ensures blames { Blames result self.old.failed self.new.failed self.new.world.asked }
     {
         if levels == 0 {
-            return Err(Stop::Fault(self.fault(8, b"nesting too deep", b"")?));
+            return Err(Stop::Fault(self.fault(FaultKind::NestingTooDeep, b"")?));
         }
         self.included(levels - 1, optional, name)
     }
@@ -130,7 +131,7 @@ impl<'a, M: Scope, F: Files> Evaluation<'a, M, F> {
         requires { M.writable ≡ true }
         ensures gives { AreKnown self.old.known → Gives (λ u. u) result self.new.world (included (store_of self.old.known) (evaluator M.writable (store_of self.old.known) below) optional name.now self.old.world) }
         ensures kept { Keeps self.old self.new }
-        ensures blames { Blames result self.old.failed self.new.failed }
+        ensures blames { Blames result self.old.failed self.new.failed self.new.world.asked }
     {
         let found = self.read_bytes(name)?;
         self.read_included(below, optional, name, found)
@@ -138,7 +139,7 @@ impl<'a, M: Scope, F: Files> Evaluation<'a, M, F> {
 
     // The place is then that of the include again.
     #[cycle(evaluate)]
-    #[tactic(auto, using(crate::proofs::FrontLemmas::read_included_front, crate::proofs::FrontLemmas::read_file_longer, crate::proofs::FrontLemmas::read_file_same))]
+    #[tactic(auto, using(crate::proofs::FrontLemmas::read_included_longer, crate::proofs::FrontLemmas::read_included_same, crate::proofs::FrontLemmas::read_file_longer, crate::proofs::FrontLemmas::read_file_same))]
     pub(crate) fn read_included(
         &mut self,
         below: u64,
@@ -149,14 +150,14 @@ impl<'a, M: Scope, F: Files> Evaluation<'a, M, F> {
         requires { M.writable ≡ true }
         ensures gives { AreKnown self.old.known → Gives (λ u. u) result self.new.world (read_included (evaluator M.writable (store_of self.old.known) below) optional name.now (option_map (λ v. v.items) found) self.old.world) }
         ensures kept { Keeps self.old self.new }
-        ensures blames { Blames result self.old.failed self.new.failed }
+        ensures blames { Blames result self.old.failed self.new.failed self.new.world.asked }
     {
         match found {
             None => {
                 if optional {
                     return Ok(());
                 }
-                Err(Stop::Fault(self.fault(4, b"no file ", name.as_bytes())?))
+                Err(Stop::Fault(self.fault(FaultKind::NoFile, name.as_bytes())?))
             }
             Some(text) => {
                 let place = self.place()?;
@@ -168,15 +169,15 @@ impl<'a, M: Scope, F: Files> Evaluation<'a, M, F> {
     }
 
     #[cycle(evaluate)]
-    #[tactic(auto, using(crate::proofs::FrontLemmas::read_text_front), unfolding(crate::specs::Reading::read_file))]
+    #[tactic(auto, using(crate::proofs::FrontLemmas::read_text_longer, crate::proofs::FrontLemmas::read_text_same), unfolding(crate::specs::Reading::read_file))]
     pub(crate) fn read_file(&mut self, below: u64, name: &str, text: &[u8]) -> Result<(), Stop>
         requires { M.writable ≡ true }
         ensures gives { AreKnown self.old.known → Gives (λ u. u) result self.new.world (read_file (evaluator M.writable (store_of self.old.known) below) name.now text.now self.old.world) }
         ensures kept { Keeps self.old self.new }
-        ensures blames { Blames result self.old.failed self.new.failed }
+        ensures blames { Blames result self.old.failed self.new.failed self.new.world.asked }
     {
         if LARGEST < text.len() {
-            return Err(Stop::Fault(self.fault(2, b"file too large: ", name.as_bytes())?));
+            return Err(Stop::Fault(self.fault(FaultKind::FileTooLarge, name.as_bytes())?));
         }
         let file = Shared::from_vec(Vec::from_slice(self.alloc, name.as_bytes())?)?;
         self.read_text(below, &Source::File(file), text)
@@ -188,13 +189,13 @@ impl<'a, M: Scope, F: Files> Evaluation<'a, M, F> {
         requires { M.writable ≡ true }
         ensures gives { AreKnown self.old.known → Gives (λ u. u) result self.new.world (read_first (store_of self.old.known) (evaluator M.writable (store_of self.old.known) limit) (map (λ name. name.now) names.now) self.old.world) }
         ensures kept { Keeps self.old self.new }
-        ensures blames { Blames result self.old.failed self.new.failed }
+        ensures blames { Blames result self.old.failed self.new.failed self.new.world.asked }
     {
         for name in names {
             if let Some(text) = self.read_bytes(name)? {
                 return self.read_file(limit, name, &text);
             }
         }
-        Err(Stop::Fault(self.fault(3, b"no makefile", b"")?))
+        Err(Stop::Fault(self.fault(FaultKind::NoMakefile, b"")?))
     }
 }

@@ -3,6 +3,7 @@
 
 mod assigning;
 mod assignments;
+mod automatic;
 mod calls;
 mod compared;
 mod conditionals;
@@ -13,6 +14,7 @@ mod files;
 mod frames;
 mod function;
 mod including;
+mod kind;
 pub mod laws;
 mod machine;
 mod macros;
@@ -25,11 +27,12 @@ mod state;
 mod stop;
 mod text_functions;
 
+pub use automatic::{Automatic, NoAutomatic};
 pub use fault::Fault;
 pub use files::{FileFault, Files};
 pub use function::{Function, TextFunction};
+pub use kind::FaultKind;
 pub use machine::{Machine, Reading};
 pub use macros::{Flavour, Macro, Macros, Origin};
 pub use memory::MemFiles;
-pub use state::Automatic;
 pub use stop::Stop;

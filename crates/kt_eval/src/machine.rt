@@ -75,7 +75,8 @@ impl Machine {
     ///
     /// After a refusal each further call repeats it, or answers want of memory where its copy is
     /// refused, and asks for no file. Messages are appended in order; where memory is refused or a
-    /// device fails, a beginning of them.
+    /// device fails, a beginning of them, and a beginning of the names is asked for. A failed device
+    /// is answered by the name asked for last; nothing else is answered where one failed.
     pub fn read_file<F: Files>(&mut self, files: &mut F, names: &[&str]) -> Result<(), Stop>
         ensures reads { self.old.refusal ≡ None → IfSome (F.known files.old) (λ store. Reads result self.new.table self.new.book self.new.said (F.names files.new) (reading store (map (λ name. name.now) names.now) self.old.limit self.old.table self.old.book self.old.said (F.names files.old))) }
         ensures repeats { (stop : StopType) → self.old.refusal ≡ Some stop → Repeats result stop }
@@ -83,9 +84,10 @@ impl Machine {
         ensures remembers { self.old.refusal ≡ None → Remembers result self.new.refusal }
         ensures limited { self.new.limit ≡ self.old.limit }
         ensures said { IsFront self.old.said self.new.said }
+        ensures asked { IsFront (F.names files.old) (F.names files.new) }
         ensures keeps { F.known files.new ≡ F.known files.old }
         ensures counts { F.failed files.old ≤ F.failed files.new }
-        ensures blames { self.old.refusal ≡ None → Blames result (F.failed files.old) (F.failed files.new) }
+        ensures blames { self.old.refusal ≡ None → Blames result (F.failed files.old) (F.failed files.new) (F.names files.new) }
     {
         if let Some(refusal) = &self.refusal {
             return Err(copy_or_memory(self.alloc, refusal));
@@ -103,9 +105,10 @@ impl Machine {
         ensures limited { self.new.limit ≡ self.old.limit }
         ensures refusal { self.new.refusal ≡ self.old.refusal }
         ensures said { IsFront self.old.said self.new.said }
+        ensures asked { IsFront (F.names files.old) (F.names files.new) }
         ensures keeps { F.known files.new ≡ F.known files.old }
         ensures counts { F.failed files.old ≤ F.failed files.new }
-        ensures blames { Blames result (F.failed files.old) (F.failed files.new) }
+        ensures blames { Blames result (F.failed files.old) (F.failed files.new) (F.names files.new) }
     {
         let empty = Book::new(self.alloc)?;
         self.read_beside(empty, files, names)
@@ -122,9 +125,10 @@ impl Machine {
         ensures limited { self.new.limit ≡ self.old.limit }
         ensures refusal { self.new.refusal ≡ self.old.refusal }
         ensures said { IsFront self.old.said self.new.said }
+        ensures asked { IsFront (F.names files.old) (F.names files.new) }
         ensures keeps { F.known files.new ≡ F.known files.old }
         ensures counts { F.failed files.old ≤ F.failed files.new }
-        ensures blames { Blames result (F.failed files.old) (F.failed files.new) }
+        ensures blames { Blames result (F.failed files.old) (F.failed files.new) (F.names files.new) }
     {
         let book = mem::replace(&mut self.book, empty);
         let macros = mem::replace(&mut self.macros, Macros::new(self.alloc));
@@ -173,9 +177,10 @@ fn read_once<F: Files>(
 ) -> (Makefile, Vec<Sequence<u8>>, Result<(), Stop>)
     ensures reads { IfSome (F.known files.old) (λ store. Reads result.2 result.0.macros result.0.book result.1.items (F.names files.new) (reading store (map (λ name. name.now) names.now) limit makefile.macros makefile.book messages.items (F.names files.old))) }
     ensures said { IsFront messages.items result.1.items }
+    ensures asked { IsFront (F.names files.old) (F.names files.new) }
     ensures keeps { F.known files.new ≡ F.known files.old }
     ensures counts { F.failed files.old ≤ F.failed files.new }
-    ensures blames { Blames result.2 (F.failed files.old) (F.failed files.new) }
+    ensures blames { Blames result.2 (F.failed files.old) (F.failed files.new) (F.names files.new) }
 {
     let mut evaluation = Evaluation {
         alloc,

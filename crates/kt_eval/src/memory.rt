@@ -76,8 +76,7 @@ fn find(
 
 impl Files for MemFiles {
     ghost use Rattle.std.specs.Prelude.{◌≡◌, ◌≤◌, Some, option_map, true, false, IfOk, IfErr, OnOk};
-    ghost use Rattle.kt_list.specs.Counters.{Rises};
-    ghost use Rattle.kt_eval.specs.Files.{AskedAfter, IsDevice, IsMemory, look};
+    ghost use Rattle.kt_eval.specs.Files.{AskedAfter, CountedAfter, IsDevice, IsMemory, look};
     ghost use Rattle.kt_eval.specs.Memory.{after_read, fails_next};
 
     ghost known = { λ s. Some s.store };
@@ -91,7 +90,7 @@ impl Files for MemFiles {
         ensures keeps { Some self.new.store ≡ Some self.old.store }
         ensures asked { AskedAfter result self.old.asked self.new.asked name.now }
         ensures counts { self.old.failures ≤ self.new.failures }
-        ensures fails { IfErr result (λ e. IsDevice e → Rises self.old.failures self.new.failures) }
+        ensures fails { CountedAfter result self.old.failures self.new.failures }
 
         // The device fails at the nth read and at no other.
         ensures device { IfErr result (λ e. IsDevice e → fails_next self.old ≡ true) }

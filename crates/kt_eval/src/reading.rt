@@ -18,6 +18,7 @@ ghost use Rattle.kt_eval.specs.Views.{raw_told};
 use crate::evaluation::Evaluation;
 use crate::fault::Fault;
 use crate::files::Files;
+use crate::kind::FaultKind;
 use crate::page::{Page, RawLine, Source};
 use crate::scope::Scope;
 use crate::stop::Stop;
@@ -31,22 +32,22 @@ use std::alloc::{AllocError, Global};
 
 impl<'a, M: Scope, F: Files> Evaluation<'a, M, F> {
     // The end that is missing.
-    #[tactic(auto, using(crate::proofs::FrontLemmas::read_end_front), unfolding(crate::specs::Reading::read_end))]
+    #[tactic(auto, using(crate::proofs::FrontLemmas::read_end_longer, crate::proofs::FrontLemmas::read_end_same), unfolding(crate::specs::Reading::read_end))]
     fn read_end(&mut self, source: &Source, missing: Option<Missing>) -> Result<(), Stop>
         ensures gives { Gives (λ u. u) result self.new.world (read_end source.now missing self.old.world) }
         ensures kept { Keeps self.old self.new }
-        ensures blames { Blames result self.old.failed self.new.failed }
+        ensures blames { Blames result self.old.failed self.new.failed self.new.world.asked }
         ensures unfailed { self.new.failed ≡ self.old.failed }
     {
         match missing {
             None => Ok(()),
             Some(Missing::Endif(number)) => {
                 self.move_to(source, number)?;
-                Err(Stop::Fault(self.fault(12, b"missing endif", b"")?))
+                Err(Stop::Fault(self.fault(FaultKind::MissingEndif, b"")?))
             }
             Some(Missing::Endef(number)) => {
                 self.move_to(source, number)?;
-                Err(Stop::Fault(self.fault(14, b"missing endef", b"")?))
+                Err(Stop::Fault(self.fault(FaultKind::MissingEndef, b"")?))
             }
         }
     }
@@ -57,9 +58,9 @@ impl<'a, M: Scope, F: Files> Evaluation<'a, M, F> {
         ensures { IfOk result (λ fault. read_stray kind self.now.world ≡ Stopped self.now.world fault) }
     {
         match kind {
-            Stray::Else | Stray::LateElse => self.fault(10, b"stray else", b""),
-            Stray::Endif => self.fault(11, b"stray endif", b""),
-            Stray::Endef => self.fault(13, b"stray endef", b""),
+            Stray::Else | Stray::LateElse => self.fault(FaultKind::StrayElse, b""),
+            Stray::Endif => self.fault(FaultKind::StrayEndif, b""),
+            Stray::Endef => self.fault(FaultKind::StrayEndef, b""),
         }
     }
 
@@ -70,7 +71,7 @@ impl<'a, M: Scope, F: Files> Evaluation<'a, M, F> {
         requires { M.writable ≡ true }
         ensures gives { AreKnown self.old.known → Gives (λ u. u) result self.new.world (read_held (evaluator M.writable (store_of self.old.known) below) text.now self.old.world) }
         ensures kept { Keeps self.old self.new }
-        ensures blames { Blames result self.old.failed self.new.failed }
+        ensures blames { Blames result self.old.failed self.new.failed self.new.world.asked }
     {
         let outer = self.take_rule();
         self.read_text(below, &Source::Held, text)?;
@@ -79,12 +80,12 @@ impl<'a, M: Scope, F: Files> Evaluation<'a, M, F> {
     }
 
     #[cycle(evaluate)]
-    #[tactic(auto, using(crate::proofs::FrontLemmas::read_sheet_front, crate::proofs::FrontLemmas::read_without_nul_front), unfolding(crate::specs::Reading::read_text))]
+    #[tactic(auto, using(crate::proofs::FrontLemmas::read_sheet_longer, crate::proofs::FrontLemmas::read_sheet_same, crate::proofs::FrontLemmas::read_without_nul_longer, crate::proofs::FrontLemmas::read_without_nul_same), unfolding(crate::specs::Reading::read_text))]
     pub(crate) fn read_text(&mut self, below: u64, source: &Source, text: &[u8]) -> Result<(), Stop>
         requires { M.writable ≡ true }
         ensures gives { AreKnown self.old.known → Gives (λ u. u) result self.new.world (read_text (evaluator M.writable (store_of self.old.known) below) source.now text.now self.old.world) }
         ensures kept { Keeps self.old self.new }
-        ensures blames { Blames result self.old.failed self.new.failed }
+        ensures blames { Blames result self.old.failed self.new.failed self.new.world.asked }
     {
         match logical_lines(self.alloc, text) {
             Ok(lines) => {
@@ -93,7 +94,7 @@ impl<'a, M: Scope, F: Files> Evaluation<'a, M, F> {
             }
             Err(LineFault::Nul(number)) => {
                 self.move_to(source, number)?;
-                Err(Stop::Fault(self.fault(1, b"NUL byte", b"")?))
+                Err(Stop::Fault(self.fault(FaultKind::NulByte, b"")?))
             }
             Err(LineFault::Memory) => Err(Stop::Memory),
         }
@@ -105,7 +106,7 @@ impl<'a, M: Scope, F: Files> Evaluation<'a, M, F> {
         requires { M.writable ≡ true }
         ensures gives { AreKnown self.old.known → Gives (λ u. u) result self.new.world (read_sheet (evaluator M.writable (store_of self.old.known) below) page.now self.old.world) }
         ensures kept { Keeps self.old self.new }
-        ensures blames { Blames result self.old.failed self.new.failed }
+        ensures blames { Blames result self.old.failed self.new.failed self.new.world.asked }
     {
         self.read_items(below, page)?;
         self.close_rule()?;
@@ -118,7 +119,7 @@ impl<'a, M: Scope, F: Files> Evaluation<'a, M, F> {
         requires { M.writable ≡ true }
         ensures gives { AreKnown self.old.known → Gives (λ u. u) result self.new.world (read_items (evaluator M.writable (store_of self.old.known) below) page.now (tree_of page.now.blocks.steps) self.old.world) }
         ensures kept { Keeps self.old self.new }
-        ensures blames { Blames result self.old.failed self.new.failed }
+        ensures blames { Blames result self.old.failed self.new.failed self.new.world.asked }
     {
         let mut place = page.first();
         'lines: while let Some(step) = page.step(place) {
@@ -129,7 +130,7 @@ impl<'a, M: Scope, F: Files> Evaluation<'a, M, F> {
 
     // Reads the line of a place, or tests a conditional, and gives the place to go on from.
     #[cycle(evaluate)]
-    #[tactic(auto, using(crate::proofs::FrontLemmas::read_items_front, crate::proofs::FrontLemmas::read_items_longer, crate::proofs::FrontLemmas::read_items_same), unfolding(crate::specs::Reading::read_items))]
+    #[tactic(auto, using(crate::proofs::FrontLemmas::read_items_longer, crate::proofs::FrontLemmas::read_items_same), unfolding(crate::specs::Reading::read_items))]
     pub(crate) fn read_step(
         &mut self,
         below: u64,
@@ -145,7 +146,7 @@ impl<'a, M: Scope, F: Files> Evaluation<'a, M, F> {
         ensures ahead { IfOk result (λ at. (place < at) × (at ≤ length page.now.blocks.steps)) }
         ensures gives { AreKnown self.old.known → GivesOn result self.new.world (λ at. read_items (evaluator M.writable (store_of self.old.known) below) page.now (left_at page.now.blocks.steps at)) (read_items (evaluator M.writable (store_of self.old.known) below) page.now (left_at page.now.blocks.steps place) self.old.world) }
         ensures kept { Keeps self.old self.new }
-        ensures blames { Blames result self.old.failed self.new.failed }
+        ensures blames { Blames result self.old.failed self.new.failed self.new.world.asked }
     {
         match step {
             Step::Line => {
@@ -188,7 +189,7 @@ impl<'a, M: Scope, F: Files> Evaluation<'a, M, F> {
         ensures ahead { IfOk result (λ at. (place < at) × (at ≤ length page.now.blocks.steps)) }
         ensures gives { AreKnown self.old.known → GivesOn result self.new.world (λ at. read_items (evaluator M.writable (store_of self.old.known) below) page.now (left_at page.now.blocks.steps at)) (read_items (evaluator M.writable (store_of self.old.known) below) page.now (left_at page.now.blocks.steps place) self.old.world) }
         ensures kept { Keeps self.old self.new }
-        ensures blames { Blames result self.old.failed self.new.failed }
+        ensures blames { Blames result self.old.failed self.new.failed self.new.world.asked }
     {
         if self.branch_holds(below, page, place, true)? {
             return Ok(page.behind(place));
@@ -204,7 +205,7 @@ impl<'a, M: Scope, F: Files> Evaluation<'a, M, F> {
     }
 
     #[cycle(evaluate)]
-    #[tactic(auto, using(crate::proofs::FrontLemmas::branch_holds_front, crate::proofs::FrontLemmas::branch_holds_longer, crate::proofs::FrontLemmas::branch_holds_same), unfolding(crate::specs::Reading::branch_holds))]
+    #[tactic(auto, using(crate::proofs::FrontLemmas::branch_holds_longer, crate::proofs::FrontLemmas::branch_holds_same), unfolding(crate::specs::Reading::branch_holds))]
     pub(crate) fn branch_holds(
         &mut self,
         below: u64,
@@ -215,7 +216,7 @@ impl<'a, M: Scope, F: Files> Evaluation<'a, M, F> {
         requires { M.writable ≡ true }
         ensures gives { AreKnown self.old.known → Gives (λ b. b) result self.new.world (branch_holds (evaluator M.writable (store_of self.old.known) below) page.now place condition self.old.world) }
         ensures kept { Keeps self.old self.new }
-        ensures blames { Blames result self.old.failed self.new.failed }
+        ensures blames { Blames result self.old.failed self.new.failed self.new.world.asked }
     {
         let line = self.at_line(page, place)?;
         let text = joined(self.alloc, line.text)?;
@@ -223,12 +224,12 @@ impl<'a, M: Scope, F: Files> Evaluation<'a, M, F> {
     }
 
     #[cycle(evaluate)]
-    #[tactic(auto, using(crate::proofs::FrontLemmas::read_kind_front), unfolding(crate::specs::Reading::read_line))]
+    #[tactic(auto, using(crate::proofs::FrontLemmas::read_kind_longer, crate::proofs::FrontLemmas::read_kind_same), unfolding(crate::specs::Reading::read_line))]
     pub(crate) fn read_line(&mut self, below: u64, line: RawLine<'_>) -> Result<(), Stop>
         requires { M.writable ≡ true }
         ensures gives { AreKnown self.old.known → Gives (λ u. u) result self.new.world (read_line (evaluator M.writable (store_of self.old.known) below) (raw_told line.entry) self.old.world) }
         ensures kept { Keeps self.old self.new }
-        ensures blames { Blames result self.old.failed self.new.failed }
+        ensures blames { Blames result self.old.failed self.new.failed self.new.world.asked }
     {
         if line.tab {
             return self.read_tab(below, line.text);
@@ -249,7 +250,7 @@ impl<'a, M: Scope, F: Files> Evaluation<'a, M, F> {
         requires { M.writable ≡ true }
         ensures gives { AreKnown self.old.known → Gives (λ u. u) result self.new.world (read_tab (evaluator M.writable (store_of self.old.known) below) text.now self.old.world) }
         ensures kept { Keeps self.old self.new }
-        ensures blames { Blames result self.old.failed self.new.failed }
+        ensures blames { Blames result self.old.failed self.new.failed self.new.world.asked }
     {
         match self.take_rule() {
             None => self.read_bare_tab(below, text),
@@ -259,7 +260,7 @@ impl<'a, M: Scope, F: Files> Evaluation<'a, M, F> {
 
     // A line that begins with a tab while no rule is open.
     #[cycle(evaluate)]
-    #[tactic(auto, using(crate::proofs::FrontLemmas::read_bare_tab_front))]
+    #[tactic(auto, using(crate::proofs::FrontLemmas::read_bare_tab_longer, crate::proofs::FrontLemmas::read_bare_tab_same))]
     pub(crate) fn read_bare_tab(&mut self, below: u64, line: &[u8]) -> Result<(), Stop>
         requires { M.writable ≡ true }
         ensures gives { AreKnown self.old.known → Gives (λ u. u) result self.new.world (read_bare_tab (evaluator M.writable (store_of self.old.known) below) (line_kind line.now true) self.old.world) }
@@ -276,19 +277,19 @@ impl<'a, M: Scope, F: Files> Evaluation<'a, M, F> {
         requires { M.writable ≡ true }
         ensures gives { AreKnown self.old.known → Gives (λ u. u) result self.new.world (read_bare_tab (evaluator M.writable (store_of self.old.known) below) (kind_told form.entry) self.old.world) }
         ensures kept { Keeps self.old self.new }
-        ensures blames { Blames result self.old.failed self.new.failed }
+        ensures blames { Blames result self.old.failed self.new.failed self.new.world.asked }
     {
         match form {
             Form::Blank => Ok(()),
             Form::Assignment(name, operator, value) => {
                 self.read_assignment(below, name, operator, value)
             }
-            _ => Err(Stop::Fault(self.fault(6, b"recipe before a target", b"")?)),
+            _ => Err(Stop::Fault(self.fault(FaultKind::RecipeBeforeTarget, b"")?)),
         }
     }
 
     #[cycle(evaluate)]
-    #[tactic(auto, using(crate::proofs::FrontLemmas::assign_line_front))]
+    #[tactic(auto, using(crate::proofs::FrontLemmas::assign_line_longer, crate::proofs::FrontLemmas::assign_line_same))]
     pub(crate) fn read_assignment(
         &mut self,
         below: u64,
@@ -299,7 +300,7 @@ impl<'a, M: Scope, F: Files> Evaluation<'a, M, F> {
         requires { M.writable ≡ true }
         ensures gives { AreKnown self.old.known → Gives (λ u. u) result self.new.world (assign_line (evaluator M.writable (store_of self.old.known) below) (plain_of name.now) operator (plain_of value.now) self.old.world) }
         ensures kept { Keeps self.old self.new }
-        ensures blames { Blames result self.old.failed self.new.failed }
+        ensures blames { Blames result self.old.failed self.new.failed self.new.world.asked }
     {
         let name = plain(self.alloc, name)?;
         let value = plain(self.alloc, value)?;
@@ -320,7 +321,7 @@ impl<'a, M: Scope, F: Files> Evaluation<'a, M, F> {
         requires text { text.now ≡ condensed_of line.now }
         ensures gives { AreKnown self.old.known → Gives (λ u. u) result self.new.world (read_kind (evaluator M.writable (store_of self.old.known) below) line.now (kind_told form.entry) self.old.world) }
         ensures kept { Keeps self.old self.new }
-        ensures blames { Blames result self.old.failed self.new.failed }
+        ensures blames { Blames result self.old.failed self.new.failed self.new.world.asked }
     {
         match form {
             Form::Blank => Ok(()),
@@ -333,7 +334,7 @@ impl<'a, M: Scope, F: Files> Evaluation<'a, M, F> {
                 below, true, rest,
             ),
             Form::Directive(_, _) => Ok(()),
-            Form::Refused(word) => Err(Stop::Fault(self.fault(17, b"refused form ", word)?)),
+            Form::Refused(word) => Err(Stop::Fault(self.fault(FaultKind::RefusedForm, word)?)),
             Form::Rule => {
                 self.close_rule()?;
                 self.rule_line(below, line, text)
@@ -342,7 +343,7 @@ impl<'a, M: Scope, F: Files> Evaluation<'a, M, F> {
     }
 
     #[cycle(evaluate)]
-    #[tactic(auto, using(crate::proofs::FrontLemmas::include_line_front, crate::proofs::FrontLemmas::include_line_longer, crate::proofs::FrontLemmas::include_line_same), unfolding(crate::specs::Reading::read_include))]
+    #[tactic(auto, using(crate::proofs::FrontLemmas::include_line_longer, crate::proofs::FrontLemmas::include_line_same), unfolding(crate::specs::Reading::read_include))]
     pub(crate) fn read_include(
         &mut self,
         below: u64,
@@ -352,7 +353,7 @@ impl<'a, M: Scope, F: Files> Evaluation<'a, M, F> {
         requires { M.writable ≡ true }
         ensures gives { AreKnown self.old.known → Gives (λ u. u) result self.new.world (read_include (evaluator M.writable (store_of self.old.known) below) optional rest.now self.old.world) }
         ensures kept { Keeps self.old self.new }
-        ensures blames { Blames result self.old.failed self.new.failed }
+        ensures blames { Blames result self.old.failed self.new.failed self.new.world.asked }
     {
         self.close_rule()?;
         let text = plain(self.alloc, rest)?;
@@ -361,7 +362,7 @@ impl<'a, M: Scope, F: Files> Evaluation<'a, M, F> {
 
     // The first line of a define, and its body.
     #[cycle(evaluate)]
-    #[tactic(auto, using(crate::proofs::FrontLemmas::read_define_front))]
+    #[tactic(auto, using(crate::proofs::FrontLemmas::read_define_longer, crate::proofs::FrontLemmas::read_define_same))]
     pub(crate) fn read_define(&mut self, below: u64, line: &[u8], body: &[u8]) -> Result<(), Stop>
         requires { M.writable ≡ true }
         ensures gives { AreKnown self.old.known → Gives (λ u. u) result self.new.world (read_define (evaluator M.writable (store_of self.old.known) below) (line_kind line.now false) body.now self.old.world) }
@@ -383,7 +384,7 @@ impl<'a, M: Scope, F: Files> Evaluation<'a, M, F> {
         requires { M.writable ≡ true }
         ensures gives { AreKnown self.old.known → Gives (λ u. u) result self.new.world (read_define (evaluator M.writable (store_of self.old.known) below) (kind_told form.entry) body.now self.old.world) }
         ensures kept { Keeps self.old self.new }
-        ensures blames { Blames result self.old.failed self.new.failed }
+        ensures blames { Blames result self.old.failed self.new.failed self.new.world.asked }
     {
         match form {
             Form::Directive(Directive::Define, rest) => {
@@ -401,17 +402,20 @@ impl<'a, M: Scope, F: Files> Evaluation<'a, M, F> {
         requires text { text.now ≡ condensed_of line.now }
         ensures gives { AreKnown self.old.known → Gives (λ u. u) result self.new.world (rule_line (evaluator M.writable (store_of self.old.known) below) line.now self.old.world) }
         ensures kept { Keeps self.old self.new }
-        ensures blames { Blames result self.old.failed self.new.failed }
+        ensures blames { Blames result self.old.failed self.new.failed self.new.world.asked }
     {
         match rule_parts(line, text) {
-            Err(TargetSpecific) => Err(Stop::Fault(self.fault(23, b"target-specific macro", b"")?)),
+            Err(TargetSpecific) => Err(Stop::Fault(self.fault(
+                FaultKind::TargetSpecificMacro,
+                b"",
+            )?)),
             Ok(parts) => self.read_rule(below, parts.head, parts.recipe),
         }
     }
 
     // A rule line by its parts.
     #[cycle(evaluate)]
-    #[tactic(auto, using(crate::proofs::FrontLemmas::rule_of_parts_front, crate::proofs::FrontLemmas::open_rule_longer, crate::proofs::FrontLemmas::open_rule_same), unfolding(crate::specs::Rules::rule_of_parts))]
+    #[tactic(auto, using(crate::proofs::FrontLemmas::rule_of_parts_longer, crate::proofs::FrontLemmas::rule_of_parts_same, crate::proofs::FrontLemmas::open_rule_longer, crate::proofs::FrontLemmas::open_rule_same), unfolding(crate::specs::Rules::rule_of_parts))]
     pub(crate) fn read_rule(
         &mut self,
         below: u64,
@@ -421,7 +425,7 @@ impl<'a, M: Scope, F: Files> Evaluation<'a, M, F> {
         requires { M.writable ≡ true }
         ensures gives { AreKnown self.old.known → Gives (λ u. u) result self.new.world (rule_of_parts (evaluator M.writable (store_of self.old.known) below) (Some (record { head = head.now; recipe = option_map (λ text. text.now) recipe.entry })) self.old.world) }
         ensures kept { Keeps self.old self.new }
-        ensures blames { Blames result self.old.failed self.new.failed }
+        ensures blames { Blames result self.old.failed self.new.failed self.new.world.asked }
     {
         let recipe = recipe_of(self.alloc, recipe)?;
         let head = plain(self.alloc, head)?;

@@ -1,22 +1,20 @@
 //! Why a makefile isn't read to its end.
 ghost use Rattle.std.specs.Prelude.{◌≡◌};
+ghost use Rattle.kt_eval.specs.Views.{rule_stop};
 ghost use Rattle.kt_eval.specs.declared.stop.Stop.TheVariants.{Memory};
 
 use crate::fault::Fault;
+use kt_rules::RuleFault;
 use std::alloc::{AllocError, AllocFailed};
-use thiserror::Error;
 
 /// Why nothing more is read or expanded.
-#[derive(Debug, Drop, Error)]
+#[derive(Debug, Drop)]
 pub enum Stop {
     /// The makefile is at fault.
-    #[error("fault of the makefile")]
     Fault(Fault),
     /// The file of this name couldn't be read.
-    #[error("cannot read {0}")]
     Device(String),
     /// Memory was refused.
-    #[error("out of memory")]
     Memory,
 }
 
@@ -25,6 +23,25 @@ impl From<AllocError> for Stop {
 
     fn from(_refused: AllocError) -> Stop {
         Stop::Memory
+    }
+}
+
+impl From<RuleFault> for Stop {
+    ghost from_gives = { λ refused stop. stop ≡ rule_stop refused };
+
+    fn from(refused: RuleFault) -> Stop {
+        match refused {
+            RuleFault::Refused {
+                number,
+                place,
+                words,
+            } => Stop::Fault(Fault {
+                place: Some(place),
+                number,
+                words,
+            }),
+            RuleFault::Memory => Stop::Memory,
+        }
     }
 }
 

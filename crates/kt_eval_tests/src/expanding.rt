@@ -1,5 +1,6 @@
 //! What texts are expanded to.
-use kt_eval::{Flavour, Macro, Macros, Origin, Stop};
+use crate::texts::{put, put_messages};
+use kt_eval::{Flavour, Macro, Macros, NoAutomatic, Origin, Stop};
 use kt_list::{Sequence, Shared};
 use std::alloc::{AllocError, Global};
 use std::test::Fail;
@@ -21,24 +22,15 @@ fn table(alloc: Global, rows: &[(&str, Flavour, &str)]) -> Result<Macros, AllocE
     Ok(macros)
 }
 
-/// A text, or the words of the fault.
-fn put_end(out: &mut Vec<u8>, outcome: &Result<Vec<u8>, Stop>) -> Result<(), AllocError> {
+/// A text, or the line of the fault.
+fn put_end(out: &mut Vec<u8>, outcome: &Result<Vec<u8>, Stop>) {
     match outcome {
-        Ok(text) => out.extend_from_slice(text.as_slice()),
+        Ok(text) => put(out, text.as_slice()),
         Err(Stop::Fault(fault)) => {
-            out.extend_from_slice(b"*** ")?;
-            out.extend_from_slice(fault.words.as_slice())
+            let _refused = fault.append_to(out);
         }
-        Err(Stop::Device(_) | Stop::Memory) => out.extend_from_slice(b"no answer"),
+        Err(Stop::Device(_) | Stop::Memory) => put(out, b"no answer"),
     }
-}
-
-fn put_messages(out: &mut Vec<u8>, messages: &[Sequence<u8>]) -> Result<(), AllocError> {
-    for message in messages {
-        out.extend_from_slice(message.as_slice())?;
-        out.push(b'\n')?;
-    }
-    Ok(())
 }
 
 /// Expands. It stands apart so that what the contract says of it burdens no other proof.
@@ -49,17 +41,17 @@ fn expanded(
     messages: &mut Vec<Sequence<u8>>,
     limit: u64,
 ) -> Result<Vec<u8>, Stop> {
-    macros.expand_pure(alloc, text.as_bytes(), &[], None, messages, limit)
+    macros.expand_pure(alloc, text.as_bytes(), &NoAutomatic, None, messages, limit)
 }
 
 /// The messages of expanding a text, and then the expanded text or the fault.
-fn told(alloc: Global, macros: &Macros, text: &str, limit: u64) -> Result<Vec<u8>, AllocError> {
+fn told(alloc: Global, macros: &Macros, text: &str, limit: u64) -> Vec<u8> {
     let mut messages = Vec::new(alloc);
     let mut out = Vec::new(alloc);
     let outcome = expanded(alloc, macros, text, &mut messages, limit);
-    put_messages(&mut out, messages.as_slice())?;
-    put_end(&mut out, &outcome)?;
-    Ok(out)
+    put_messages(&mut out, messages.as_slice());
+    put_end(&mut out, &outcome);
+    out
 }
 
 #[test]
@@ -95,21 +87,21 @@ fn expands(rt: HostRuntime) -> Result<(), Fail> {
         ("$(info hi)$(warning w)x", "hi\nkati: w\nx"),
         ("$( info x)", ""),
         ("$(subst a$,b,a)", "b"),
-        ("$(word 0,a)", "*** bad argument of word"),
-        ("$(subst a)", "*** bad argument of subst"),
-        ("$(shell ls)", "*** refused function shell"),
+        ("$(word 0,a)", "kati: *** bad argument of word [E18]"),
+        ("$(subst a)", "kati: *** bad argument of subst [E18]"),
+        ("$(shell ls)", "kati: *** refused function shell [E16]"),
         (
             "$(call $(info n)subst,$(error no))",
-            "n\n*** refused function subst",
+            "n\nkati: *** refused function subst [E16]",
         ),
-        ("$(eval A = 1)", "*** eval in a recipe"),
-        ("$(call r)", "*** nesting too deep"),
-        ("x$(a", "*** unterminated reference"),
-        ("$(words ${a)})", "*** unterminated reference"),
+        ("$(eval A = 1)", "kati: *** eval in a recipe [E32]"),
+        ("$(call r)", "kati: *** nesting too deep [E08]"),
+        ("x$(a", "kati: *** unterminated reference [E07]"),
+        ("$(words ${a)})", "kati: *** unterminated reference [E07]"),
         ("a$\\\nb", "a\\\nb"),
         ("[$ \\\nb]", "[\\\nb]"),
     ] {
-        let found = told(alloc, &macros, text, 100)?;
+        let found = told(alloc, &macros, text, 100);
         assert_eq!(rt; found.as_slice(), expected.as_bytes());
     }
     Ok(())

@@ -8,3 +8,5 @@ mod expanding;
 mod files;
 #[cfg(test)]
 mod reading;
+#[cfg(test)]
+mod texts;

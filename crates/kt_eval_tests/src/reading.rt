@@ -1,6 +1,7 @@
 //! What makefiles say when they are read, by the rows that kati is to read.
-use kt_eval::{Fault, Files, Flavour, Machine, Macro, Macros, MemFiles, Origin, Reading, Stop};
-use kt_list::{Sequence, Shared};
+use crate::texts::{put, put_messages};
+use kt_eval::{Files, Flavour, Machine, Macro, Macros, MemFiles, Origin, Reading, Stop};
+use kt_list::Shared;
 use kt_rules::{Book, Name, RecipeLine};
 use std::alloc::{AllocError, Global};
 use std::process::Abort;
@@ -52,82 +53,58 @@ fn arguments_of(alloc: Global, named: &[(&str, &str)]) -> Result<Macros, AllocEr
     Ok(macros)
 }
 
-fn put_messages(out: &mut Vec<u8>, messages: &[Sequence<u8>]) -> Result<(), AllocError> {
-    for message in messages {
-        out.extend_from_slice(message.as_slice())?;
-        out.push(b'\n')?;
-    }
-    Ok(())
-}
-
-fn put_asked(out: &mut Vec<u8>, names: &[String]) -> Result<(), AllocError> {
+fn put_asked(out: &mut Vec<u8>, names: &[String]) {
     for name in names {
-        out.extend_from_slice(b"< ")?;
-        out.extend_from_slice(name.as_bytes())?;
-        out.push(b'\n')?;
+        put(out, b"< ");
+        put(out, name.as_bytes());
+        put(out, b"\n");
     }
-    Ok(())
 }
 
-fn put_names(out: &mut Vec<u8>, names: &[Name]) -> Result<(), AllocError> {
+fn put_names(out: &mut Vec<u8>, names: &[Name]) {
     for name in names {
-        out.push(b' ')?;
-        out.extend_from_slice(name.as_slice())?;
+        put(out, b" ");
+        put(out, name.as_slice());
     }
-    Ok(())
 }
 
-fn put_recipe(out: &mut Vec<u8>, lines: &[RecipeLine]) -> Result<(), AllocError> {
+fn put_recipe(out: &mut Vec<u8>, lines: &[RecipeLine]) {
     for line in lines {
-        out.push(b'\t')?;
-        out.extend_from_slice(line.text.as_slice())?;
-        out.push(b'\n')?;
+        put(out, b"\t");
+        put(out, line.text.as_slice());
+        put(out, b"\n");
     }
-    Ok(())
 }
 
 /// The rules of a goal, much as a makefile has them.
-fn put_rules(out: &mut Vec<u8>, book: &Book, goal: &[u8]) -> Result<(), AllocError> {
+fn put_rules(out: &mut Vec<u8>, book: &Book, goal: &[u8]) {
     for rule in book.explicit(goal) {
         let needs = rule.entry.needs(rule.target);
-        out.extend_from_slice(goal)?;
-        out.push(b':')?;
-        put_names(out, needs.prerequisites.as_slice())?;
-        out.extend_from_slice(b" |")?;
-        put_names(out, needs.order_only.as_slice())?;
-        out.push(b'\n')?;
-        put_recipe(out, rule.entry.recipe().unwrap_or(&[]))?;
+        put(out, goal);
+        put(out, b":");
+        put_names(out, needs.prerequisites.as_slice());
+        put(out, b" |");
+        put_names(out, needs.order_only.as_slice());
+        put(out, b"\n");
+        put_recipe(out, rule.entry.recipe().unwrap_or(&[]));
     }
-    Ok(())
 }
 
-fn put_fault(out: &mut Vec<u8>, fault: &Fault) -> Result<(), AllocError> {
-    match &fault.place {
-        Some(place) => place.append_to(out)?,
-        None => out.extend_from_slice(b"kati")?,
-    }
-    out.extend_from_slice(b": *** ")?;
-    out.extend_from_slice(fault.words.as_slice())?;
-    out.extend_from_slice(b" [E")?;
-    out.push(b'0' + fault.number / 10)?;
-    out.push(b'0' + fault.number % 10)?;
-    out.push(b']')?;
-    Ok(())
-}
-
-fn put_stop(out: &mut Vec<u8>, stop: &Stop) -> Result<(), AllocError> {
+fn put_stop(out: &mut Vec<u8>, stop: &Stop) {
     match stop {
-        Stop::Fault(fault) => put_fault(out, fault),
-        Stop::Device(name) => {
-            out.extend_from_slice(b"cannot read ")?;
-            out.extend_from_slice(name.as_bytes())
+        Stop::Fault(fault) => {
+            let _refused = fault.append_to(out);
         }
-        Stop::Memory => out.extend_from_slice(b"no memory"),
+        Stop::Device(name) => {
+            put(out, b"cannot read ");
+            put(out, name.as_bytes());
+        }
+        Stop::Memory => put(out, b"no memory"),
     }
 }
 
 /// The rules of the first goal, or what stopped the reading.
-fn put_end(out: &mut Vec<u8>, book: &Book, outcome: &Result<(), Stop>) -> Result<(), AllocError> {
+fn put_end(out: &mut Vec<u8>, book: &Book, outcome: &Result<(), Stop>) {
     match outcome {
         Ok(()) => put_rules(out, book, book.first_goal().unwrap_or(b"")),
         Err(stop) => put_stop(out, stop),
@@ -152,30 +129,26 @@ fn machine_of(alloc: Global, start: Start<'_>) -> Result<Machine, AllocError> {
 }
 
 /// The messages of a reading, the names asked for behind `makefile` and `Makefile`, and how it ended.
-fn put_told(
-    out: &mut Vec<u8>,
-    reading: &Reading,
-    asked: &[String],
-    outcome: &Result<(), Stop>,
-) -> Result<(), AllocError> {
-    put_messages(out, reading.messages.as_slice())?;
-    put_asked(out, asked.get(2..).unwrap_or(&[]))?;
-    put_end(out, &reading.book, outcome)
+fn put_told(out: &mut Vec<u8>, reading: &Reading, asked: &[String], outcome: &Result<(), Stop>) {
+    put_messages(out, reading.messages.as_slice());
+    put_asked(out, asked.get(2..).unwrap_or(&[]));
+    put_end(out, &reading.book, outcome);
 }
 
 /// What is told of reading `Makefile`. It is cut into small parts, since each value that an early end drops is dear to prove.
 fn told(alloc: Global, start: Start<'_>, makefile: &[u8]) -> Result<Vec<u8>, AllocError> {
     let files = files_with(alloc, start, makefile)?;
     let machine = machine_of(alloc, start)?;
-    told_by(alloc, machine, files)
+    Ok(told_by(alloc, machine, files))
 }
 
-fn told_by(alloc: Global, machine: Machine, files: MemFiles) -> Result<Vec<u8>, AllocError> {
+fn told_by(alloc: Global, machine: Machine, files: MemFiles) -> Vec<u8> {
     let (mut machine, mut files) = (machine, files);
     let outcome = read(&mut machine, &mut files, &["makefile", "Makefile"]);
     let mut out = Vec::new(alloc);
-    put_told(&mut out, &machine.finish(), files.asked(), &outcome)?;
-    Ok(out)
+    let reading = machine.finish();
+    put_told(&mut out, &reading, files.asked(), &outcome);
+    out
 }
 
 fn tells(
@@ -607,6 +580,14 @@ fn closes_rules(rt: HostRuntime) -> Result<(), Fail> {
                 "Makefile:2: *** single and double colon on a [E24]",
             ),
             ("a b &: c\n", "Makefile:1: *** bad group [E35]"),
+            (
+                "a b &: c ; x\na: d ; y\n",
+                "Makefile:2: *** two recipes on a [E36]",
+            ),
+            (
+                ".DEFAULT a &: b ; x\n",
+                "Makefile:1: *** refused target .DEFAULT [E22]",
+            ),
         ],
     )?;
     Ok(())

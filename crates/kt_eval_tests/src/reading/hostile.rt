@@ -1,5 +1,7 @@
 //! Long and deep makefiles.
-use super::{ALONE, told, with_limit};
+use super::{ALONE, machine_of, told, told_by, with_limit};
+use crate::texts::put;
+use kt_eval::MemFiles;
 use std::alloc::{AllocError, Global};
 use std::test::Fail;
 
@@ -117,5 +119,59 @@ fn counts_macros_in_macros(rt: HostRuntime) -> Result<(), Fail> {
         let found = told(alloc, with_limit(limit), &deep)?;
         assert_eq!(rt; found.as_slice(), expected.as_bytes());
     }
+    Ok(())
+}
+
+#[test]
+fn finds_no_makefile(rt: HostRuntime) -> Result<(), Fail> {
+    let alloc = rt.alloc();
+    let files = MemFiles::new(alloc, Vec::new(alloc), 0);
+    let found = told_by(alloc, machine_of(alloc, ALONE)?, files);
+    assert_eq!(rt; found.as_slice(), b"kati: *** no makefile [E03]".as_slice());
+    Ok(())
+}
+
+#[test]
+fn reads_long_values(rt: HostRuntime) -> Result<(), Fail> {
+    let alloc = rt.alloc();
+    let value = nested(alloc, b"long ", b"$$(value)", b" text", 1000)?;
+    let mut text = Vec::new(alloc);
+    put(&mut text, b"A = ");
+    put(&mut text, &value);
+    put(&mut text, b"\nB := $(A)\nB += x\n$(info $(B))\n");
+    let mut expected = nested(alloc, b"long ", b"$(value)", b" text", 1000)?;
+    put(&mut expected, b" x\n");
+    let found = told(alloc, ALONE, &text)?;
+    assert_eq!(rt; found.as_slice(), expected.as_slice());
+    Ok(())
+}
+
+#[test]
+fn counts_many_lines(rt: HostRuntime) -> Result<(), Fail> {
+    let alloc = rt.alloc();
+    let text = nested(alloc, b"#\n", b"\tx\n", b"", 70_000)?;
+    let found = told(alloc, ALONE, &text)?;
+    assert_eq!(rt;
+        found.as_slice(),
+        b"Makefile:70001: *** recipe before a target [E06]".as_slice()
+    );
+    Ok(())
+}
+
+#[test]
+fn asks_for_long_names(rt: HostRuntime) -> Result<(), Fail> {
+    let alloc = rt.alloc();
+    let name = nested(alloc, b"long/", b"name", b"", 100)?;
+    let mut text = Vec::new(alloc);
+    put(&mut text, b"include ");
+    put(&mut text, &name);
+    let mut expected = Vec::new(alloc);
+    put(&mut expected, b"< ");
+    put(&mut expected, &name);
+    put(&mut expected, b"\nMakefile:1: *** no file ");
+    put(&mut expected, &name);
+    put(&mut expected, b" [E04]");
+    let found = told(alloc, ALONE, &text)?;
+    assert_eq!(rt; found.as_slice(), expected.as_slice());
     Ok(())
 }

@@ -1,39 +1,41 @@
 //! Reads that fail, and readings after a refusal.
-use super::{files_of, put_asked, put_messages, put_stop, read};
+use super::{files_of, put_asked, put_stop, read};
+use crate::texts::{put, put_messages};
 use kt_eval::{Files, Machine, Macros, MemFiles, Stop};
 use std::alloc::{AllocError, Global};
 use std::process::Abort;
 use std::test::Fail;
 
 /// How a reading of `m` ends, and all names asked for so far.
-fn put_reading(
-    out: &mut Vec<u8>,
-    machine: &mut Machine,
-    files: &mut MemFiles,
-) -> Result<(), AllocError> {
+fn put_reading(out: &mut Vec<u8>, machine: &mut Machine, files: &mut MemFiles) {
     let outcome = read(machine, files, &["m"]);
-    put_outcome(out, &outcome)?;
-    put_asked(out, files.asked())
+    put_outcome(out, &outcome);
+    put_asked(out, files.asked());
 }
 
-fn put_outcome(out: &mut Vec<u8>, outcome: &Result<(), Stop>) -> Result<(), AllocError> {
+fn put_outcome(out: &mut Vec<u8>, outcome: &Result<(), Stop>) {
     match outcome {
-        Ok(()) => out.extend_from_slice(b"read")?,
-        Err(stop) => put_stop(out, stop)?,
+        Ok(()) => put(out, b"read"),
+        Err(stop) => put_stop(out, stop),
     }
-    out.push(b'\n')?;
-    Ok(())
+    put(out, b"\n");
 }
 
 /// How two readings end of which the nth read fails, the names asked for until then, and then the messages.
 fn told_twice(alloc: Global, named: &[(&str, &str)], nth: u64) -> Result<Vec<u8>, AllocError> {
-    let mut files = MemFiles::new(alloc, files_of(alloc, named)?, nth);
-    let mut machine = Machine::new(alloc, Macros::new(alloc), 100)?;
+    let files = MemFiles::new(alloc, files_of(alloc, named)?, nth);
+    let machine = Machine::new(alloc, Macros::new(alloc), 100)?;
+    Ok(told_of_two(alloc, machine, files))
+}
+
+fn told_of_two(alloc: Global, machine: Machine, files: MemFiles) -> Vec<u8> {
+    let (mut machine, mut files) = (machine, files);
     let mut out = Vec::new(alloc);
-    put_reading(&mut out, &mut machine, &mut files)?;
-    put_reading(&mut out, &mut machine, &mut files)?;
-    put_messages(&mut out, machine.finish().messages.as_slice())?;
-    Ok(out)
+    put_reading(&mut out, &mut machine, &mut files);
+    put_reading(&mut out, &mut machine, &mut files);
+    let reading = machine.finish();
+    put_messages(&mut out, reading.messages.as_slice());
+    out
 }
 
 fn fails(

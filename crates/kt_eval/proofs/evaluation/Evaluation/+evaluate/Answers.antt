@@ -1,9 +1,8 @@
 use Rattle.std.proofs.Common.{◌∙◌, ap, List, rules, subst}
 use Rattle.kt_text.specs.Words.{Text}
 use Rattle.kt_syntax.specs.Reading.{left_at}
-use Rattle.kt_eval.specs.Fronts.{IsFront}
 use Rattle.kt_eval.specs.Views.{compared_told}
-use Rattle.kt_eval.specs.Step.{Gave, Fails, Outcome, said_of, store_of}
+use Rattle.kt_eval.specs.Step.{Gave, Fails, GoesOn, Outcome, store_of, world_of}
 use Rattle.std.proofs.lemmas.Result.{err_from_is_err_and}
 use Rattle.kt_eval.proofs.EarlyLemmas.{eval_fails, foreach_fails, equal_fails, argument_at_fails, argument_at_front, or_at_fails, and_at_fails, definition_fails, first_fails, branch_fails}
 use Rattle.kt_eval.proofs.FrontLemmas.{call_by_name_front, rule_of_parts_front, read_text_front}
@@ -81,7 +80,7 @@ each_argument-returns-in_err-from_vec-clause-gives g t c = λ known.
     let p = err_from_is_err_and c.from_residual-in_err-from_vec.result c.from_residual-in_err-from_vec.ensures.1 in
     let h = rw c.arguments.invariant.kept.0 at c.in_ok-x.ensures.gives in
     rw (p.1, p.2)
-    (subst (λ (o : Outcome (List Text)). IsFront c.expand.new.self.world.said (said_of o)) (c.arguments.invariant.rest known)
+    (subst (λ (o : Outcome (List Text)). GoesOn c.expand.new.self.world (world_of o)) (c.arguments.invariant.rest known)
     (argument_at_front g.M.Scope.writable (store_of c.args.self.now.known) c.args.below c.arguments.self.world c.expand.new.self.world c.arguments.out.items c.args.texts.now c.arguments.place _ _ c.arguments-test.true (h known)))
 
 pub each_argument-returns-in_err-push-clause-gives : goal.each_argument-returns-in_err-push-clause-gives
@@ -89,7 +88,7 @@ each_argument-returns-in_err-push-clause-gives g t c = λ known.
     let p = err_from_is_err_and c.from_residual-in_err-push.result c.from_residual-in_err-push.ensures.1 in
     let h = rw c.arguments.invariant.kept.0 at c.in_ok-x.ensures.gives in
     rw (p.1, p.2)
-    (subst (λ (o : Outcome (List Text)). IsFront c.expand.new.self.world.said (said_of o)) (c.arguments.invariant.rest known)
+    (subst (λ (o : Outcome (List Text)). GoesOn c.expand.new.self.world (world_of o)) (c.arguments.invariant.rest known)
     (argument_at_front g.M.Scope.writable (store_of c.args.self.now.known) c.args.below c.arguments.self.world c.expand.new.self.world c.arguments.out.items c.args.texts.now c.arguments.place _ _ c.arguments-test.true (h known)))
 
 pub apply_or-returns-in_err-x-clause-gives : goal.apply_or-returns-in_err-x-clause-gives
@@ -136,6 +135,7 @@ read_items-lines-init g t c =
     let e = evaluator g.M.Scope.writable (store_of c.args.self.now.known) c.args.below in
     record {
       kept = search rules;
+      unfailed = search rules;
       within = c.first-place.ensures.within;
       rest = λ known. ap (λ items. read_items e c.args.page.now items c.args.self.now.world) c.first-place.ensures.whole;
     }

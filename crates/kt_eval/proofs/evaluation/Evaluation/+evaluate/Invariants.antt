@@ -198,6 +198,7 @@ invariant-expand_here-terms g l =
     let e = evaluator g.M.Scope.writable (store_of l.fn.self.known) l.below in
     record {
       kept : Keeps l.fn.self l.self;
+      unfailed : l.self.failed ≡ l.fn.self.failed;
       rest : AreKnown l.fn.self.known → each_term e l.out.items l.rest l.self.world ≡ each_term e [] (terms_of l.text) l.fn.self.world;
     }
 
@@ -209,6 +210,7 @@ invariant-each_argument-arguments g l =
     let e = evaluator g.M.Scope.writable (store_of l.fn.self.known) l.below in
     record {
       kept : Keeps l.fn.self l.self;
+      unfailed : l.self.failed ≡ l.fn.self.failed;
       rest : AreKnown l.fn.self.known → each_argument e l.out.items (map (λ a. a.now) (drop l.place l.texts)) l.self.world ≡ each_argument e l.fn.first.items (map (λ a. a.now) l.texts) l.fn.self.world;
     }
 
@@ -220,6 +222,7 @@ invariant-apply_or-arguments g l =
     let e = evaluator g.M.Scope.writable (store_of l.fn.self.known) l.below in
     record {
       kept : Keeps l.fn.self l.self;
+      unfailed : l.self.failed ≡ l.fn.self.failed;
       rest : AreKnown l.fn.self.known → apply_or e (map (λ a. a.now) (drop l.place l.texts)) l.self.world ≡ apply_or e (map (λ a. a.now) l.texts) l.fn.self.world;
     }
 
@@ -231,6 +234,7 @@ invariant-apply_and-arguments g l =
     let e = evaluator g.M.Scope.writable (store_of l.fn.self.known) l.below in
     record {
       kept : Keeps l.fn.self l.self;
+      unfailed : l.self.failed ≡ l.fn.self.failed;
       rest : AreKnown l.fn.self.known → apply_and e (map (λ a. a.now) (drop l.place l.texts)) l.self.world ≡ apply_and e (map (λ a. a.now) l.texts) l.fn.self.world;
     }
 
@@ -242,6 +246,7 @@ invariant-each_word-words g l =
     let e = evaluator g.M.Scope.writable (store_of l.fn.self.known) l.below in
     record {
       kept : Keeps l.fn.self l.self;
+      unfailed : l.self.failed ≡ l.fn.self.failed;
       rest : AreKnown l.fn.self.known → each_word e l.name l.body l.out.items l.separator l.rest l.self.world ≡ each_word e l.name l.body [] [] (words_of l.list) l.fn.self.world;
     }
 
@@ -253,6 +258,7 @@ invariant-each_include-names g l =
     let e = evaluator g.M.Scope.writable (store_of l.fn.self.known) l.below in
     record {
       kept : Keeps l.fn.self l.self;
+      unfailed : l.self.failed ≡ l.fn.self.failed;
       rest : AreKnown l.fn.self.known → each_include e l.optional l.rest l.self.world ≡ each_include e l.optional (words_of l.names) l.fn.self.world;
     }
 
@@ -264,6 +270,7 @@ invariant-read_items-lines g l =
     let e = evaluator g.M.Scope.writable (store_of l.fn.self.known) l.below in
     record {
       kept : Keeps l.fn.self l.self;
+      unfailed : l.self.failed ≡ l.fn.self.failed;
       within : l.place ≤ length l.page.blocks.steps;
       rest : AreKnown l.fn.self.known → read_items e l.page (left_at l.page.blocks.steps l.place) l.self.world ≡ read_items e l.page (tree_of l.page.blocks.steps) l.fn.self.world;
     }
@@ -276,6 +283,7 @@ invariant-read_conditional-branches g l =
     let e = evaluator g.M.Scope.writable (store_of l.fn.self.known) l.below in
     record {
       kept : Keeps l.fn.self l.self;
+      unfailed : l.self.failed ≡ l.fn.self.failed;
       ahead : l.place < l.at;
       within : l.at ≤ length l.page.blocks.steps;
       rest : AreKnown l.fn.self.known → Tries e l.page l.page.blocks.steps l.at l.after l.self.world (read_items e l.page (left_at l.page.blocks.steps l.place) l.fn.self.world);

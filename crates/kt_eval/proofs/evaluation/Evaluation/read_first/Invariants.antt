@@ -9,5 +9,6 @@ invariant-loop-name g l =
     let e = evaluator g.M.Scope.writable (store_of l.fn.self.known) l.limit in
     record {
       kept : Keeps l.fn.self l.self;
+      unfailed : l.self.failed ≡ l.fn.self.failed;
       rest : AreKnown l.fn.self.known → read_first (store_of l.fn.self.known) e (map (λ name. name.now) (drop l.name-index l.names)) l.self.world ≡ read_first (store_of l.fn.self.known) e (map (λ name. name.now) l.names) l.fn.self.world;
     }
