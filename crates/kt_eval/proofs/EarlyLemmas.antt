@@ -1,8 +1,8 @@
 -- Messages and names so far, where something is refused: they are a beginning of those of the step that it stands in.
-use Rattle.std.proofs.Common.{◌≡◌, ℕ, suc, ◌+◌, ◌<◌, ◌==◌, ◌||◌, Bool, true, cond, false, List, [], ◌∷◌, ◌++◌, length, map, drop, get_or, drop-cons, Some, refl, sym, ap, subst, ◌∙◌, arith, Bor}
+use Rattle.std.proofs.Common.{◌≡◌, ℕ, suc, ◌+◌, ◌<◌, ◌==◌, ◌||◌, Bool, true, cond, false, List, [], ◌∷◌, ◌++◌, length, map, drop, get_or, drop-cons, Some, codes, refl, sym, ap, subst, ◌∙◌, arith, Bor}
 use Rattle.std.specs.List.{slice_get}
 use Rattle.kt_text.specs.Words.{Text, words_of}
-use Rattle.kt_syntax.specs.Blocks.{Items, Branches, definition, conditional, no_branch, branch, late}
+use Rattle.kt_syntax.specs.Blocks.{Items, Branches, definition, conditional, no_branch, branch, late, tree_of}
 use Rattle.kt_syntax.specs.Kinds.{Kind, line_kind}
 use Rattle.kt_syntax.specs.declared.step.Step.{Step as Found}
 use Rattle.kt_syntax.specs.declared.step.Step.TheVariants as step
@@ -10,18 +10,20 @@ use Rattle.kt_syntax.specs.Reading.{left_at, AreTried}
 use Rattle.kt_eval.specs.declared.stop.Stop.{Stop}
 use Rattle.kt_eval.specs.declared.stop.Stop.TheVariants as stops
 use Rattle.kt_eval.specs.Files.{Store}
-use Rattle.kt_eval.specs.State.{World}
+use Rattle.kt_eval.specs.State.{World, bind, unbind}
+use Rattle.kt_eval.specs.declared.state.Frame.TheVariants.{Loop}
 use Rattle.kt_eval.specs.Step.{Step, Outcome, Gave, Stopped, Trail, trail, GoesOn, Fails, then_do, world_of}
 use Rattle.kt_eval.specs.Calls.{stripped}
 use Rattle.kt_eval.specs.Conditions.{Compared}
 use Rattle.kt_eval.specs.Conditionals.{are_equal}
-use Rattle.kt_eval.specs.Expansion.{expanded, each_argument, apply_or, apply_and, apply_eval, apply_foreach}
+use Rattle.kt_eval.specs.Expansion.{expanded, each_argument, apply_or, apply_and, apply_eval, apply_foreach, each_word}
+use Rattle.kt_eval.specs.Rules.{close_rule}
 use Rattle.kt_eval.specs.Levels.{evaluator}
-use Rattle.kt_eval.specs.Reading.{Sheet, at_line, line_at, body_at, branch_holds, late_else, read_bytes, read_define, read_first, read_items, read_branches, read_or}
+use Rattle.kt_eval.specs.Reading.{Sheet, at_line, line_at, body_at, branch_holds, late_else, read_bytes, read_define, read_end, read_first, read_items, read_branches, read_or, read_sheet}
 use Rattle.kt_eval.proofs.LevelLemmas.{evaluator_reads}
 use Rattle.kt_eval.proofs.ReadingLemmas.{Tries}
 use Rattle.kt_eval.proofs.GrowingLemmas.{front_next, one_more_level, behind_first_related, behind_branch_related, read_first_related, read_or_related}
-use Rattle.kt_eval.proofs.FrontLemmas.{grown_front, expand_front, eval_front, each_word_front, expanded_front, each_argument_front, apply_or_front, apply_and_front, read_items_front}
+use Rattle.kt_eval.proofs.FrontLemmas.{grown_front, expand_front, eval_front, each_word_front, expanded_front, each_argument_front, apply_or_front, apply_and_front, read_items_front, close_rule_front, read_end_front}
 
 stands : (w : World) → GoesOn w w
 stands w = (λ of. omega arith, λ of count le. refl)
@@ -63,6 +65,19 @@ module _ (reads : Bool) (store : Store) (levels : ℕ) where
       fails_then stop v ((evaluator reads store levels).expand variable w) _
       (λ name u. early_then u ((evaluator reads store levels).expand list u) _
       (λ words t. each_word_front reads store levels (stripped name) body [] [] (words_of words) t) (expand_front reads store levels list u)) h
+
+  -- the body of a loop, for the first of the words that are left
+  pub word_fails : (stop : Stop) (w v : World) (name body out separator bound taken word : Text) (words rest : List Text)
+      → words ≡ word ∷ rest → bound ≡ name → taken ≡ word
+      → Fails stop v ((evaluator reads store levels).expand body (bind (Loop bound taken) w))
+      → Fails stop v (each_word (evaluator reads store levels) name body out separator words w)
+  unfolding each_word
+  word_fails stop w v name body out separator bound taken word words rest is bound_is taken_is h =
+      let held : Fails stop v ((evaluator reads store levels).expand body (bind (Loop name word) w)) =
+        rw (sym bound_is, sym taken_is) h in
+      rw is
+      (fails_then stop v ((evaluator reads store levels).expand body (bind (Loop name word) w)) _
+      (λ x u. each_word_front reads store levels name body (out ++ (separator ++ x)) (codes " ") rest (unbind u)) held)
 
   pub equal_fails : (stop : Stop) (w v : World) (compared : Compared)
       → Fails stop v (expanded (evaluator reads store levels) compared.first w) → Fails stop v (are_equal (evaluator reads store levels) (Some compared) w)
@@ -119,6 +134,13 @@ module _ (reads : Bool) (store : Store) (levels : ℕ) where
       rw (texts_left texts place d within, h) (each_argument_front reads store levels (out ++ x ∷ []) (map (λ a. a.now) (drop (suc place) texts)) v)
 
 module _ (reads : Bool) (store : Store) (levels : ℕ) (sheet : Sheet) where
+  pub sheet_fails : (stop : Stop) (w v : World) → Fails stop v (read_items (evaluator reads store levels) sheet (tree_of sheet.blocks.steps) w)
+      → Fails stop v (read_sheet (evaluator reads store levels) sheet w)
+  unfolding read_sheet
+  sheet_fails stop w v h =
+      fails_then stop v (read_items (evaluator reads store levels) sheet (tree_of sheet.blocks.steps) w) _
+      (λ _ u. early_then u (close_rule u) _ (λ _ t. read_end_front sheet.source sheet.blocks.missing t) (close_rule_front u)) h
+
   pub definition_fails : (stop : Stop) (w v : World) (items next : Items) (place end : ℕ) (kind : Kind) (body : Text) → items ≡ definition place end next
       → kind ≡ line_kind (line_at sheet.lines place).text false → body ≡ body_at sheet (place + 1) end
       → Fails stop v (read_define (evaluator reads store levels) kind body (at_line sheet place w))

@@ -11,5 +11,6 @@ pub mod EarlyLemmas
 pub mod RootLemmas
 pub mod TextLemmas
 pub mod MachineLemmas
+pub mod PureLemmas
 mod ReadingRowLemmas
 pub mod LastLemmas

@@ -166,7 +166,6 @@ impl Machine {
 
 // Reads the first of these files that is there, from its first line to its end. The evaluation is made and ends here, in a
 // function without branches, so that the files are the caller's again.
-#[tactic(auto, using(crate::proofs::MachineLemmas::reads_to_the_end))]
 fn read_once<F: Files>(
     alloc: Global,
     limit: u64,

@@ -265,7 +265,7 @@ impl<'a, M: Scope, F: Files> Evaluation<'a, M, F> {
         requires { M.writable ≡ true }
         ensures gives { AreKnown self.old.known → Gives (λ u. u) result self.new.world (read_bare_tab (evaluator M.writable (store_of self.old.known) below) (line_kind line.now true) self.old.world) }
         ensures kept { Keeps self.old self.new }
-        ensures blames { Blames result self.old.failed self.new.failed }
+        ensures blames { Blames result self.old.failed self.new.failed self.new.world.asked }
     {
         let text = joined(self.alloc, line)?;
         self.read_bare_form(below, classify(text.as_slice(), true))
@@ -367,7 +367,7 @@ impl<'a, M: Scope, F: Files> Evaluation<'a, M, F> {
         requires { M.writable ≡ true }
         ensures gives { AreKnown self.old.known → Gives (λ u. u) result self.new.world (read_define (evaluator M.writable (store_of self.old.known) below) (line_kind line.now false) body.now self.old.world) }
         ensures kept { Keeps self.old self.new }
-        ensures blames { Blames result self.old.failed self.new.failed }
+        ensures blames { Blames result self.old.failed self.new.failed self.new.world.asked }
     {
         let text = joined(self.alloc, line)?;
         self.read_define_form(below, classify(text.as_slice(), false), body)

@@ -1,8 +1,19 @@
+use Rattle.std.proofs.Common.{map, refl, rules}
 use Rattle.kt_eval.specs.Step.{told, asked_for}
+use Rattle.kt_eval.proofs.MachineLemmas.{reads_when}
+use Rattle.kt_eval.proofs.PureLemmas.{front_by}
 use Rattle.kt_eval.proofs.machine.read_once.Goals as goal
 
+pub returns-clause-reads : goal.returns-clause-reads
+returns-clause-reads g c =
+    reads_when (g.F.Files.known c.args.files.now) (map (λ name. name.now) c.args.names.now) c.args.limit c.args.makefile.macros c.args.makefile.book c.args.messages.items (g.F.Files.names c.args.files.now) c.new.result.items c.read_first-result.result c.read_first-result.new.self.world _ _ _ _ c.new.ensures.items (search rules) (search rules) (search rules) (search rules) c.read_first-result.ensures.gives
+
 pub returns-clause-said : goal.returns-clause-said
-returns-clause-said g c = let kept = c.read_first.ensures.kept.3 in (kept.0 told, kept.1 told)
+returns-clause-said g c =
+    let kept = c.read_first-result.ensures.kept.3 in
+    front_by c.args.messages.items c.read_first-result.new.self.world.said _ _ refl (search rules) (kept.0 told, kept.1 told)
 
 pub returns-clause-asked : goal.returns-clause-asked
-returns-clause-asked g c = let kept = c.read_first.ensures.kept.3 in (kept.0 asked_for, kept.1 asked_for)
+returns-clause-asked g c =
+    let kept = c.read_first-result.ensures.kept.3 in
+    front_by (g.F.Files.names c.args.files.now) c.read_first-result.new.self.world.asked _ _ refl (search rules) (kept.0 asked_for, kept.1 asked_for)

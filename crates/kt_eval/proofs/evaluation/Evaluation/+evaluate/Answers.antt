@@ -4,7 +4,7 @@ use Rattle.kt_syntax.specs.Reading.{left_at}
 use Rattle.kt_eval.specs.Views.{compared_told}
 use Rattle.kt_eval.specs.Step.{Gave, Fails, GoesOn, Outcome, store_of, world_of}
 use Rattle.std.proofs.lemmas.Result.{err_from_is_err_and}
-use Rattle.kt_eval.proofs.EarlyLemmas.{eval_fails, foreach_fails, equal_fails, argument_at_fails, argument_at_front, or_at_fails, and_at_fails, definition_fails, first_fails, branch_fails}
+use Rattle.kt_eval.proofs.EarlyLemmas.{eval_fails, foreach_fails, word_fails, sheet_fails, equal_fails, argument_at_fails, argument_at_front, or_at_fails, and_at_fails, definition_fails, first_fails, branch_fails}
 use Rattle.kt_eval.proofs.FrontLemmas.{call_by_name_front, rule_of_parts_front, read_text_front}
 use Rattle.std.specs.Prelude.{Some, option_map, map}
 use Rattle.kt_eval.specs.Levels.{evaluator}
@@ -90,6 +90,20 @@ each_argument-returns-in_err-push-clause-gives g t c = λ known.
     rw (p.1, p.2)
     (subst (λ (o : Outcome (List Text)). GoesOn c.expand.new.self.world (world_of o)) (c.arguments.invariant.rest known)
     (argument_at_front g.M.Scope.writable (store_of c.args.self.now.known) c.args.below c.arguments.self.world c.expand.new.self.world c.arguments.out.items c.args.texts.now c.arguments.place _ _ c.arguments-test.true (h known)))
+
+pub each_word-returns-in_err-x-clause-gives : goal.each_word-returns-in_err-x-clause-gives
+each_word-returns-in_err-x-clause-gives g t c = λ known.
+    let p = err_from_is_err_and c.from_residual-in_err-x.result c.from_residual-in_err-x.ensures.1 in
+    let h = rw (c.in_ok-bind.ensures.done, c.words.invariant.kept.0) at c.in_err-x.ensures.gives in
+    rw (p.1, p.2)
+    (subst (λ (o : Outcome Text). Fails c.in_err-x.field-0.0 c.expand.new.self.world o) (c.words.invariant.rest known)
+    (word_fails g.M.Scope.writable (store_of c.args.self.now.known) c.args.below c.in_err-x.field-0.0 c.words.self.world c.expand.new.self.world c.args.name.now c.args.body.now c.words.out.items c.words.separator.now _ _ c.in-Some.word.now c.words.rest c.next.new.self c.in-Some.ensures.steps (search rules) (search rules) (h known)))
+
+pub read_page-returns-in_err-read_items-clause-gives : goal.read_page-returns-in_err-read_items-clause-gives
+read_page-returns-in_err-read_items-clause-gives g t c = λ known.
+    let p = err_from_is_err_and c.from_residual.result c.from_residual.ensures.1 in
+    rw (p.1, p.2)
+    (sheet_fails g.M.Scope.writable (store_of c.args.self.now.known) c.args.below c.args.page.now c.in_err-read_items.field-0.0 c.args.self.now.world c.read_items.new.self.world (c.in_err-read_items.ensures.gives known))
 
 pub apply_or-returns-in_err-x-clause-gives : goal.apply_or-returns-in_err-x-clause-gives
 apply_or-returns-in_err-x-clause-gives g t c = λ known.
