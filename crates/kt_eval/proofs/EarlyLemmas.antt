@@ -74,7 +74,7 @@ module _ (reads : Bool) (store : Store) (levels : ℕ) where
   unfolding each_word
   word_fails stop w v name body out separator bound taken word words rest is bound_is taken_is h =
       let held : Fails stop v ((evaluator reads store levels).expand body (bind (Loop name word) w)) =
-        rw (sym bound_is, sym taken_is) h in
+      rw (sym bound_is, sym taken_is) h in
       rw is
       (fails_then stop v ((evaluator reads store levels).expand body (bind (Loop name word) w)) _
       (λ x u. each_word_front reads store levels name body (out ++ (separator ++ x)) (codes " ") rest (unbind u)) held)
