@@ -12,14 +12,14 @@ use Rattle.kt_eval.specs.declared.stop.Stop.TheVariants as stops
 use Rattle.kt_eval.specs.Files.{Store}
 use Rattle.kt_eval.specs.State.{World, bind, unbind}
 use Rattle.kt_eval.specs.declared.state.Frame.TheVariants.{Loop}
-use Rattle.kt_eval.specs.Step.{Step, Outcome, Gave, Stopped, Trail, trail, GoesOn, Fails, then_do, world_of}
+use Rattle.kt_eval.specs.Step.{Step, Outcome, Gave, Stopped, trail, GoesOn, Fails, then_do, world_of}
 use Rattle.kt_eval.specs.Calls.{stripped}
 use Rattle.kt_eval.specs.Conditions.{Compared}
 use Rattle.kt_eval.specs.Conditionals.{are_equal}
 use Rattle.kt_eval.specs.Expansion.{expanded, each_argument, apply_or, apply_and, apply_eval, apply_foreach, each_word}
 use Rattle.kt_eval.specs.Rules.{close_rule}
 use Rattle.kt_eval.specs.Levels.{evaluator}
-use Rattle.kt_eval.specs.Reading.{Sheet, at_line, line_at, body_at, branch_holds, late_else, read_bytes, read_define, read_end, read_first, read_items, read_branches, read_or, read_sheet}
+use Rattle.kt_eval.specs.Reading.{Sheet, at_line, line_at, body_at, branch_holds, late_else, read_bytes, read_define, read_first, read_items, read_branches, read_or, read_sheet}
 use Rattle.kt_eval.proofs.LevelLemmas.{evaluator_reads}
 use Rattle.kt_eval.proofs.ReadingLemmas.{Tries}
 use Rattle.kt_eval.proofs.GrowingLemmas.{front_next, one_more_level, behind_first_related, behind_branch_related, read_first_related, read_or_related}

@@ -1,5 +1,5 @@
 -- The last element of a list.
-use Rattle.std.proofs.Common.{◌≡◌, ℕ, suc, ◌+◌, ◌-◌, List, [], ◌∷◌, ◌++◌, length, length-append, Some, refl, arith}
+use Rattle.std.proofs.Common.{◌≡◌, ◌+◌, ◌-◌, List, [], ◌∷◌, ◌++◌, length, length-append, Some, refl, arith}
 use Rattle.std.specs.List.{slice_get}
 use Rattle.kt_eval.specs.Fronts.{last}
 

@@ -1,5 +1,5 @@
 -- The faults of makefiles: their numbers and words, and the line that tells of one (kati's own).
-use Rattle.std.specs.Prelude.{ℕ, ◌<◌, ◌++◌, ◌∷◌, codes, decimal, nat_lt, if◌then◌else◌}
+use Rattle.std.specs.Prelude.{ℕ, ◌++◌, codes, decimal, nat_lt, if◌then◌else◌}
 use Rattle.kt_text.specs.Words.{Text}
 use Rattle.kt_eval.specs.declared.fault.Fault.{Fault}
 use Rattle.kt_eval.specs.declared.kind.FaultKind.{FaultKind}
