@@ -1,0 +1,42 @@
+-- What is asked for, put together; and what is answered for an error.
+use Rattle.std.proofs.Common.{◌≡◌, List, true, false, Err, inl, inr, subst, ⊎_elim}
+use Rattle.std.proofs.lemmas.Bool.{cases_Bool}
+use Rattle.std.specs.Prelude.{option_map, unwrap_or, codes, ◌≢◌}
+use Rattle.kt_text.specs.Words.{Text}
+use Rattle.clap.specs.Words.{HasKind, IsAmong, Row, fault_of, first_of, kind_of, takes}
+use Rattle.clap.specs.declared.error.Error.{Error}
+use Rattle.clap.specs.declared.error.kind.ErrorKind.{ErrorKind}
+use Rattle.clap.specs.declared.error.kind.ErrorKind.TheVariants.{OutOfMemory}
+use Rattle.kati_args.specs.declared.args.Args.{Args}
+use Rattle.kati_args.specs.declared.fault.ArgFault.{ArgFault}
+use Rattle.kati_args.specs.declared.fault.ArgFault.TheVariants.{BadMacro, Help, Memory, Usage}
+use Rattle.kati_args.specs.Args.{Answers, Tells, args_in, goals_in, kati_app, macros_in, number_in, words_in}
+
+pub args_are : (rows : List Row) (made : Args) → made.makefile ≡ first_of (codes "makefile") rows → made.files ≡ first_of (codes "files") rows
+    → made.check ≡ first_of (codes "check") rows → made.limit ≡ unwrap_or (option_map number_in (first_of (codes "depth") rows)) 100
+    → made.goals ≡ goals_in (words_in rows) → made.macros ≡ macros_in (words_in rows) → made ≡ args_in rows
+args_are rows made makefile files check limit goals macros = λ i. record {
+  makefile = makefile i;
+  files = files i;
+  check = check i;
+  limit = limit i;
+  goals = goals i;
+  macros = macros i;
+}
+
+not_taken : (words : List Text) (e : Error) → (takes kati_app words ≡ true → kind_of e ≡ OutOfMemory) → (kind_of e ≢ OutOfMemory) → takes kati_app words ≡ false
+not_taken words e taken other = ⊎_elim (λ t. absurd (other (taken t))) (λ f. f) (cases_Bool (takes kati_app words))
+
+among : (words : List Text) (e : Error) → HasKind (fault_of kati_app words) e → (kind_of e ≢ OutOfMemory) → IsAmong (kind_of e) (fault_of kati_app words)
+among words e (inl memory) other = absurd (other memory)
+among words e (inr one) other = one
+
+pub answers_fault : (words : List Text) (e : Error) (fault : ArgFault) → (takes kati_app words ≡ true → kind_of e ≡ OutOfMemory)
+    → HasKind (fault_of kati_app words) e → Tells e fault → Answers words (Err fault)
+answers_fault words e (Help text) taken kinds told =
+    let other : kind_of e ≢ OutOfMemory = λ memory. absurd (cc (told, memory)) in
+    (not_taken words e taken other, subst (λ (k : ErrorKind). IsAmong k (fault_of kati_app words)) told (among words e kinds other))
+answers_fault words e (Usage text) taken kinds told =
+    (not_taken words e taken told.0, (kind_of e, told.1, among words e kinds told.0))
+answers_fault words e (BadMacro word) taken kinds told = absurd told
+answers_fault words e Memory taken kinds told = tt
