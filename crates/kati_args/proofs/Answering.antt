@@ -1,7 +1,7 @@
 -- What is asked for, put together; and what is answered for an error.
-use Rattle.std.proofs.Common.{◌≡◌, List, true, false, Err, inl, inr, subst, ⊎_elim}
+use Rattle.std.proofs.Common.{◌≡◌, ◌∙◌, List, Some, None, true, false, Ok, Err, inl, inr, ap, subst, sym, ⊎_elim}
 use Rattle.std.proofs.lemmas.Bool.{cases_Bool}
-use Rattle.std.specs.Prelude.{option_map, unwrap_or, codes, ◌≢◌}
+use Rattle.std.specs.Prelude.{find, option_map, unwrap_or, codes, ◌≢◌}
 use Rattle.kt_text.specs.Words.{Text}
 use Rattle.clap.specs.Words.{HasKind, IsAmong, Row, fault_of, first_of, kind_of, takes}
 use Rattle.clap.specs.declared.error.Error.{Error}
@@ -10,7 +10,7 @@ use Rattle.clap.specs.declared.error.kind.ErrorKind.TheVariants.{OutOfMemory}
 use Rattle.kati_args.specs.declared.args.Args.{Args}
 use Rattle.kati_args.specs.declared.fault.ArgFault.{ArgFault}
 use Rattle.kati_args.specs.declared.fault.ArgFault.TheVariants.{BadMacro, Help, Memory, Usage}
-use Rattle.kati_args.specs.Args.{Answers, Tells, args_in, goals_in, kati_app, macros_in, number_in, words_in}
+use Rattle.kati_args.specs.Args.{Answers, Tells, answer_to, args_in, goals_in, is_bad_macro, kati_app, macros_in, number_in, unless_bad, words_in}
 
 pub args_are : (rows : List Row) (made : Args) → made.makefile ≡ first_of (codes "makefile") rows → made.files ≡ first_of (codes "files") rows
     → made.check ≡ first_of (codes "check") rows → made.limit ≡ unwrap_or (option_map number_in (first_of (codes "depth") rows)) 100
@@ -23,6 +23,12 @@ args_are rows made makefile files check limit goals macros = λ i. record {
   goals = goals i;
   macros = macros i;
 }
+
+pub answers_args : (rows : List Row) (made : Args) → find is_bad_macro (words_in rows) ≡ None → made ≡ args_in rows → answer_to rows ≡ Ok made
+answers_args rows made none is = ap (unless_bad (args_in rows)) none ∙ ap Ok (sym is)
+
+pub answers_bad : (rows : List Row) (word : Text) → find is_bad_macro (words_in rows) ≡ Some word → answer_to rows ≡ Err word
+answers_bad rows word some = ap (unless_bad (args_in rows)) some
 
 not_taken : (words : List Text) (e : Error) → (takes kati_app words ≡ true → kind_of e ≡ OutOfMemory) → (kind_of e ≢ OutOfMemory) → takes kati_app words ≡ false
 not_taken words e taken other = ⊎_elim (λ t. absurd (other (taken t))) (λ f. f) (cases_Bool (takes kati_app words))

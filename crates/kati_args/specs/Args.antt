@@ -1,5 +1,5 @@
 -- What the words of the command line ask for (kati's own). Which words are options and which are their values is clap's.
-use Rattle.std.specs.Prelude.{◌≡◌, ◌≢◌, ℕ, ◌-◌, ◌==◌, ◌&&◌, ◌||◌, ⊤, Bool, true, false, not, List, [], ◌∷◌, map, filter, find, codes, length, slice_get, Some, None, option_map, unwrap_or, Result, Ok, Err, string_bytes}
+use Rattle.std.specs.Prelude.{◌≡◌, ◌≢◌, ℕ, ◌-◌, ◌==◌, ◌&&◌, ◌||◌, ⊤, Bool, true, false, not, List, [], ◌∷◌, map, filter, find, codes, length, slice_get, Some, None, option_map, unwrap_or, Result, Ok, Err, string_bytes, Option}
 use Rattle.std.specs.List.{list_any, before_first, after_first}
 use Rattle.std.specs.Option.{option_map_or}
 use Rattle.std.specs.Str.Parse.{digits_value, without_leading_plus}
@@ -102,10 +102,18 @@ args_in rows = record {
 
 -- ---- answers
 
--- what may be answered where clap found this in the words: their arguments, or the first macro whose name no macro can have
+abbrev pub unless_bad : Args → Option Text → Result Args Text
+unless_bad args None = Ok args
+unless_bad args (Some word) = Err word
+
+-- what clap found in the words, as arguments, or the first macro whose name no macro can have
+abbrev pub answer_to : List Row → Result Args Text
+answer_to rows = unless_bad (args_in rows) (find is_bad_macro (words_in rows))
+
+-- what may be answered where clap found this in the words: that, or that there isn't memory enough
 abbrev pub AnswersFound : List Row → Result Args ArgFault → Type 0
-AnswersFound rows (Ok args) = (find is_bad_macro (words_in rows) ≡ None) × (args ≡ args_in rows)
-AnswersFound rows (Err (BadMacro word)) = find is_bad_macro (words_in rows) ≡ Some (string_bytes word)
+AnswersFound rows (Ok args) = answer_to rows ≡ Ok args
+AnswersFound rows (Err (BadMacro word)) = answer_to rows ≡ Err (string_bytes word)
 AnswersFound rows (Err Memory) = ⊤
 AnswersFound rows (Err (Help text)) = ⊥
 AnswersFound rows (Err (Usage text)) = ⊥

@@ -5,6 +5,7 @@ mod args;
 mod asking;
 mod command;
 mod fault;
+pub mod laws;
 mod matching;
 mod word;
 mod words;
