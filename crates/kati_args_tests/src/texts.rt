@@ -25,7 +25,7 @@ const NAMED: [&str; 14] = [
 fn text_of(rt: &impl Abort, alloc: Global, lines: &str) -> String {
     match answer(rt, alloc, lines) {
         Err(fault) => format!(in alloc; "{fault}").expect(rt, "memory"),
-        Ok(_) => String::new(alloc),
+        Ok(_args) => String::new(alloc),
     }
 }
 

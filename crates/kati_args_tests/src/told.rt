@@ -60,8 +60,8 @@ pub(crate) fn told(rt: &impl Abort, alloc: Global, lines: &str) -> Vec<u8> {
     let mut told = Vec::new(alloc);
     match answer(rt, alloc, lines) {
         Ok(args) => put_args(&mut told, &args),
-        Err(ArgFault::Help(_)) => put(&mut told, b"help"),
-        Err(ArgFault::Usage(_)) => put(&mut told, b"usage"),
+        Err(ArgFault::Help(_text)) => put(&mut told, b"help"),
+        Err(ArgFault::Usage(_text)) => put(&mut told, b"usage"),
         Err(ArgFault::BadMacro(word)) => {
             put(&mut told, b"bad macro ");
             put(&mut told, word.as_bytes());
