@@ -168,6 +168,12 @@ class Report:
             if match
         ]
 
+    def path_of(self, module, name):
+        """The path of a function that stands in this module's file: a method goes by the module of its type."""
+        here = module + "::" + name
+        others = [path for path in self.states if path.endswith("::" + name)]
+        return others[0] if here not in self.states and len(others) == 1 else here
+
     def blames(self, path, file, first, last):
         """Why the function didn't meet its own contract, or None."""
         state = self.states.get(path, "")
@@ -290,7 +296,7 @@ class Trial:
             edit.why = "blames " + blamed[0] if blamed else ""
             return
         text, module = self.text(edit.file), module_of(self.crate, edit.file)
-        paths = [module + "::" + name for name in edit.owners]
+        paths = [report.path_of(module, name) for name in edit.owners]
         for name, path in zip(edit.owners, paths):
             why = report.blames(path, edit.file, *span(text, name))
             if why:

@@ -13,7 +13,7 @@ use Rattle.kt_ninja.specs.declared.plan.Plan.{Plan}
 use Rattle.kt_ninja.specs.declared.plan.Statement.{Statement}
 use Rattle.kt_ninja.specs.declared.checking.Unwritable.{Unwritable}
 use Rattle.kt_ninja.specs.Plan.{names_of, outputs}
-use Rattle.kt_ninja.specs.Writable.{IsWritable, Trouble, no_output, bad_name, bad_command, repeated, not_an_output, first_trouble, is_among, is_empty, is_made, is_name, not_made, repeated_after, trouble_in, trouble_of_statement, trouble_of_statements}
+use Rattle.kt_ninja.specs.Writable.{HasWritableTexts, IsWritable, Trouble, no_output, bad_name, bad_command, repeated, not_an_output, first_trouble, is_among, is_empty, is_made, is_name, not_made, repeated_after, trouble_in, trouble_of_statement, trouble_of_statements}
 
 -- ---- a list all of whose elements pass has no first that fails
 
@@ -271,3 +271,8 @@ ok_exactly (Err e) = (λ ok. absurd (cc ok), λ none. absurd (cc none))
 pub writable_exactly : (plan : Plan) (r : Result (Unit {0}) Unwritable) → trouble_in r ≡ first_trouble plan → IsOk r ↔ IsWritable plan
 writable_exactly plan r is =
     (λ ok. writable_from_none plan (sym is ∙ (ok_exactly r).0 ok), λ w. (ok_exactly r).1 (is ∙ none_from_writable plan w))
+
+pub texts_exactly : (plan : Plan) (r : Result (Unit {0}) Unwritable) → trouble_in r ≡ trouble_of_statements 0 plan.statements
+    → IsOk r ↔ HasWritableTexts plan
+texts_exactly plan r is =
+    (λ ok. all_fine 0 plan.statements (sym is ∙ (ok_exactly r).0 ok), λ texts. (ok_exactly r).1 (is ∙ no_trouble 0 plan.statements texts))

@@ -1,3 +1,4 @@
+pub mod Stripping
 pub mod Growth
 pub mod Putting
 pub mod Escaping

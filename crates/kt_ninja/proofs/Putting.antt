@@ -1,10 +1,12 @@
 -- How texts that are put into a block follow one another.
-use Rattle.std.proofs.Common.{◌≡◌, ℕ, ◌+◌, List, [], ◌++◌, refl, sym, ap, subst, ◌∙◌, append_assoc, append-nil, arith, ◌<◌, ◌∷◌, length, drop, get_or, add-one}
+use Rattle.std.proofs.Common.{◌≡◌, ℕ, ◌+◌, List, [], ◌++◌, refl, sym, ap, subst, ◌∙◌, append_assoc, append-nil, arith, ◌<◌, ◌≤◌, ◌*◌, ◌⊎◌, inl, inr, ◌∷◌, length, drop, get_or, add-one}
+use Rattle.std.proofs.lemmas.List.{length-append}
+use Rattle.kt_list.specs.Counters.{Rises}
 use Rattle.std.proofs.Math.Seq.{drop-cons}
 use Rattle.std.specs.Prelude.{Option, Bool, true, false}
 use Rattle.kt_ninja.specs.declared.block.Block.{Block}
 use Rattle.kt_ninja.specs.Written.{appended, GrowsByFront}
-use Rattle.kt_ninja.specs.Blocks.{Moves, PutsBy, Counts, Puts, PrintsBy, Prints}
+use Rattle.kt_ninja.specs.Blocks.{Moves, PutsBy, Counts, Passes, HandsOver, Puts, PrintsBy, Prints}
 use Rattle.kt_ninja.proofs.Growth.{appended-nil, appended_twice, front_after, front_of_more}
 
 -- what waited and the first text, cut where the block stood in between, goes on with the second text
@@ -45,23 +47,50 @@ by_then true true false a b c v w x first second one two = absurd two
 by_then true true true a b c v w x first second one two = two ∙ one
 
 counts_then : (f g h : Bool) (a b c : ℕ) → Counts f g a b → Counts g h b c → Counts f h a c
-counts_then false false false a b c one two = omega arith
-counts_then false false true a b c one two = omega arith
-counts_then false true false a b c one two = omega arith
-counts_then false true true a b c one two = omega arith
-counts_then true false false a b c one two = omega arith
-counts_then true false true a b c one two = omega arith
-counts_then true true false a b c one two = omega arith
-counts_then true true true a b c one two = omega arith
+counts_then false false false a b c one two = two ∙ one
+counts_then false false true a b c one two = let P : ℕ → Type 0 = λ n. (n ≤ c) × Rises n c in subst P one two
+counts_then false true false a b c one two = absurd two
+counts_then false true true a b c one two = let P : ℕ → Type 0 = λ n. (a ≤ n) × Rises a n in subst P (sym two) one
+counts_then true false h a b c one two = absurd one
+counts_then true true false a b c one two = absurd two
+counts_then true true true a b c one two = two ∙ one
 
--- one text behind the other
-pub puts_then : {S : Type 0} {written : S → Option (List ℕ)} {failures : S → ℕ} {old middle new : Block S} (first second : List ℕ)
-    → Puts written failures old middle first → Puts written failures middle new second → Puts written failures old new (first ++ second)
-puts_then {S} {written} {failures} {old} {middle} {new} first second one two = record {
+pub passes_then : {S : Type 0} {written : S → Option (List ℕ)} {failures : S → ℕ} {old middle new : Block S} (first second : List ℕ)
+    → Passes written failures old middle first → Passes written failures middle new second → Passes written failures old new (first ++ second)
+passes_then {S} {written} {failures} {old} {middle} {new} first second one two = record {
   same = two.same ∙ one.same;
   puts = by_then old.failed middle.failed new.failed (written old.sink.now) (written middle.sink.now) (written new.sink.now)
       old.waiting.items middle.waiting.items new.waiting.items first second one.puts two.puts;
   counts = counts_then old.failed middle.failed new.failed (failures old.sink.now) (failures middle.sink.now) (failures new.sink.now) one.counts two.counts;
+}
+
+rest_then : (v w x first second m n : ℕ) → v + first ≡ m * 4096 + w → w + second ≡ n * 4096 + x → v + (first + second) ≡ (m + n) * 4096 + x
+rest_then v w x first second m n one two = omega (arith, one, two)
+
+more_then : (w x second m n : ℕ) → w + second ≡ n * 4096 + x → (m ≡ 0) ⊎ (0 < w) → (n ≡ 0) ⊎ (0 < x) → (m + n ≡ 0) ⊎ (0 < x)
+more_then w x second m n is one (inr some) = inr some
+more_then w x second m n is (inl no_m) (inl no_n) = inl (omega (arith, no_m, no_n))
+more_then w x second m n is (inr some) (inl no_n) = inr (omega (arith, is, some, no_n))
+
+hands_then : {S : Type 0} {old middle new : Block S} (first second : List ℕ)
+    → HandsOver old middle first → HandsOver middle new second → HandsOver old new (first ++ second)
+hands_then {S} {old} {middle} {new} first second one two =
+    let w = length middle.waiting.items in
+    let x = length new.waiting.items in
+    record {
+      times = one.times + two.times;
+      rest = ap (λ n. length old.waiting.items + n) (length-append first second)
+          ∙ rest_then (length old.waiting.items) w x (length first) (length second) one.times two.times one.rest two.rest;
+      more = more_then w x (length second) one.times two.times two.rest one.more two.more;
+      none = λ never. two.none (omega (arith, never)) ∙ one.none (omega (arith, never));
+    }
+
+-- one text behind the other
+pub puts_then : {S : Type 0} {written : S → Option (List ℕ)} {failures : S → ℕ} {old middle new : Block S} (first second : List ℕ)
+    → Puts written failures old middle first → Puts written failures middle new second → Puts written failures old new (first ++ second)
+puts_then first second one two = record {
+  passes = passes_then first second one.passes two.passes;
+  hands = hands_then first second one.hands two.hands;
 }
 
 by_none : (f : Bool) (a : Option (List ℕ)) (v : List ℕ) → PutsBy f f a v a v []
@@ -69,15 +98,18 @@ by_none false a v = record { front = []; cut = append-nil v; grown = sym (append
 by_none true a v = refl
 
 counts_none : (f : Bool) (a : ℕ) → Counts f f a a
-counts_none false a = omega arith
-counts_none true a = omega arith
+counts_none false a = refl
+counts_none true a = refl
 
 -- no text
 pub puts_none : {S : Type 0} {written : S → Option (List ℕ)} {failures : S → ℕ} (way : Block S) → Puts written failures way way []
 puts_none {S} {written} {failures} way = record {
-  same = refl;
-  puts = by_none way.failed (written way.sink.now) way.waiting.items;
-  counts = counts_none way.failed (failures way.sink.now);
+  passes = record {
+    same = refl;
+    puts = by_none way.failed (written way.sink.now) way.waiting.items;
+    counts = counts_none way.failed (failures way.sink.now);
+  };
+  hands = record { times = 0; rest = omega arith; more = inl refl; none = λ _. refl };
 }
 
 -- of this whole text all is put but this
@@ -120,12 +152,12 @@ by_end true taken taken' text grows = grows
 
 -- a text that was put into an empty block, and what waits of it handed over
 pub printed : {S : Type 0} {written : S → Option (List ℕ)} {failures : S → ℕ} {text : List ℕ} (old middle new : Block S) (a b : S)
-    → Puts written failures old middle text → Puts written failures middle new [] → new.waiting.items ≡ []
+    → Puts written failures old middle text → Passes written failures middle new [] → new.waiting.items ≡ []
     → old.waiting.items ≡ [] → old.failed ≡ false → old.sink.now ≡ a → new.sink.now ≡ b
     → Prints written failures a b new.failed text
 printed {S} {written} {failures} {text} old middle new a b one flush flushed empty fresh first last =
-    let T : List ℕ → Type 0 = λ t. Puts written failures old new t in
-    let puts = subst T (append-nil text) (puts_then text [] one flush) in
+    let T : List ℕ → Type 0 = λ t. Passes written failures old new t in
+    let puts = subst T (append-nil text) (passes_then text [] one.passes flush) in
     let P : Bool → List ℕ → List ℕ → Type 0 = λ f v w. PutsBy f new.failed (written old.sink.now) v (written new.sink.now) w text in
     let C : Bool → Type 0 = λ f. Counts f new.failed (failures old.sink.now) (failures new.sink.now) in
     let now = subst (λ (f : Bool). P f [] []) fresh

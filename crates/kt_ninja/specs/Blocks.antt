@@ -1,5 +1,5 @@
 -- Text on its way to a sink, through a block of bytes.
-use Rattle.std.specs.Prelude.{◌≡◌, ℕ, ◌≤◌, List, ◌++◌, Option, Bool, true, false}
+use Rattle.std.specs.Prelude.{◌≡◌, ℕ, ◌+◌, ◌*◌, ◌≤◌, ◌<◌, ◌⊎◌, List, ◌++◌, length, Option, Bool, true, false}
 use Rattle.kt_list.specs.Counters.{Rises}
 use Rattle.kt_ninja.specs.Written.{appended, GrowsByFront}
 use Rattle.kt_ninja.specs.declared.block.Block.{Block}
@@ -18,16 +18,31 @@ PutsBy false true taken waiting taken' waiting' text = GrowsByFront taken taken'
 PutsBy true false taken waiting taken' waiting' text = ⊥
 PutsBy true true taken waiting taken' waiting' text = taken' ≡ taken
 
--- the sink's count doesn't fall, and rises where the first fault comes
+-- the sink's count stays, and rises where the first fault comes
 abbrev pub Counts : Bool → Bool → ℕ → ℕ → Type 0
+Counts false false old new = new ≡ old
 Counts false true old new = (old ≤ new) × Rises old new
-Counts _ _ old new = old ≤ new
+Counts true false old new = ⊥
+Counts true true old new = new ≡ old
 
 -- the text was put behind what waited in the block, on its way to the same sink
-pub record Puts {S : Type 0} (written : S → Option (List ℕ)) (failures : S → ℕ) (old new : Block S) (text : List ℕ) : Type 0 where
+pub record Passes {S : Type 0} (written : S → Option (List ℕ)) (failures : S → ℕ) (old new : Block S) (text : List ℕ) : Type 0 where
   pub same : new.sink.ghost_name ≡ old.sink.ghost_name
   pub puts : PutsBy old.failed new.failed (written old.sink.now) old.waiting.items (written new.sink.now) new.waiting.items text
   pub counts : Counts old.failed new.failed (failures old.sink.now) (failures new.sink.now)
+
+-- the block was handed over this often, each time when 4,096 bytes waited in it and more came: what waits now is the
+-- rest, and where nothing was handed over the sink was not called
+pub record HandsOver {S : Type 0} (old new : Block S) (text : List ℕ) : Type 0 where
+  pub times : ℕ
+  pub rest : length old.waiting.items + length text ≡ times * 4096 + length new.waiting.items
+  pub more : (times ≡ 0) ⊎ (0 < length new.waiting.items)
+  pub none : times ≡ 0 → new.sink.now ≡ old.sink.now
+
+-- both
+pub record Puts {S : Type 0} (written : S → Option (List ℕ)) (failures : S → ℕ) (old new : Block S) (text : List ℕ) : Type 0 where
+  pub passes : Passes written failures old new text
+  pub hands : HandsOver old new text
 
 -- the text was printed to its end: a sink that didn't fail has taken it, and one that failed a beginning of it
 abbrev pub PrintsBy : Bool → Option (List ℕ) → Option (List ℕ) → List ℕ → Type 0

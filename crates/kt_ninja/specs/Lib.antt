@@ -17,3 +17,4 @@ pub mod Refusals
 pub mod Wording
 pub mod Holding
 pub mod Reading
+pub mod Equality

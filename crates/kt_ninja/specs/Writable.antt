@@ -38,11 +38,15 @@ is_made Phony = true
 abbrev pub is_among : List (List ℕ) → List ℕ → Bool
 is_among names name = list_any (λ n. pointwise nat_eq name n) names
 
+-- each name can be written, and each command
+abbrev pub HasWritableTexts : Plan → Type 0
+HasWritableTexts plan = list_all (λ s. list_all is_name (names_of s) && is_made s.made) plan.statements ≡ true
+
 -- every statement makes something, its names and its command can be written, no output stands twice in the plan, and
 -- each default target is an output
 pub record IsWritable (plan : Plan) : Type 0 where
   pub made : list_all (λ s. not (is_empty s.outs)) plan.statements ≡ true
-  pub texts : list_all (λ s. list_all is_name (names_of s) && is_made s.made) plan.statements ≡ true
+  pub texts : HasWritableTexts plan
   pub different : AllPairs (λ a b. a ≢ b) (outputs plan.statements)
   pub defaults : All (λ d. Contains (outputs plan.statements) d) plan.defaults
 

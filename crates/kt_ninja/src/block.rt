@@ -27,11 +27,11 @@ fn after(text: &[u8], at: usize) -> &[u8]
 }
 
 impl<'a, W: Sink> Block<'a, W> {
-    ghost use Rattle.kt_ninja.specs.Blocks.{Puts};
+    ghost use Rattle.kt_ninja.specs.Blocks.{HandsOver, Passes, Puts};
 
     /// Hands over what waits.
     pub fn flush(&mut self)
-        ensures puts { Puts W.written W.failed self.old self.new [] }
+        ensures passes { Passes W.written W.failed self.old self.new [] }
         ensures empty { self.new.waiting.items ≡ [] }
     {
         if !self.failed && put(self.sink, self.waiting.as_slice()).is_err() {
@@ -55,7 +55,8 @@ impl<'a, W: Sink> Block<'a, W> {
         requires { 0 < length piece.now }
         ensures some { 0 < result }
         ensures within { result ≤ length piece.now }
-        ensures puts { Puts W.written W.failed self.old self.new (take result piece.now) }
+        ensures passes { Passes W.written W.failed self.old self.new (take result piece.now) }
+        ensures hands { HandsOver self.old self.new (take result piece.now) }
     {
         if self.waiting.is_full() {
             self.flush();

@@ -3,7 +3,7 @@ ghost use Rattle.std.specs.Prelude.{◌≡◌, ◌↔◌, [], not, find, IsOk};
 ghost use Rattle.std.specs.List.{list_all, list_any, position_from};
 ghost use Rattle.std.specs.Option.{option_copied};
 ghost use Rattle.kt_ninja.specs.Plan.{names_of, outputs};
-ghost use Rattle.kt_ninja.specs.Writable.{IsWritable, first_trouble, is_among, is_command_byte, is_empty, is_made, is_name, is_name_byte, not_made, repeated_after, trouble_in, trouble_of_statement, trouble_of_statements};
+ghost use Rattle.kt_ninja.specs.Writable.{HasWritableTexts, IsWritable, first_trouble, is_among, is_command_byte, is_empty, is_made, is_name, is_name_byte, not_made, repeated_after, trouble_in, trouble_of_statement, trouble_of_statements};
 
 use crate::plan::{Made, Name, Plan, Statement};
 use thiserror::Error;
@@ -143,13 +143,23 @@ fn statement_can_be_written(number: usize, statement: &Statement) -> Result<(), 
     }
 }
 
-fn texts_can_be_written(statements: &[Statement]) -> Result<(), Unwritable<'_>>
+fn first_bad_text(statements: &[Statement]) -> Result<(), Unwritable<'_>>
     ensures { trouble_in result ≡ trouble_of_statements 0 statements.now }
 {
     for (number, statement) in statements.iter().enumerate() {
         statement_can_be_written(number, statement)?;
     }
     Ok(())
+}
+
+/// Whether each name and each command of the plan can be written, and else the first that can't, statement by
+/// statement, names first: `BadName` or `BadCommand`. Looks at each byte at most once, at no other part of the plan,
+/// and takes no memory.
+pub fn texts_can_be_written(plan: &Plan) -> Result<(), Unwritable<'_>>
+    ensures trouble { trouble_in result ≡ trouble_of_statements 0 plan.now.statements }
+    ensures writable { IsOk result ↔ HasWritableTexts plan.now }
+{
+    first_bad_text(plan.statements.as_slice())
 }
 
 /// The first name that stands among the earlier statements' outputs, or before it in the list.
@@ -190,7 +200,7 @@ fn first_trouble_in(plan: &Plan) -> Result<(), Unwritable<'_>>
     if let Some(number) = first_without_output(statements) {
         return Err(Unwritable::NoOutput(number));
     }
-    texts_can_be_written(statements)?;
+    texts_can_be_written(plan)?;
     if let Some(name) = first_repeated(statements) {
         return Err(Unwritable::Repeated(name.as_slice()));
     }

@@ -19,7 +19,7 @@ mod sink;
 mod state;
 mod table;
 
-pub use checking::{Unwritable, writable};
+pub use checking::{Unwritable, texts_can_be_written, writable};
 pub use memory::MemSink;
 pub use plan::{Made, Name, Plan, Statement};
 pub use printer::write_plan;

@@ -76,6 +76,7 @@ impl Sink for MemSink {
         ensures counts { self.old.failures ≤ self.new.failures }
         ensures fails { OnErr result (Rises self.old.failures self.new.failures) }
         ensures stalls { IfOk result (λ n. n ≡ 0 → 0 < length piece.now → Rises self.old.failures self.new.failures) }
+        ensures holds { IfOk result (λ n. 0 < n → self.new.failures ≡ self.old.failures) }
 
         // It takes what step and room allow; nothing of a piece that isn't empty is a failure.
         ensures some { 0 < taken_of self.old piece.now → (result ≡ Ok (taken_of self.old piece.now))

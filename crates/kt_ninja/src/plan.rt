@@ -1,4 +1,9 @@
 //! A build plan: statements with their outputs, commands and inputs, and the default targets.
+ghost use Rattle.std.specs.Prelude.{◌≡◌, ◌↔◌, IsTrue};
+ghost use Rattle.std.specs.Cmp.{partial_equiv_from_equiv};
+ghost use Rattle.kt_ninja.specs.Plan.{same_made, same_plan, same_statement};
+ghost use Rattle.kt_ninja.specs.Equality.{made_laws, plan_laws, statement_laws};
+
 use kt_list::Sequence;
 
 /// The bytes of a path, without escapes.
@@ -33,4 +38,64 @@ pub struct Plan {
     pub statements: Sequence<Statement>,
     /// Targets that Ninja builds when it is given none (Ninja manual, "Default target statements").
     pub defaults: Sequence<Name>,
+}
+
+impl PartialEq for Made {
+    ghost eq = { same_made };
+
+    ghost laws = { partial_equiv_from_equiv made_laws };
+
+    #[tactic(auto, using(crate::specs::Equality::made_decided))]
+    fn eq(&self, other: &Made) -> bool
+        ensures told { result ≡ same_made self.now other.now }
+        ensures same { IsTrue result ↔ (self.now ≡ other.now) }
+    {
+        match (self, other) {
+            (Made::Command(command), Made::Command(another)) => command == another,
+            (Made::Phony, Made::Phony) => true,
+            _ => false,
+        }
+    }
+}
+
+impl Eq for Made {
+    ghost laws = { made_laws };
+}
+
+impl PartialEq for Statement {
+    ghost eq = { same_statement };
+
+    ghost laws = { partial_equiv_from_equiv statement_laws };
+
+    fn eq(&self, other: &Statement) -> bool
+        ensures told { result ≡ same_statement self.now other.now }
+        ensures same { IsTrue result ↔ (self.now ≡ other.now) }
+    {
+        self.outs == other.outs
+            && self.made == other.made
+            && self.inputs == other.inputs
+            && self.implicit == other.implicit
+            && self.order_only == other.order_only
+    }
+}
+
+impl Eq for Statement {
+    ghost laws = { statement_laws };
+}
+
+impl PartialEq for Plan {
+    ghost eq = { same_plan };
+
+    ghost laws = { partial_equiv_from_equiv plan_laws };
+
+    fn eq(&self, other: &Plan) -> bool
+        ensures told { result ≡ same_plan self.now other.now }
+        ensures same { IsTrue result ↔ (self.now ≡ other.now) }
+    {
+        self.statements == other.statements && self.defaults == other.defaults
+    }
+}
+
+impl Eq for Plan {
+    ghost laws = { plan_laws };
 }

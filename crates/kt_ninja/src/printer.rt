@@ -170,6 +170,7 @@ pub fn write_plan<W: Sink>(plan: &Plan, sink: &mut W) -> Result<(), WriteFault>
     ensures fault { OnErr result (GrowsByFront (W.written sink.old) (W.written sink.new) (plan_text plan.now)) }
     ensures counts { W.failed sink.old ≤ W.failed sink.new }
     ensures failed { OnErr result (Rises (W.failed sink.old) (W.failed sink.new)) }
+    ensures steady { OnOk result (W.failed sink.new ≡ W.failed sink.old) }
 {
     if print(plan, sink) {
         Err(WriteFault)

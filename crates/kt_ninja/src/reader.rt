@@ -165,14 +165,11 @@ fn read_margin_line(
 }
 
 // What stands behind the keyword, if the text begins with it.
+#[tactic(auto, using(crate::proofs::Stripping::stripped))]
 fn behind<'t>(keyword: &[u8], text: &'t [u8]) -> Option<&'t [u8]>
     ensures { MatchOption result (starts_with nat_eq text.now keyword.now ≡ false) (λ rest. (starts_with nat_eq text.now keyword.now ≡ true) × (rest.now ≡ drop (length keyword.now) text.now)) }
 {
-    if text.starts_with(keyword) {
-        Some(&text[keyword.len()..])
-    } else {
-        None
-    }
+    text.strip_prefix(keyword)
 }
 
 // A line at the margin, with the block below it.

@@ -1,5 +1,5 @@
 //! Where text goes.
-ghost use Rattle.std.specs.Prelude.{◌≡◌, ℕ, List, Option, ◌≤◌, ◌<◌, length, take, IfOk, OnOk, OnErr};
+ghost use Rattle.std.specs.Prelude.{◌≡◌, ℕ, List, Option, [], ◌≤◌, ◌<◌, length, take, IfOk, IsOk, OnOk, OnErr};
 ghost use Rattle.kt_list.specs.Counters.{Rises};
 ghost use Rattle.kt_ninja.specs.Written.{appended, GrowsByFront};
 
@@ -19,14 +19,15 @@ pub trait Sink {
     ghost failed: { Self → ℕ };
 
     /// Takes a beginning of the piece, and answers its length in bytes. An `Err`, and a 0 for a piece
-    /// that isn't empty, is a failure; it isn't to be tried again.
+    /// that isn't empty, is a failure; it isn't to be tried again. What takes a byte is none.
     fn write(&mut self, piece: &[u8]) -> Result<usize, SinkFault>
         ensures within { IfOk result (λ n. n ≤ length piece.now) }
         ensures takes { IfOk result (λ n. written self.new ≡ appended (written self.old) (take n piece.now)) }
         ensures front { OnErr result (GrowsByFront (written self.old) (written self.new) piece.now) }
         ensures counts { failed self.old ≤ failed self.new }
         ensures fails { OnErr result (Rises (failed self.old) (failed self.new)) }
-        ensures stalls { IfOk result (λ n. n ≡ 0 → 0 < length piece.now → Rises (failed self.old) (failed self.new)) };
+        ensures stalls { IfOk result (λ n. n ≡ 0 → 0 < length piece.now → Rises (failed self.old) (failed self.new)) }
+        ensures holds { IfOk result (λ n. 0 < n → failed self.new ≡ failed self.old) };
 
     /// How often `write` failed.
     fn failures(&self) -> u64
@@ -46,6 +47,8 @@ pub fn put<W: Sink>(sink: &mut W, piece: &[u8]) -> Result<(), WriteFault>
     ensures fault { OnErr result (GrowsByFront (W.written sink.old) (W.written sink.new) piece.now) }
     ensures counts { W.failed sink.old ≤ W.failed sink.new }
     ensures failed { OnErr result (Rises (W.failed sink.old) (W.failed sink.new)) }
+    ensures steady { OnOk result (W.failed sink.new ≡ W.failed sink.old) }
+    ensures empty { piece.now ≡ [] → IsOk result × (sink.new ≡ sink.old) }
 {
     let mut done = 0;
     while done < piece.len() {

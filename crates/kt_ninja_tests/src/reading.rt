@@ -223,3 +223,69 @@ fn each_beginning_is_read_or_has_its_line(rt: HostRuntime) {
         assert_eq!(rt; fault(rt.alloc(), &text[..length]), line);
     }
 }
+
+/// A text, so many times.
+fn repeated(alloc: Global, text: &[u8], count: usize) -> Result<Vec<u8>, AllocError> {
+    let mut all = Vec::new(alloc);
+    for _ in 0..count {
+        all.extend_from_slice(text)?;
+    }
+    Ok(all)
+}
+
+/// What stands in front, a text and how often, and what stands behind; the plan, with the text where `%` stands.
+const LONG: [(&[u8], &[u8], usize, &[u8], &[u8]); 5] = [
+    // a path of 5,000 bytes
+    (b"build ", b"x", 5_000, b": phony\n", b"%,;;;;#>\n"),
+    // a variable's name of 300 bytes
+    (b"", b"v", 300, b" = 1\nbuild a: phony\n", b"a,;;;;#>\n"),
+    // spaces before a value, comments, and empty lines
+    (b"x =", b" ", 70_000, b"y\nbuild $x: phony\n", b"y,;;;;#>\n"),
+    (b"", b"# c $\n", 5_000, b"build a: phony\n", b"a,;;;;#>\n"),
+    (
+        b"build a: phony\n",
+        b"\n",
+        70_000,
+        b"default a\n",
+        b"a,;;;;#>a,\n",
+    ),
+];
+
+/// The text, with another in place of the percent sign.
+fn with_middle(alloc: Global, shown: &[u8], middle: &[u8]) -> Result<Vec<u8>, AllocError> {
+    let mut text = Vec::new(alloc);
+    for byte in shown {
+        if *byte == b'%' {
+            text.extend_from_slice(middle)?;
+        } else {
+            text.push(*byte)?;
+        }
+    }
+    Ok(text)
+}
+
+#[test]
+fn long_texts_are_read(rt: HostRuntime) {
+    for (front, text, count, back, plan) in LONG {
+        let middle = repeated(rt.alloc(), text, count).expect(&rt, "memory");
+        let mut whole = front.to_vec(rt.alloc()).expect(&rt, "memory");
+        whole
+            .extend_from_slice(middle.as_slice())
+            .expect(&rt, "memory");
+        whole.extend_from_slice(back).expect(&rt, "memory");
+        let wanted = with_middle(rt.alloc(), plan, middle.as_slice()).expect(&rt, "memory");
+        let told = told(rt.alloc(), whole.as_slice()).expect(&rt, "memory");
+        assert!(rt;
+            told.as_slice() == wanted.as_slice(),
+            "{count} times {text:?}"
+        );
+    }
+}
+
+#[test]
+fn lines_are_numbered_past_16_bits(rt: HostRuntime) {
+    let mut text = repeated(rt.alloc(), b"# c\n", 70_000).expect(&rt, "memory");
+    text.extend_from_slice(b"build a: phony\nx\n")
+        .expect(&rt, "memory");
+    assert_eq!(rt; fault(rt.alloc(), text.as_slice()), 70_002);
+}

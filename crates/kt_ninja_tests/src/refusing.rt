@@ -1,6 +1,6 @@
 //! Plans that can't be written, and what keeps them from it first.
 use crate::plans::plan_of;
-use kt_ninja::{Unwritable, writable};
+use kt_ninja::{Unwritable, texts_can_be_written, writable};
 
 /// Plans, and what their trouble is.
 const REFUSED: [(&[u8], Unwritable<'static>); 35] = [
@@ -53,5 +53,30 @@ fn refusals_come_in_order(rt: HostRuntime) {
     for (text, trouble) in REFUSED {
         let plan = plan_of(&rt, rt.alloc(), text);
         assert_eq!(rt; writable(&plan).err(), Some(trouble), "{text:?}");
+    }
+}
+
+/// Plans, and the first of their names and commands that can't be written.
+const TEXTS: [(&[u8], Option<Unwritable<'static>>); 6] = [
+    (b">", None),
+    // What else keeps a plan from being written is not looked at.
+    (b";=c;;;#a,a,;;b,;c,;d,#>z,,", None),
+    (b"a|,a|,;=;;;#;;;;#>z,", Some(Unwritable::BadName(b"a|"))),
+    (
+        b"a,a,;=c;;;|,#b,;=\r;;;#>z,",
+        Some(Unwritable::BadName(b"|")),
+    ),
+    (
+        b"a,;=c;;;#a,;=\r;;;#|,;;;;#>z,",
+        Some(Unwritable::BadCommand(1)),
+    ),
+    (b"a,;=;,;;#>z,", Some(Unwritable::BadName(b""))),
+];
+
+#[test]
+fn texts_are_told_alone(rt: HostRuntime) {
+    for (text, trouble) in TEXTS {
+        let plan = plan_of(&rt, rt.alloc(), text);
+        assert_eq!(rt; texts_can_be_written(&plan).err(), trouble, "{text:?}");
     }
 }

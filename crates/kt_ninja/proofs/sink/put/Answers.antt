@@ -1,4 +1,4 @@
-use Rattle.std.proofs.Common.{arith}
+use Rattle.std.proofs.Common.{◌∙◌, ◌<◌, length, ap, arith}
 use Rattle.std.proofs.lemmas.List.{take_rest}
 use Rattle.kt_ninja.proofs.Growth.{taken_twice, front_of_rest, front_taken}
 use Rattle.kt_ninja.proofs.sink.put.Goals as goal
@@ -12,7 +12,8 @@ pub loop-done-preserved : goal.loop-done-preserved
 loop-done-preserved g c = record {
   within = grind arith;
   taken = taken_twice _ _ _ c.loop-done.done c.in-Ok.taken c.args.piece.now c.loop-done.invariant.taken (rw take_rest at c.in-Ok.ensures.takes);
-  counts = omega arith;
+  steady = c.in-Ok.ensures.holds (omega arith) ∙ c.loop-done.invariant.steady;
+  empty = λ none. absurd (let bad : c.loop-done.done < length c.args.piece.now = c.loop-done-test.true in omega (arith, bad, ap length none));
 }
 
 pub returns-in-Err-clause-fault : goal.returns-in-Err-clause-fault

@@ -1,0 +1,48 @@
+-- What is asked for, put together; and what is answered for an error.
+use Rattle.std.proofs.Common.{◌≡◌, ◌∙◌, List, Some, None, true, false, Ok, Err, inl, inr, ap, subst, sym, ⊎_elim}
+use Rattle.std.proofs.lemmas.Bool.{cases_Bool}
+use Rattle.std.specs.Prelude.{find, option_map, unwrap_or, codes, ◌≢◌}
+use Rattle.kt_text.specs.Words.{Text}
+use Rattle.clap.specs.Words.{HasKind, IsAmong, Row, fault_of, first_of, kind_of, takes}
+use Rattle.clap.specs.declared.error.Error.{Error}
+use Rattle.clap.specs.declared.error.kind.ErrorKind.{ErrorKind}
+use Rattle.clap.specs.declared.error.kind.ErrorKind.TheVariants.{OutOfMemory}
+use Rattle.kati_args.specs.declared.args.Args.{Args}
+use Rattle.kati_args.specs.declared.fault.ArgFault.{ArgFault}
+use Rattle.kati_args.specs.declared.fault.ArgFault.TheVariants.{BadMacro, Help, Memory, Usage}
+use Rattle.kati_args.specs.Args.{Answers, Tells, answer_to, args_in, goals_in, is_bad_macro, kati_app, macros_in, number_in, unless_bad, words_in}
+
+pub args_are : (rows : List Row) (made : Args) → made.makefile ≡ first_of (codes "makefile") rows → made.files ≡ first_of (codes "files") rows
+    → made.check ≡ first_of (codes "check") rows → made.limit ≡ unwrap_or (option_map number_in (first_of (codes "depth") rows)) 100
+    → made.goals ≡ goals_in (words_in rows) → made.macros ≡ macros_in (words_in rows) → made ≡ args_in rows
+args_are rows made makefile files check limit goals macros = λ i. record {
+  makefile = makefile i;
+  files = files i;
+  check = check i;
+  limit = limit i;
+  goals = goals i;
+  macros = macros i;
+}
+
+pub answers_args : (rows : List Row) (made : Args) → find is_bad_macro (words_in rows) ≡ None → made ≡ args_in rows → answer_to rows ≡ Ok made
+answers_args rows made none is = ap (unless_bad (args_in rows)) none ∙ ap Ok (sym is)
+
+pub answers_bad : (rows : List Row) (word : Text) → find is_bad_macro (words_in rows) ≡ Some word → answer_to rows ≡ Err word
+answers_bad rows word some = ap (unless_bad (args_in rows)) some
+
+not_taken : (words : List Text) (e : Error) → (takes kati_app words ≡ true → kind_of e ≡ OutOfMemory) → (kind_of e ≢ OutOfMemory) → takes kati_app words ≡ false
+not_taken words e taken other = ⊎_elim (λ t. absurd (other (taken t))) (λ f. f) (cases_Bool (takes kati_app words))
+
+among : (words : List Text) (e : Error) → HasKind (fault_of kati_app words) e → (kind_of e ≢ OutOfMemory) → IsAmong (kind_of e) (fault_of kati_app words)
+among words e (inl memory) other = absurd (other memory)
+among words e (inr one) other = one
+
+pub answers_fault : (words : List Text) (e : Error) (fault : ArgFault) → (takes kati_app words ≡ true → kind_of e ≡ OutOfMemory)
+    → HasKind (fault_of kati_app words) e → Tells e fault → Answers words (Err fault)
+answers_fault words e (Help text) taken kinds told =
+    let other : kind_of e ≢ OutOfMemory = λ memory. absurd (cc (told, memory)) in
+    (not_taken words e taken other, subst (λ (k : ErrorKind). IsAmong k (fault_of kati_app words)) told (among words e kinds other))
+answers_fault words e (Usage text) taken kinds told =
+    (not_taken words e taken told.0, (kind_of e, told.1, among words e kinds told.0))
+answers_fault words e (BadMacro word) taken kinds told = absurd told
+answers_fault words e Memory taken kinds told = tt

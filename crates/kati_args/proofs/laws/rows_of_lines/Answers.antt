@@ -1,0 +1,20 @@
+use Rattle.std.proofs.Common.{refl}
+use Rattle.clap.proofs.OnLiterals.{clap_on_literals}
+use Rattle.kt_text.specs.Words.{is_separator}
+use Rattle.kati_args.proofs.laws.rows_of_lines.Goals as goal
+
+pub returns : goal.returns
+unfolding clap_on_literals is_separator
+returns c = record {
+  nothing = refl;
+  usual = refl;
+  attached = refl;
+  files = refl;
+  depth = refl;
+  dashes = refl;
+  dash = refl;
+  twice = refl;
+  bad = refl;
+  no_name = refl;
+  two_words = refl;
+}

@@ -1,0 +1,32 @@
+//! What a command line asks for.
+use crate::word::Word;
+use kt_list::Sequence;
+
+/// The bytes of a name.
+pub type Name = Sequence<u8>;
+
+/// A macro of the command line.
+#[derive(Debug, Drop)]
+pub struct Macro {
+    /// What stands before the first equals sign.
+    pub name: Name,
+    /// All that stands behind it.
+    pub value: Sequence<u8>,
+}
+
+/// What a command line asks for.
+#[derive(Debug, Drop)]
+pub struct Args {
+    /// The makefile, where `-f` names one.
+    pub makefile: Option<Word>,
+    /// The list of the files that exist, where `--files` names one.
+    pub files: Option<Word>,
+    /// The Ninja file to be checked, where `--check` names one.
+    pub check: Option<Word>,
+    /// How many levels of macros and includes are followed: 100, or what `--depth` says.
+    pub limit: u64,
+    /// The targets to be made, in their order.
+    pub goals: Sequence<Name>,
+    /// The macros, in their order. Of two of one name the later counts.
+    pub macros: Sequence<Macro>,
+}

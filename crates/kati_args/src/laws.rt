@@ -1,0 +1,12 @@
+//! Laws of the definitions. These functions do nothing: their contracts are what counts.
+ghost use Rattle.kati_args.specs.Rows.{RowsOfFaults, RowsOfLines};
+
+/// Worked command lines.
+pub fn rows_of_lines()
+    ensures { RowsOfLines }
+{}
+
+/// Worked command lines that ask for nothing.
+pub fn rows_of_faults()
+    ensures { RowsOfFaults }
+{}

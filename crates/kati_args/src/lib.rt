@@ -1,0 +1,16 @@
+//! What the words of the command line ask for.
+#![tactic(auto)]
+
+mod args;
+mod asking;
+mod command;
+mod fault;
+pub mod laws;
+mod matching;
+mod word;
+mod words;
+
+pub use args::{Args, Macro, Name};
+pub use asking::args_of;
+pub use fault::ArgFault;
+pub use word::Word;

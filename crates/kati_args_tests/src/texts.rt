@@ -1,0 +1,55 @@
+//! The texts that answer a command line.
+use crate::told::answer;
+use kati_args::ArgFault;
+use std::alloc::Global;
+use std::process::Abort;
+
+/// What the help names.
+const NAMED: [&str; 14] = [
+    "Usage: kati",
+    "-f <FILE>",
+    "--ninja",
+    "--files <FILE>",
+    "--check <FILE>",
+    "--depth <N>",
+    "-h, --help",
+    "GOAL|NAME=VALUE",
+    "kati > build.ninja",
+    "CC=clang",
+    "1 to 400",
+    "default: 100",
+    "Exit status",
+    "64",
+];
+
+fn text_of(rt: &impl Abort, alloc: Global, lines: &str) -> String {
+    match answer(rt, alloc, lines) {
+        Err(fault) => format!(in alloc; "{fault}").expect(rt, "memory"),
+        Ok(_args) => String::new(alloc),
+    }
+}
+
+#[test]
+fn help_names_each_option(rt: HostRuntime) {
+    let text = text_of(&rt, rt.alloc(), "kati\n--help");
+    for name in NAMED {
+        assert!(rt; text.as_str().contains(name), "{name} {text}");
+    }
+}
+
+/// Words on lines, and what the text of their fault holds.
+const TOLD: [(&str, &str); 5] = [
+    ("kati\n--nothing", "--nothing"),
+    ("kati\n--depth=500", "500"),
+    ("kati\n-f", "-f <FILE>"),
+    ("kati\n-x", "Usage: kati"),
+    ("kati\nA:=x", "kati: bad macro A:=x"),
+];
+
+#[test]
+fn faults_have_their_text(rt: HostRuntime) {
+    for (lines, wanted) in TOLD {
+        let text = text_of(&rt, rt.alloc(), lines);
+        assert!(rt; text.as_str().contains(wanted), "{lines:?} {text}");
+    }
+}

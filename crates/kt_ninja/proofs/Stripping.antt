@@ -1,0 +1,19 @@
+-- A text without the keyword that it begins with.
+use Rattle.std.proofs.Common.{◌≡◌, ◌∙◌, ℕ, ◌+◌, List, length, take, drop}
+use Rattle.std.specs.Prelude.{true, false, nat_eq, Option, Some, None, MatchOption}
+use Rattle.std.specs.Borrow.{Bor}
+use Rattle.std.specs.List.{starts_with}
+use Rattle.std.specs.Cmp.Lexicographic.{pointwise}
+use Rattle.std.proofs.lemmas.Cmp.{nat_list_eq_equiv}
+
+either_way : (text keyword : List ℕ) → starts_with nat_eq text keyword ≡ pointwise nat_eq (take (length keyword) text) keyword
+either_way text keyword = nat_list_eq_equiv.symm keyword (take (length keyword) text)
+
+pub stripped : (text keyword : List ℕ) (r : Option (Bor (List ℕ)))
+    → MatchOption r (pointwise nat_eq (take (length keyword) text) keyword ≡ false)
+    (λ x. (pointwise nat_eq (take (length keyword) text) keyword ≡ true) × (x.now ≡ drop (length keyword) text)
+    × (length x.now + length keyword ≡ length text))
+    → MatchOption r (starts_with nat_eq text keyword ≡ false)
+    (λ rest. (starts_with nat_eq text keyword ≡ true) × (rest.now ≡ drop (length keyword) text))
+stripped text keyword None none = either_way text keyword ∙ none
+stripped text keyword (Some x) some = (either_way text keyword ∙ some.0, some.1)
