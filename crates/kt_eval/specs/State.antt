@@ -9,16 +9,17 @@ use Rattle.kt_rules.specs.Places.{place_text}
 use Rattle.kt_rules.specs.Entry.{Rule}
 use Rattle.kt_eval.specs.declared.macros.Flavour.TheVariants.{Immediate}
 use Rattle.kt_eval.specs.declared.macros.Macro.{Macro}
-use Rattle.kt_eval.specs.declared.state.Automatic.{Automatic}
 use Rattle.kt_eval.specs.declared.state.Found.{Found}
 use Rattle.kt_eval.specs.declared.state.Frame.{Frame}
 use Rattle.kt_eval.specs.declared.state.Frame.TheVariants.{Loop, Call}
+use Rattle.kt_eval.specs.Files.{Store, look}
 use Rattle.kt_eval.specs.Table.{Table, find, put}
 
--- the bindings stand innermost last; `book` has the rules that are closed, `rule` the one that is open
+-- the bindings stand innermost last; `automatic` has the automatic macros of a recipe, `book` the rules that are closed, `rule`
+-- the one that is open
 pub record World : Type 0 where
   pub table : Table
-  pub automatic : List Automatic
+  pub automatic : Store
   pub frames : List Frame
   pub said : List Text
   pub asked : List Text
@@ -54,11 +55,6 @@ unfoldable pub innermost : Text → Option Text → List Frame → Option Text
 innermost name found [] = found
 innermost name found (frame ∷ frames) = innermost name (newer found (seen name frame)) frames
 
--- the value of an automatic macro (GNU make manual, "Automatic Variables")
-unfoldable pub automatic_value : Text → List Automatic → Option Text
-automatic_value name [] = None
-automatic_value name (first ∷ others) = if bytes_eq first.name name then Some first.value else automatic_value name others
-
 -- a value that isn't expanded again
 abbrev pub fixed : Text → Found
 fixed value = record { flavour = Immediate; value = value }
@@ -71,9 +67,10 @@ abbrev pub fixed_or : Option Text → Option Found → Option Found
 fixed_or None other = other
 fixed_or (Some value) other = Some (fixed value)
 
--- what a name stands for that nothing binds: an automatic macro comes before the table
-abbrev pub unbound : Text → List Automatic → Table → Option Found
-unbound name automatic table = fixed_or (automatic_value name automatic) (option_map found_of (find name table))
+-- what a name stands for that nothing binds: an automatic macro comes before the table (GNU make manual, "Automatic
+-- Variables")
+abbrev pub unbound : Text → Store → Table → Option Found
+unbound name automatic table = fixed_or (look automatic name) (option_map found_of (find name table))
 
 -- bindings from the innermost on, then automatic macros, then the table (kati's own)
 unfoldable pub lookup : Text → World → Option Found
@@ -91,7 +88,7 @@ message_place None = codes "kati"
 message_place (Some place) = place_text place
 
 -- the world of a recipe: macros and automatic ones, a place, and the messages so far
-abbrev pub frozen_world : Table → List Automatic → Option Place → List Text → World
+abbrev pub frozen_world : Table → Store → Option Place → List Text → World
 frozen_world table automatic place said =
     record { table = table; automatic = automatic; frames = []; said = said; asked = []; place = place; book = []; rule = None }
 

@@ -72,7 +72,7 @@ impl<'a, M: Scope, F: Files> Evaluation<'a, M, F> {
                 flavour: Flavour::Immediate,
                 value,
             })),
-            None => self.macros.find(name),
+            None => self.macros.find(self.alloc, name),
         }
     }
 

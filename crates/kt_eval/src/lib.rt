@@ -3,6 +3,7 @@
 
 mod assigning;
 mod assignments;
+mod automatic;
 mod calls;
 mod compared;
 mod conditionals;
@@ -25,11 +26,11 @@ mod state;
 mod stop;
 mod text_functions;
 
+pub use automatic::{Automatic, NoAutomatic};
 pub use fault::Fault;
 pub use files::{FileFault, Files};
 pub use function::{Function, TextFunction};
 pub use machine::{Machine, Reading};
 pub use macros::{Flavour, Macro, Macros, Origin};
 pub use memory::MemFiles;
-pub use state::Automatic;
 pub use stop::Stop;

@@ -6,11 +6,11 @@ ghost use Rattle.kt_eval.specs.Fronts.{IsFront};
 ghost use Rattle.kt_eval.specs.Levels.{evaluator};
 ghost use Rattle.kt_eval.specs.State.{frozen_world};
 
+use crate::automatic::Automatic;
 use crate::evaluation::Evaluation;
 use crate::files::{FileFault, Files};
 use crate::macros::Macros;
 use crate::scope::Frozen;
-use crate::state::Automatic;
 use crate::stop::Stop;
 use kt_list::Sequence;
 use kt_rules::Place;
@@ -22,18 +22,18 @@ impl Macros {
     /// The text stands at level 0. Without a place, as for the goal that a macro names, messages
     /// begin with the program's name. GNU make manual, "How to Use Variables", "Using Variables in
     /// Recipes". Messages are appended in order; where memory is refused, a beginning of them.
-    pub fn expand_pure(
+    pub fn expand_pure<A: Automatic>(
         &self,
         alloc: Global,
         text: &[u8],
-        automatic: &[Automatic],
+        automatic: &A,
         place: Option<Place>,
         messages: &mut Vec<Sequence<u8>>,
         limit: u64,
     ) -> Result<Vec<u8>, Stop>
         ensures appends { IsFront messages.old.items messages.new.items }
         ensures ends { Ends result messages.new.items
-            (ending (expanded (evaluator false [] limit) text.now (frozen_world self.now automatic.now place messages.old.items))) }
+            (ending (expanded (evaluator false [] limit) text.now (frozen_world self.now (A.values automatic.now) place messages.old.items))) }
     {
         let before = std::mem::replace(messages, Vec::new(alloc));
         let mut files = NoFiles;

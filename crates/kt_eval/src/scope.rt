@@ -1,18 +1,19 @@
 //! Where names are looked up that nothing binds, and where rules go.
-ghost use Rattle.std.specs.Prelude.{◌≡◌, ◌++◌, ◌∷◌, [], Bool, List, IfOk, OnErr, OnOk, codes, true, option_map};
+ghost use Rattle.std.specs.Prelude.{◌≡◌, ◌++◌, ◌∷◌, [], Bool, List, IfOk, OnErr, OnOk, codes, option_map};
 ghost use Rattle.kt_rules.specs.Book.{added, refusal_of};
 ghost use Rattle.kt_rules.specs.Entry.{Rule};
 ghost use Rattle.kt_rules.specs.Refusals.{Answers};
 ghost use Rattle.kt_eval.specs.Table.{Table, find, put, set_by_makefile};
-ghost use Rattle.kt_eval.specs.State.{automatic_value, unbound};
+ghost use Rattle.kt_eval.specs.State.{unbound};
+ghost use Rattle.kt_eval.specs.Files.{Store};
 ghost use Rattle.kt_eval.specs.declared.macros.Macro.{Macro};
-ghost use Rattle.kt_eval.specs.declared.state.Automatic.{Automatic};
 
+use crate::automatic::Automatic;
 use crate::macros::{Flavour, Macro, Macros};
-use crate::state::{Automatic, Found};
+use crate::state::Found;
 use kt_list::Shared;
 use kt_rules::{Book, Entry, RuleFault, Warnings};
-use std::alloc::AllocError;
+use std::alloc::{AllocError, Global};
 
 /// Macros, automatic ones before them, and rules.
 pub(crate) trait Scope {
@@ -20,7 +21,7 @@ pub(crate) trait Scope {
     ghost table: { Self → Table };
 
     /// The automatic macros, which hide them.
-    ghost automatic: { Self → List Automatic };
+    ghost automatic: { Self → Store };
 
     /// The rules that were closed.
     ghost book: { Self → List Rule };
@@ -31,7 +32,7 @@ pub(crate) trait Scope {
     fn is_writable(&self) -> bool
         ensures { result ≡ writable };
 
-    fn find(&self, name: &[u8]) -> Result<Option<Found>, AllocError>
+    fn find(&self, alloc: Global, name: &[u8]) -> Result<Option<Found>, AllocError>
         ensures { IfOk result (λ found. found ≡ unbound name.now (automatic self.now) (table self.now)) };
 
     fn get(&self, name: &[u8]) -> Option<&Macro>
@@ -70,7 +71,7 @@ pub(crate) struct Makefile {
 }
 
 impl Scope for Makefile {
-    ghost use Rattle.std.specs.Prelude.{[]};
+    ghost use Rattle.std.specs.Prelude.{[], true};
 
     ghost table = { λ s. s.macros };
 
@@ -84,8 +85,7 @@ impl Scope for Makefile {
         true
     }
 
-    #[tactic(auto, unfolding(crate::specs::State::automatic_value))]
-    fn find(&self, name: &[u8]) -> Result<Option<Found>, AllocError> {
+    fn find(&self, _alloc: Global, name: &[u8]) -> Result<Option<Found>, AllocError> {
         self.macros.found(name)
     }
 
@@ -114,17 +114,17 @@ impl Scope for Makefile {
 
 /// The macros of a makefile and the automatic ones of a recipe, neither of which changes.
 #[derive(Drop)]
-pub(crate) struct Frozen<'a> {
+pub(crate) struct Frozen<'a, A: Automatic> {
     pub(crate) macros: &'a Macros,
-    pub(crate) automatic: &'a [Automatic],
+    pub(crate) automatic: &'a A,
 }
 
-impl<'a> Scope for Frozen<'a> {
+impl<'a, A: Automatic> Scope for Frozen<'a, A> {
     ghost use Rattle.std.specs.Prelude.{[], false};
 
     ghost table = { λ s. s.macros.now };
 
-    ghost automatic = { λ s. s.automatic.now };
+    ghost automatic = { λ s. A.values s.automatic.now };
 
     ghost book = { λ _. [] };
 
@@ -134,15 +134,14 @@ impl<'a> Scope for Frozen<'a> {
         false
     }
 
-    #[tactic(auto, unfolding(crate::specs::State::automatic_value))]
-    fn find(&self, name: &[u8]) -> Result<Option<Found>, AllocError> {
-        if let Some(value) = automatic_value(self.automatic, name) {
-            return Ok(Some(Found {
+    fn find(&self, alloc: Global, name: &[u8]) -> Result<Option<Found>, AllocError> {
+        match self.automatic.value(alloc, name)? {
+            Some(value) => Ok(Some(Found {
                 flavour: Flavour::Immediate,
-                value: value.share()?,
-            }));
+                value: Shared::from_vec(value)?,
+            })),
+            None => self.macros.found(name),
         }
-        self.macros.found(name)
     }
 
     fn get(&self, name: &[u8]) -> Option<&Macro> {
@@ -169,17 +168,4 @@ impl<'a> Scope for Frozen<'a> {
     fn add(&mut self, _rule: Entry) -> Result<Warnings, RuleFault> {
         Err(RuleFault::Memory)
     }
-}
-
-// The value of an automatic macro.
-#[tactic(auto, unfolding(crate::specs::State::automatic_value))]
-fn automatic_value<'a>(macros: &'a [Automatic], name: &[u8]) -> Option<&'a Shared<u8>>
-    ensures { option_map (λ value. value.now) result ≡ automatic_value name.now macros.now }
-{
-    for entry in macros {
-        if entry.name.as_slice() == name {
-            return Some(&entry.value);
-        }
-    }
-    None
 }

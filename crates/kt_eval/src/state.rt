@@ -19,10 +19,3 @@ pub enum Frame {
     /// The arguments of a call, of which the first is the name of what is called.
     Call(Sequence<Shared<u8>>),
 }
-
-/// An automatic macro of a recipe (GNU make manual, "Automatic Variables").
-#[derive(Debug, Drop)]
-pub struct Automatic {
-    pub name: Sequence<u8>,
-    pub value: Shared<u8>,
-}

@@ -1,5 +1,5 @@
 //! What texts are expanded to.
-use kt_eval::{Flavour, Macro, Macros, Origin, Stop};
+use kt_eval::{Flavour, Macro, Macros, NoAutomatic, Origin, Stop};
 use kt_list::{Sequence, Shared};
 use std::alloc::{AllocError, Global};
 use std::test::Fail;
@@ -49,7 +49,7 @@ fn expanded(
     messages: &mut Vec<Sequence<u8>>,
     limit: u64,
 ) -> Result<Vec<u8>, Stop> {
-    macros.expand_pure(alloc, text.as_bytes(), &[], None, messages, limit)
+    macros.expand_pure(alloc, text.as_bytes(), &NoAutomatic, None, messages, limit)
 }
 
 /// The messages of expanding a text, and then the expanded text or the fault.

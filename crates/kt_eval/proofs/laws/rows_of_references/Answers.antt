@@ -10,5 +10,7 @@ returns c = record {
   unterminated = RowLemmas.unterminated;
   recursive = RowLemmas.recursive;
   empty_level = RowLemmas.empty_level;
+  automatic_first = RowLemmas.automatic_first;
+  binding_first = RowLemmas.binding_first;
   dollar_level = RowLemmas.dollar_level;
 }

@@ -1,0 +1,29 @@
+//! Automatic macros of a recipe (GNU make manual, "Automatic Variables").
+ghost use Rattle.std.specs.Prelude.{◌≡◌, IfOk, option_map};
+ghost use Rattle.kt_eval.specs.Files.{Store, look};
+
+use std::alloc::{AllocError, Global};
+
+/// The automatic macros of a recipe, each of which is computed when it is asked for.
+pub trait Automatic {
+    /// Their names, and what they stand for.
+    ghost values: { Self → Store };
+
+    /// What this name stands for, if it is an automatic macro.
+    fn value(&self, alloc: Global, name: &[u8]) -> Result<Option<Vec<u8>>, AllocError>
+        ensures { IfOk result (λ found. option_map (λ v. v.items) found ≡ look (values self.now) name.now) };
+}
+
+/// No automatic macro, as outside recipes.
+#[derive(Clone, Copy, Debug)]
+pub struct NoAutomatic;
+
+impl Automatic for NoAutomatic {
+    ghost use Rattle.std.specs.Prelude.{[]};
+
+    ghost values = { λ _. [] };
+
+    fn value(&self, _alloc: Global, _name: &[u8]) -> Result<Option<Vec<u8>>, AllocError> {
+        Ok(None)
+    }
+}
