@@ -1,0 +1,178 @@
+-- An automatic macro is found by its name.
+use Rattle.std.proofs.Common.{◌≡◌, ℕ, Bool, true, false, not, ◌&&◌, ◌||◌, ◌==◌, if◌then◌else◌, List, [], ◌∷◌, ◌++◌, map, Option, Some, None, option_map, refl, sym, ap, ◌∙◌, true≢false}
+use Rattle.std.specs.Prelude.{nat_eq, flat_map}
+use Rattle.std.specs.List.{list_any}
+use Rattle.std.specs.Option.{option_and_then}
+use Rattle.std.specs.Cmp.Lexicographic.{pointwise}
+use Rattle.std.proofs.lemmas.Bool.{eqb-true}
+use Rattle.kt_text.specs.Words.{Text}
+use Rattle.kt_eval.specs.Files.{Store, look}
+use Rattle.kt_graph.specs.Node.{Node}
+use Rattle.kt_recipe.specs.declared.forms.Form.{Form}
+use Rattle.kt_recipe.specs.declared.forms.Form.TheVariants.{Whole, Directory, File}
+use Rattle.kt_recipe.specs.declared.subjects.Subject.{Subject}
+use Rattle.kt_recipe.specs.Forms.{text_of}
+use Rattle.kt_recipe.specs.Auto.{marks, has_parts, endings, names_in, of_mark, automatic_in}
+use Rattle.kt_recipe.specs.Asking.{subject_in, subject_of, form_of, parted, asked_by, macro_in}
+
+-- ---- pairs behind others
+
+abbrev or_else : Option Text → Option Text → Option Text
+or_else None other = other
+or_else (Some value) other = Some value
+
+or_none : (found : Option Text) → or_else found None ≡ found
+or_none None = refl
+or_none (Some value) = refl
+
+test_first : (b : Bool) (value : Text) (found other : Option Text)
+    → (if b then Some value else or_else found other) ≡ or_else (if b then Some value else found) other
+test_first true value found other = refl
+test_first false value found other = refl
+
+look_behind : (first others : Store) (name : Text) → look (first ++ others) name ≡ or_else (look first name) (look others name)
+look_behind [] others name = refl
+look_behind (e ∷ es) others name =
+    ap (λ found. if pointwise nat_eq e.0 name then Some e.1 else found) (look_behind es others name)
+    ∙ test_first (pointwise nat_eq e.0 name) e.1 (look es name) (look others name)
+
+-- ---- pairs behind a mark
+
+abbrev behind : ℕ → Store → Store
+behind mark macros = map (λ macro. (mark ∷ macro.0, macro.1)) macros
+
+marked : (first mark : ℕ) (macros : Store) (rest : Text) (b : Bool) → (first == mark) ≡ b
+    → look (behind first macros) (mark ∷ rest) ≡ (if b then look macros rest else None)
+marked first mark [] rest true is = refl
+marked first mark [] rest false is = refl
+marked first mark (macro ∷ macros) rest true is =
+    rw is (ap (λ found. if pointwise nat_eq macro.0 rest then Some macro.1 else found) (marked first mark macros rest true is))
+marked first mark (macro ∷ macros) rest false is = rw is (marked first mark macros rest false is)
+
+-- ---- the marks, one after the other
+
+abbrev all_behind : Node → ℕ → List (ℕ × Subject) → Store
+all_behind node part known = flat_map (λ mark. map (λ macro. (mark.0 ∷ macro.0, macro.1)) (of_mark node part mark.1)) known
+
+abbrev has_mark : List (ℕ × Subject) → ℕ → Bool
+has_mark known mark = list_any (λ one. one.0 == mark) known
+
+-- whether no mark stands twice
+abbrev differ : List (ℕ × Subject) → Bool
+differ [] = true
+differ (one ∷ known) = not (has_mark known one.0) && differ known
+
+abbrev told_by : Node → ℕ → Text → Option Subject → Option Text
+told_by node part rest found = option_and_then (λ subject. look (of_mark node part subject) rest) found
+
+not_first : (a b : Bool) → (a || b) ≡ false → a ≡ false
+not_first true b is = absurd (true≢false is)
+not_first false b is = refl
+
+not_second : (a b : Bool) → (a || b) ≡ false → b ≡ false
+not_second true b is = absurd (true≢false is)
+not_second false b is = is
+
+apart : (a b : Bool) → (not a && b) ≡ true → a ≡ false
+apart true b is = absurd (true≢false (sym is))
+apart false b is = refl
+
+apart_rest : (a b : Bool) → (not a && b) ≡ true → b ≡ true
+apart_rest true b is = absurd (true≢false (sym is))
+apart_rest false b is = is
+
+none_there : (node : Node) (part : ℕ) (known : List (ℕ × Subject)) (mark : ℕ) (rest : Text) → has_mark known mark ≡ false
+    → look (all_behind node part known) (mark ∷ rest) ≡ None
+none_there node part [] mark rest is = refl
+none_there node part (one ∷ known) mark rest is =
+    look_behind (behind one.0 (of_mark node part one.1)) (all_behind node part known) (mark ∷ rest)
+    ∙ ap (λ found. or_else found (look (all_behind node part known) (mark ∷ rest)))
+    (marked one.0 mark (of_mark node part one.1) rest false (not_first (one.0 == mark) (has_mark known mark) is))
+    ∙ none_there node part known mark rest (not_second (one.0 == mark) (has_mark known mark) is)
+
+-- at the first mark, or behind it
+either_mark : (node : Node) (part : ℕ) (one : ℕ × Subject) (known : List (ℕ × Subject)) (mark : ℕ) (rest : Text) (b : Bool) → (one.0 == mark) ≡ b
+    → (b ≡ true → look (all_behind node part known) (mark ∷ rest) ≡ None)
+    → look (all_behind node part known) (mark ∷ rest) ≡ told_by node part rest (subject_in known mark)
+    → or_else (if b then look (of_mark node part one.1) rest else None) (look (all_behind node part known) (mark ∷ rest))
+    ≡ told_by node part rest (if b then Some one.1 else subject_in known mark)
+either_mark node part one known mark rest true is nothing later =
+    ap (or_else (look (of_mark node part one.1) rest)) (nothing refl) ∙ or_none (look (of_mark node part one.1) rest)
+either_mark node part one known mark rest false is nothing later = later
+
+found_there : (node : Node) (part : ℕ) (known : List (ℕ × Subject)) (mark : ℕ) (rest : Text) → differ known ≡ true
+    → look (all_behind node part known) (mark ∷ rest) ≡ told_by node part rest (subject_in known mark)
+found_there node part [] mark rest is = refl
+found_there node part (one ∷ known) mark rest is =
+    look_behind (behind one.0 (of_mark node part one.1)) (all_behind node part known) (mark ∷ rest)
+    ∙ ap (λ found. or_else found (look (all_behind node part known) (mark ∷ rest)))
+    (marked one.0 mark (of_mark node part one.1) rest (one.0 == mark) refl)
+    ∙ either_mark node part one known mark rest (one.0 == mark) refl
+    (λ same. none_there node part known mark rest
+    (ap (has_mark known) (sym (eqb-true one.0 mark same)) ∙ apart (has_mark known one.0) (differ known) is))
+    (found_there node part known mark rest (apart_rest (has_mark known one.0) (differ known) is))
+
+-- ---- what stands behind a mark
+
+abbrev told : Node → ℕ → Subject × Form → Text
+told node part asked = text_of asked.1 (names_in node part asked.0)
+
+abbrev of_endings : Node → ℕ → Subject → Bool → Store
+of_endings node part subject parts = map (λ ending. (ending.0, text_of ending.1 (names_in node part subject))) (endings parts)
+
+nothing_behind : (node : Node) (part : ℕ) (subject : Subject) (parts : Bool) → look (of_endings node part subject parts) [] ≡ Some (told node part (subject, Whole))
+nothing_behind node part subject true = refl
+nothing_behind node part subject false = refl
+
+by_letter : (node : Node) (part : ℕ) (subject : Subject) (d f : Bool)
+    → (if d && true then Some (told node part (subject, Directory)) else (if f && true then Some (told node part (subject, File)) else None))
+    ≡ option_map (told node part) (option_map (λ form. (subject, form)) (if d then Some Directory else (if f then Some File else None)))
+by_letter node part subject true f = refl
+by_letter node part subject false true = refl
+by_letter node part subject false false = refl
+
+letter_behind : (node : Node) (part : ℕ) (subject : Subject) (letter : ℕ) (parts : Bool)
+    → look (of_endings node part subject parts) (letter ∷ [])
+    ≡ option_map (told node part) (if parts then option_map (λ form. (subject, form)) (form_of letter) else None)
+letter_behind node part subject letter true = by_letter node part subject (68 == letter) (70 == letter)
+letter_behind node part subject letter false = refl
+
+never : (d f : Bool) (one other : Option Text) → (if d && false then one else (if f && false then other else None)) ≡ None
+never true true one other = refl
+never true false one other = refl
+never false true one other = refl
+never false false one other = refl
+
+more_behind : (node : Node) (part : ℕ) (subject : Subject) (letter other : ℕ) (more : Text) (parts : Bool)
+    → look (of_endings node part subject parts) (letter ∷ other ∷ more) ≡ None
+more_behind node part subject letter other more true =
+    never (68 == letter) (70 == letter) (Some (told node part (subject, Directory))) (Some (told node part (subject, File)))
+more_behind node part subject letter other more false = refl
+
+-- ---- names
+
+alone : (node : Node) (part : ℕ) (found : Option Subject)
+    → told_by node part [] found ≡ option_map (told node part) (option_map (λ subject. (subject, Whole)) found)
+alone node part None = refl
+alone node part (Some subject) = nothing_behind node part subject (has_parts subject)
+
+with_letter : (node : Node) (part letter : ℕ) (found : Option Subject)
+    → told_by node part (letter ∷ []) found ≡ option_map (told node part) (option_and_then (λ subject. parted subject letter) found)
+with_letter node part letter None = refl
+with_letter node part letter (Some subject) = letter_behind node part subject letter (has_parts subject)
+
+with_more : (node : Node) (part letter other : ℕ) (more : Text) (found : Option Subject)
+    → told_by node part (letter ∷ other ∷ more) found ≡ None
+with_more node part letter other more None = refl
+with_more node part letter other more (Some subject) = more_behind node part subject letter other more (has_parts subject)
+
+-- what is found among the automatic macros is what is asked for
+pub found_by_name : (node : Node) (part : ℕ) (name : Text) → look (automatic_in node part) name ≡ macro_in node part name
+unfolding automatic_in macro_in asked_by subject_of
+found_by_name node part [] = refl
+found_by_name node part (mark ∷ []) =
+    found_there node part marks mark [] refl ∙ alone node part (subject_in marks mark)
+found_by_name node part (mark ∷ letter ∷ []) =
+    found_there node part marks mark (letter ∷ []) refl ∙ with_letter node part letter (subject_in marks mark)
+found_by_name node part (mark ∷ letter ∷ other ∷ more) =
+    found_there node part marks mark (letter ∷ other ∷ more) refl ∙ with_more node part letter other more (subject_in marks mark)

@@ -1,0 +1,8 @@
+pub mod QuotingLemmas
+pub mod SetLemmas
+pub mod AskingLemmas
+pub mod CallLemmas
+pub mod ShellLemmas
+pub mod LoopLemmas
+pub mod DeeperLemmas
+mod RowLemmas

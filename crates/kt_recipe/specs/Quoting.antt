@@ -1,0 +1,35 @@
+-- Texts between single quotes, and what a shell reads them as (POSIX.1-2024 Shell Command Language, "Quoting").
+use Rattle.std.specs.Prelude.{ℕ, ◌==◌, List, [], ◌∷◌, ◌++◌, flat_map, Option, Some, None, option_map, if◌then◌else◌}
+use Rattle.kt_text.specs.Words.{Text}
+
+-- a byte between single quotes: a single quote can't stand there, so it ends them, stands behind a backslash, and begins new ones
+abbrev pub quoted_byte : ℕ → Text
+quoted_byte byte = if byte == 39 then 39 ∷ 92 ∷ 39 ∷ 39 ∷ [] else byte ∷ []
+
+-- a text between single quotes
+unfoldable pub quoted : Text → Text
+quoted text = 39 ∷ (flat_map quoted_byte text ++ (39 ∷ []))
+
+-- where a byte of a word stands: outside quotes, directly behind a backslash there, or between single quotes
+pub data Standing : Type 0 where
+  outside : Standing
+  escaped : Standing
+  inside : Standing
+
+-- what a shell reads a word as that is written with quotes alone: between single quotes each byte stands for itself
+-- ["Single-Quotes"], and so does one behind a backslash, but for a newline, which goes with it ["Escape Character (Backslash)"].
+-- A word with anything else outside quotes has no reading here, nor has one whose quotes are open at its end.
+unfoldable pub read_quotes : Standing → Text → Option Text
+read_quotes outside [] = Some []
+read_quotes outside (byte ∷ text) =
+    if byte == 39 then read_quotes inside text else (if byte == 92 then read_quotes escaped text else None)
+read_quotes escaped [] = None
+read_quotes escaped (byte ∷ text) =
+    if byte == 10 then read_quotes outside text else option_map (λ word. byte ∷ word) (read_quotes outside text)
+read_quotes inside [] = None
+read_quotes inside (byte ∷ text) =
+    if byte == 39 then read_quotes outside text else option_map (λ word. byte ∷ word) (read_quotes inside text)
+
+-- the word that a text written with quotes alone spells
+abbrev pub word_of_quotes : Text → Option Text
+word_of_quotes text = read_quotes outside text

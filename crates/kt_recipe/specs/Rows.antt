@@ -1,0 +1,85 @@
+-- Worked values of automatic macros and of commands, as facts that compute.
+use Rattle.std.specs.Prelude.{◌≡◌, ℕ, List, [], ◌∷◌, Option, Some, None, codes}
+use Rattle.kt_text.specs.Words.{Text}
+use Rattle.kt_rules.specs.declared.place.Place.{Place}
+use Rattle.kt_rules.specs.declared.entry.RecipeLine.{RecipeLine}
+use Rattle.kt_eval.specs.declared.macros.Flavour.TheVariants.{Deferred}
+use Rattle.kt_eval.specs.declared.macros.Macro.{Macro}
+use Rattle.kt_eval.specs.Files.{look}
+use Rattle.kt_eval.specs.Step.{fault_at}
+use Rattle.kt_eval.specs.Table.{Table, set_by_makefile}
+use Rattle.kt_graph.specs.declared.node.NodeKind.TheVariants.{DoubleColon, Explicit}
+use Rattle.kt_graph.specs.Node.{Node, Part}
+use Rattle.kt_recipe.specs.Auto.{automatic_in}
+use Rattle.kt_recipe.specs.Shell.{Progress, goes_on, ends, shell_of}
+
+abbrev pub at_m : ℕ → Option Place
+at_m number = Some (record { file = codes "m"; line = number })
+
+abbrev pub line : ℕ → Text → RecipeLine
+line number text = record { text = text; place = record { file = codes "m"; line = number } }
+
+abbrev pub part : List RecipeLine → Text → List Text → List Text → Part
+part lines stem prerequisites order_only =
+    record { recipe = Some lines; stem = stem; needs = record { prerequisites = prerequisites; order_only = order_only } }
+
+-- a target with needs of all kinds
+abbrev pub sample : Node
+sample = record {
+  name = codes "t";
+  kind = Explicit;
+  parts = part [] (codes "d/t") (codes "a/x" ∷ codes "b" ∷ codes "a/x" ∷ []) (codes "c" ∷ codes "b" ∷ codes "c" ∷ []) ∷ [];
+  made_with = None;
+}
+
+-- one without needs, in the root
+abbrev pub rooted : Node
+rooted = record { name = codes "//x"; kind = Explicit; parts = part [] [] [] [] ∷ []; made_with = None }
+
+-- the target `t` with a recipe and without needs
+abbrev pub simple : List RecipeLine → Node
+simple lines = record { name = codes "t"; kind = Explicit; parts = part lines [] [] [] ∷ []; made_with = None }
+
+-- a target of two rules with two colons
+abbrev pub doubled : Node
+doubled = record {
+  name = codes "a";
+  kind = DoubleColon;
+  parts = part (line 1 (codes "one $<") ∷ []) [] (codes "b" ∷ []) [] ∷ part (line 2 (codes "two $<") ∷ []) [] (codes "c" ∷ []) [] ∷ [];
+  made_with = None;
+}
+
+-- what a name stands for in the first part of a node
+abbrev pub told : Node → Text → Option Text
+told node name = look (automatic_in node 0) name
+
+abbrev pub deferred : Text → Text → Text × Macro
+deferred name value = (name, set_by_makefile Deferred value)
+
+-- what a makefile begins with
+abbrev pub shell_macros : Table
+shell_macros = deferred (codes "SHELL") (codes "/bin/sh") ∷ deferred (codes ".SHELLFLAGS") (codes "-c") ∷ []
+
+-- the command of a node, with 9 levels and no message before it
+abbrev pub comes_to : Table → Node → Progress
+comes_to table node = shell_of table 9 node []
+
+-- automatic macros
+pub record RowsOfMacros : Type 0 where
+  pub target : told sample (codes "@") ≡ Some (codes "t")
+  pub first : told sample (codes "<") ≡ Some (codes "a/x")
+  pub each : told sample (codes "^") ≡ Some (codes "a/x b")
+  pub newer : told sample (codes "?") ≡ Some (codes "a/x b")
+  pub every : told sample (codes "+") ≡ Some (codes "a/x b a/x")
+  pub order_only : told sample (codes "|") ≡ Some (codes "c")
+  pub stem : told sample (codes "*") ≡ Some (codes "d/t")
+  pub member : told sample (codes "%") ≡ Some []
+  pub directories : told sample (codes "^D") ≡ Some (codes "a .")
+  pub files : told sample (codes "+F") ≡ Some (codes "x b x")
+  pub own_directory : told sample (codes "@D") ≡ Some (codes ".")
+  pub stem_file : told sample (codes "*F") ≡ Some (codes "t")
+  pub root : told rooted (codes "@D") ≡ Some (codes "/")
+  pub no_prerequisite : told rooted (codes "<D") ≡ Some []
+  pub no_order_only_parts : told sample (codes "|D") ≡ None
+  pub no_member_parts : told sample (codes "%F") ≡ None
+  pub no_macro : told sample (codes "A") ≡ None

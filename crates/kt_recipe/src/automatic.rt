@@ -1,0 +1,182 @@
+//! The automatic macros of recipes.
+ghost use Rattle.std.specs.Prelude.{◌≡◌, [], ◌∷◌, ◌++◌, IfOk, OnOk, filter, map, not, option_map, slice_get, take};
+ghost use Rattle.kt_text.specs.Words.{is_nonempty};
+ghost use Rattle.kt_rules.specs.Names.{is_among, without_repeats};
+ghost use Rattle.kt_graph.specs.Views.{part_needed, part_order_only, part_stem};
+ghost use Rattle.kt_recipe.specs.Asking.{macro_in};
+ghost use Rattle.kt_recipe.specs.Auto.{names_in};
+
+use crate::forms::text;
+use crate::subjects::{Subject, asked_by};
+use indexmap::IndexSet;
+use kt_eval::Automatic;
+use kt_graph::{Inputs, Node};
+use std::alloc::{AllocError, Global};
+use std::marker::Model;
+
+/// The automatic macros in the recipe of a node's part, each computed when it is asked for (GNU make
+/// manual, "Automatic Variables").
+#[derive(Drop)]
+pub struct PartMacros<'n, 'g> {
+    node: &'n Node<'g>,
+    part: usize,
+}
+
+impl<'n, 'g> Model for PartMacros<'n, 'g> {
+    ghost use Rattle.kt_recipe.specs.Auto.{MacrosOf};
+
+    ghost Value = { MacrosOf };
+
+    ghost view = { λ macros. record { node = macros.node.now; part = macros.part } };
+}
+
+/// The automatic macros of a part of a node; its parts are numbered from 0.
+pub fn auto_of<'n, 'g>(node: &'n Node<'g>, part: usize) -> PartMacros<'n, 'g>
+    ensures { result ≡ record { node = node.now; part = part } }
+{
+    PartMacros { node, part }
+}
+
+impl<'n, 'g> Automatic for PartMacros<'n, 'g> {
+    ghost use Rattle.kt_recipe.specs.Auto.{automatic_in};
+
+    ghost values = { λ macros. automatic_in macros.node macros.part };
+
+    fn value(&self, alloc: Global, name: &[u8]) -> Result<Option<Vec<u8>>, AllocError> {
+        macro_in(alloc, self.node, self.part, name)
+    }
+}
+
+// What a name stands for in a part of a node, if it is that of an automatic macro.
+#[tactic(auto, unfolding(crate::specs::Asking::macro_in))]
+fn macro_in<'g>(
+    alloc: Global,
+    node: &Node<'g>,
+    part: usize,
+    name: &[u8],
+) -> Result<Option<Vec<u8>>, AllocError>
+    ensures { IfOk result (λ found. option_map (λ value. value.items) found ≡ macro_in node.now part name.now) }
+{
+    match asked_by(name) {
+        Some((subject, form)) => {
+            let names = names_in(alloc, node, part, subject)?;
+            Ok(Some(text(alloc, form, names.as_slice())?))
+        }
+        None => Ok(None),
+    }
+}
+
+// The names that a part of a node tells.
+#[tactic(auto, unfolding(crate::specs::Auto::names_of))]
+fn names_in<'g>(
+    alloc: Global,
+    node: &Node<'g>,
+    part: usize,
+    subject: Subject,
+) -> Result<Vec<&'g [u8]>, AllocError>
+    ensures { IfOk result (λ names. map (λ name. name.now) names.items ≡ names_in node.now part subject) }
+{
+    match subject {
+        Subject::Target => one(alloc, node.name()),
+        Subject::First => first(alloc, node.prerequisites(part)),
+        Subject::Each => listed(alloc, each(alloc, node.prerequisites(part))?),
+        Subject::Every => node.prerequisites(part).collect(alloc),
+        Subject::OrderOnly => order_only(alloc, node, part),
+        Subject::Stem => some(alloc, node.stem(part)),
+        Subject::Member => Ok(Vec::new(alloc)),
+    }
+}
+
+fn first<'g>(alloc: Global, mut names: Inputs<'g>) -> Result<Vec<&'g [u8]>, AllocError>
+    ensures { IfOk result (λ first. map (λ name. name.now) first.items ≡ take 1 names.entry) }
+{
+    match names.next() {
+        Some(name) => one(alloc, name),
+        None => Ok(Vec::new(alloc)),
+    }
+}
+
+fn one(alloc: Global, name: &[u8]) -> Result<Vec<&[u8]>, AllocError>
+    ensures { IfOk result (λ names. map (λ name. name.now) names.items ≡ name.now ∷ []) }
+{
+    let mut names = Vec::new(alloc);
+    names.push(name)?;
+    Ok(names)
+}
+
+// The name, if it isn't empty.
+fn some(alloc: Global, name: &[u8]) -> Result<Vec<&[u8]>, AllocError>
+    ensures { IfOk result (λ names. map (λ name. name.now) names.items ≡ filter is_nonempty (name.now ∷ [])) }
+{
+    if name.is_empty() {
+        Ok(Vec::new(alloc))
+    } else {
+        one(alloc, name)
+    }
+}
+
+// The order-only prerequisites, each once and without the others.
+fn order_only<'g>(alloc: Global, node: &Node<'g>, part: usize) -> Result<Vec<&'g [u8]>, AllocError>
+    ensures { IfOk result (λ names. map (λ name. name.now) names.items
+        ≡ filter (λ name. not (is_among (without_repeats (part_needed (slice_get node.now.parts part))) name))
+        (without_repeats (part_order_only (slice_get node.now.parts part)))) }
+{
+    let names = each(alloc, node.order_only_prerequisites(part))?;
+    let others = each(alloc, node.prerequisites(part))?;
+    without(alloc, names.as_slice(), &others)
+}
+
+// Each of the names once.
+#[tactic(auto, unfolding(kt_rules::specs::Names::without_repeats))]
+fn each<'g>(alloc: Global, names: Inputs<'g>) -> Result<IndexSet<&'g [u8]>, AllocError>
+    ensures { IfOk result (λ set. map (λ name. name.now) set.keys ≡ without_repeats names.entry) }
+{
+    let mut set = IndexSet::new(alloc);
+    for name in names {
+        set.insert(name)?;
+    }
+    Ok(set)
+}
+
+fn listed<'g>(alloc: Global, set: IndexSet<&'g [u8]>) -> Result<Vec<&'g [u8]>, AllocError>
+    ensures { IfOk result (λ names. names.items ≡ set.entry.keys) }
+{
+    set.into_iter().collect(alloc)
+}
+
+// Those that aren't in a set.
+fn without<'g>(
+    alloc: Global,
+    names: &[&'g [u8]],
+    others: &IndexSet<&'g [u8]>,
+) -> Result<Vec<&'g [u8]>, AllocError>
+    ensures { IfOk result (λ left. map (λ name. name.now) left.items
+        ≡ filter (λ name. not (is_among (map (λ other. other.now) others.now.keys) name)) (map (λ name. name.now) names.now)) }
+{
+    let mut left = Vec::new(alloc);
+    for name in names {
+        put_other(&mut left, others, *name)?;
+    }
+    Ok(left)
+}
+
+fn put_other<'g>(
+    left: &mut Vec<&'g [u8]>,
+    others: &IndexSet<&'g [u8]>,
+    name: &'g [u8],
+) -> Result<(), AllocError>
+    ensures { OnOk result (map (λ name. name.now) left.new.items
+        ≡ map (λ name. name.now) left.old.items ++ filter (λ name. not (is_among (map (λ other. other.now) others.now.keys) name)) (name.now ∷ [])) }
+{
+    if !is_among(others, name) {
+        left.push(name)?;
+    }
+    Ok(())
+}
+
+#[tactic(auto, using(crate::proofs::SetLemmas::among_keys))]
+fn is_among<'g>(others: &IndexSet<&'g [u8]>, name: &'g [u8]) -> bool
+    ensures { result ≡ is_among (map (λ other. other.now) others.now.keys) name.now }
+{
+    others.contains(&name)
+}

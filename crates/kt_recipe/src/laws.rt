@@ -1,0 +1,30 @@
+//! Laws of the definitions. These functions do nothing: their contracts are what counts.
+ghost use Rattle.std.specs.Prelude.{◌≡◌, List, Some};
+ghost use Rattle.std.specs.List.{join_with_byte};
+ghost use Rattle.kt_text.specs.Words.{Text};
+ghost use Rattle.kt_eval.specs.Table.{Table};
+ghost use Rattle.kt_graph.specs.Node.{Node};
+ghost use Rattle.kt_recipe.specs.Deeper.{StaysOneDeeper};
+ghost use Rattle.kt_recipe.specs.Lines.{pieces_of};
+ghost use Rattle.kt_recipe.specs.Quoting.{quoted, word_of_quotes};
+ghost use Rattle.kt_recipe.specs.Rows.{RowsOfMacros};
+
+/// A shell reads a text between single quotes as that text.
+pub fn quotes_are_read_back()
+    ensures { (text : Text) → word_of_quotes (quoted text) ≡ Some text }
+{}
+
+/// The pieces of a line, joined by newlines, are the line.
+pub fn pieces_are_the_line()
+    ensures { (text : Text) → join_with_byte 10 (pieces_of text) ≡ text }
+{}
+
+/// A command that isn't too deep (E08) with so many levels is the same with one more.
+pub fn one_deeper()
+    ensures { (table : Table) (node : Node) (said : List Text) → StaysOneDeeper table node said }
+{}
+
+/// Worked values of automatic macros.
+pub fn rows_of_macros()
+    ensures { RowsOfMacros }
+{}

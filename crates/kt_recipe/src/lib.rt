@@ -1,0 +1,14 @@
+//! The commands of recipes, with their automatic macros.
+#![tactic(auto)]
+
+mod automatic;
+mod calls;
+mod forms;
+pub mod laws;
+mod lines;
+mod quoting;
+mod shell;
+mod subjects;
+
+pub use automatic::{PartMacros, auto_of};
+pub use shell::command;

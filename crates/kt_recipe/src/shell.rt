@@ -1,0 +1,212 @@
+//! The commands of nodes.
+ghost use Rattle.std.specs.Prelude.{◌≡◌, None, length, map, option_map, unwrap_or, slice_get};
+ghost use Rattle.std.specs.List.{range_with_len};
+ghost use Rattle.kt_eval.specs.Fronts.{IsFront};
+ghost use Rattle.kt_eval.specs.Step.{Ends};
+ghost use Rattle.kt_graph.specs.Views.{part_lines};
+ghost use Rattle.kt_recipe.specs.Auto.{automatic_in};
+ghost use Rattle.kt_recipe.specs.Lines.{pieces_of};
+ghost use Rattle.kt_recipe.specs.Shell.{expansion, put_line, put_lines, put_part, put_parts, put_piece, put_pieces, shell_of};
+ghost use Rattle.kt_recipe.specs.Views.{Tells, command_in, setting_at};
+
+use crate::automatic::auto_of;
+use crate::calls::put_call;
+use crate::lines::{after_run, is_marked, pieces};
+use kt_eval::{Macros, Stop};
+use kt_graph::Node;
+use kt_list::Sequence;
+use kt_rules::{Place, RecipeLine};
+use std::alloc::Global;
+
+/// The command of a node: the pieces of its recipes, each for a shell of its own, joined by `&&`
+/// (GNU make manual, "Recipe Execution"). None where no recipe has a piece.
+///
+/// Messages are appended in order; where memory is refused, a beginning of them.
+#[tactic(auto, unfolding(crate::specs::Shell::shell_of))]
+pub fn command(
+    alloc: Global,
+    macros: &Macros,
+    node: &Node,
+    messages: &mut Vec<Sequence<u8>>,
+    limit: u64,
+) -> Result<Option<Vec<u8>>, Stop>
+    ensures appends { IsFront messages.old.items messages.new.items }
+    ensures ends { Tells (option_map (λ text. text.items)) result messages.new.items (shell_of macros.now limit node.now messages.old.items) }
+{
+    let mut command = Vec::new(alloc);
+    put_parts(alloc, macros, node, limit, &mut command, messages)?;
+    Ok(some_text(command))
+}
+
+fn some_text(command: Vec<u8>) -> Option<Vec<u8>>
+    ensures { option_map (λ text. text.items) result ≡ command_in command.items }
+{
+    if command.is_empty() {
+        None
+    } else {
+        Some(command)
+    }
+}
+
+// Appends the commands of a node's parts.
+#[tactic(auto, unfolding(crate::specs::Shell::put_parts))]
+fn put_parts(
+    alloc: Global,
+    macros: &Macros,
+    node: &Node,
+    limit: u64,
+    command: &mut Vec<u8>,
+    messages: &mut Vec<Sequence<u8>>,
+) -> Result<(), Stop>
+    ensures appends { IsFront messages.old.items messages.new.items }
+    ensures ends { Tells (λ _. command_in command.new.items) result messages.new.items
+        (put_parts macros.now limit node.now (range_with_len 0 (length node.now.parts)) messages.old.items (command_in command.old.items)) }
+{
+    for part in 0..node.parts() {
+        let shell = Shell {
+            alloc,
+            macros,
+            node,
+            part,
+            limit,
+        };
+        shell.put_part(command, messages)?;
+    }
+    Ok(())
+}
+
+// What the lines of a part's recipe are expanded with.
+#[derive(Clone, Copy)]
+struct Shell<'a, 'g> {
+    alloc: Global,
+    macros: &'a Macros,
+    node: &'a Node<'g>,
+    part: usize,
+    limit: u64,
+}
+
+impl<'a, 'g> Shell<'a, 'g> {
+    // Appends the command of the part.
+    #[tactic(auto, unfolding(crate::specs::Shell::put_part))]
+    fn put_part(&self, command: &mut Vec<u8>, messages: &mut Vec<Sequence<u8>>) -> Result<(), Stop>
+        ensures appends { IsFront messages.old.items messages.new.items }
+        ensures ends { Tells (λ _. command_in command.new.items) result messages.new.items
+            (put_part self.now.macros.now self.now.limit self.now.node.now self.now.part messages.old.items (command_in command.old.items)) }
+    {
+        match self.node.recipe(self.part) {
+            Some(lines) => self.put_lines(lines, command, messages),
+            None => Ok(()),
+        }
+    }
+
+    #[tactic(auto, unfolding(crate::specs::Shell::put_lines))]
+    fn put_lines(
+        &self,
+        lines: &[RecipeLine],
+        command: &mut Vec<u8>,
+        messages: &mut Vec<Sequence<u8>>,
+    ) -> Result<(), Stop>
+        ensures appends { IsFront messages.old.items messages.new.items }
+        ensures ends { Tells (λ _. command_in command.new.items) result messages.new.items
+            (put_lines self.now.macros.now (automatic_in self.now.node.now self.now.part) self.now.limit lines.now messages.old.items (command_in command.old.items)) }
+    {
+        for line in lines {
+            self.put_line(line, command, messages)?;
+        }
+        Ok(())
+    }
+
+    // Appends the commands of a line.
+    #[tactic(auto, unfolding(crate::specs::Shell::put_line))]
+    fn put_line(
+        &self,
+        line: &RecipeLine,
+        command: &mut Vec<u8>,
+        messages: &mut Vec<Sequence<u8>>,
+    ) -> Result<(), Stop>
+        ensures appends { IsFront messages.old.items messages.new.items }
+        ensures ends { Tells (λ _. command_in command.new.items) result messages.new.items
+            (put_line (setting_at self.now line.now.place) line.now.text messages.old.items (command_in command.old.items)) }
+    {
+        let line_text = line.text.as_slice();
+        let text = self.expand(&line.place, after_run(line_text), messages)?;
+        let marked = is_marked(line_text);
+        self.put_text(&line.place, marked, text.as_slice(), command, messages)
+    }
+
+    // Appends the commands of a line that is expanded.
+    fn put_text(
+        &self,
+        place: &Place,
+        marked: bool,
+        text: &[u8],
+        command: &mut Vec<u8>,
+        messages: &mut Vec<Sequence<u8>>,
+    ) -> Result<(), Stop>
+        ensures appends { IsFront messages.old.items messages.new.items }
+        ensures ends { Tells (λ _. command_in command.new.items) result messages.new.items
+            (put_pieces (setting_at self.now place.now) marked (pieces_of text.now) messages.old.items (command_in command.old.items)) }
+    {
+        let pieces = pieces(self.alloc, text)?;
+        self.put_pieces(place, marked, pieces.as_slice(), command, messages)
+    }
+
+    #[tactic(auto, unfolding(crate::specs::Shell::put_pieces))]
+    fn put_pieces(
+        &self,
+        place: &Place,
+        marked: bool,
+        pieces: &[&[u8]],
+        command: &mut Vec<u8>,
+        messages: &mut Vec<Sequence<u8>>,
+    ) -> Result<(), Stop>
+        ensures appends { IsFront messages.old.items messages.new.items }
+        ensures ends { Tells (λ _. command_in command.new.items) result messages.new.items
+            (put_pieces (setting_at self.now place.now) marked (map (λ piece. piece.now) pieces.now) messages.old.items (command_in command.old.items)) }
+    {
+        for piece in pieces {
+            self.put_piece(place, marked, *piece, command, messages)?;
+        }
+        Ok(())
+    }
+
+    // Appends the command of a piece, if it isn't empty; the shell is expanded anew for it.
+    #[tactic(auto, unfolding(crate::specs::Shell::put_piece))]
+    fn put_piece(
+        &self,
+        place: &Place,
+        marked: bool,
+        piece: &[u8],
+        command: &mut Vec<u8>,
+        messages: &mut Vec<Sequence<u8>>,
+    ) -> Result<(), Stop>
+        ensures appends { IsFront messages.old.items messages.new.items }
+        ensures ends { Tells (λ _. command_in command.new.items) result messages.new.items
+            (put_piece (setting_at self.now place.now) marked piece.now messages.old.items (command_in command.old.items)) }
+    {
+        let text = after_run(piece);
+        if text.is_empty() {
+            return Ok(());
+        }
+        let shell = self.expand(place, b"$(SHELL) $(.SHELLFLAGS)", messages)?;
+        put_call(command, marked || is_marked(piece), shell.as_slice(), text)?;
+        Ok(())
+    }
+
+    #[tactic(auto, unfolding(crate::specs::Shell::expansion))]
+    fn expand(
+        &self,
+        place: &Place,
+        text: &[u8],
+        messages: &mut Vec<Sequence<u8>>,
+    ) -> Result<Vec<u8>, Stop>
+        ensures appends { IsFront messages.old.items messages.new.items }
+        ensures ends { Ends result messages.new.items (expansion (setting_at self.now place.now) messages.old.items text.now) }
+    {
+        let automatic = auto_of(self.node, self.part);
+        let place = Some(place.share()?);
+        let limit = self.limit;
+        self.macros
+            .expand_pure(self.alloc, text, &automatic, place, messages, limit)
+    }
+}
