@@ -9,10 +9,9 @@ use Rattle.kt_eval.specs.Fronts.{IsFront}
 use Rattle.kt_eval.specs.State.{frozen_world}
 use Rattle.kt_eval.specs.Expansion.{expanded}
 use Rattle.kt_eval.specs.Levels.{evaluator}
-use Rattle.kt_eval.specs.Step.{Outcome, Gave, Stopped, said_of as outcome_said, Ending, with_text, with_fault, ending, messages_of, Ends}
+use Rattle.kt_eval.specs.Step.{Outcome, Gave, Stopped, world_of, Ending, with_text, with_fault, ending, messages_of, Ends}
 use Rattle.kt_eval.specs.Table.{Table}
-use Rattle.kt_eval.proofs.FrontLemmas.{expanded_front}
-use Rattle.kt_eval.proofs.GrowingLemmas.{front_same, front_next}
+use Rattle.kt_eval.proofs.GrowingLemmas.{expanding_grows, front_same, front_next}
 use Rattle.kt_graph.specs.Node.{Node}
 use Rattle.kt_graph.specs.Views.{part_lines}
 use Rattle.kt_recipe.specs.Auto.{automatic_in}
@@ -20,7 +19,7 @@ use Rattle.kt_recipe.specs.Lines.{after_run, is_marked, pieces_of}
 use Rattle.kt_recipe.specs.Shell.{Progress, goes_on, ends, on_text, and_then, joined, wrapped, Setting, setting_of, shell_text, expansion, put_piece, put_pieces, put_line, put_lines, put_part, put_parts}
 use Rattle.kt_recipe.specs.Views.{said_of, Stops}
 
-ending_front : (said : List Text) (o : Outcome Text) → IsFront said (outcome_said o) → IsFront said (messages_of (ending o))
+ending_front : (said : List Text) (o : Outcome Text) → IsFront said (world_of o).said → IsFront said (messages_of (ending o))
 ending_front said (Gave w x) h = h
 ending_front said (Stopped w x) h = h
 
@@ -28,7 +27,7 @@ pub expansion_front : (at : Setting) (said : List Text) (text : Text) → IsFron
 unfolding expansion
 expansion_front at said text =
     ending_front said (expanded (evaluator false [] at.limit) text (frozen_world at.table at.automatic at.place said))
-    (expanded_front false [] at.limit text (frozen_world at.table at.automatic at.place said))
+    (expanding_grows false [] at.limit text (frozen_world at.table at.automatic at.place said)).0
 
 -- what is done with a text or a command keeps the messages
 abbrev pub KeepsText : (List Text → Text → Progress) → Type 0
