@@ -1,5 +1,5 @@
 -- One more call behind a command.
-use Rattle.std.proofs.Common.{◌≡◌, Bool, true, false, List, [], ◌∷◌, ◌++◌, Some, codes, refl, sym, ap, ◌∙◌, append_assoc, true≢false}
+use Rattle.std.proofs.Common.{◌≡◌, Bool, true, false, [], ◌∷◌, ◌++◌, Some, codes, refl, sym, ap, ◌∙◌, append_assoc, true≢false}
 use Rattle.kt_text.specs.Words.{Text, is_nonempty}
 use Rattle.kt_recipe.specs.Shell.{joined, wrapped}
 use Rattle.kt_recipe.specs.Views.{command_in, with_joint}

@@ -3,7 +3,6 @@ use Rattle.std.proofs.Common.{◌≡◌, ℕ, suc, Bool, true, false, List, [], 
 use Rattle.std.specs.Prelude.{Some}
 use Rattle.std.specs.List.{range_with_len}
 use Rattle.kt_text.specs.Words.{Text, is_nonempty}
-use Rattle.kt_rules.specs.declared.place.Place.{Place}
 use Rattle.kt_rules.specs.declared.entry.RecipeLine.{RecipeLine}
 use Rattle.kt_eval.specs.Expansion.{expanded}
 use Rattle.kt_eval.specs.Files.{Store}

@@ -5,4 +5,5 @@ pub mod CallLemmas
 pub mod ShellLemmas
 pub mod LoopLemmas
 pub mod DeeperLemmas
+pub mod TermLemmas
 mod RowLemmas

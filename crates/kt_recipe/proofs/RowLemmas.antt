@@ -1,86 +1,282 @@
--- Worked values, one by one: each is found by computing.
-use Rattle.std.specs.Prelude.{◌≡◌, [], ◌∷◌, Some, None, codes}
+-- Worked values, one by one: each is found by computing, but for the terms of a text, which are found by the quick way.
+use Rattle.std.specs.Prelude.{◌≡◌, ℕ, List, [], ◌∷◌, ◌++◌, Some, None, codes}
 use Rattle.std.proofs.Common.{refl}
-use Rattle.kt_text.specs.Words.{is_separator, is_blank, words_of, list_text}
+use Rattle.kt_text.specs.Words.{Text, is_separator, is_blank, words_of, list_text}
+use Rattle.kt_rules.specs.declared.place.Place.{Place}
+use Rattle.kt_rules.specs.declared.entry.RecipeLine.{RecipeLine}
 use Rattle.kt_rules.specs.Names.{without_repeats}
-use Rattle.kt_syntax.specs.Terms.{closing, behind_dollar, first_term, terms_after, terms_of}
-use Rattle.kt_eval.specs.Table.{find}
+use Rattle.kt_syntax.specs.declared.term.Mark.TheVariants.{Byte, Parentheses}
+use Rattle.kt_syntax.specs.Terms.{literal, reference, terms_of}
+use Rattle.kt_eval.specs.Files.{Store}
+use Rattle.kt_eval.specs.Table.{Table, find}
 use Rattle.kt_eval.specs.State.{seen, innermost, lookup}
-use Rattle.kt_eval.specs.Step.{fault_at}
+use Rattle.kt_eval.specs.Step.{with_text, with_fault, fault_at}
 use Rattle.kt_eval.specs.Calls.{string_function, name_function, other_function, function_of, is_refused_function, text_result, arguments_from, arguments_of, asked_of, asked_by, naming_of}
 use Rattle.kt_eval.specs.Expansion.{value_of, each_argument, each_word, apply_foreach, apply_eval, apply_error, apply_info, apply, body_of, value_named, referred, term_of, each_term, expanded}
 use Rattle.kt_eval.specs.Levels.{above, none_left, evaluator}
+use Rattle.kt_graph.specs.Node.{Node}
 use Rattle.kt_recipe.specs.Auto.{names_of, automatic_in}
 use Rattle.kt_recipe.specs.Forms.{text_of}
 use Rattle.kt_recipe.specs.Lines.{is_prefix, is_marked, pieces_of}
 use Rattle.kt_recipe.specs.Quoting.{quoted}
-use Rattle.kt_recipe.specs.Shell.{goes_on, ends, wrapped, expansion, put_piece, put_pieces, put_line, put_lines, put_part, put_parts, shell_of}
-use Rattle.kt_recipe.specs.Rows.{at_m, line, sample, rooted, simple, doubled, told, deferred, shell_macros, comes_to}
+use Rattle.kt_recipe.specs.Shell.{goes_on, ends, wrapped, setting_of, shell_text, expansion, put_piece, put_pieces, put_line, put_lines, put_part, put_parts, shell_of}
+use Rattle.kt_recipe.specs.Rows.{at_m, line, sample, rooted, simple, doubled, told, deferred, with_shell, comes_to}
+use Rattle.kt_recipe.proofs.TermLemmas.{quick_closing, quick_behind, quick_first, quick_after, quick_terms, terms_are}
+
+-- `unfolding listing` opens the automatic macros, `splitting` the terms of a text, `expanding` what it is expanded to, and `making` how
+-- a command comes about
+unfoldable listing : Unit {0}
+unfolding names_of automatic_in text_of list_text without_repeats
+listing = tt
+
+unfoldable splitting : Unit {0}
+unfolding quick_closing quick_behind quick_first quick_after quick_terms
+splitting = tt
+
+unfoldable expanding : Unit {0}
+unfolding listing splitting is_separator is_blank words_of find seen innermost lookup string_function name_function other_function function_of is_refused_function text_result arguments_from arguments_of asked_of asked_by naming_of value_of each_argument apply_foreach each_word apply_eval apply_error apply_info apply body_of value_named referred term_of each_term expanded above none_left evaluator expansion
+expanding = tt
+
+unfoldable making : Unit {0}
+unfolding is_blank is_prefix is_marked pieces_of quoted wrapped put_piece put_pieces put_line put_lines put_part put_parts shell_of
+making = tt
+
+-- ---- automatic macros
 
 pub target : told sample (codes "@") ≡ Some (codes "t")
-unfolding names_of automatic_in text_of list_text without_repeats
+unfolding listing
 target = refl
 
 pub first : told sample (codes "<") ≡ Some (codes "a/x")
-unfolding names_of automatic_in text_of list_text without_repeats
+unfolding listing
 first = refl
 
 pub each : told sample (codes "^") ≡ Some (codes "a/x b")
-unfolding names_of automatic_in text_of list_text without_repeats
+unfolding listing
 each = refl
 
 pub newer : told sample (codes "?") ≡ Some (codes "a/x b")
-unfolding names_of automatic_in text_of list_text without_repeats
+unfolding listing
 newer = refl
 
 pub every : told sample (codes "+") ≡ Some (codes "a/x b a/x")
-unfolding names_of automatic_in text_of list_text without_repeats
+unfolding listing
 every = refl
 
 pub order_only : told sample (codes "|") ≡ Some (codes "c")
-unfolding names_of automatic_in text_of list_text without_repeats
+unfolding listing
 order_only = refl
 
 pub stem : told sample (codes "*") ≡ Some (codes "d/t")
-unfolding names_of automatic_in text_of list_text without_repeats
+unfolding listing
 stem = refl
 
 pub member : told sample (codes "%") ≡ Some []
-unfolding names_of automatic_in text_of list_text without_repeats
+unfolding listing
 member = refl
 
 pub directories : told sample (codes "^D") ≡ Some (codes "a .")
-unfolding names_of automatic_in text_of list_text without_repeats
+unfolding listing
 directories = refl
 
 pub files : told sample (codes "+F") ≡ Some (codes "x b x")
-unfolding names_of automatic_in text_of list_text without_repeats
+unfolding listing
 files = refl
 
 pub own_directory : told sample (codes "@D") ≡ Some (codes ".")
-unfolding names_of automatic_in text_of list_text without_repeats
+unfolding listing
 own_directory = refl
 
 pub stem_file : told sample (codes "*F") ≡ Some (codes "t")
-unfolding names_of automatic_in text_of list_text without_repeats
+unfolding listing
 stem_file = refl
 
 pub root : told rooted (codes "@D") ≡ Some (codes "/")
-unfolding names_of automatic_in text_of list_text without_repeats
+unfolding listing
 root = refl
 
 pub no_prerequisite : told rooted (codes "<D") ≡ Some []
-unfolding names_of automatic_in text_of list_text without_repeats
+unfolding listing
 no_prerequisite = refl
 
 pub no_order_only_parts : told sample (codes "|D") ≡ None
-unfolding names_of automatic_in text_of list_text without_repeats
+unfolding listing
 no_order_only_parts = refl
 
 pub no_member_parts : told sample (codes "%F") ≡ None
-unfolding names_of automatic_in text_of list_text without_repeats
+unfolding listing
 no_member_parts = refl
 
 pub no_macro : told sample (codes "A") ≡ None
-unfolding names_of automatic_in text_of list_text without_repeats
+unfolding listing
 no_macro = refl
+
+-- ---- texts that are expanded
+
+shell_terms : terms_of (codes "$(SHELL) $(.SHELLFLAGS)") ≡ reference Parentheses (codes "SHELL") ∷ literal (codes " ") ∷ reference Parentheses (codes ".SHELLFLAGS") ∷ []
+unfolding splitting
+shell_terms = terms_are (codes "$(SHELL) $(.SHELLFLAGS)")
+
+telling_terms : terms_of (codes "$(info s)sh") ≡ reference Parentheses (codes "info s") ∷ literal (codes "sh") ∷ []
+unfolding splitting
+telling_terms = terms_are (codes "$(info s)sh")
+
+refusing_terms : terms_of (codes "$(error $@)") ≡ reference Parentheses (codes "error $@") ∷ []
+unfolding splitting
+refusing_terms = terms_are (codes "$(error $@)")
+
+target_terms : terms_of (codes "$@") ≡ reference Byte (codes "@") ∷ []
+unfolding splitting
+target_terms = terms_are (codes "$@")
+
+hidden_terms : terms_of (codes "$(foreach @,a b,$@) $@") ≡ reference Parentheses (codes "foreach @,a b,$@") ∷ literal (codes " ") ∷ reference Byte (codes "@") ∷ []
+unfolding splitting
+hidden_terms = terms_are (codes "$(foreach @,a b,$@) $@")
+
+shell_told : (node : Node) (part : ℕ) (more : Table) (place : Place) (said : List Text)
+    → expansion (setting_of (with_shell more) (automatic_in node part) 9 place) said shell_text ≡ with_text said (codes "/bin/sh -c")
+unfolding expanding
+shell_told node part more place said = rw shell_terms (rw (terms_are (codes "/bin/sh")) (rw (terms_are (codes "-c")) refl))
+
+telling_shell : (node : Node) (part : ℕ) (more : Table) (place : Place) (said : List Text)
+    → expansion (setting_of (deferred (codes "SHELL") (codes "$(info s)sh") ∷ deferred (codes ".SHELLFLAGS") (codes "-c") ∷ more) (automatic_in node part) 9 place) said shell_text
+    ≡ with_text (said ++ codes "s" ∷ []) (codes "sh -c")
+unfolding expanding
+telling_shell node part more place said =
+    rw shell_terms (rw telling_terms (rw (terms_are (codes "s")) (rw (terms_are (codes "-c")) refl)))
+
+refusing_shell : (lines : List RecipeLine) (more : Table) (place : Place) (said : List Text)
+    → expansion (setting_of (deferred (codes "SHELL") (codes "$(error $@)") ∷ more) (automatic_in (simple lines) 0) 9 place) said shell_text
+    ≡ with_fault said (fault_at (Some place) 19 (codes "t"))
+unfolding expanding
+refusing_shell lines more place said = rw shell_terms (rw refusing_terms (rw target_terms refl))
+
+quotes_told : (table : Table) (automatic : Store) (place : Place) (said : List Text)
+    → expansion (setting_of table automatic 9 place) said (codes "echo \"it's $$HOME\"") ≡ with_text said (codes "echo \"it's $HOME\"")
+unfolding expanding
+quotes_told table automatic place said = rw (terms_are (codes "echo \"it's $$HOME\"")) refl
+
+a_told : (table : Table) (automatic : Store) (place : Place) (said : List Text)
+    → expansion (setting_of table automatic 9 place) said (codes "a") ≡ with_text said (codes "a")
+unfolding expanding
+a_told table automatic place said = rw (terms_are (codes "a")) refl
+
+blank_told : (table : Table) (automatic : Store) (place : Place) (said : List Text)
+    → expansion (setting_of table automatic 9 place) said (codes "a ") ≡ with_text said (codes "a ")
+unfolding expanding
+blank_told table automatic place said = rw (terms_are (codes "a ")) refl
+
+nothing_told : (table : Table) (automatic : Store) (place : Place) (said : List Text)
+    → expansion (setting_of table automatic 9 place) said [] ≡ with_text said []
+unfolding expanding
+nothing_told table automatic place said = rw (terms_are []) refl
+
+info_told : (table : Table) (automatic : Store) (place : Place) (said : List Text)
+    → expansion (setting_of table automatic 9 place) said (codes "a$(info hi)") ≡ with_text (said ++ (codes "hi" ∷ [])) (codes "a")
+unfolding expanding
+info_told table automatic place said = rw (terms_are (codes "a$(info hi)")) (rw (terms_are (codes "hi")) refl)
+
+first_told : (table : Table) (automatic : Store) (place : Place) (said : List Text)
+    → expansion (setting_of table automatic 9 place) said (codes "$(info 1)a") ≡ with_text (said ++ (codes "1" ∷ [])) (codes "a")
+unfolding expanding
+first_told table automatic place said = rw (terms_are (codes "$(info 1)a")) (rw (terms_are (codes "1")) refl)
+
+second_told : (table : Table) (automatic : Store) (place : Place) (said : List Text)
+    → expansion (setting_of table automatic 9 place) said (codes "$(info 2)b") ≡ with_text (said ++ (codes "2" ∷ [])) (codes "b")
+unfolding expanding
+second_told table automatic place said = rw (terms_are (codes "$(info 2)b")) (rw (terms_are (codes "2")) refl)
+
+eval_told : (table : Table) (automatic : Store) (place : Place) (said : List Text)
+    → expansion (setting_of table automatic 9 place) said (codes "$(eval A = 1)") ≡ with_fault said (fault_at (Some place) 32 (codes "eval in a recipe"))
+unfolding expanding
+eval_told table automatic place said = rw (terms_are (codes "$(eval A = 1)")) refl
+
+unclosed_told : (table : Table) (automatic : Store) (place : Place) (said : List Text)
+    → expansion (setting_of table automatic 9 place) said (codes "$(x") ≡ with_fault said (fault_at (Some place) 7 (codes "unterminated reference"))
+unfolding expanding
+unclosed_told table automatic place said = rw (terms_are (codes "$(x")) refl
+
+undefined_told : (node : Node) (part : ℕ) (place : Place) (said : List Text)
+    → expansion (setting_of (with_shell []) (automatic_in node part) 9 place) said (codes "$(X)") ≡ with_text said []
+unfolding expanding
+undefined_told node part place said = rw (terms_are (codes "$(X)")) refl
+
+canned_told : (node : Node) (part : ℕ) (more : Table) (place : Place) (said : List Text)
+    → expansion (setting_of (with_shell (deferred (codes "go") (codes "@echo one\n-false") ∷ more)) (automatic_in node part) 9 place) said (codes "$(go)") ≡ with_text said (codes "@echo one\n-false")
+unfolding expanding
+canned_told node part more place said = rw (terms_are (codes "$(go)")) (rw (terms_are (codes "@echo one\n-false")) refl)
+
+lines_told : (node : Node) (part : ℕ) (more : Table) (place : Place) (said : List Text)
+    → expansion (setting_of (with_shell (deferred (codes "X") (codes "a\n @- \nb") ∷ more)) (automatic_in node part) 9 place) said (codes "$(X)") ≡ with_text said (codes "a\n @- \nb")
+unfolding expanding
+lines_told node part more place said = rw (terms_are (codes "$(X)")) (rw (terms_are (codes "a\n @- \nb")) refl)
+
+one_told : (table : Table) (place : Place) (said : List Text)
+    → expansion (setting_of table (automatic_in doubled 0) 9 place) said (codes "one $<") ≡ with_text said (codes "one b")
+unfolding expanding
+one_told table place said = rw (terms_are (codes "one $<")) refl
+
+two_told : (table : Table) (place : Place) (said : List Text)
+    → expansion (setting_of table (automatic_in doubled 1) 9 place) said (codes "two $<") ≡ with_text said (codes "two c")
+unfolding expanding
+two_told table place said = rw (terms_are (codes "two $<")) refl
+
+hidden_told : (lines : List RecipeLine) (table : Table) (place : Place) (said : List Text)
+    → expansion (setting_of table (automatic_in (simple lines) 0) 9 place) said (codes "$(foreach @,a b,$@) $@") ≡ with_text said (codes "a b t")
+unfolding expanding
+hidden_told lines table place said =
+    rw hidden_terms (rw (terms_are (codes "@")) (rw (terms_are (codes "a b")) (rw target_terms refl)))
+
+-- ---- commands
+
+pub quotes : comes_to (with_shell []) (simple (line 1 (codes "echo \"it's $$HOME\"") ∷ [])) ≡ goes_on [] (Some (codes "/bin/sh -c 'echo \"it'\\''s $HOME\"'"))
+unfolding making
+quotes = rw quotes_told (rw shell_told refl)
+
+pub canned : comes_to (with_shell (deferred (codes "go") (codes "@echo one\n-false") ∷ [])) (simple (line 1 (codes "$(go)") ∷ [])) ≡ goes_on [] (Some (codes "/bin/sh -c 'echo one' && { /bin/sh -c 'false' || :; }"))
+unfolding making
+canned = rw canned_told (rw shell_told (rw shell_told refl))
+
+pub marked : comes_to (with_shell []) (simple (line 1 (codes "@-a") ∷ [])) ≡ goes_on [] (Some (codes "{ /bin/sh -c 'a' || :; }"))
+unfolding making
+marked = rw a_told (rw shell_told refl)
+
+pub marked_line : comes_to (with_shell (deferred (codes "X") (codes "a\n @- \nb") ∷ [])) (simple (line 1 (codes "-$(X)") ∷ [])) ≡ goes_on [] (Some (codes "{ /bin/sh -c 'a' || :; } && { /bin/sh -c 'b' || :; }"))
+unfolding making
+marked_line = rw lines_told (rw shell_told (rw shell_told refl))
+
+pub trailing_blank : comes_to (with_shell []) (simple (line 1 (codes "a ") ∷ line 2 (codes " @ ") ∷ [])) ≡ goes_on [] (Some (codes "/bin/sh -c 'a '"))
+unfolding making
+trailing_blank = rw blank_told (rw shell_told (rw nothing_told refl))
+
+pub no_piece : comes_to (with_shell []) (simple (line 1 (codes "$(X)") ∷ [])) ≡ goes_on [] None
+unfolding making
+no_piece = rw undefined_told refl
+
+pub double_colon : comes_to (with_shell []) (doubled) ≡ goes_on [] (Some (codes "/bin/sh -c 'one b' && /bin/sh -c 'two c'"))
+unfolding making
+double_colon = rw one_told (rw shell_told (rw two_told (rw shell_told refl)))
+
+pub message : comes_to (with_shell []) (simple (line 1 (codes "a$(info hi)") ∷ [])) ≡ goes_on (codes "hi" ∷ []) (Some (codes "/bin/sh -c 'a'"))
+unfolding making
+message = rw info_told (rw shell_told refl)
+
+pub shell_anew : comes_to (deferred (codes "SHELL") (codes "$(info s)sh") ∷ deferred (codes ".SHELLFLAGS") (codes "-c") ∷ []) (simple (line 1 (codes "$(info 1)a") ∷ line 2 (codes "$(info 2)b") ∷ [])) ≡ goes_on (codes "1" ∷ codes "s" ∷ codes "2" ∷ codes "s" ∷ []) (Some (codes "sh -c 'a' && sh -c 'b'"))
+unfolding making
+shell_anew = rw first_told (rw telling_shell (rw second_told (rw telling_shell refl)))
+
+pub fault_in_shell : comes_to (deferred (codes "SHELL") (codes "$(error $@)") ∷ []) (simple (line 3 (codes "a") ∷ [])) ≡ ends [] (fault_at (at_m 3) 19 (codes "t"))
+unfolding making
+fault_in_shell = rw a_told (rw refusing_shell refl)
+
+pub eval_refused : comes_to (with_shell []) (simple (line 1 (codes "$(eval A = 1)") ∷ [])) ≡ ends [] (fault_at (at_m 1) 32 (codes "eval in a recipe"))
+unfolding making
+eval_refused = rw eval_told refl
+
+pub first_fault : comes_to (with_shell []) (simple (line 2 (codes "$(info 1)a") ∷ line 3 (codes "$(x") ∷ [])) ≡ ends (codes "1" ∷ []) (fault_at (at_m 3) 7 (codes "unterminated reference"))
+unfolding making
+first_fault = rw first_told (rw shell_told (rw unclosed_told refl))
+
+pub hidden_table : comes_to (with_shell (deferred (codes "@") (codes "table") ∷ [])) (simple (line 1 (codes "$(foreach @,a b,$@) $@") ∷ [])) ≡ goes_on [] (Some (codes "/bin/sh -c 'a b t'"))
+unfolding making
+hidden_table = rw hidden_told (rw shell_told refl)

@@ -1,5 +1,5 @@
 -- Messages only grow while a command comes about, and what a step that stops tells is told by all that it stands in.
-use Rattle.std.proofs.Common.{◌≡◌, ℕ, Bool, true, false, List, [], ◌∷◌, Option, Some, None, Result, Ok, Err, ◌||◌, if◌then◌else◌, unwrap_or, slice_get, ap, ◌∙◌}
+use Rattle.std.proofs.Common.{ℕ, Bool, true, false, List, [], ◌∷◌, Option, Some, Err, ◌||◌, if◌then◌else◌, unwrap_or, slice_get, ap}
 use Rattle.kt_text.specs.Words.{Text, is_nonempty}
 use Rattle.kt_rules.specs.declared.entry.RecipeLine.{RecipeLine}
 use Rattle.kt_eval.specs.declared.stop.Stop.{Stop}

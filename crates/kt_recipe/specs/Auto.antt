@@ -1,5 +1,5 @@
 -- The automatic macros of a recipe (POSIX.1-2024 make, "Internal Macros"; GNU make manual, "Automatic Variables").
-use Rattle.std.specs.Prelude.{ℕ, Bool, true, false, not, List, [], ◌∷◌, map, flat_map, filter, take, slice_get, codes, if◌then◌else◌}
+use Rattle.std.specs.Prelude.{ℕ, Bool, true, false, not, List, [], ◌∷◌, map, flat_map, filter, take, slice_get, codes}
 use Rattle.kt_text.specs.Words.{Text, is_nonempty}
 use Rattle.kt_rules.specs.declared.entry.Needs.{Needs}
 use Rattle.kt_rules.specs.Names.{is_among, without_repeats}

@@ -1,5 +1,5 @@
 -- Names as an automatic macro lists them: whole, or only their directories or their files (GNU make manual, "Automatic Variables").
-use Rattle.std.specs.Prelude.{ℕ, ◌-◌, ◌==◌, List, [], ◌∷◌, map, take, if◌then◌else◌}
+use Rattle.std.specs.Prelude.{◌-◌, ◌==◌, List, [], ◌∷◌, map, take, if◌then◌else◌}
 use Rattle.std.specs.List.{join_with_byte}
 use Rattle.kt_text.specs.Words.{Text, list_text}
 use Rattle.kt_text.specs.Functions.{name_place, name_part}

@@ -1,5 +1,5 @@
 -- Texts between single quotes, and what a shell reads them as (POSIX.1-2024 Shell Command Language, "Quoting").
-use Rattle.std.specs.Prelude.{ℕ, ◌==◌, List, [], ◌∷◌, ◌++◌, flat_map, Option, Some, None, option_map, if◌then◌else◌}
+use Rattle.std.specs.Prelude.{ℕ, ◌==◌, [], ◌∷◌, ◌++◌, flat_map, Option, Some, None, option_map, if◌then◌else◌}
 use Rattle.kt_text.specs.Words.{Text}
 
 -- a byte between single quotes: a single quote can't stand there, so it ends them, stands behind a backslash, and begins new ones

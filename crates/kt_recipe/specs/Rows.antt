@@ -56,9 +56,9 @@ told node name = look (automatic_in node 0) name
 abbrev pub deferred : Text → Text → Text × Macro
 deferred name value = (name, set_by_makefile Deferred value)
 
--- what a makefile begins with
-abbrev pub shell_macros : Table
-shell_macros = deferred (codes "SHELL") (codes "/bin/sh") ∷ deferred (codes ".SHELLFLAGS") (codes "-c") ∷ []
+-- what a makefile begins with, before these
+abbrev pub with_shell : Table → Table
+with_shell more = deferred (codes "SHELL") (codes "/bin/sh") ∷ deferred (codes ".SHELLFLAGS") (codes "-c") ∷ more
 
 -- the command of a node, with 9 levels and no message before it
 abbrev pub comes_to : Table → Node → Progress
@@ -83,3 +83,58 @@ pub record RowsOfMacros : Type 0 where
   pub no_order_only_parts : told sample (codes "|D") ≡ None
   pub no_member_parts : told sample (codes "%F") ≡ None
   pub no_macro : told sample (codes "A") ≡ None
+
+-- commands
+pub record RowsOfCommands : Type 0 where
+  pub quotes :
+      comes_to (with_shell [])
+      (simple (line 1 (codes "echo \"it's $$HOME\"") ∷ []))
+      ≡ goes_on [] (Some (codes "/bin/sh -c 'echo \"it'\\''s $HOME\"'"))
+  pub canned :
+      comes_to (with_shell (deferred (codes "go") (codes "@echo one\n-false") ∷ []))
+      (simple (line 1 (codes "$(go)") ∷ []))
+      ≡ goes_on [] (Some (codes "/bin/sh -c 'echo one' && { /bin/sh -c 'false' || :; }"))
+  pub marked :
+      comes_to (with_shell [])
+      (simple (line 1 (codes "@-a") ∷ []))
+      ≡ goes_on [] (Some (codes "{ /bin/sh -c 'a' || :; }"))
+  pub marked_line :
+      comes_to (with_shell (deferred (codes "X") (codes "a\n @- \nb") ∷ []))
+      (simple (line 1 (codes "-$(X)") ∷ []))
+      ≡ goes_on [] (Some (codes "{ /bin/sh -c 'a' || :; } && { /bin/sh -c 'b' || :; }"))
+  pub trailing_blank :
+      comes_to (with_shell [])
+      (simple (line 1 (codes "a ") ∷ line 2 (codes " @ ") ∷ []))
+      ≡ goes_on [] (Some (codes "/bin/sh -c 'a '"))
+  pub no_piece :
+      comes_to (with_shell [])
+      (simple (line 1 (codes "$(X)") ∷ []))
+      ≡ goes_on [] None
+  pub double_colon :
+      comes_to (with_shell [])
+      (doubled)
+      ≡ goes_on [] (Some (codes "/bin/sh -c 'one b' && /bin/sh -c 'two c'"))
+  pub message :
+      comes_to (with_shell [])
+      (simple (line 1 (codes "a$(info hi)") ∷ []))
+      ≡ goes_on (codes "hi" ∷ []) (Some (codes "/bin/sh -c 'a'"))
+  pub shell_anew :
+      comes_to (deferred (codes "SHELL") (codes "$(info s)sh") ∷ deferred (codes ".SHELLFLAGS") (codes "-c") ∷ [])
+      (simple (line 1 (codes "$(info 1)a") ∷ line 2 (codes "$(info 2)b") ∷ []))
+      ≡ goes_on (codes "1" ∷ codes "s" ∷ codes "2" ∷ codes "s" ∷ []) (Some (codes "sh -c 'a' && sh -c 'b'"))
+  pub fault_in_shell :
+      comes_to (deferred (codes "SHELL") (codes "$(error $@)") ∷ [])
+      (simple (line 3 (codes "a") ∷ []))
+      ≡ ends [] (fault_at (at_m 3) 19 (codes "t"))
+  pub eval_refused :
+      comes_to (with_shell [])
+      (simple (line 1 (codes "$(eval A = 1)") ∷ []))
+      ≡ ends [] (fault_at (at_m 1) 32 (codes "eval in a recipe"))
+  pub first_fault :
+      comes_to (with_shell [])
+      (simple (line 2 (codes "$(info 1)a") ∷ line 3 (codes "$(x") ∷ []))
+      ≡ ends (codes "1" ∷ []) (fault_at (at_m 3) 7 (codes "unterminated reference"))
+  pub hidden_table :
+      comes_to (with_shell (deferred (codes "@") (codes "table") ∷ []))
+      (simple (line 1 (codes "$(foreach @,a b,$@) $@") ∷ []))
+      ≡ goes_on [] (Some (codes "/bin/sh -c 'a b t'"))

@@ -7,7 +7,7 @@ ghost use Rattle.kt_graph.specs.Node.{Node};
 ghost use Rattle.kt_recipe.specs.Deeper.{StaysOneDeeper};
 ghost use Rattle.kt_recipe.specs.Lines.{pieces_of};
 ghost use Rattle.kt_recipe.specs.Quoting.{quoted, word_of_quotes};
-ghost use Rattle.kt_recipe.specs.Rows.{RowsOfMacros};
+ghost use Rattle.kt_recipe.specs.Rows.{RowsOfCommands, RowsOfMacros};
 
 /// A shell reads a text between single quotes as that text.
 pub fn quotes_are_read_back()
@@ -27,4 +27,9 @@ pub fn one_deeper()
 /// Worked values of automatic macros.
 pub fn rows_of_macros()
     ensures { RowsOfMacros }
+{}
+
+/// Worked commands.
+pub fn rows_of_commands()
+    ensures { RowsOfCommands }
 {}

@@ -1,4 +1,4 @@
-use Rattle.std.proofs.Common.{◌≡◌, ◌++◌, ◌∷◌, flat_map, drop, map}
+use Rattle.std.proofs.Common.{◌≡◌, ◌∷◌, drop, map}
 use Rattle.std.specs.List.{join_with_byte}
 use Rattle.kt_recipe.proofs.forms.whole.Given as goal
 

@@ -1,0 +1,74 @@
+-- The terms of a text by functions that look only where they must: `if` has both its sides computed, so that what searches for a
+-- closing mark takes three times as long for each byte more.
+use Rattle.std.proofs.Common.{◌≡◌, ℕ, zero, suc, ◌+◌, ◌-◌, Bool, true, false, ◌==◌, if◌then◌else◌, List, [], ◌∷◌, Option, Some, None, refl, ap, ◌∙◌}
+use Rattle.kt_text.specs.Words.{Text}
+use Rattle.kt_syntax.specs.declared.term.Mark.TheVariants.{Parentheses, Braces}
+use Rattle.kt_syntax.specs.Terms.{Piece, literal, dollar, Continuations, dropped, closing, referred, single, behind_dollar, literal_run, first_term, terms_after, terms_of}
+
+unfoldable pub quick_closing : ℕ → ℕ → ℕ → ℕ → Text → Option ℕ
+quick_closing opener closer at depth [] = None
+quick_closing opener closer at depth (byte ∷ text) =
+    elim (byte == opener) [
+      | true ↦ quick_closing opener closer (at + 1) (depth + 1) text
+      | false ↦ elim (byte == closer) [
+        | true ↦ elim (depth == 0) [
+          | true ↦ Some at
+          | false ↦ quick_closing opener closer (at + 1) (depth - 1) text
+        ]
+        | false ↦ quick_closing opener closer (at + 1) depth text
+      ]
+    ]
+
+either_way : (b : Bool) (x y u v : Option ℕ) → x ≡ u → y ≡ v → (if b then x else y) ≡ elim b [ true ↦ u | false ↦ v ]
+either_way true x y u v same other = same
+either_way false x y u v same other = other
+
+closing_is : (opener closer at depth : ℕ) (text : Text) → closing opener closer at depth text ≡ quick_closing opener closer at depth text
+unfolding closing quick_closing
+closing_is opener closer at depth [] = refl
+closing_is opener closer at depth (byte ∷ text) =
+    either_way (byte == opener) _ _ _ _ (closing_is opener closer (at + 1) (depth + 1) text)
+    (either_way (byte == closer) _ _ _ _
+    (either_way (depth == 0) _ _ _ _ refl (closing_is opener closer (at + 1) (depth - 1) text))
+    (closing_is opener closer (at + 1) depth text))
+
+unfoldable pub quick_behind : Continuations → Text → Piece × ℕ
+quick_behind continuations [] = (literal [], 0)
+quick_behind continuations (byte ∷ text) =
+    if byte == 36 then (dollar, 1)
+    else (if byte == 40 then referred Parentheses text (quick_closing 40 41 0 0 text)
+    else (if byte == 123 then referred Braces text (quick_closing 123 125 0 0 text)
+    else single continuations (byte ∷ text)))
+
+behind_is : (continuations : Continuations) (text : Text) → behind_dollar continuations text ≡ quick_behind continuations text
+unfolding behind_dollar quick_behind
+behind_is continuations [] = refl
+behind_is continuations (byte ∷ text) = rw (closing_is 40 41 0 0 text, closing_is 123 125 0 0 text) refl
+
+unfoldable pub quick_first : Continuations → ℕ → Text → Piece × ℕ
+quick_first continuations byte text = if byte == 36 then quick_behind continuations text else literal_run byte text
+
+first_is : (continuations : Continuations) (byte : ℕ) (text : Text) → first_term continuations byte text ≡ quick_first continuations byte text
+unfolding first_term quick_first
+first_is continuations byte text = rw (behind_is continuations text) refl
+
+unfoldable pub quick_after : Continuations → ℕ → Text → List Piece
+quick_after continuations skip [] = []
+quick_after continuations (suc skip) (byte ∷ text) = quick_after continuations skip text
+quick_after continuations zero (byte ∷ text) =
+    (quick_first continuations byte text).0 ∷ quick_after continuations (quick_first continuations byte text).1 text
+
+after_is : (continuations : Continuations) (skip : ℕ) (text : Text) → terms_after continuations skip text ≡ quick_after continuations skip text
+unfolding terms_after quick_after
+after_is continuations skip [] = refl
+after_is continuations (suc skip) (byte ∷ text) = after_is continuations skip text
+after_is continuations zero (byte ∷ text) =
+    ap (λ (term : Piece × ℕ). term.0 ∷ terms_after continuations term.1 text) (first_is continuations byte text)
+    ∙ ap (λ terms. (quick_first continuations byte text).0 ∷ terms) (after_is continuations (quick_first continuations byte text).1 text)
+
+unfoldable pub quick_terms : Text → List Piece
+quick_terms text = quick_after dropped 0 text
+
+pub terms_are : (text : Text) → terms_of text ≡ quick_terms text
+unfolding terms_of quick_terms
+terms_are text = after_is dropped 0 text

@@ -1,0 +1,152 @@
+//! Commands: pieces, prefixes, the shell, order, faults.
+use crate::told::{Row, tells};
+use std::test::Fail;
+
+#[test]
+fn quotes_and_joins(rt: HostRuntime) -> Result<(), Fail> {
+    const ROWS: &[Row] = &[
+        (
+            "t: ; echo \"it's $$HOME\"\n",
+            "",
+            "t",
+            "/bin/sh -c 'echo \"it'\\''s $HOME\"'\n",
+        ),
+        (
+            "define go\n@echo one\n-false\nendef\nt:\n\t$(go)\n",
+            "",
+            "t",
+            "/bin/sh -c 'echo one' && { /bin/sh -c 'false' || :; }\n",
+        ),
+        (
+            "a:: b ; one $<\na:: c ; two $<\n",
+            "",
+            "a",
+            "/bin/sh -c 'one b' && /bin/sh -c 'two c'\n",
+        ),
+        ("t: ; @-a\n", "", "t", "{ /bin/sh -c 'a' || :; }\n"),
+        (
+            "SHELL = /bin/bash -e\nt: ; $(SHELL) it's\n",
+            "",
+            "t",
+            "/bin/bash -e -c '/bin/bash -e it'\\''s'\n",
+        ),
+        ("t:\n\ta; \\\n\tb\n", "", "t", "/bin/sh -c 'a; b'\n"),
+        ("SHELL = $() sh\nt: ; true\n", "", "t", " sh -c 'true'\n"),
+    ];
+    tells(&rt, rt.alloc(), 100, ROWS)?;
+    Ok(())
+}
+
+#[test]
+fn takes_prefixes(rt: HostRuntime) -> Result<(), Fail> {
+    const ROWS: &[Row] = &[
+        ("t: ; \\\n\t @ echo a\n", "", "t", "/bin/sh -c 'echo a'\n"),
+        (
+            "t: ; -$(X)\ndefine X\na\n @- \nb\nendef\n",
+            "",
+            "t",
+            "{ /bin/sh -c 'a' || :; } && { /bin/sh -c 'b' || :; }\n",
+        ),
+        (
+            "M = -\ndefine two\n@-a\nb\nendef\nt:\n\t$(M)x\n\t$(two)\n",
+            "",
+            "t",
+            "{ /bin/sh -c 'x' || :; } && { /bin/sh -c 'a' || :; } && /bin/sh -c 'b'\n",
+        ),
+        ("t:\n\ta \n\t @ \n", "", "t", "/bin/sh -c 'a '\n"),
+    ];
+    tells(&rt, rt.alloc(), 100, ROWS)?;
+    Ok(())
+}
+
+#[test]
+fn makes_phony(rt: HostRuntime) -> Result<(), Fail> {
+    const ROWS: &[Row] = &[
+        ("t: ; $(X)\n", "", "t", "phony\n"),
+        ("t: ;\n", "", "t", "phony\n"),
+        ("t: b\n", "", "t", "phony\n"),
+        ("t:\n\t\n", "", "t", "phony\n"),
+    ];
+    tells(&rt, rt.alloc(), 100, ROWS)?;
+    Ok(())
+}
+
+#[test]
+fn tells_in_order(rt: HostRuntime) -> Result<(), Fail> {
+    const ROWS: &[Row] = &[
+        (
+            "t: ; echo $(info hi)x\n",
+            "",
+            "t",
+            "/bin/sh -c 'echo x'\nhi\n",
+        ),
+        (
+            "define SHELL\n$(info s)sh\nendef\nt:\n\t$(info 1)a\n\t$(info 2)b\n",
+            "",
+            "t",
+            "sh -c 'a' && sh -c 'b'\n1\ns\n2\ns\n",
+        ),
+        (
+            "define R\nt:\n\techo $$(warning w)\nendef\n\n$(eval $(R))\n",
+            "",
+            "t",
+            "/bin/sh -c 'echo '\nMakefile:6: w\n",
+        ),
+    ];
+    tells(&rt, rt.alloc(), 100, ROWS)?;
+    Ok(())
+}
+
+#[test]
+fn stops_at_faults(rt: HostRuntime) -> Result<(), Fail> {
+    const ROWS: &[Row] = &[
+        (
+            "t: ; $(eval A = 1)\n",
+            "",
+            "t",
+            "Makefile:1: *** eval in a recipe [E32]\n",
+        ),
+        (
+            "SHELL = $(error $@)\nt:\n\ta\n",
+            "",
+            "t",
+            "Makefile:3: *** t [E19]\n",
+        ),
+        (
+            "t: \\\n a ; $(error x)\n",
+            "",
+            "t",
+            "Makefile:1: *** x [E19]\n",
+        ),
+        (
+            "t:\n\t$(info 1)a\n\t$(x\n",
+            "",
+            "t",
+            "Makefile:3: *** unterminated reference [E07]\n1\n",
+        ),
+    ];
+    tells(&rt, rt.alloc(), 100, ROWS)?;
+    Ok(())
+}
+
+#[test]
+fn counts_levels(rt: HostRuntime) -> Result<(), Fail> {
+    const ROWS: &[Row] = &[
+        ("t: ; a\n", "", "t", "/bin/sh -c 'a'\n"),
+        ("A = $(B)\nt: ; $(A)\n", "", "t", "phony\n"),
+        (
+            "A = $(B)\nB = x\nt: ; $(A)\n",
+            "",
+            "t",
+            "Makefile:3: *** nesting too deep [E08]\n",
+        ),
+        (
+            "SHELL = $(B)\nB = x\nt: ; a\n",
+            "",
+            "t",
+            "Makefile:3: *** nesting too deep [E08]\n",
+        ),
+    ];
+    tells(&rt, rt.alloc(), 1, ROWS)?;
+    Ok(())
+}
