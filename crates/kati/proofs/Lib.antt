@@ -1,8 +1,5 @@
-pub mod Asking
-pub mod Nul
-pub mod Plans
-pub mod Cuts
-pub mod Distinct
-pub mod Heads
-pub mod Rules
-pub mod Blaming
+pub mod PlanLemmas
+pub mod BlameLemmas
+pub mod MeaningLemmas
+pub mod PlanningLemmas
+pub mod RunLemmas

@@ -1,23 +1,135 @@
--- The plan of what a makefile says, for its goals.
-use Rattle.std.specs.Prelude.{ℕ, List, [], ◌∷◌, ◌++◌, codes}
-use Rattle.kt_ninja.specs.declared.plan.Made.TheVariants.{Command}
+-- The plan of what goals need (Ninja manual, "Build statements", "Build dependencies", "Default target statements"; which statements
+-- there are, their order and the name that is always built are kati's own).
+use Rattle.std.specs.Prelude.{ℕ, Bool, not, ◌&&◌, List, [], ◌∷◌, ◌++◌, map, filter, flat_map, codes, Option, Some, None, is_some, slice_get, if◌then◌else◌}
+use Rattle.std.specs.List.{list_any}
+use Rattle.std.specs.Option.{option_and_then, option_map_or}
+use Rattle.kt_text.specs.Words.{Text}
+use Rattle.kt_rules.specs.Names.{is_among, without_repeats}
+use Rattle.kt_rules.specs.Entry.{Rule}
+use Rattle.kt_rules.specs.Book.{is_phony}
+use Rattle.kt_eval.specs.declared.fault.Fault.{Fault}
+use Rattle.kt_eval.specs.declared.kind.FaultKind.TheVariants.{CommandNotWritable, NameNotWritable}
+use Rattle.kt_eval.specs.Table.{Table}
+use Rattle.kt_graph.specs.Node.{Node, inputs_of, order_only_of}
+use Rattle.kt_graph.specs.Groups.{groups_of}
+use Rattle.kt_recipe.specs.Shell.{Progress, goes_on, ends, shell_of}
+use Rattle.kt_ninja.specs.declared.plan.Made.{Made}
+use Rattle.kt_ninja.specs.declared.plan.Made.TheVariants.{Command, Phony}
+use Rattle.kt_ninja.specs.declared.plan.Statement.{Statement}
 use Rattle.kt_ninja.specs.declared.plan.Plan.{Plan}
-use Rattle.kati.specs.declared.one_rule.OneRule.{OneRule}
+use Rattle.kt_ninja.specs.Writable.{Trouble, is_empty, no_output, bad_name, bad_command, repeated, not_an_output, trouble_of_statements}
+use Rattle.kati.specs.Course.{Course, on_course, off_course, fault_nowhere}
 
--- a line without single quotes as a word of a shell's command (POSIX.1-2024, Shell Command Language, "Single-Quotes")
-abbrev pub shell_command : List ℕ → List ℕ
-shell_command line = codes "/bin/sh -c '" ++ (line ++ codes "'")
+-- the target that is never there, so that what needs it is always made
+abbrev pub always_build : Text
+always_build = codes "_kati_always_build_"
 
--- a makefile of one rule: one statement makes its target (POSIX.1-2024, make, "Target Rules"), which is the first target
--- and so the goal ("Operands")
-abbrev pub plan_of_rule : OneRule → Plan
-plan_of_rule r = record {
-  statements = record {
-    outs = r.target ∷ [];
-    made = Command (shell_command r.line);
-    inputs = r.prerequisites;
-    implicit = [];
-    order_only = [];
-  } ∷ [];
-  defaults = r.target ∷ [];
+-- ---- the parts of a group's statement
+
+abbrev pub outs_of : List Node → List Text
+outs_of group = map (λ node. node.name) group
+
+-- the inputs of the members in order, each once
+abbrev pub joined_inputs : List Node → List Text
+joined_inputs group = without_repeats (flat_map inputs_of group)
+
+-- the order-only ones likewise, without these
+abbrev pub joined_order_only : List Node → List Text
+joined_order_only group =
+    filter (λ name. not (is_among (joined_inputs group) name)) (without_repeats (flat_map order_only_of group))
+
+abbrev pub made_by : Option Text → Made
+made_by (Some command) = Command command
+made_by None = Phony
+
+abbrev pub has_phony : List Rule → List Node → Bool
+has_phony rules group = list_any (λ node. is_phony rules node.name) group
+
+abbrev pub implicit_of : Bool → List Text
+implicit_of always = if always then always_build ∷ [] else []
+
+-- a phony member with a command is always made [Phony Targets]
+unfoldable pub statement_of : List Rule → List Node → Option Text → Statement
+statement_of rules group command = record {
+  outs = outs_of group;
+  made = made_by command;
+  inputs = joined_inputs group;
+  implicit = implicit_of (is_some command && has_phony rules group);
+  order_only = joined_order_only group;
 }
+
+-- ---- statements one after another
+
+-- the messages and the statements so far, or the messages up to the fault of a recipe
+pub data Planning : Type 0 where
+  planned : (said : List Text) (statements : List Statement) → Planning
+  at_fault : (said : List Text) (fault : Fault) → Planning
+
+-- the command is that of the least member, which stands first
+abbrev pub command_for : Table → ℕ → List Node → List Text → Progress
+command_for table limit [] said = goes_on said None
+command_for table limit (least ∷ others) said = shell_of table limit least said
+
+abbrev pub after_command : Progress → (List Text → Option Text → Planning) → Planning
+after_command (goes_on said command) next = next said command
+after_command (ends said fault) next = at_fault said fault
+
+unfoldable pub plan_groups : List Rule → Table → ℕ → List (List Node) → List Text → List Statement → Planning
+plan_groups rules table limit [] said before = planned said before
+plan_groups rules table limit (group ∷ groups) said before =
+    after_command (command_for table limit group said)
+    (λ heard command. plan_groups rules table limit groups heard (before ++ statement_of rules group command ∷ []))
+
+-- ---- the plan
+
+abbrev pub has_implicit : Statement → Bool
+has_implicit statement = not (is_empty statement.implicit)
+
+abbrev pub always_built : Statement
+always_built = record { outs = always_build ∷ []; made = Phony; inputs = []; implicit = []; order_only = [] }
+
+-- the statement of what is always built comes first, where one needs it
+unfoldable pub with_always_built : List Statement → List Statement
+with_always_built statements = if list_any has_implicit statements then always_built ∷ statements else statements
+
+-- the defaults are the goals
+abbrev pub plan_of : List Statement → List Text → Plan
+plan_of statements goals = record { statements = with_always_built statements; defaults = goals }
+
+-- ---- what can't be written
+
+abbrev pub first_output : List Text → Text
+first_output [] = []
+first_output (name ∷ names) = name
+
+abbrev pub least_output : List Statement → ℕ → Text
+least_output statements number = option_map_or (λ statement. first_output statement.outs) (slice_get statements number) []
+
+abbrev pub text_fault : List Statement → Trouble → Option Fault
+text_fault statements (bad_name name) = Some (fault_nowhere NameNotWritable name)
+text_fault statements (bad_command number) = Some (fault_nowhere CommandNotWritable (least_output statements number))
+text_fault statements (no_output number) = None
+text_fault statements (repeated name) = None
+text_fault statements (not_an_output name) = None
+
+-- the first name or command that can't be written, statement by statement, names first
+unfoldable pub unwritable_in : List Statement → Option Fault
+unwritable_in statements = option_and_then (text_fault statements) (trouble_of_statements 0 statements)
+
+abbrev pub plan_unless : List Text → List Text → Plan → Option Fault → Course Plan
+plan_unless said asked plan None = on_course said asked plan
+plan_unless said asked plan (Some fault) = off_course said asked fault
+
+unfoldable pub written : List Text → List Text → Plan → Course Plan
+written said asked plan = plan_unless said asked plan (unwritable_in plan.statements)
+
+-- ---- the whole
+
+abbrev pub course_of_plan : List Text → List Text → Planning → Course Plan
+course_of_plan goals asked (planned said statements) = written said asked (plan_of statements goals)
+course_of_plan goals asked (at_fault said fault) = off_course said asked fault
+
+-- the plan of these nodes, which goals need; the messages and the names asked for are those before it
+unfoldable pub plan_course : List Rule → Table → ℕ → List Text → List Node → List Text → List Text → Course Plan
+plan_course rules table limit goals nodes said asked =
+    course_of_plan goals asked (plan_groups rules table limit (groups_of nodes) said [])

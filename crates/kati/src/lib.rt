@@ -1,21 +1,21 @@
 //! Translates a makefile to a Ninja file: the command line, a run, and the program over any files and outputs.
 #![tactic(auto)]
 
-mod args;
-mod cutting;
+mod checking;
 mod faults;
-pub mod laws;
-mod one_rule;
+mod goals;
+mod listing;
 mod outcome;
-mod plain;
+mod planning;
 mod program;
+mod reading;
 mod running;
+mod statements;
 mod status;
 mod translating;
+mod words;
 
-pub use args::{ArgFault, Args, args_of};
 pub use faults::RunFault;
-pub use one_rule::{OneRule, recognise};
 pub use outcome::Outcome;
 pub use program::{USAGE, finish, whole};
 pub use running::run;

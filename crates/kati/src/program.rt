@@ -1,13 +1,12 @@
 //! The program, over any files and outputs.
-ghost use Rattle.std.specs.Prelude.{◌≡◌, ◌≤◌, IfSome, OnOk, map, string_bytes};
-ghost use Rattle.kati.specs.Args.{IsCommandLine};
-ghost use Rattle.kati.specs.Exits.{exit_code, usage_code};
-ghost use Rattle.kati.specs.Headline.{Answers, Exits, WritesNothing};
+ghost use Rattle.std.specs.Prelude.{◌≡◌, ◌≤◌, OnOk, map, string_bytes};
+ghost use Rattle.kati.specs.Exits.{exit_code};
+ghost use Rattle.kati.specs.Headline.{Exits};
 
-use crate::args::args_of;
 use crate::faults::RunFault;
 use crate::running::run;
 use crate::status::Status;
+use kati_args::{ArgFault, args_of};
 use kt_eval::Files;
 use kt_ninja::{Sink, put};
 use std::alloc::Global;
@@ -54,11 +53,42 @@ pub fn finish<E: Sink>(err: &mut E, ended: Result<Status, RunFault>) -> u8
     }
 }
 
+/// Puts out the help, and gives the exit status.
+fn give_help<O: Sink, E: Sink>(out: &mut O, err: &mut E, text: &str) -> u8 {
+    match put(out, text.as_bytes()) {
+        Ok(()) => 0,
+        Err(_) => finish(err, Err(RunFault::WriteOut)),
+    }
+}
+
+/// Tells that no macro can have the name that a word begins with, as far as the sink takes it.
+fn tell_of_macro<E: Sink>(err: &mut E, word: &str) {
+    if put(err, b"kati: bad macro ").is_ok() && put(err, word.as_bytes()).is_ok() {
+        let _ = put(err, b"\n");
+    }
+}
+
+/// The exit status of words that ask for no run, after telling why.
+fn refuse<O: Sink, E: Sink>(out: &mut O, err: &mut E, fault: &ArgFault) -> u8 {
+    match fault {
+        ArgFault::Help(text) => give_help(out, err, text.as_str()),
+        ArgFault::Usage(text) => {
+            let _ = put(err, text.as_bytes());
+            USAGE
+        }
+        ArgFault::BadMacro(word) => {
+            tell_of_macro(err, word.as_str());
+            USAGE
+        }
+        ArgFault::Memory => finish(err, Err(RunFault::Memory)),
+    }
+}
+
 /// The whole program on these words, of which the first is its name: the command line, a run, a line on the error
 /// output where something kept the run from its end, and the exit status.
 ///
-/// It is 0 where the plan was written, 2 after a makefile's fault, 3 after a device's failure, 4 where memory was
-/// refused, and 64 where the words are no command line.
+/// It is 0 where the plan was written, or the file to be checked is the plan, 1 where that file isn't, 2 after a
+/// makefile's fault, 3 after a device's failure, 4 where memory was refused, and 64 where the words are no command line.
 pub fn whole<F: Files, O: Sink, E: Sink>(
     alloc: Global,
     words: &[String],
@@ -66,24 +96,15 @@ pub fn whole<F: Files, O: Sink, E: Sink>(
     out: &mut O,
     err: &mut E,
 ) -> u8
-    // Words that are no command line do nothing.
-    ensures usage { ¬ IsCommandLine (map string_bytes words.now) → (result ≡ usage_code)
-        × (F.names files.new ≡ F.names files.old)
-        × WritesNothing (O.written out.old) (O.written out.new) (E.written err.old) (E.written err.new) }
-
-    // The status, whatever the files and the outputs are.
-    ensures answers { IsCommandLine (map string_bytes words.now) → Answers result (F.names files.old) (F.names files.new)
-        (F.failed files.old) (F.failed files.new) (O.failed out.old) (O.failed out.new) (E.failed err.old) (E.failed err.new) }
-
-    // What is left, where the files tell their bytes.
-    ensures exits { IsCommandLine (map string_bytes words.now) → IfSome (F.known files.old) (λ store. Exits (map string_bytes words.now) store result
-        (F.names files.old) (F.names files.new)
+    ensures { Exits (map string_bytes words.now) (F.known files.old) result (F.names files.old) (F.names files.new)
         (F.failed files.old) (F.failed files.new) (O.failed out.old) (O.failed out.new) (E.failed err.old) (E.failed err.new)
-        (O.written out.old) (O.written out.new) (E.written err.old) (E.written err.new)) }
+        (O.written out.old) (O.written out.new) (E.written err.old) (E.written err.new) }
 {
-    let Ok(args) = args_of(words) else {
-        return USAGE;
-    };
-    let ended = run(alloc, &args, files, out, err);
-    finish(err, ended)
+    match args_of(alloc, words) {
+        Ok(args) => {
+            let ended = run(alloc, &args, files, out, err);
+            finish(err, ended)
+        }
+        Err(fault) => refuse(out, err, &fault),
+    }
 }

@@ -5,8 +5,10 @@ ghost use Rattle.kati.specs.Exits.{code_of};
 /// The end of a run that wasn't kept from it.
 #[derive(Debug, Drop, Clone, Copy, PartialEq, Eq)]
 pub enum Status {
-    /// The plan was written: exit status 0.
+    /// The plan was written, or the file to be checked is the plan: exit status 0.
     Done,
+    /// The file to be checked isn't the plan: exit status 1.
+    Differs,
     /// The makefile has a fault: exit status 2.
     Fault,
 }
@@ -17,6 +19,7 @@ impl From<Status> for u8 {
     fn from(status: Status) -> u8 {
         match status {
             Status::Done => 0,
+            Status::Differs => 1,
             Status::Fault => 2,
         }
     }

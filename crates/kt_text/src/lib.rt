@@ -19,7 +19,7 @@ pub use condense::{condensed, joined};
 pub use cut::words;
 pub use fault::TextFault;
 pub use line::{Line, LineFault};
-pub use logical::logical_lines;
+pub use logical::{logical_lines, nul_line};
 pub use pattern::match_pattern;
 pub use physical::{is_continued, line_content};
 pub use word_runs::Words;

@@ -23,9 +23,9 @@ pub fn logical_lines(alloc: Global, text: &[u8]) -> Result<Vec<Line>, LineFault>
     Ok(cut_lines(alloc, text)?)
 }
 
-// The number of the physical line with the first NUL.
+/// The number of the physical line with the first NUL, from 1, if there is one.
 #[tactic(auto, using(crate::proofs::PhysicalLemmas::nul_places), unfolding(crate::specs::Lines::nul_line))]
-fn nul_line(text: &[u8]) -> Option<u64>
+pub fn nul_line(text: &[u8]) -> Option<u64>
     ensures { result ≡ nul_line text.now }
 {
     match memchr(0, text) {

@@ -1,0 +1,41 @@
+-- What is to blame for a refusal, where no file was asked for.
+use Rattle.std.proofs.Common.{subst, ◌≡◌, ◌≤◌, arith, ℕ, List, Option, Some, None, Result, Ok, Err}
+use Rattle.std.specs.Prelude.{IfSome}
+use Rattle.kt_text.specs.Words.{Text}
+use Rattle.kt_eval.specs.declared.stop.Stop.{Stop}
+use Rattle.kt_eval.specs.declared.stop.Stop.TheVariants as stops
+use Rattle.kt_eval.specs.Step.{Blames}
+use Rattle.kati.specs.declared.faults.RunFault.{RunFault}
+use Rattle.kati.specs.declared.faults.RunFault.TheVariants as faults
+use Rattle.kati.specs.Headline.{Blames as RunBlames}
+use Rattle.kati.specs.Course.{Course, Computes, Comes, ComesTo, Follows}
+
+pub computes_blames : {A B : Type 0} (see : A → B) (result : Result A Stop) (said asked : List Text) (course : Course B) (old new : ℕ) (names : List Text)
+    → new ≡ old → Computes see result said asked course → Blames result old new names
+computes_blames see (Ok x) said asked course old new names same h = same
+computes_blames see (Err (stops.Fault fault)) said asked course old new names same h = same
+computes_blames see (Err (stops.Device name)) said asked course old new names same h = absurd h
+computes_blames see (Err stops.Memory) said asked course old new names same h = same
+
+pub computes_follows : {A B : Type 0} (see : A → B) (result : Result A Stop) (said asked : List Text) (course : Course B)
+    → Computes see result said asked course → Follows see result said asked course
+computes_follows see (Ok x) said asked course h = h
+computes_follows see (Err (stops.Fault fault)) said asked course h = h
+computes_follows see (Err (stops.Device name)) said asked course h = tt
+computes_follows see (Err stops.Memory) said asked course h = tt
+
+pub if_some-weaker : {T : Type 0} (o : Option T) (P Q : T → Type 0) → ((x : T) → P x → Q x) → IfSome o P → IfSome o Q
+if_some-weaker None P Q more h = h
+if_some-weaker (Some x) P Q more h = more x h
+
+-- what is to blame for a fault of a run stays so where the error output's count goes on rising
+pub blames_on : (e : RunFault) (asked : List Text) (files files' outs outs' errs middle errs' : ℕ) → middle ≤ errs'
+    → RunBlames e asked files files' outs outs' errs middle → RunBlames e asked files files' outs outs' errs errs'
+blames_on (faults.Read name) asked files files' outs outs' errs middle errs' more blames = blames
+blames_on faults.WriteOut asked files files' outs outs' errs middle errs' more blames = blames
+blames_on faults.WriteErr asked files files' outs outs' errs middle errs' more blames = omega arith
+blames_on faults.Memory asked files files' outs outs' errs middle errs' more blames = blames
+
+pub if_some-joined : {T : Type 0} (one other : Option T) (P Q R : T → Type 0) → other ≡ one → ((x : T) → P x → Q x → R x) → IfSome one P → IfSome other Q → IfSome one R
+if_some-joined None other P Q R same both h k = tt
+if_some-joined {T} (Some x) other P Q R same both h k = both x h (subst (λ (o : Option T). IfSome o Q) same k)

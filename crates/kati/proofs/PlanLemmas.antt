@@ -1,0 +1,344 @@
+-- The plan of what goals need can be written, where its names and commands can.
+use Rattle.std.proofs.Common.{◌≡◌, ◌≢◌, ℕ, ◌+◌, Bool, true, false, not, ◌&&◌, if◌then◌else◌, cond, List, [], ◌∷◌, ◌++◌, length, map, filter, find, flat_map, Option, Some, None, refl, sym, ap, ◌∙◌, subst, ⊎_elim, append-nil, arith, ◌||◌}
+use Rattle.std.specs.Prelude.{IfOk, MatchOption, Result, Ok, Err, nat_eq}
+use Rattle.std.specs.Option.{option_and_then}
+use Rattle.std.specs.List.{All, AllPairs, Contains, list_all, list_any}
+use Rattle.std.specs.List.Sorted.{IsStrictlySortedBy}
+use Rattle.std.specs.Ordering.{is_eq, nat_cmp}
+use Rattle.std.specs.declared.cmp.Ordering.{Ordering}
+use Rattle.std.specs.declared.cmp.Ordering.TheVariants.{Less}
+use Rattle.std.specs.Cmp.Lexicographic.{slice_cmp}
+use Rattle.std.specs.Str.{bytes_eq}
+use Rattle.std.proofs.lemmas.Bool.{false≢true, true≢false}
+use Rattle.std.proofs.lemmas.List.{append_assoc, map-append}
+use Rattle.std.proofs.lemmas.List.Concat.{flat_map-cons}
+use Rattle.std.proofs.lemmas.List.Elements.{All-contains, All-cons, All-nil, Contains-append_left, Contains-append_right, Contains-append_cases}
+use Rattle.std.proofs.lemmas.List.Folds.{flat_map-map}
+use Rattle.std.proofs.lemmas.List.Kept.{AllPairs-cons}
+use Rattle.std.proofs.lemmas.Map.Keys.{sorted_tail}
+use Rattle.std.proofs.lemmas.Map.Text.{is_eq-slice_cmp}
+use Rattle.std.proofs.lemmas.Map.Views.{All-after_first}
+use Rattle.std.proofs.lemmas.Slice.Eq.{bytes_eq-Decides}
+use Rattle.kt_text.specs.Words.{Text}
+use Rattle.kt_rules.specs.Entry.{Rule}
+use Rattle.kt_eval.specs.declared.fault.Fault.{Fault}
+use Rattle.kt_eval.specs.declared.stop.Stop.{Stop}
+use Rattle.kt_eval.specs.Table.{Table}
+use Rattle.kt_graph.specs.Faults.{IsSoundGraph}
+use Rattle.kt_graph.specs.Groups.{AreGroups, are_together, groups_among, groups_of, is_leading, leader_name, made_nodes}
+use Rattle.kt_graph.specs.Node.{Node, is_leaf, node_of}
+use Rattle.kt_graph.specs.Paths.{canon_of, is_reserved, parts_of}
+use Rattle.kt_graph.specs.Reach.{IsGraph, IsReached, IsSound, unmade_goal}
+use Rattle.kt_graph.proofs.GroupLaw.{are_groups}
+use Rattle.kt_graph.proofs.MemberLemmas.{Contains-cases, Contains-from_map, Contains-here, Contains-map, Contains-none, Contains-there}
+use Rattle.kt_graph.proofs.TroubleLemmas.{filter_there, found_nowhere, from_filter}
+use Rattle.kt_graph.proofs.WholeLemmas.{mapped_itself}
+use Rattle.kt_ninja.specs.declared.plan.Plan.{Plan}
+use Rattle.kt_ninja.specs.declared.plan.Statement.{Statement}
+use Rattle.kt_ninja.specs.Plan.{outputs}
+use Rattle.kt_ninja.specs.declared.plan.Made.{Made}
+use Rattle.kt_ninja.specs.Plan as plans
+use Rattle.kt_ninja.specs.Writable.{IsWritable, HasWritableTexts, Trouble, no_output, bad_name, bad_command, repeated, not_an_output, is_empty, is_made, is_name, trouble_of_statements}
+use Rattle.kt_recipe.specs.Shell.{Progress, goes_on, ends}
+use Rattle.kati.specs.Planned.{Planning, planned, at_fault, after_command, always_build, always_built, command_for, has_implicit, outs_of, plan_groups, plan_of, statement_of, text_fault, unwritable_in, with_always_built}
+use Rattle.kati.specs.Stops.{IsFaultOf}
+use Rattle.kati.specs.Views.{is_text_trouble}
+use Rattle.std.proofs.lemmas.Option.{none-some, same_Some}
+
+abbrev order : Text → Text → Ordering
+order = slice_cmp nat_cmp
+
+abbrev name_in : Node → Text
+name_in node = node.name
+
+abbrev outs_in : Statement → List Text
+outs_in statement = statement.outs
+
+Differ : List Text → Type 0
+Differ names = AllPairs (λ (a b : Text). a ≢ b) names
+
+-- ---- names that differ
+
+all_if : {A : Type 0} (P : A → Type 0) (xs : List A) → ((x : A) → Contains xs x → P x) → All P xs
+all_if P [] each = All-nil P
+all_if P (x ∷ xs) each = All-cons P x xs (each x (Contains-here x xs)) (all_if P xs (λ y has. each y (Contains-there x xs y has)))
+
+-- a name isn't less than itself
+not_less : (name other : Text) → order name other ≡ Less → name ≢ other
+not_less name other less same =
+    true≢false (sym ((bytes_eq-Decides name other).1 same) ∙ sym (is_eq-slice_cmp name other) ∙ ap is_eq less)
+
+apart : (names rest : List Text) → IsStrictlySortedBy order names → ((x : Text) → Contains names x → Contains rest x → ⊥)
+    → AllPairs (λ (a b : Text). a ≢ b) rest → AllPairs (λ (a b : Text). a ≢ b) (names ++ rest)
+apart [] rest rises off differ = differ
+apart (name ∷ names) rest rises off differ =
+    AllPairs-cons (λ (a b : Text). a ≢ b) name (names ++ rest)
+    (all_if (λ (x : Text). name ≢ x) (names ++ rest) (λ x has. ⊎_elim
+    (λ (later : Contains names x). not_less name x (All-contains (λ (q : Text). order name q ≡ Less) names x (All-after_first order name names rises) later))
+    (λ (behind : Contains rest x) (same : name ≡ x). off name (Contains-here name names) (subst (λ (y : Text). Contains rest y) (sym same) behind))
+    (Contains-append_cases names rest x has)))
+    (apart names rest (sorted_tail order name names rises) (λ x has behind. off x (Contains-there name names x has) behind) differ)
+
+no_pairs : AllPairs (λ (a b : Text). a ≢ b) []
+no_pairs i j d below within = absurd (omega arith)
+
+-- ---- lists of lists
+
+from_flat : {A B : Type 0} (f : A → List B) (xs : List A) (y : B) → Contains (flat_map f xs) y → (x : A) × Contains xs x × Contains (f x) y
+from_flat f [] y has = Contains-none y has
+from_flat {A} {B} f (x ∷ xs) y has = ⊎_elim
+    (λ (here : Contains (f x) y). (x, Contains-here x xs, here))
+    (λ (there : Contains (flat_map f xs) y). let rest = from_flat f xs y there in (rest.0, Contains-there x xs rest.0 rest.1, rest.2))
+    (Contains-append_cases (f x) (flat_map f xs) y (subst (λ (l : List B). Contains l y) (flat_map-cons f x xs) has))
+
+to_flat : {A B : Type 0} (f : A → List B) (xs : List A) (x : A) (y : B) → Contains xs x → Contains (f x) y → Contains (flat_map f xs) y
+to_flat f [] x y has in_x = Contains-none x has
+to_flat {A} {B} f (first ∷ xs) x y has in_x =
+    subst (λ (l : List B). Contains l y) (sym (flat_map-cons f first xs))
+    (⊎_elim
+    (λ (same : first ≡ x). Contains-append_left (f first) (flat_map f xs) y (subst (λ (z : A). Contains (f z) y) (sym same) in_x))
+    (λ (later : Contains xs x). Contains-append_right (f first) (flat_map f xs) y (to_flat f xs x y later in_x))
+    (Contains-cases first xs x has))
+
+-- ---- the groups of a graph
+
+itself_together : (node : Node) → are_together node node ≡ true
+itself_together node =
+    ap (λ b. b || Rattle.kt_graph.specs.Groups.is_one_making node.made_with node.made_with) ((bytes_eq-Decides node.name node.name).1 refl)
+
+nonempty_names : (group : List Node) (node : Node) → Contains group node → is_empty (outs_of group) ≡ false
+nonempty_names [] node has = Contains-none node has
+nonempty_names (first ∷ group) node has = refl
+
+leader_among : (nodes : List Node) (group : List Node) → Contains (groups_among nodes) group
+    → (node : Node) × Contains (filter (is_leading nodes) nodes) node × (filter (are_together node) nodes ≡ group)
+unfolding groups_among
+leader_among nodes group is_group =
+    Contains-from_map (λ (leader : Node). filter (are_together leader) nodes) (filter (is_leading nodes) nodes) group is_group
+
+module _ (rules : List Rule) (known goals : List Text) (nodes : List Node) (graph : IsGraph rules known goals nodes) where
+  law : AreGroups rules known goals nodes (groups_of nodes)
+  law = are_groups rules known goals nodes graph
+
+  in_nodes : (node : Node) → Contains (made_nodes nodes) node → Contains nodes node
+  in_nodes node has = (from_filter (λ (one : Node). not (is_leaf one.kind)) nodes node has).0
+
+  node_is : (node : Node) → Contains nodes node → node_of rules known node.name ≡ node
+  node_is node has = mapped_itself (node_of rules known) name_in nodes node graph.settled has
+
+  -- groups with a common name are one group
+  one_group : (group other : List Node) (name : Text) → Contains (groups_of nodes) group → Contains (groups_of nodes) other
+      → Contains (outs_of group) name → Contains (outs_of other) name → group ≡ other
+  one_group group other name is_group is_other in_group in_other =
+      let a = Contains-from_map name_in group name in_group in
+      let b = Contains-from_map name_in other name in_other in
+      let made_a : Contains (made_nodes nodes) a.0 = law.made group a.0 is_group a.1 in
+      let made_b : Contains (made_nodes nodes) b.0 = law.made other b.0 is_other b.1 in
+      let same : b.0 ≡ a.0
+      = sym (node_is b.0 (in_nodes b.0 made_b)) ∙ ap (node_of rules known) (b.2 ∙ sym a.2) ∙ node_is a.0 (in_nodes a.0 made_a) in
+      let one = law.each a.0 made_a in
+      one.single group is_group a.1 ∙ sym (one.single other is_other (subst (λ (node : Node). Contains other node) same b.1))
+
+  differ_among : (groups : List (List Node)) → ((group : List Node) → Contains groups group → Contains (groups_of nodes) group)
+      → IsStrictlySortedBy order (map leader_name groups) → AllPairs (λ (a b : Text). a ≢ b) (flat_map outs_of groups)
+  differ_among [] within rises = no_pairs
+  differ_among (group ∷ groups) within rises =
+      subst (λ (names : List Text). AllPairs (λ (a b : Text). a ≢ b) names) (sym (flat_map-cons outs_of group groups))
+      (apart (outs_of group) (flat_map outs_of groups)
+      (All-contains (λ (one : List Node). IsStrictlySortedBy order (map name_in one)) (groups_of nodes) group law.members is_group)
+      (λ name here behind.
+      let other = from_flat outs_of groups name behind in
+      let same : group ≡ other.0
+      = one_group group other.0 name is_group (within other.0 (Contains-there group groups other.0 other.1)) here other.2 in
+      not_less (leader_name group) (leader_name other.0)
+      (All-contains (λ (q : Text). order (leader_name group) q ≡ Less) (map leader_name groups) (leader_name other.0)
+      (All-after_first order (leader_name group) (map leader_name groups) rises) (Contains-map leader_name groups other.0 other.1))
+      (ap leader_name same))
+      (differ_among groups (λ one has. within one (Contains-there group groups one has)) (sorted_tail order (leader_name group) (map leader_name groups) rises)))
+    where
+      is_group : Contains (groups_of nodes) group
+      is_group = within group (Contains-here group groups)
+
+  -- each group has a name
+  begun : (group : List Node) → Contains (groups_of nodes) group → is_empty (outs_of group) ≡ false
+  begun group is_group = nonempty_names group leader.0 (subst (λ (one : List Node). Contains one leader.0) leader.2 stands)
+    where
+      leader : (node : Node) × Contains (filter (is_leading (made_nodes nodes)) (made_nodes nodes)) node × (filter (are_together node) (made_nodes nodes) ≡ group)
+      leader = leader_among (made_nodes nodes) group is_group
+
+      stands : Contains (filter (are_together leader.0) (made_nodes nodes)) leader.0
+      stands = filter_there (are_together leader.0) (made_nodes nodes) leader.0
+          (from_filter (is_leading (made_nodes nodes)) (made_nodes nodes) leader.0 leader.1).0 (itself_together leader.0)
+
+  -- a goal is one of the names
+  goal_named : unmade_goal rules known goals ≡ None → (goal : Text) → Contains goals goal → Contains (flat_map outs_of (groups_of nodes)) goal
+  goal_named all_made goal has = to_flat outs_of (groups_of nodes) (law.each node.0 made).group goal (law.each node.0 made).among
+      (subst (λ (name : Text). Contains (outs_of (law.each node.0 made).group) name) node.2
+      (Contains-map name_in (law.each node.0 made).group node.0 (law.each node.0 made).stands))
+    where
+      node : (one : Node) × Contains nodes one × (one.name ≡ goal)
+      node = Contains-from_map name_in nodes goal ((graph.reached goal).1 (record { goal = goal; named = has; path = ([], refl) }))
+
+      made : Contains (made_nodes nodes) node.0
+      made = filter_there (λ (one : Node). not (is_leaf one.kind)) nodes node.0 node.1
+          (ap (λ (one : Node). not (is_leaf one.kind)) (sym (node_is node.0 node.1))
+          ∙ ap (λ (name : Text). not (is_leaf (node_of rules known name).kind)) node.2
+          ∙ ap not (found_nowhere (λ (name : Text). is_leaf (node_of rules known name).kind) goals all_made goal has))
+
+  -- a name of the groups is reached
+  name_reached : (name : Text) → Contains (flat_map outs_of (groups_of nodes)) name → IsReached rules known goals name
+  name_reached name has = (graph.reached name).0 (subst (λ (one : Text). Contains (map name_in nodes) one) node.2
+      (Contains-map name_in nodes node.0 (in_nodes node.0 (law.made group.0 node.0 group.1 node.1))))
+    where
+      group : (one : List Node) × Contains (groups_of nodes) one × Contains (outs_of one) name
+      group = from_flat outs_of (groups_of nodes) name has
+
+      node : (one : Node) × Contains group.0 one × (one.name ≡ name)
+      node = Contains-from_map name_in group.0 name group.2
+
+-- ---- the statements of groups
+
+abbrev pub statements_in : Planning → List Statement
+statements_in (planned said statements) = statements
+statements_in (at_fault said fault) = []
+
+abbrev pub is_planned : Planning → Bool
+is_planned (planned said statements) = true
+is_planned (at_fault said fault) = false
+
+outs_told : (rules : List Rule) (table : Table) (limit : ℕ) (groups : List (List Node)) (said : List Text) (before : List Statement)
+    (heard : List Text) (statements : List Statement) → plan_groups rules table limit groups said before ≡ planned heard statements
+    → map outs_in statements ≡ map outs_in before ++ map outs_of groups
+unfolding plan_groups statement_of
+outs_told rules table limit [] said before heard statements e =
+    sym (ap (λ p. map outs_in (statements_in p)) e) ∙ sym (append-nil (map outs_in before))
+outs_told rules table limit (group ∷ groups) said before heard statements e =
+    by (λ told command f. outs_told rules table limit groups told (before ++ statement_of rules group command ∷ []) heard statements f)
+    (command_for table limit group said) e
+  where
+    by : ((told : List Text) (command : Option Text)
+        → plan_groups rules table limit groups told (before ++ statement_of rules group command ∷ []) ≡ planned heard statements
+        → map outs_in statements ≡ map outs_in (before ++ statement_of rules group command ∷ []) ++ map outs_of groups)
+        → (progress : Progress)
+        → after_command progress (λ told command. plan_groups rules table limit groups told (before ++ statement_of rules group command ∷ [])) ≡ planned heard statements
+        → map outs_in statements ≡ map outs_in before ++ (outs_of group ∷ map outs_of groups)
+    by more (goes_on told command) f =
+        more told command f
+        ∙ ap (λ (names : List (List Text)). names ++ map outs_of groups) (map-append outs_in before (statement_of rules group command ∷ []))
+        ∙ append_assoc (map outs_in before) (outs_of group ∷ []) (map outs_of groups)
+    by more (ends told fault) f = absurd (false≢true (ap is_planned f))
+
+-- ---- the plan
+
+all_begun : (statements : List Statement) → ((outs : List Text) → Contains (map outs_in statements) outs → is_empty outs ≡ false)
+    → list_all (λ (s : Statement). not (is_empty s.outs)) statements ≡ true
+all_begun [] each = refl
+all_begun (s ∷ statements) each =
+    ap (λ b. not b && list_all (λ (one : Statement). not (is_empty one.outs)) statements) (each s.outs (Contains-here s.outs (map outs_in statements)))
+    ∙ all_begun statements (λ outs has. each outs (Contains-there s.outs (map outs_in statements) outs has))
+
+always_reserved : is_reserved always_build ≡ true
+unfolding canon_of parts_of
+always_reserved = refl
+
+module _ (rules : List Rule) (known goals : List Text) (nodes : List Node) (sound : IsSoundGraph rules known goals nodes)
+    (statements : List Statement) (outs : map outs_in statements ≡ map outs_of (groups_of nodes)) where
+  names_are : outputs statements ≡ flat_map outs_of (groups_of nodes)
+  names_are =
+      sym (flat_map-map (λ (names : List Text). names) outs_in statements)
+      ∙ ap (flat_map (λ (names : List Text). names)) outs
+      ∙ flat_map-map (λ (names : List Text). names) outs_of (groups_of nodes)
+
+  each_begun : list_all (λ (s : Statement). not (is_empty s.outs)) statements ≡ true
+  each_begun = all_begun statements (λ names has.
+      let group = Contains-from_map outs_of (groups_of nodes) names (subst (λ (l : List (List Text)). Contains l names) outs has) in
+      ap is_empty (sym group.2) ∙ begun rules known goals nodes sound.1 group.0 group.1)
+
+  all_differ : AllPairs (λ (a b : Text). a ≢ b) (outputs statements)
+  all_differ = subst (λ (names : List Text). AllPairs (λ (a b : Text). a ≢ b) names) (sym names_are)
+      (differ_among rules known goals nodes sound.1 (groups_of nodes) (λ group has. has)
+      (law rules known goals nodes sound.1).leaders)
+
+  each_goal : (goal : Text) → Contains goals goal → Contains (outputs statements) goal
+  each_goal goal has = subst (λ (names : List Text). Contains names goal) (sym names_are)
+      (goal_named rules known goals nodes sound.1 sound.0.free.uncircled.goals_made.made goal has)
+
+  always_apart : (name : Text) → Contains (outputs statements) name → always_build ≢ name
+  always_apart name has same = sound.0.free.free name (record {
+    reached = name_reached rules known goals nodes sound.1 name (subst (λ (names : List Text). Contains names name) names_are has);
+    reserved = subst (λ (one : Text). is_reserved one ≡ true) same always_reserved;
+  })
+
+  pub can_be_written : HasWritableTexts (plan_of statements goals) → IsWritable (plan_of statements goals)
+  unfolding with_always_built
+  can_be_written texts = by (list_any has_implicit statements) texts
+    where
+      by : (b : Bool) → HasWritableTexts (record { statements = cond b (always_built ∷ statements) statements; defaults = goals })
+          → IsWritable (record { statements = cond b (always_built ∷ statements) statements; defaults = goals })
+      by false t = record {
+        made = each_begun;
+        texts = t;
+        different = all_differ;
+        defaults = all_if (λ (goal : Text). Contains (outputs statements) goal) goals each_goal;
+      }
+      by true t = record {
+        made = each_begun;
+        texts = t;
+        different = AllPairs-cons (λ (a b : Text). a ≢ b) always_build (outputs statements) (all_if (λ (x : Text). always_build ≢ x) (outputs statements) always_apart) all_differ;
+        defaults = all_if (λ (goal : Text). Contains (always_build ∷ outputs statements) goal) goals
+            (λ goal has. Contains-there always_build (outputs statements) goal (each_goal goal has));
+      }
+
+-- the plan of a sound graph, where its texts can be written
+pub plan_writable : (rules : List Rule) (table : Table) (limit : ℕ) (known goals : List Text) (nodes : List Node) (said heard : List Text) (statements : List Statement)
+    → IsSoundGraph rules known goals nodes → plan_groups rules table limit (groups_of nodes) said [] ≡ planned heard statements
+    → (plan : Plan) → plan ≡ plan_of statements goals
+    → (result : Result Plan Stop) → IfOk result (λ p. p ≡ plan) → IfOk result HasWritableTexts → IfOk result IsWritable
+plan_writable rules table limit known goals nodes said heard statements sound planned_so plan is (Ok p) same texts =
+    subst IsWritable (sym (same ∙ is))
+    (can_be_written rules known goals nodes sound statements (outs_told rules table limit (groups_of nodes) said [] heard statements planned_so)
+    (subst HasWritableTexts (same ∙ is) texts))
+plan_writable rules table limit known goals nodes said heard statements sound planned_so plan is (Err stop) same texts = tt
+
+-- ---- what can't be written
+
+text_by : (trouble other : Trouble) → Some trouble ≡ Some other → is_text_trouble other ≡ true → is_text_trouble trouble ≡ true
+text_by trouble other e is = ap is_text_trouble (same_Some trouble other e) ∙ is
+
+-- what is wrong with names and commands is never anything else
+text_troubles : (number : ℕ) (statements : List Statement) (trouble : Trouble) → Some trouble ≡ trouble_of_statements number statements
+    → is_text_trouble trouble ≡ true
+text_troubles number [] trouble e = absurd (none-some trouble (sym e))
+text_troubles number (s ∷ statements) trouble e =
+    by (λ f. text_troubles (number + 1) statements trouble f) (find (λ (n : Text). not (is_name n)) (plans.names_of s)) (is_made s.made) e
+  where
+    rest : Option Trouble
+    rest = trouble_of_statements (number + 1) statements
+
+    by : (Some trouble ≡ trouble_of_statements (number + 1) statements → is_text_trouble trouble ≡ true) → (found : Option Text) (made : Bool)
+        → Some trouble ≡ Rattle.std.specs.Option.option_or (Rattle.std.specs.Option.option_or (Rattle.std.specs.Prelude.option_map bad_name found) (if made then None else Some (bad_command number))) (trouble_of_statements (number + 1) statements)
+        → is_text_trouble trouble ≡ true
+    by more (Some name) made f = text_by trouble (bad_name name) f refl
+    by more None false f = text_by trouble (bad_command number) f refl
+    by more None true f = more f
+
+text_settled : (plan : Plan) (trouble : Trouble) (result : Option Stop) → Some trouble ≡ trouble_of_statements 0 plan.statements
+    → MatchOption result ((text_fault plan.statements trouble ≡ None) × (is_text_trouble trouble ≡ false))
+    (λ stop. (fault : Fault) × (text_fault plan.statements trouble ≡ Some fault) × IsFaultOf fault stop)
+    → MatchOption result ((unwritable_in plan.statements ≡ None) × HasWritableTexts plan)
+    (λ stop. (fault : Fault) × (unwritable_in plan.statements ≡ Some fault) × IsFaultOf fault stop)
+unfolding unwritable_in
+text_settled plan trouble None is h = absurd (false≢true (sym h.1 ∙ text_troubles 0 plan.statements trouble is))
+text_settled plan trouble (Some stop) is h = (h.0, ap (option_and_then (text_fault plan.statements)) (sym is) ∙ h.1, h.2)
+
+-- the same, where the statements are borrowed
+pub text_settled_in : (plan : Plan) (statements : List Statement) (trouble : Trouble) (result : Option Stop) → statements ≡ plan.statements
+    → Some trouble ≡ trouble_of_statements 0 plan.statements
+    → MatchOption result ((text_fault statements trouble ≡ None) × (is_text_trouble trouble ≡ false))
+    (λ stop. (fault : Fault) × (text_fault statements trouble ≡ Some fault) × IsFaultOf fault stop)
+    → MatchOption result ((unwritable_in plan.statements ≡ None) × HasWritableTexts plan)
+    (λ stop. (fault : Fault) × (unwritable_in plan.statements ≡ Some fault) × IsFaultOf fault stop)
+text_settled_in plan statements trouble result same is h =
+    text_settled plan trouble result is
+    (subst (λ (ss : List Statement). MatchOption result ((text_fault ss trouble ≡ None) × (is_text_trouble trouble ≡ false))
+    (λ stop. (fault : Fault) × (text_fault ss trouble ≡ Some fault) × IsFaultOf fault stop)) same h)

@@ -1,8 +1,0 @@
-use Rattle.std.proofs.Common.{rules, tests}
-use Rattle.std.proofs.lemmas.Iterator.{YieldsList-from_slice}
-use Rattle.std.proofs.lemmas.Iterator.Search.{all_from_yields_List}
-use Rattle.kati.specs.OneRule.{is_plain_byte}
-use Rattle.kati.proofs.plain.are_plain_bytes.Goals as goal
-
-pub returns : goal.returns
-returns c = all_from_yields_List is_plain_byte _ _ c.all.result c.all.ensures.ran (YieldsList-from_slice c.args.bytes.now cc) (λ x b q k. search (rules, tests))

@@ -1,0 +1,9 @@
+use Rattle.std.proofs.Common.{◌≡◌, Vec, Global, map, drop, []}
+use Rattle.kt_graph.specs.Node.{Node}
+use Rattle.kati.specs.Planned.{plan_groups}
+use Rattle.kati.proofs.planning.statements.Given as goal
+
+abbrev pub invariant-loop-group : goal.invariant-loop-group
+invariant-loop-group l =
+    plan_groups l.fn.makefile.book l.fn.makefile.macros l.fn.limit (map (λ (group : Vec Node Global). group.items) (drop l.group-index l.groups)) l.messages.items l.statements.items
+    ≡ plan_groups l.fn.makefile.book l.fn.makefile.macros l.fn.limit (map (λ (group : Vec Node Global). group.items) l.groups) l.fn.messages.items []

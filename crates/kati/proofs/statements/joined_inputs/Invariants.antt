@@ -1,0 +1,9 @@
+use Rattle.std.proofs.Common.{◌≡◌, Vec, Global, ℕ, map, drop, fold, flat_map}
+use Rattle.kt_rules.specs.Names.{with_name}
+use Rattle.kt_graph.specs.Node.{inputs_of}
+use Rattle.kati.specs.Planned.{joined_inputs}
+use Rattle.kati.proofs.statements.joined_inputs.Given as goal
+
+abbrev pub invariant-loop-node : goal.invariant-loop-node
+invariant-loop-node l =
+    fold with_name (map (λ (key : Vec ℕ Global). key.items) l.inputs.keys) (flat_map inputs_of (drop l.node-index l.group)) ≡ joined_inputs l.group

@@ -1,0 +1,64 @@
+//! Whether a Ninja file is the plan.
+ghost use Rattle.std.specs.Prelude.{◌≡◌, ◌∷◌, ◌++◌, [], IfOk, IfErr, IfSome, OnOk, option_map, Some};
+ghost use Rattle.kt_eval.specs.Files.{look};
+ghost use Rattle.kati.specs.Checked.{IsChecked, IsSame};
+ghost use Rattle.kati.specs.Headline.{ReadBlames};
+ghost use Rattle.kati.specs.declared.faults.RunFault.TheVariants.{Memory};
+
+use crate::faults::RunFault;
+use crate::status::Status;
+use kt_eval::{FileFault, Files};
+use kt_ninja::{Plan, ReadFault, read_plan};
+use std::alloc::Global;
+
+/// Whether the file of this name is there and read as the plan, however it is spelled.
+pub(crate) fn check<F: Files>(
+    alloc: Global,
+    plan: &Plan,
+    name: &str,
+    files: &mut F,
+) -> Result<Status, RunFault>
+    ensures checks { IfSome (F.known files.old) (λ store. IfOk result (IsChecked plan.now (look store name.now))) }
+    ensures asked { OnOk result (F.names files.new ≡ F.names files.old ++ name.now ∷ []) }
+    ensures blames { ReadBlames result (F.failed files.old) (F.failed files.new) (F.names files.new) }
+{
+    // Copied before the read, so that a failed device always has its name.
+    let copy = name.to_string(alloc)?;
+    match files.read(name) {
+        Ok(found) => compare(alloc, plan, found),
+        Err(FileFault::Device) => Err(RunFault::Read(copy)),
+        Err(FileFault::Memory) => Err(RunFault::Memory),
+    }
+}
+
+// Whether a file that was looked for is there and is the plan.
+fn compare(alloc: Global, plan: &Plan, found: Option<Vec<u8>>) -> Result<Status, RunFault>
+    ensures checks { IfOk result (IsChecked plan.now (option_map (λ text. text.items) found)) }
+    ensures blames { IfErr result (λ fault. fault ≡ Memory) }
+{
+    match found {
+        Some(text) => compare_text(alloc, plan, text.as_slice()),
+        None => Ok(Status::Differs),
+    }
+}
+
+fn compare_text(alloc: Global, plan: &Plan, text: &[u8]) -> Result<Status, RunFault>
+    ensures checks { IfOk result (IsChecked plan.now (Some text.now)) }
+    ensures blames { IfErr result (λ fault. fault ≡ Memory) }
+{
+    match read_plan(alloc, text) {
+        Ok(other) => Ok(same_or_not(&other, plan)),
+        Err(ReadFault::NotNinja(_)) => Ok(Status::Differs),
+        Err(ReadFault::Memory) => Err(RunFault::Memory),
+    }
+}
+
+fn same_or_not(read: &Plan, plan: &Plan) -> Status
+    ensures { IsSame read.now plan.now result }
+{
+    if *read == *plan {
+        Status::Done
+    } else {
+        Status::Differs
+    }
+}

@@ -1,0 +1,77 @@
+//! What is to be made.
+ghost use Rattle.std.specs.Prelude.{◌≡◌, ◌∷◌, [], List, IfOk, None};
+ghost use Rattle.kt_text.specs.Words.{Text};
+ghost use Rattle.kt_eval.specs.Step.{Ends};
+ghost use Rattle.kt_graph.specs.Goals.{default_goals};
+ghost use Rattle.kati.specs.Chosen.{chosen_goals, default_goal_text, goals_or_none};
+ghost use Rattle.kati.specs.Course.{Computes};
+ghost use Rattle.kati.specs.Views.{read_of};
+
+use crate::reading::Makefile;
+use crate::words::stop_on;
+use kt_eval::{FaultKind, Macros, NoAutomatic, Stop};
+use kt_graph::{default_goal, named_goals};
+use kt_list::Sequence;
+use kt_rules::{Book, Name};
+use std::alloc::Global;
+
+/// The goals of the command line, or else the one that the makefile names or begins with.
+pub(crate) fn chosen_goals(
+    alloc: Global,
+    goals: &[Name],
+    limit: u64,
+    makefile: &Makefile,
+    messages: &mut Vec<Sequence<u8>>,
+) -> Result<Vec<Name>, Stop>
+    ensures { (asked : List Text) → Computes (λ v. v.items) result messages.new.items asked
+        (chosen_goals limit (read_of makefile.now) messages.old.items asked goals.now) }
+{
+    if goals.is_empty() {
+        default_goals(alloc, limit, makefile, messages)
+    } else {
+        Ok(named_goals(alloc, goals)?)
+    }
+}
+
+fn default_goals(
+    alloc: Global,
+    limit: u64,
+    makefile: &Makefile,
+    messages: &mut Vec<Sequence<u8>>,
+) -> Result<Vec<Name>, Stop>
+    ensures { (asked : List Text) → Computes (λ v. v.items) result messages.new.items asked
+        (chosen_goals limit (read_of makefile.now) messages.old.items asked []) }
+{
+    let text = default_goal_text(alloc, &makefile.macros, limit, messages)?;
+    one_goal(alloc, &makefile.book, text.as_slice())
+}
+
+// The text of the macro that names the goal.
+#[tactic(auto, unfolding(crate::specs::Chosen::default_goal_text))]
+fn default_goal_text(
+    alloc: Global,
+    macros: &Macros,
+    limit: u64,
+    messages: &mut Vec<Sequence<u8>>,
+) -> Result<Vec<u8>, Stop>
+    ensures { Ends result messages.new.items (default_goal_text limit macros.now messages.old.items) }
+{
+    macros.expand_pure(
+        alloc,
+        b"$(.DEFAULT_GOAL)",
+        &NoAutomatic,
+        None,
+        messages,
+        limit,
+    )
+}
+
+// The goal that a text names, or else the first target.
+fn one_goal(alloc: Global, book: &Book, text: &[u8]) -> Result<Vec<Name>, Stop>
+    ensures { (said asked : List Text) → Computes (λ v. v.items) result said asked (goals_or_none said asked (default_goals book.now text.now)) }
+{
+    match default_goal(alloc, book, text)? {
+        Some(goal) => Ok(vec![in alloc; goal]?),
+        None => Err(stop_on(alloc, FaultKind::NoTargets, b"", None)),
+    }
+}

@@ -1,0 +1,91 @@
+//! The list of files that exist.
+ghost use Rattle.std.specs.Prelude.{◌≡◌, List, [], option_map, IfOk, IfSome, Some};
+ghost use Rattle.kt_text.specs.Words.{Text};
+ghost use Rattle.kt_eval.specs.Step.{Blames};
+ghost use Rattle.kati.specs.Course.{Computes, Follows};
+ghost use Rattle.kati.specs.Listing.{list_in, listed, nul_fault};
+ghost use Rattle.kati.specs.Stops.{IsFaultOf};
+
+use crate::words::stop_on;
+use kati_args::Word;
+use kt_eval::{FaultKind, FileFault, Files, Stop};
+use kt_list::Shared;
+use kt_rules::Place;
+use kt_text::nul_line;
+use std::alloc::{AllocError, Global};
+
+/// The most bytes of a list.
+const MOST_BYTES: usize = 16_777_216;
+
+/// The text of the list, which is empty where none is asked for.
+pub(crate) fn listed<F: Files>(
+    alloc: Global,
+    name: &Option<Word>,
+    files: &mut F,
+) -> Result<Vec<u8>, Stop>
+    ensures means { IfSome (F.known files.old) (λ store. Follows (λ v. v.items) result [] (F.names files.new)
+        (listed store (F.names files.old) name.now)) }
+    ensures keeps { F.known files.new ≡ F.known files.old }
+    ensures blames { Blames result (F.failed files.old) (F.failed files.new) (F.names files.new) }
+{
+    match name {
+        Some(name) => read_list(alloc, name.as_str(), files),
+        None => Ok(Vec::new(alloc)),
+    }
+}
+
+fn read_list<F: Files>(alloc: Global, name: &str, files: &mut F) -> Result<Vec<u8>, Stop>
+    ensures means { IfSome (F.known files.old) (λ store. Follows (λ v. v.items) result [] (F.names files.new)
+        (listed store (F.names files.old) (Some name.now))) }
+    ensures keeps { F.known files.new ≡ F.known files.old }
+    ensures blames { Blames result (F.failed files.old) (F.failed files.new) (F.names files.new) }
+{
+    // Copied before the read, so that a failed device always has its name.
+    let copy = name.to_string(alloc)?;
+    match files.read(name) {
+        Ok(found) => list_in(alloc, name, found),
+        Err(FileFault::Device) => Err(Stop::Device(copy)),
+        Err(FileFault::Memory) => Err(Stop::Memory),
+    }
+}
+
+// The text of a list that was looked for.
+fn list_in(alloc: Global, name: &str, found: Option<Vec<u8>>) -> Result<Vec<u8>, Stop>
+    ensures { (asked : List Text) → Computes (λ v. v.items) result [] asked (list_in name.now asked (option_map (λ v. v.items) found)) }
+{
+    match found {
+        Some(text) => checked(alloc, name, text),
+        None => Err(stop_on(alloc, FaultKind::NoFile, name.as_bytes(), None)),
+    }
+}
+
+fn checked(alloc: Global, name: &str, text: Vec<u8>) -> Result<Vec<u8>, Stop>
+    ensures { (asked : List Text) → Computes (λ v. v.items) result [] asked (list_in name.now asked (Some text.items)) }
+{
+    if text.len() > MOST_BYTES {
+        let name = name.as_bytes();
+        return Err(stop_on(alloc, FaultKind::FileTooLarge, name, None));
+    }
+    match nul_line(text.as_slice()) {
+        Some(line) => Err(nul_stop(alloc, name, line)),
+        None => Ok(text),
+    }
+}
+
+fn nul_stop(alloc: Global, name: &str, line: u64) -> Stop
+    ensures { IsFaultOf (nul_fault name.now line) result }
+{
+    match place_in(alloc, name, line) {
+        Ok(place) => stop_on(alloc, FaultKind::NulByte, b"", Some(place)),
+        Err(_refused) => Stop::Memory,
+    }
+}
+
+fn place_in(alloc: Global, name: &str, line: u64) -> Result<Place, AllocError>
+    ensures { IfOk result (λ place. place ≡ record { file = name.now; line = line }) }
+{
+    Ok(Place {
+        file: Shared::from_vec(name.as_bytes().to_vec(alloc)?)?,
+        line,
+    })
+}
