@@ -63,7 +63,9 @@ pub fn cut(line: &[u8]) -> (&[u8], &[u8]) {
 pub fn number(digits: &[u8]) -> usize {
     let mut value: usize = 0;
     for byte in digits {
-        value = value.saturating_mul(10).saturating_add(digit(*byte) as usize);
+        value = value
+            .saturating_mul(10)
+            .saturating_add(digit(*byte) as usize);
     }
     value
 }

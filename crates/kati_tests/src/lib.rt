@@ -3,6 +3,4 @@
 #![tactic(auto)]
 
 #[cfg(test)]
-mod recognising;
-#[cfg(test)]
 mod runs;

@@ -1,6 +1,8 @@
 //! Runs over memory.
-use kati::{Args, RunFault, Status, run, whole};
+use kati::{RunFault, Status, run, whole};
+use kati_args::Args;
 use kt_eval::{Files, MemFiles};
+use kt_list::Sequence;
 use kt_ninja::MemSink;
 use std::alloc::Global;
 use std::process::Abort;
@@ -25,6 +27,18 @@ fn sink(rt: &impl Abort, alloc: Global, room: usize, step: usize) -> MemSink {
     MemSink::new(alloc, room, step).expect(rt, "memory")
 }
 
+/// The arguments of a command line without words.
+fn no_words(alloc: Global) -> Args {
+    Args {
+        makefile: None,
+        files: None,
+        check: None,
+        limit: 100,
+        goals: Sequence::from(Vec::new(alloc)),
+        macros: Sequence::from(Vec::new(alloc)),
+    }
+}
+
 /// How a run ended.
 fn ended(
     alloc: Global,
@@ -32,8 +46,9 @@ fn ended(
     out: &mut MemSink,
     err: &mut MemSink,
 ) -> &'static str {
-    match run(alloc, &Args {}, files, out, err) {
+    match run(alloc, &no_words(alloc), files, out, err) {
         Ok(Status::Done) => "done",
+        Ok(Status::Differs) => "differs",
         Ok(Status::Fault) => "fault",
         Err(RunFault::Read(_)) => "read",
         Err(RunFault::WriteOut) => "write out",
@@ -120,20 +135,13 @@ const MAKEFILES: [(&str, &[u8], u8, &[u8], &[u8], usize); 9] = [
         b"Makefile:1: *** NUL byte [E01]\n",
         2,
     ),
-    (
-        "Makefile",
-        b"A = 1\n",
-        2,
-        b"",
-        b"kati: *** not yet [E00]\n",
-        2,
-    ),
+    ("Makefile", b"A = 1\n", 2, b"", NO_TARGETS, 2),
     (
         "Makefile",
         b"a: a\n\tx\n",
         2,
         b"",
-        b"kati: *** not yet [E00]\n",
+        b"kati: *** circular: a [E28]\n",
         2,
     ),
 ];
@@ -154,21 +162,6 @@ fn asks_for_both_names_and_writes_once(rt: HostRuntime) {
     assert_eq!(rt; (out.calls(), err.calls(), files.asked().len()), (1, 0, 2));
     for (asked, name) in files.asked().iter().zip(["makefile", "Makefile"]) {
         assert_eq!(rt; asked.as_str(), name);
-    }
-}
-
-/// Lengths of makefiles of one byte again and again, and what is told of them.
-const LENGTHS: [(usize, &[u8]); 2] = [
-    (16_777_216, b"kati: *** not yet [E00]\n"),
-    (16_777_217, b"kati: *** file too large: Makefile [E02]\n"),
-];
-
-#[test]
-fn bounds_a_makefile(rt: HostRuntime) {
-    for (length, err) in LENGTHS {
-        let text = vec![in rt.alloc(); b'#'; length].expect(&rt, "memory");
-        let file = ("Makefile", text.as_slice());
-        check_makefile(&rt, rt.alloc(), file, 2, (b"", err), 2);
     }
 }
 
@@ -260,12 +253,37 @@ fn stops_at_a_read_that_fails(rt: HostRuntime) {
     }
 }
 
+/// Words behind the program's name, which read fails, the status, how many names are asked for, and what is told.
+const WORDS: [(&[&str], u64, u8, usize, &[u8]); 7] = [
+    (&["a.o"], 0, 0, 2, b""),
+    (&["--check", "Makefile"], 0, 1, 3, b""),
+    (&["--check", "plan"], 0, 1, 3, b""),
+    (
+        &["--check", "Makefile"],
+        3,
+        3,
+        3,
+        b"kati: cannot read Makefile\n",
+    ),
+    (&["--files", "l"], 1, 3, 1, b"kati: cannot read l\n"),
+    (
+        &["-f", "Makefile", "CC=x"],
+        1,
+        3,
+        1,
+        b"kati: cannot read Makefile\n",
+    ),
+    (&["CC:=x"], 0, 64, 0, b"kati: bad macro CC:=x\n"),
+];
+
 #[test]
-fn refuses_further_words(rt: HostRuntime) {
-    let mut files = one_file(&rt, rt.alloc(), "Makefile", ONE_RULE, 0);
-    let mut out = sink(&rt, rt.alloc(), 1000, 1000);
-    let mut err = sink(&rt, rt.alloc(), 1000, 1000);
-    let status = exit(&rt, rt.alloc(), &["a.o"], &mut files, &mut out, &mut err);
-    assert_eq!(rt; (status, files.asked().len()), (64, 0));
-    assert_eq!(rt; (out.calls(), err.calls()), (0, 0));
+fn takes_words(rt: HostRuntime) {
+    for (words, nth, code, asked, told) in WORDS {
+        let mut files = one_file(&rt, rt.alloc(), "Makefile", ONE_RULE, nth);
+        let mut out = sink(&rt, rt.alloc(), 1000, 1000);
+        let mut err = sink(&rt, rt.alloc(), 1000, 1000);
+        let status = exit(&rt, rt.alloc(), words, &mut files, &mut out, &mut err);
+        assert_eq!(rt; (status, files.asked().len()), (code, asked));
+        assert_eq!(rt; err.as_slice(), told);
+    }
 }
