@@ -70,12 +70,21 @@ pub fn number(digits: &[u8]) -> usize {
     value
 }
 
+/// Appends so many copies, a thousand at a time as far as that goes.
 fn append_copies(alloc: Global, text: &mut Vec<u8>, line: &[u8]) -> Result<(), AllocError> {
     let (times, word) = cut(line);
+    let times = number(times);
     let mut copy = Vec::new(alloc);
     append_bytes(&mut copy, word)?;
-    for _ in 0..number(times) {
-        text.extend_from_slice(copy.as_slice())?;
+    let mut thousand = Vec::new(alloc);
+    append_times(&mut thousand, copy.as_slice(), 1000)?;
+    append_times(text, thousand.as_slice(), times / 1000)?;
+    append_times(text, copy.as_slice(), times % 1000)
+}
+
+fn append_times(text: &mut Vec<u8>, copy: &[u8], times: usize) -> Result<(), AllocError> {
+    for _ in 0..times {
+        text.extend_from_slice(copy)?;
     }
     Ok(())
 }
