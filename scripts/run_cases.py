@@ -102,13 +102,21 @@ def differences(case, done):
             yield "output without its lines: %r" % done.stdout[:400]
 
 
+def faults_of(program, case, folder):
+    """What is wrong with a run of the case."""
+    try:
+        return list(differences(case, outcome(program, case, folder)))
+    except subprocess.TimeoutExpired:
+        return ["no end in %d seconds" % SECONDS]
+
+
 def main():
     program = os.path.abspath(sys.argv[1])
     passed = failed = 0
     for path in sys.argv[2:] or sorted(glob.glob(os.path.join(DATA, "*.cases"))):
         for case in cases_in(path):
             with tempfile.TemporaryDirectory() as folder:
-                wrong = list(differences(case, outcome(program, case, folder)))
+                wrong = faults_of(program, case, folder)
             passed, failed = (passed, failed + 1) if wrong else (passed + 1, failed)
             for line in wrong:
                 print("%s: %s: %s" % (os.path.basename(path), case[0][1].decode(), line))

@@ -1,0 +1,2 @@
+CC = cc
+CFLAGS = -O1 -Wall

@@ -1,0 +1,5 @@
+struct list {
+    const struct list *next;
+};
+
+int length(const struct list *list);
