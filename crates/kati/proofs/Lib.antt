@@ -3,3 +3,4 @@ pub mod BlameLemmas
 pub mod MeaningLemmas
 pub mod PlanningLemmas
 pub mod RunLemmas
+pub mod LimitLemmas

@@ -11,3 +11,4 @@ pub mod Checked
 pub mod Exits
 pub mod Headline
 pub mod Delivered
+pub mod Limits

@@ -4,6 +4,7 @@
 mod checking;
 mod faults;
 mod goals;
+pub mod laws;
 mod listing;
 mod outcome;
 mod planning;

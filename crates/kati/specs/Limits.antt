@@ -1,0 +1,22 @@
+-- What a larger limit of levels changes (kati's own).
+use Rattle.std.specs.Prelude.{◌≡◌, ℕ, ◌≤◌, List, Result, Ok, Err}
+use Rattle.kt_text.specs.Words.{Text}
+use Rattle.kt_eval.specs.declared.fault.Fault.{Fault}
+use Rattle.kt_eval.specs.Files.{Store}
+use Rattle.kt_ninja.specs.declared.plan.Plan.{Plan}
+use Rattle.kati_args.specs.declared.args.Args.{Args}
+use Rattle.kati.specs.Meaning.{Meaning, Means}
+
+-- the same arguments with this limit
+abbrev pub with_limit : ℕ → Args → Args
+with_limit limit args = record args { limit = limit }
+
+-- the fault of a nesting that is too deep (E08)
+abbrev pub IsTooDeep : Result Plan Fault → Type 0
+IsTooDeep (Ok plan) = ⊥
+IsTooDeep (Err fault) = fault.number ≡ 8
+
+-- what isn't too deep with a limit is the same with a larger one: messages, plan or fault, and names asked for
+abbrev pub OnlyCuts : Type 0
+OnlyCuts = (args : Args) (store : Store) (asked : List Text) (limit larger : ℕ) (m : Meaning) → limit ≤ larger
+    → Means (with_limit limit args) store asked m → (IsTooDeep m.result → ⊥) → Means (with_limit larger args) store asked m
