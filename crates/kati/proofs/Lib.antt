@@ -4,3 +4,4 @@ pub mod MeaningLemmas
 pub mod PlanningLemmas
 pub mod RunLemmas
 pub mod LimitLemmas
+pub mod ReadBackLemmas

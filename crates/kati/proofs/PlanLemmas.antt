@@ -206,7 +206,7 @@ abbrev pub is_planned : Planning → Bool
 is_planned (planned said statements) = true
 is_planned (at_fault said fault) = false
 
-outs_told : (rules : List Rule) (table : Table) (limit : ℕ) (groups : List (List Node)) (said : List Text) (before : List Statement)
+pub outs_told : (rules : List Rule) (table : Table) (limit : ℕ) (groups : List (List Node)) (said : List Text) (before : List Statement)
     (heard : List Text) (statements : List Statement) → plan_groups rules table limit groups said before ≡ planned heard statements
     → map outs_in statements ≡ map outs_in before ++ map outs_of groups
 unfolding plan_groups statement_of
@@ -306,7 +306,7 @@ text_by : (trouble other : Trouble) → Some trouble ≡ Some other → is_text_
 text_by trouble other e is = ap is_text_trouble (same_Some trouble other e) ∙ is
 
 -- what is wrong with names and commands is never anything else
-text_troubles : (number : ℕ) (statements : List Statement) (trouble : Trouble) → Some trouble ≡ trouble_of_statements number statements
+pub text_troubles : (number : ℕ) (statements : List Statement) (trouble : Trouble) → Some trouble ≡ trouble_of_statements number statements
     → is_text_trouble trouble ≡ true
 text_troubles number [] trouble e = absurd (none-some trouble (sym e))
 text_troubles number (s ∷ statements) trouble e =

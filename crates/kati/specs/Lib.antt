@@ -12,3 +12,4 @@ pub mod Exits
 pub mod Headline
 pub mod Delivered
 pub mod Limits
+pub mod ReadBack
