@@ -1,6 +1,6 @@
 //! What is told of the commands of a makefile: messages, a command a line, or the fault.
 use kt_eval::{Fault, Files, Machine, Macros, MemFiles, Reading, Stop};
-use kt_graph::{Graph, GraphFault, Known, Node, graph};
+use kt_graph::{Graph, Known, Node, graph};
 use kt_list::Sequence;
 use kt_recipe::command;
 use kt_rules::Name;
@@ -24,19 +24,15 @@ pub(crate) fn tells(
 }
 
 fn told(alloc: Global, limit: u64, row: &Row) -> Result<Vec<u8>, AllocError> {
-    let machine = Machine::new(alloc, Macros::new(alloc), limit)?;
-    let files = files_with(alloc, row.0.as_bytes())?;
-    let goals = names(alloc, row.2.as_bytes())?;
-    told_by(alloc, machine, files, row.1.as_bytes(), goals, limit)
+    let mut told = Vec::new(alloc);
+    put_row(&mut told, alloc, limit, row)?;
+    Ok(told)
 }
 
-fn files_with(alloc: Global, makefile: &[u8]) -> Result<MemFiles, AllocError> {
-    let mut pairs = Vec::new(alloc);
-    pairs.push((
-        "Makefile".to_string(alloc)?,
-        Vec::from_slice(alloc, makefile)?,
-    ))?;
-    Ok(MemFiles::new(alloc, pairs, 0))
+/// Each value that is made with a `?` has a helper of its own, which lends it to the next: so no other `?` drops it.
+fn put_row(told: &mut Vec<u8>, alloc: Global, limit: u64, row: &Row) -> Result<(), AllocError> {
+    let goals = names(alloc, row.2.as_bytes())?;
+    put_makefile(told, alloc, limit, row, goals.as_slice())
 }
 
 /// The lines of a text as names.
@@ -48,33 +44,60 @@ fn names(alloc: Global, words: &[u8]) -> Result<Vec<Name>, AllocError> {
     Ok(names)
 }
 
+fn put_makefile(
+    told: &mut Vec<u8>,
+    alloc: Global,
+    limit: u64,
+    row: &Row,
+    goals: &[Name],
+) -> Result<(), AllocError> {
+    let mut files = files_with(alloc, row.0.as_bytes())?;
+    put_files(told, alloc, limit, row.1.as_bytes(), goals, &mut files)
+}
+
+fn files_with(alloc: Global, makefile: &[u8]) -> Result<MemFiles, AllocError> {
+    let mut pairs = Vec::new(alloc);
+    pairs.push((
+        "Makefile".to_string(alloc)?,
+        Vec::from_slice(alloc, makefile)?,
+    ))?;
+    Ok(MemFiles::new(alloc, pairs, 0))
+}
+
+fn put_files(
+    told: &mut Vec<u8>,
+    alloc: Global,
+    limit: u64,
+    list: &[u8],
+    goals: &[Name],
+    files: &mut MemFiles,
+) -> Result<(), AllocError> {
+    let machine = Machine::new(alloc, Macros::new(alloc), limit)?;
+    put_run(told, alloc, limit, list, goals, machine, files)
+}
+
+fn put_run(
+    told: &mut Vec<u8>,
+    alloc: Global,
+    limit: u64,
+    list: &[u8],
+    goals: &[Name],
+    machine: Machine,
+    files: &mut MemFiles,
+) -> Result<(), AllocError> {
+    let mut machine = machine;
+    match read(&mut machine, files) {
+        Ok(()) => put_reading(told, alloc, &machine.finish(), list, goals, limit),
+        Err(stop) => {
+            put_stop(told, &stop);
+            Ok(())
+        }
+    }
+}
+
 /// Reads. It stands apart so that what the contract says of a reading burdens no other proof.
 fn read(machine: &mut Machine, files: &mut MemFiles) -> Result<(), Stop> {
     machine.read_file(files, &["Makefile"])
-}
-
-fn told_by(
-    alloc: Global,
-    machine: Machine,
-    files: MemFiles,
-    list: &[u8],
-    goals: Vec<Name>,
-    limit: u64,
-) -> Result<Vec<u8>, AllocError> {
-    let (mut machine, mut files) = (machine, files);
-    let mut told = Vec::new(alloc);
-    match read(&mut machine, &mut files) {
-        Ok(()) => put_reading(
-            &mut told,
-            alloc,
-            &machine.finish(),
-            list,
-            goals.as_slice(),
-            limit,
-        )?,
-        Err(stop) => put_stop(&mut told, &stop),
-    }
-    Ok(told)
 }
 
 fn put_reading(
@@ -86,27 +109,11 @@ fn put_reading(
     limit: u64,
 ) -> Result<(), AllocError> {
     let known = Known::of(alloc, &reading.book, list)?;
-    put_outcome(
-        told,
-        alloc,
-        &reading.macros,
-        graph(alloc, &reading.book, &known, goals),
-        limit,
-    );
-    Ok(())
-}
-
-fn put_outcome(
-    told: &mut Vec<u8>,
-    alloc: Global,
-    macros: &Macros,
-    outcome: Result<Graph, GraphFault>,
-    limit: u64,
-) {
-    match outcome {
-        Ok(graph) => put_commands(told, alloc, macros, &graph, limit),
+    match graph(alloc, &reading.book, &known, goals) {
+        Ok(graph) => put_commands(told, alloc, &reading.macros, &graph, limit),
         Err(_) => put(told, b"no graph"),
     }
+    Ok(())
 }
 
 /// The messages and commands of the made nodes, in byte order.
