@@ -1,12 +1,13 @@
 -- What is to blame for a refusal, where no file was asked for.
-use Rattle.std.proofs.Common.{subst, ◌≡◌, ◌≤◌, arith, ℕ, List, Option, Some, None, Result, Ok, Err}
-use Rattle.std.specs.Prelude.{IfSome}
+use Rattle.std.proofs.Common.{subst, ◌≡◌, ◌≤◌, arith, ℕ, List, Option, Some, None, Result, Ok, Err, ◌∙◌}
+use Rattle.std.specs.Prelude.{IfSome, OnOk}
 use Rattle.kt_text.specs.Words.{Text}
 use Rattle.kt_eval.specs.declared.stop.Stop.{Stop}
 use Rattle.kt_eval.specs.declared.stop.Stop.TheVariants as stops
 use Rattle.kt_eval.specs.Step.{Blames}
 use Rattle.kati.specs.declared.faults.RunFault.{RunFault}
 use Rattle.kati.specs.declared.faults.RunFault.TheVariants as faults
+use Rattle.kati.specs.declared.status.Status.{Status}
 use Rattle.kati.specs.Headline.{Blames as RunBlames}
 use Rattle.kati.specs.Course.{Course, Computes, Comes, ComesTo, Follows}
 
@@ -28,13 +29,18 @@ pub if_some-weaker : {T : Type 0} (o : Option T) (P Q : T → Type 0) → ((x : 
 if_some-weaker None P Q more h = h
 if_some-weaker (Some x) P Q more h = more x h
 
--- what is to blame for a fault of a run stays so where the error output's count goes on rising
-pub blames_on : (e : RunFault) (asked : List Text) (files files' outs outs' errs middle errs' : ℕ) → middle ≤ errs'
-    → RunBlames e asked files files' outs outs' errs middle → RunBlames e asked files files' outs outs' errs errs'
-blames_on (faults.Read name) asked files files' outs outs' errs middle errs' more blames = blames
-blames_on faults.WriteOut asked files files' outs outs' errs middle errs' more blames = blames
-blames_on faults.WriteErr asked files files' outs outs' errs middle errs' more blames = omega arith
-blames_on faults.Memory asked files files' outs outs' errs middle errs' more blames = blames
+-- what is to blame for a fault of a run stays so where the error output's count goes on rising after it
+pub blames_on : (run : Result Status RunFault) (asked : List Text) (files files' outs outs' errs middle errs' : ℕ) → middle ≤ errs'
+    → OnOk run (errs' ≡ middle) → RunBlames run asked files files' outs outs' errs middle → RunBlames run asked files files' outs outs' errs errs'
+blames_on (Ok status) asked files files' outs outs' errs middle errs' more still blames = (blames.0, blames.1, still ∙ blames.2)
+blames_on (Err (faults.Read name)) asked files files' outs outs' errs middle errs' more still blames = blames
+blames_on (Err faults.WriteOut) asked files files' outs outs' errs middle errs' more still blames = blames
+blames_on (Err faults.WriteErr) asked files files' outs outs' errs middle errs' more still blames = omega arith
+blames_on (Err faults.Memory) asked files files' outs outs' errs middle errs' more still blames = blames
+
+pub on_ok_weaker : {A B : Type 0} (r : Result A B) (P Q : Type 0) → (P → Q) → OnOk r P → OnOk r Q
+on_ok_weaker (Ok x) P Q more h = more h
+on_ok_weaker (Err e) P Q more h = tt
 
 pub if_some-joined : {T : Type 0} (one other : Option T) (P Q R : T → Type 0) → other ≡ one → ((x : T) → P x → Q x → R x) → IfSome one P → IfSome other Q → IfSome one R
 if_some-joined None other P Q R same both h k = tt

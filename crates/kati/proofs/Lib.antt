@@ -5,3 +5,7 @@ pub mod PlanningLemmas
 pub mod RunLemmas
 pub mod LimitLemmas
 pub mod ReadBackLemmas
+pub mod TellLemmas
+pub mod AskedLemmas
+pub mod ExactLemmas
+pub mod SoundLemmas

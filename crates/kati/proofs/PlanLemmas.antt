@@ -48,10 +48,10 @@ use Rattle.std.proofs.lemmas.Option.{none-some, same_Some}
 abbrev order : Text → Text → Ordering
 order = slice_cmp nat_cmp
 
-abbrev name_in : Node → Text
+abbrev pub name_in : Node → Text
 name_in node = node.name
 
-abbrev outs_in : Statement → List Text
+abbrev pub outs_in : Statement → List Text
 outs_in statement = statement.outs
 
 Differ : List Text → Type 0
@@ -84,14 +84,14 @@ no_pairs i j d below within = absurd (omega arith)
 
 -- ---- lists of lists
 
-from_flat : {A B : Type 0} (f : A → List B) (xs : List A) (y : B) → Contains (flat_map f xs) y → (x : A) × Contains xs x × Contains (f x) y
+pub from_flat : {A B : Type 0} (f : A → List B) (xs : List A) (y : B) → Contains (flat_map f xs) y → (x : A) × Contains xs x × Contains (f x) y
 from_flat f [] y has = Contains-none y has
 from_flat {A} {B} f (x ∷ xs) y has = ⊎_elim
     (λ (here : Contains (f x) y). (x, Contains-here x xs, here))
     (λ (there : Contains (flat_map f xs) y). let rest = from_flat f xs y there in (rest.0, Contains-there x xs rest.0 rest.1, rest.2))
     (Contains-append_cases (f x) (flat_map f xs) y (subst (λ (l : List B). Contains l y) (flat_map-cons f x xs) has))
 
-to_flat : {A B : Type 0} (f : A → List B) (xs : List A) (x : A) (y : B) → Contains xs x → Contains (f x) y → Contains (flat_map f xs) y
+pub to_flat : {A B : Type 0} (f : A → List B) (xs : List A) (x : A) (y : B) → Contains xs x → Contains (f x) y → Contains (flat_map f xs) y
 to_flat f [] x y has in_x = Contains-none x has
 to_flat {A} {B} f (first ∷ xs) x y has in_x =
     subst (λ (l : List B). Contains l y) (sym (flat_map-cons f first xs))
@@ -117,13 +117,13 @@ leader_among nodes group is_group =
     Contains-from_map (λ (leader : Node). filter (are_together leader) nodes) (filter (is_leading nodes) nodes) group is_group
 
 module _ (rules : List Rule) (known goals : List Text) (nodes : List Node) (graph : IsGraph rules known goals nodes) where
-  law : AreGroups rules known goals nodes (groups_of nodes)
+  pub law : AreGroups rules known goals nodes (groups_of nodes)
   law = are_groups rules known goals nodes graph
 
-  in_nodes : (node : Node) → Contains (made_nodes nodes) node → Contains nodes node
+  pub in_nodes : (node : Node) → Contains (made_nodes nodes) node → Contains nodes node
   in_nodes node has = (from_filter (λ (one : Node). not (is_leaf one.kind)) nodes node has).0
 
-  node_is : (node : Node) → Contains nodes node → node_of rules known node.name ≡ node
+  pub node_is : (node : Node) → Contains nodes node → node_of rules known node.name ≡ node
   node_is node has = mapped_itself (node_of rules known) name_in nodes node graph.settled has
 
   -- groups with a common name are one group
@@ -186,7 +186,7 @@ module _ (rules : List Rule) (known goals : List Text) (nodes : List Node) (grap
           ∙ ap not (found_nowhere (λ (name : Text). is_leaf (node_of rules known name).kind) goals all_made goal has))
 
   -- a name of the groups is reached
-  name_reached : (name : Text) → Contains (flat_map outs_of (groups_of nodes)) name → IsReached rules known goals name
+  pub name_reached : (name : Text) → Contains (flat_map outs_of (groups_of nodes)) name → IsReached rules known goals name
   name_reached name has = (graph.reached name).0 (subst (λ (one : Text). Contains (map name_in nodes) one) node.2
       (Contains-map name_in nodes node.0 (in_nodes node.0 (law.made group.0 node.0 group.1 node.1))))
     where
@@ -237,7 +237,7 @@ all_begun (s ∷ statements) each =
     ap (λ b. not b && list_all (λ (one : Statement). not (is_empty one.outs)) statements) (each s.outs (Contains-here s.outs (map outs_in statements)))
     ∙ all_begun statements (λ outs has. each outs (Contains-there s.outs (map outs_in statements) outs has))
 
-always_reserved : is_reserved always_build ≡ true
+pub always_reserved : is_reserved always_build ≡ true
 unfolding canon_of parts_of
 always_reserved = refl
 

@@ -27,24 +27,25 @@ use Rattle.kati.specs.ReadBack.{PlansReadBack}
 use Rattle.kati.specs.Views.{is_text_trouble}
 use Rattle.kati.proofs.PlanLemmas.{can_be_written, outs_told, text_troubles}
 
-abbrev plan_in : Result Plan Fault → Plan → Plan
+abbrev pub plan_in : Result Plan Fault → Plan → Plan
 plan_in (Ok plan) other = plan
 plan_in (Err fault) other = other
 
-abbrev has_plan : Result Plan Fault → Bool
+abbrev pub has_plan : Result Plan Fault → Bool
 has_plan (Ok plan) = true
 has_plan (Err fault) = false
 
 -- a run with a plan went on at each step
-pub record WentOn {A : Type 0} (Next : List Text → List Text → A → Meaning → Type 0) (m : Meaning) : Type 0 where
+pub record WentOn {A : Type 0} (course : Course A) (Next : List Text → List Text → A → Meaning → Type 0) (m : Meaning) : Type 0 where
   pub said : List Text
   pub asked : List Text
   pub value : A
+  pub is : course ≡ on_course said asked value
   pub next : Next said asked value m
 
-went_on : {A : Type 0} (course : Course A) (Next : List Text → List Text → A → Meaning → Type 0) (m : Meaning) (plan : Plan) → m.result ≡ Ok plan
-    → EndsAs course Next m → WentOn Next m
-went_on (on_course said asked value) Next m plan ok h = record { said = said; asked = asked; value = value; next = h }
+pub went_on : {A : Type 0} (course : Course A) (Next : List Text → List Text → A → Meaning → Type 0) (m : Meaning) (plan : Plan) → m.result ≡ Ok plan
+    → EndsAs course Next m → WentOn course Next m
+went_on (on_course said asked value) Next m plan ok h = record { said = said; asked = asked; value = value; is = refl; next = h }
 went_on (off_course said asked fault) Next m plan ok h = absurd (false≢true (sym (ap (λ (n : Meaning). has_plan n.result) h) ∙ ap has_plan ok))
 
 -- texts without a fault can be written

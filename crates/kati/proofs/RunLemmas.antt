@@ -10,7 +10,7 @@ use Rattle.kati.specs.declared.faults.RunFault.TheVariants as faults
 use Rattle.kati.specs.declared.status.Status.{Status}
 use Rattle.kati.specs.Checked.{HasStatus, names_with_check}
 use Rattle.kati.specs.Delivered.{Delivers}
-use Rattle.kati.specs.Headline.{Leaves}
+use Rattle.kati.specs.Headline.{IsKept, Leaves}
 use Rattle.kati.specs.Meaning.{Meaning, Means}
 use Rattle.kati.specs.Messages.{err_text, out_text}
 use Rattle.kati.proofs.MeaningLemmas.{meant}
@@ -26,8 +26,9 @@ ends_so None store plan status asked asked' out out' h = (h.1, h.0.0, h.0.1)
 ends_so (Some name) store plan status asked asked' out out' h = (h.0.1, h.0.0, h.1 ∙ sym (appended_nothing out))
 
 ends_at_out : (checked : Option Text) (store : Store) (plan : Plan) (asked asked' : List Text) (out out' : Option Text)
-    → Delivers store plan checked (Err faults.WriteOut) asked asked' out out' → (asked' ≡ asked) × GrowsByFront out out' (out_text checked (Ok plan))
-ends_at_out None store plan asked asked' out out' h = (h.1, h.0)
+    → Delivers store plan checked (Err faults.WriteOut) asked asked' out out'
+    → (asked' ≡ asked) × (checked ≡ None) × GrowsByFront out out' (out_text checked (Ok plan))
+ends_at_out None store plan asked asked' out out' h = (h.1, refl, h.0)
 ends_at_out (Some name) store plan asked asked' out out' h = absurd h.0
 
 never_told : (checked : Option Text) (store : Store) (plan : Plan) (asked asked' : List Text) (out out' : Option Text)
@@ -35,15 +36,22 @@ never_told : (checked : Option Text) (store : Store) (plan : Plan) (asked asked'
 never_told None store plan asked asked' out out' h = h.0
 never_told (Some name) store plan asked asked' out out' h = h.0
 
-unread : (checked : Option Text) (store : Store) (plan : Plan) (name : _) (asked asked' : List Text) (out out' : Option Text)
-    → Delivers store plan checked (Err (faults.Read name)) asked asked' out out' → out' ≡ out
-unread None store plan name asked asked' out out' h = absurd h.0
-unread (Some file) store plan name asked asked' out out' h = h.1
-
-unheld : (checked : Option Text) (store : Store) (plan : Plan) (asked asked' : List Text) (out out' : Option Text)
-    → Delivers store plan checked (Err faults.Memory) asked asked' out out' → out' ≡ out
-unheld None store plan asked asked' out out' h = absurd h.0
-unheld (Some file) store plan asked asked' out out' h = h.1
+kept_at_check : (args : Args) (store : Store) (plan : Plan) (messages : List Text) (fault : RunFault) (asked middle asked' : List Text)
+    (out out' err err' : Option Text) (checked : Option Text) → args.check ≡ checked → Means args store asked (meant messages middle (Ok plan))
+    → (Delivers store plan None (Err fault) middle asked' out out' → ⊥) → Delivers store plan checked (Err fault) middle asked' out out'
+    → err' ≡ appended err (err_text (meant messages middle (Ok plan))) → IsKept args store fault asked asked' out out' err err'
+kept_at_check args store plan messages fault asked middle asked' out out' err err' None is means never h told = absurd (never h)
+kept_at_check args store plan messages fault asked middle asked' out out' err err' (Some file) is means never h told =
+    inr (record {
+      meaning = meant messages middle (Ok plan);
+      means = means;
+      planned = refl;
+      name = file;
+      checks = is;
+      names = h.0;
+      written = h.1;
+      told = told;
+    })
 
 pub delivered : (args : Args) (store : Store) (plan : Plan) (messages : List Text) (result : Result Status RunFault) (asked middle asked' : List Text)
     (out out' err err' : Option Text) → Means args store asked (meant messages middle (Ok plan)) → Delivers store plan args.check result middle asked' out out'
@@ -53,10 +61,10 @@ delivered args store plan messages (Ok status) asked middle asked' out out' err 
     record { meaning = meant messages middle (Ok plan); means = means; names = so.0; ends = so.1; written = so.2; told = told }
 delivered args store plan messages (Err faults.WriteOut) asked middle asked' out out' err err' means h told =
     let so = ends_at_out args.check store plan middle asked' out out' h in
-    record { meaning = meant messages middle (Ok plan); means = means; names = so.0; planned = refl; written = so.1; told = told }
+    record { meaning = meant messages middle (Ok plan); means = means; names = so.0; planned = refl; unchecked = so.1; written = so.2; told = told }
 delivered args store plan messages (Err faults.WriteErr) asked middle asked' out out' err err' means h told =
     absurd (never_told args.check store plan middle asked' out out' h)
 delivered args store plan messages (Err (faults.Read name)) asked middle asked' out out' err err' means h told =
-    inr (record { meaning = meant messages middle (Ok plan); means = means; planned = refl; written = unread args.check store plan name middle asked' out out' h; told = told })
+    kept_at_check args store plan messages (faults.Read name) asked middle asked' out out' err err' args.check refl means (λ d. d.0) h told
 delivered args store plan messages (Err faults.Memory) asked middle asked' out out' err err' means h told =
-    inr (record { meaning = meant messages middle (Ok plan); means = means; planned = refl; written = unheld args.check store plan middle asked' out out' h; told = told })
+    kept_at_check args store plan messages faults.Memory asked middle asked' out out' err err' args.check refl means (λ d. d.0) h told

@@ -5,6 +5,8 @@ use Rattle.kt_eval.specs.declared.fault.Fault.{Fault}
 use Rattle.kt_eval.specs.Files.{Store, look}
 use Rattle.kt_ninja.specs.declared.plan.Plan.{Plan}
 use Rattle.kt_ninja.specs.NinjaRead.{ninja_read}
+use Rattle.kati.specs.declared.faults.RunFault.{RunFault}
+use Rattle.kati.specs.declared.faults.RunFault.TheVariants as faults
 use Rattle.kati.specs.declared.status.Status.{Status}
 use Rattle.kati.specs.declared.status.Status.TheVariants as statuses
 
@@ -29,6 +31,13 @@ abbrev pub names_with_check : Option Text → Result Plan Fault → List Text �
 names_with_check (Some name) (Ok plan) asked = asked ++ name ∷ []
 names_with_check (Some name) (Err fault) asked = asked
 names_with_check None result asked = asked
+
+-- the names asked for where the check was stopped: a device can only fail after the file's name was asked for
+abbrev pub AskedAtCheck : RunFault → Text → List Text → List Text → Type 0
+AskedAtCheck (faults.Read copy) name asked asked' = asked' ≡ asked ++ name ∷ []
+AskedAtCheck faults.Memory name asked asked' = (asked' ≡ asked) ⊎ (asked' ≡ asked ++ name ∷ [])
+AskedAtCheck faults.WriteOut name asked asked' = ⊥
+AskedAtCheck faults.WriteErr name asked asked' = ⊥
 
 -- what two plans tell
 abbrev pub IsSame : Plan → Plan → Status → Type 0

@@ -6,10 +6,14 @@ pub mod Chosen
 pub mod Planned
 pub mod Views
 pub mod Meaning
+pub mod Asked
 pub mod Messages
 pub mod Checked
 pub mod Exits
+pub mod Told
 pub mod Headline
 pub mod Delivered
 pub mod Limits
 pub mod ReadBack
+pub mod Exact
+pub mod Sound

@@ -1,6 +1,6 @@
 -- The plan of what goals need (Ninja manual, "Build statements", "Build dependencies", "Default target statements"; which statements
 -- there are, their order and the name that is always built are kati's own).
-use Rattle.std.specs.Prelude.{ℕ, Bool, not, ◌&&◌, List, [], ◌∷◌, ◌++◌, map, filter, flat_map, codes, Option, Some, None, is_some, slice_get, if◌then◌else◌}
+use Rattle.std.specs.Prelude.{ℕ, Bool, not, ◌&&◌, List, [], ◌∷◌, ◌++◌, map, filter, flat_map, Option, Some, None, is_some, slice_get, if◌then◌else◌}
 use Rattle.std.specs.List.{list_any}
 use Rattle.std.specs.Option.{option_and_then, option_map_or}
 use Rattle.kt_text.specs.Words.{Text}
@@ -12,6 +12,7 @@ use Rattle.kt_eval.specs.declared.kind.FaultKind.TheVariants.{CommandNotWritable
 use Rattle.kt_eval.specs.Table.{Table}
 use Rattle.kt_graph.specs.Node.{Node, inputs_of, order_only_of}
 use Rattle.kt_graph.specs.Groups.{groups_of}
+use Rattle.kt_graph.specs.Paths.{always_name}
 use Rattle.kt_recipe.specs.Shell.{Progress, goes_on, ends, shell_of}
 use Rattle.kt_ninja.specs.declared.plan.Made.{Made}
 use Rattle.kt_ninja.specs.declared.plan.Made.TheVariants.{Command, Phony}
@@ -22,7 +23,7 @@ use Rattle.kati.specs.Course.{Course, on_course, off_course, fault_nowhere}
 
 -- the target that is never there, so that what needs it is always made
 abbrev pub always_build : Text
-always_build = codes "_kati_always_build_"
+always_build = always_name
 
 -- ---- the parts of a group's statement
 

@@ -1,7 +1,7 @@
 //! Whether a Ninja file is the plan.
 ghost use Rattle.std.specs.Prelude.{◌≡◌, ◌∷◌, ◌++◌, [], IfOk, IfErr, IfSome, OnOk, option_map, Some};
 ghost use Rattle.kt_eval.specs.Files.{look};
-ghost use Rattle.kati.specs.Checked.{IsChecked, IsSame};
+ghost use Rattle.kati.specs.Checked.{AskedAtCheck, IsChecked, IsSame};
 ghost use Rattle.kati.specs.Headline.{ReadBlames};
 ghost use Rattle.kati.specs.declared.faults.RunFault.TheVariants.{Memory};
 
@@ -20,6 +20,7 @@ pub(crate) fn check<F: Files>(
 ) -> Result<Status, RunFault>
     ensures checks { IfSome (F.known files.old) (λ store. IfOk result (IsChecked plan.now (look store name.now))) }
     ensures asked { OnOk result (F.names files.new ≡ F.names files.old ++ name.now ∷ []) }
+    ensures stopped { IfErr result (λ fault. AskedAtCheck fault name.now (F.names files.old) (F.names files.new)) }
     ensures blames { ReadBlames result (F.failed files.old) (F.failed files.new) (F.names files.new) }
 {
     // Copied before the read, so that a failed device always has its name.

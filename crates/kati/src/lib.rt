@@ -17,6 +17,7 @@ mod translating;
 mod words;
 
 pub use faults::RunFault;
+pub use kati_args::{ArgFault, Args, args_of};
 pub use outcome::Outcome;
 pub use program::{USAGE, finish, whole};
 pub use running::run;

@@ -1,7 +1,9 @@
 //! The list of files that exist.
 ghost use Rattle.std.specs.Prelude.{◌≡◌, List, [], option_map, IfOk, IfSome, Some};
 ghost use Rattle.kt_text.specs.Words.{Text};
+ghost use Rattle.kt_eval.specs.Fronts.{IsFront};
 ghost use Rattle.kt_eval.specs.Step.{Blames};
+ghost use Rattle.kati.specs.Asked.{names_of};
 ghost use Rattle.kati.specs.Course.{Computes, Follows};
 ghost use Rattle.kati.specs.Listing.{list_in, listed, nul_fault};
 ghost use Rattle.kati.specs.Stops.{IsFaultOf};
@@ -25,6 +27,7 @@ pub(crate) fn listed<F: Files>(
 ) -> Result<Vec<u8>, Stop>
     ensures means { IfSome (F.known files.old) (λ store. Follows (λ v. v.items) result [] (F.names files.new)
         (listed store (F.names files.old) name.now)) }
+    ensures asked { IfSome (F.known files.old) (λ store. IsFront (F.names files.new) (names_of (listed store (F.names files.old) name.now))) }
     ensures keeps { F.known files.new ≡ F.known files.old }
     ensures blames { Blames result (F.failed files.old) (F.failed files.new) (F.names files.new) }
 {
@@ -37,6 +40,7 @@ pub(crate) fn listed<F: Files>(
 fn read_list<F: Files>(alloc: Global, name: &str, files: &mut F) -> Result<Vec<u8>, Stop>
     ensures means { IfSome (F.known files.old) (λ store. Follows (λ v. v.items) result [] (F.names files.new)
         (listed store (F.names files.old) (Some name.now))) }
+    ensures asked { IfSome (F.known files.old) (λ store. IsFront (F.names files.new) (names_of (listed store (F.names files.old) (Some name.now)))) }
     ensures keeps { F.known files.new ≡ F.known files.old }
     ensures blames { Blames result (F.failed files.old) (F.failed files.new) (F.names files.new) }
 {

@@ -1,47 +1,63 @@
 //! The program, over any files and outputs.
-ghost use Rattle.std.specs.Prelude.{◌≡◌, ◌≤◌, OnOk, map, string_bytes};
+ghost use Rattle.std.specs.Prelude.{◌≡◌, ◌≤◌, ◌++◌, codes, IfErr, OnOk, map, string_bytes};
 ghost use Rattle.kati.specs.Exits.{exit_code};
 ghost use Rattle.kati.specs.Headline.{Exits};
+ghost use Rattle.kati.specs.Told.{GivesHelp, RefusesBy, Tells, fault_words};
 
 use crate::faults::RunFault;
 use crate::running::run;
 use crate::status::Status;
 use kati_args::{ArgFault, args_of};
 use kt_eval::Files;
-use kt_ninja::{Sink, put};
+use kt_ninja::{Sink, WriteFault, put};
 use std::alloc::Global;
 
 /// The exit status where the words are no command line.
 pub const USAGE: u8 = 64;
 
-/// Tells that the file couldn't be read, as far as the sink takes it.
-fn tell_of_read<E: Sink>(err: &mut E, name: &str)
-    ensures { E.failed err.old ≤ E.failed err.new }
+/// Puts the words, the name and a newline, as far as the sink takes them.
+fn put_line<E: Sink>(err: &mut E, words: &[u8], name: &str) -> Result<(), WriteFault>
+    ensures told { Tells (words.now ++ (name.now ++ codes "\n")) (E.failed err.old) (E.failed err.new) (E.written err.old) (E.written err.new) }
+    ensures counts { E.failed err.old ≤ E.failed err.new }
 {
-    if put(err, b"kati: cannot read ").is_ok() && put(err, name.as_bytes()).is_ok() {
-        let _ = put(err, b"\n");
-    }
+    put(err, words)?;
+    put(err, name.as_bytes())?;
+    put(err, b"\n")
+}
+
+/// Puts the text, as far as the sink takes it.
+fn tell_text<E: Sink>(err: &mut E, text: &[u8])
+    ensures told { Tells text.now (E.failed err.old) (E.failed err.new) (E.written err.old) (E.written err.new) }
+    ensures counts { E.failed err.old ≤ E.failed err.new }
+{
+    let _ = put(err, text);
+}
+
+/// Puts the line of these words and this name, as far as the sink takes it.
+fn tell_line<E: Sink>(err: &mut E, words: &[u8], name: &str)
+    ensures told { Tells (words.now ++ (name.now ++ codes "\n")) (E.failed err.old) (E.failed err.new) (E.written err.old) (E.written err.new) }
+    ensures counts { E.failed err.old ≤ E.failed err.new }
+{
+    let _ = put_line(err, words, name);
 }
 
 /// Tells what kept a run from its end, as far as the sink takes it. Takes no memory.
 fn tell<E: Sink>(err: &mut E, fault: &RunFault)
-    ensures { E.failed err.old ≤ E.failed err.new }
+    ensures told { Tells (fault_words fault.now) (E.failed err.old) (E.failed err.new) (E.written err.old) (E.written err.new) }
+    ensures counts { E.failed err.old ≤ E.failed err.new }
 {
     match fault {
-        RunFault::Read(name) => tell_of_read(err, name.as_str()),
-        RunFault::WriteOut | RunFault::WriteErr => {
-            let _ = put(err, b"kati: cannot write\n");
-        }
-        RunFault::Memory => {
-            let _ = put(err, b"kati: no memory\n");
-        }
+        RunFault::Read(name) => tell_line(err, b"kati: cannot read ", name.as_str()),
+        RunFault::WriteOut | RunFault::WriteErr => tell_text(err, b"kati: cannot write\n"),
+        RunFault::Memory => tell_text(err, b"kati: no memory\n"),
     }
 }
 
 /// The exit status of a run, after telling what kept it from its end.
 pub fn finish<E: Sink>(err: &mut E, ended: Result<Status, RunFault>) -> u8
     ensures code { result ≡ exit_code ended }
-    ensures quiet { OnOk ended (E.written err.new ≡ E.written err.old) }
+    ensures quiet { OnOk ended (err.new ≡ err.old) }
+    ensures told { IfErr ended (λ fault. Tells (fault_words fault) (E.failed err.old) (E.failed err.new) (E.written err.old) (E.written err.new)) }
     ensures counts { E.failed err.old ≤ E.failed err.new }
 {
     match ended {
@@ -54,30 +70,29 @@ pub fn finish<E: Sink>(err: &mut E, ended: Result<Status, RunFault>) -> u8
 }
 
 /// Puts out the help, and gives the exit status.
-fn give_help<O: Sink, E: Sink>(out: &mut O, err: &mut E, text: &str) -> u8 {
+fn give_help<O: Sink, E: Sink>(out: &mut O, err: &mut E, text: &str) -> u8
+    ensures { GivesHelp text.now result (O.failed out.old) (O.failed out.new) (E.failed err.old) (E.failed err.new)
+        (O.written out.old) (O.written out.new) (E.written err.old) (E.written err.new) }
+{
     match put(out, text.as_bytes()) {
         Ok(()) => 0,
         Err(_) => finish(err, Err(RunFault::WriteOut)),
     }
 }
 
-/// Tells that no macro can have the name that a word begins with, as far as the sink takes it.
-fn tell_of_macro<E: Sink>(err: &mut E, word: &str) {
-    if put(err, b"kati: bad macro ").is_ok() && put(err, word.as_bytes()).is_ok() {
-        let _ = put(err, b"\n");
-    }
-}
-
 /// The exit status of words that ask for no run, after telling why.
-fn refuse<O: Sink, E: Sink>(out: &mut O, err: &mut E, fault: &ArgFault) -> u8 {
+fn refuse<O: Sink, E: Sink>(out: &mut O, err: &mut E, fault: &ArgFault) -> u8
+    ensures { RefusesBy fault.now result (O.failed out.old) (O.failed out.new) (E.failed err.old) (E.failed err.new)
+        (O.written out.old) (O.written out.new) (E.written err.old) (E.written err.new) }
+{
     match fault {
         ArgFault::Help(text) => give_help(out, err, text.as_str()),
         ArgFault::Usage(text) => {
-            let _ = put(err, text.as_bytes());
+            tell_text(err, text.as_bytes());
             USAGE
         }
         ArgFault::BadMacro(word) => {
-            tell_of_macro(err, word.as_str());
+            tell_line(err, b"kati: bad macro ", word.as_str());
             USAGE
         }
         ArgFault::Memory => finish(err, Err(RunFault::Memory)),

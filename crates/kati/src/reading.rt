@@ -2,7 +2,9 @@
 ghost use Rattle.std.specs.Prelude.{◌≡◌, ℕ, List, IfOk, IfSome, None, OnOk};
 ghost use Rattle.kt_text.specs.Words.{Text};
 ghost use Rattle.kt_eval.specs.Machines.{Ending, Reads, nothing_read, reading};
+ghost use Rattle.kt_eval.specs.Fronts.{IsFront};
 ghost use Rattle.kt_eval.specs.Step.{Blames};
+ghost use Rattle.kati.specs.Asked.{names_of};
 ghost use Rattle.kati.specs.Course.{Follows};
 ghost use Rattle.kati.specs.Makefile.{command_line_table, course_of_reading, makefile_names, makefile_read, with_macro};
 ghost use Rattle.kati.specs.Views.{read_of};
@@ -28,6 +30,7 @@ pub(crate) fn makefile_read<F: Files>(
 ) -> (Vec<Sequence<u8>>, Result<Makefile, Stop>)
     ensures means { IfSome (F.known files.old) (λ store. Follows read_of result.1 result.0.items (F.names files.new)
         (makefile_read args.now store (F.names files.old))) }
+    ensures asked { IfSome (F.known files.old) (λ store. IsFront (F.names files.new) (names_of (makefile_read args.now store (F.names files.old)))) }
     ensures keeps { F.known files.new ≡ F.known files.old }
     ensures blames { Blames result.1 (F.failed files.old) (F.failed files.new) (F.names files.new) }
 {
@@ -77,6 +80,8 @@ fn read<F: Files>(
     ensures reads { machine.refusal ≡ None → IfSome (F.known files.old) (λ store. Follows read_of result.1 result.0.items (F.names files.new)
         (course_of_reading (reading store (makefile_names name.now) machine.limit machine.table machine.book machine.said
         (F.names files.old)))) }
+    ensures asked { machine.refusal ≡ None → IfSome (F.known files.old) (λ store. IsFront (F.names files.new) (names_of (course_of_reading
+        (reading store (makefile_names name.now) machine.limit machine.table machine.book machine.said (F.names files.old))))) }
     ensures keeps { F.known files.new ≡ F.known files.old }
     ensures blames { machine.refusal ≡ None → Blames result.1 (F.failed files.old) (F.failed files.new) (F.names files.new) }
 {

@@ -1,5 +1,5 @@
 //! A run of the program.
-ghost use Rattle.std.specs.Prelude.{◌≡◌, ◌++◌, codes, IfOk, IfErr, IfSome, OnOk};
+ghost use Rattle.std.specs.Prelude.{◌≡◌, ◌≤◌, ◌++◌, codes, IfOk, IfSome, MatchResult, OnOk};
 ghost use Rattle.kt_list.specs.Counters.{Rises};
 ghost use Rattle.kt_eval.specs.Faults.{fault_line};
 ghost use Rattle.kt_ninja.specs.Writable.{IsWritable};
@@ -67,8 +67,9 @@ pub fn run<F: Files, O: Sink, E: Sink>(
 ) -> Result<Status, RunFault>
     ensures leaves { IfSome (F.known files.old) (λ store. Leaves args.now store result (F.names files.old) (F.names files.new)
         (O.written out.old) (O.written out.new) (E.written err.old) (E.written err.new)) }
-    ensures blames { IfErr result (λ fault. Blames fault (F.names files.new) (F.failed files.old) (F.failed files.new)
-        (O.failed out.old) (O.failed out.new) (E.failed err.old) (E.failed err.new)) }
+    ensures blames { Blames result (F.names files.new) (F.failed files.old) (F.failed files.new)
+        (O.failed out.old) (O.failed out.new) (E.failed err.old) (E.failed err.new) }
+    ensures counts { E.failed err.old ≤ E.failed err.new }
 {
     let outcome = translate(alloc, args, files)?;
     let text = error_text(alloc, &outcome)?;
@@ -92,7 +93,8 @@ fn deliver<F: Files, O: Sink>(
     requires { IsWritable plan.now }
     ensures delivers { IfSome (F.known files.old) (λ store. Delivers store plan.now checked.now result
         (F.names files.old) (F.names files.new) (O.written out.old) (O.written out.new)) }
-    ensures blames { IfErr result (λ fault. DeliverBlames fault (F.names files.new) (F.failed files.old) (F.failed files.new) (O.failed out.old) (O.failed out.new)) }
+    ensures blames { DeliverBlames result (F.names files.new) (F.failed files.old) (F.failed files.new)
+        (O.failed out.old) (O.failed out.new) }
 {
     match checked {
         Some(name) => check(alloc, plan, name.as_str(), files),
@@ -103,7 +105,7 @@ fn deliver<F: Files, O: Sink>(
 fn write<O: Sink>(plan: &Plan, out: &mut O) -> Result<Status, RunFault>
     requires { IsWritable plan.now }
     ensures writes { Writes plan.now result (O.written out.old) (O.written out.new) }
-    ensures blames { IfErr result (λ _. Rises (O.failed out.old) (O.failed out.new)) }
+    ensures blames { MatchResult result (λ _. O.failed out.new ≡ O.failed out.old) (λ _. Rises (O.failed out.old) (O.failed out.new)) }
 {
     match write_plan(plan, out) {
         Ok(()) => Ok(Status::Done),

@@ -3,10 +3,12 @@ ghost use Rattle.std.specs.Prelude.{◌≡◌, ℕ, List, [], IfOk, IfSome};
 ghost use Rattle.kt_text.specs.Words.{Text};
 ghost use Rattle.kt_graph.specs.Known.{known_names};
 ghost use Rattle.kt_ninja.specs.Writable.{IsWritable};
+ghost use Rattle.kt_eval.specs.Fronts.{IsFront};
 ghost use Rattle.kt_eval.specs.Step.{Blames};
+ghost use Rattle.kati.specs.Asked.{names_asked, names_of};
 ghost use Rattle.kati.specs.Headline.{ReadBlames, Translates};
 ghost use Rattle.kati.specs.Course.{Comes, ComesTo, Course, Follows};
-ghost use Rattle.kati.specs.Makefile.{Read};
+ghost use Rattle.kati.specs.Makefile.{Read, makefile_read};
 ghost use Rattle.kati.specs.Meaning.{EndsAs, MeansGoals, MeansListed, MeansRead, Means};
 ghost use Rattle.kati.specs.Stops.{IsStopOf};
 ghost use Rattle.kati.specs.Views.{outcome_of, read_of};
@@ -28,6 +30,7 @@ use std::alloc::Global;
 /// Translates the makefile that the arguments name, or else the first of `makefile` and `Makefile` that is there.
 pub fn translate<F: Files>(alloc: Global, args: &Args, files: &mut F) -> Result<Outcome, RunFault>
     ensures means { IfSome (F.known files.old) (λ store. IfOk result (λ outcome. Translates args.now store outcome (F.names files.old) (F.names files.new))) }
+    ensures asked { IfSome (F.known files.old) (λ store. IsFront (F.names files.new) (names_asked args.now store (F.names files.old))) }
     ensures writable { IfOk result (λ outcome. IfOk outcome.result IsWritable) }
     ensures keeps { F.known files.new ≡ F.known files.old }
     ensures blames { ReadBlames result (F.failed files.old) (F.failed files.new) (F.names files.new) }
@@ -65,6 +68,7 @@ fn planned<F: Files>(
     requires { messages.old.items ≡ [] }
     ensures means { IfSome (F.known files.old) (λ store. Comes result (λ r. Means args.now store (F.names files.old)
         (record { messages = messages.new.items; result = r; asked = F.names files.new }))) }
+    ensures asked { IfSome (F.known files.old) (λ store. IsFront (F.names files.new) (names_asked args.now store (F.names files.old))) }
     ensures keeps { F.known files.new ≡ F.known files.old }
     ensures blames { Blames result (F.failed files.old) (F.failed files.new) (F.names files.new) }
     ensures writable { IfOk result IsWritable }
@@ -85,6 +89,7 @@ fn planned_listed<F: Files>(
 ) -> Result<Plan, Stop>
     ensures means { (said : List Text) → IfSome (F.known files.old) (λ store. Comes result (λ r. MeansListed args.now store said (F.names files.old) list.now
         (record { messages = messages.new.items; result = r; asked = F.names files.new }))) }
+    ensures asked { IfSome (F.known files.old) (λ store. IsFront (F.names files.new) (names_of (makefile_read args.now store (F.names files.old)))) }
     ensures keeps { F.known files.new ≡ F.known files.old }
     ensures blames { Blames result (F.failed files.old) (F.failed files.new) (F.names files.new) }
     ensures writable { IfOk result IsWritable }

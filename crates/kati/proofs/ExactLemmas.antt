@@ -1,0 +1,272 @@
+-- Each plan that a run means is the graph of what its goals need.
+use Rattle.std.proofs.Common.{◌≡◌, ◌≢◌, ◌⊎◌, ℕ, zero, suc, Bool, true, false, not, ◌||◌, cond, List, [], ◌∷◌, ◌++◌, map, flat_map, Option, Some, None, Result, Ok, Err, refl, sym, ap, ◌∙◌, subst, ⊎_elim, inl, inr, arith}
+use Rattle.std.specs.List.{AllPairs, Contains, list_any}
+use Rattle.std.proofs.lemmas.Bool.{false≢true, true≢false}
+use Rattle.std.proofs.lemmas.List.Concat.{flat_map-cons}
+use Rattle.std.proofs.lemmas.List.Elements.{Contains-append_cases, Contains-append_left, Contains-append_right}
+use Rattle.kt_text.specs.Words.{Text}
+use Rattle.kt_rules.specs.Entry.{Rule}
+use Rattle.kt_eval.specs.Files.{Store}
+use Rattle.kt_eval.specs.declared.fault.Fault.{Fault}
+use Rattle.kt_eval.specs.Table.{Table}
+use Rattle.kt_graph.specs.Faults.{IsSoundGraph}
+use Rattle.kt_graph.specs.Groups.{IsInOne, groups_of, made_nodes}
+use Rattle.kt_graph.specs.Known.{known_names}
+use Rattle.kt_graph.specs.Node.{Node, is_leaf, node_of}
+use Rattle.kt_graph.specs.Reach.{IsGraph, IsMade}
+use Rattle.kt_graph.proofs.MemberLemmas.{Contains-cases, Contains-from_map, Contains-here, Contains-map, Contains-none, Contains-there}
+use Rattle.kt_graph.proofs.TroubleLemmas.{filter_there, from_filter}
+use Rattle.kt_ninja.specs.Plan.{outputs}
+use Rattle.kt_ninja.specs.Writable.{IsWritable}
+use Rattle.kt_ninja.specs.declared.plan.Plan.{Plan}
+use Rattle.kt_ninja.specs.declared.plan.Statement.{Statement}
+use Rattle.kt_recipe.specs.Shell.{Progress, goes_on, ends}
+use Rattle.kati_args.specs.declared.args.Args.{Args}
+use Rattle.kati.specs.Chosen.{chosen_goals}
+use Rattle.kati.specs.Course.{Course, on_course, off_course}
+use Rattle.kati.specs.Exact.{IsAlwaysBuilt, IsGraphOf, IsMadeOnce, IsOfGroup, PlansAreGraphs, TellsGraph}
+use Rattle.kati.specs.Listing.{listed}
+use Rattle.kati.specs.Makefile.{Read, makefile_read}
+use Rattle.kati.specs.Meaning.{EndsAs, Meaning, Means, MeansGoals, MeansListed, MeansRead, meaning_of}
+use Rattle.kati.specs.Planned.{Planning, planned, at_fault, after_command, always_build, always_built, command_for, course_of_plan, has_implicit, outs_of, plan_course, plan_groups, plan_of, plan_unless, statement_of, unwritable_in, with_always_built, written}
+use Rattle.kati.proofs.PlanLemmas.{from_flat, law, in_nodes, name_in, name_reached, node_is, outs_in, outs_told, statements_in, is_planned, to_flat}
+use Rattle.kati.proofs.ReadBackLemmas.{WentOn, has_plan, plan_in, read_back, went_on}
+
+-- ---- names that differ
+
+later_differ : {A : Type 0} (x : A) (xs : List A) → AllPairs (λ (a b : A). a ≢ b) (x ∷ xs) → AllPairs (λ (a b : A). a ≢ b) xs
+later_differ x xs differ i j d lt within = differ (suc i) (suc j) d (omega arith) (omega arith)
+
+first_differs : {A : Type 0} (x : A) (xs : List A) (y : A) → AllPairs (λ (a b : A). a ≢ b) (x ∷ xs) → Contains xs y → x ≢ y
+first_differs x xs y differ has same =
+    differ zero (suc has.0) x (omega arith) (let within = has.1 in omega arith) (same ∙ sym has.2)
+
+rest_differ : (names rest : List Text) → AllPairs (λ (a b : Text). a ≢ b) (names ++ rest) → AllPairs (λ (a b : Text). a ≢ b) rest
+rest_differ [] rest differ = differ
+rest_differ (name ∷ names) rest differ = rest_differ names rest (later_differ name (names ++ rest) differ)
+
+never_both : (names rest : List Text) (name : Text) → AllPairs (λ (a b : Text). a ≢ b) (names ++ rest) → Contains names name → Contains rest name → ⊥
+never_both [] rest name differ here there = Contains-none name here
+never_both (first ∷ names) rest name differ here there = ⊎_elim
+    (λ (same : first ≡ name). first_differs first (names ++ rest) name differ (Contains-append_right names rest name there) same)
+    (λ (later : Contains names name). never_both names rest name (later_differ first (names ++ rest) differ) later there)
+    (Contains-cases first names name here)
+
+-- a name is an output of one statement at most
+single_output : (statements : List Statement) (one other : Statement) (name : Text) → AllPairs (λ (a b : Text). a ≢ b) (outputs statements)
+    → Contains statements one → Contains one.outs name → Contains statements other → Contains other.outs name → other ≡ one
+single_output [] one other name differ has_one in_one has_other in_other = Contains-none one has_one
+single_output (first ∷ statements) one other name differ has_one in_one has_other in_other =
+    by (Contains-cases first statements one has_one) (Contains-cases first statements other has_other)
+  where
+    apart : AllPairs (λ (a b : Text). a ≢ b) (first.outs ++ outputs statements)
+    apart = subst (λ (names : List Text). AllPairs (λ (a b : Text). a ≢ b) names) (flat_map-cons outs_in first statements) differ
+
+    by : (first ≡ one) ⊎ Contains statements one → (first ≡ other) ⊎ Contains statements other → other ≡ one
+    by (inl is_one) (inl is_other) = sym is_other ∙ is_one
+    by (inl is_one) (inr later) = absurd (never_both first.outs (outputs statements) name apart
+        (subst (λ (s : Statement). Contains s.outs name) (sym is_one) in_one) (to_flat outs_in statements other name later in_other))
+    by (inr later) (inl is_other) = absurd (never_both first.outs (outputs statements) name apart
+        (subst (λ (s : Statement). Contains s.outs name) (sym is_other) in_other) (to_flat outs_in statements one name later in_one))
+    by (inr later_one) (inr later_other) =
+        single_output statements one other name (rest_differ first.outs (outputs statements) apart) later_one in_one later_other in_other
+
+-- ---- the statements of groups
+
+group_later : (read : Read) (limit : ℕ) (first : List Node) (groups : List (List Node)) (statement : Statement)
+    → IsOfGroup read limit groups statement → IsOfGroup read limit (first ∷ groups) statement
+group_later read limit first groups statement of = record {
+  group = of.group;
+  among = Contains-there first groups of.group of.among;
+  command = of.command;
+  is_command = of.is_command;
+  is = of.is;
+}
+
+groups_told : (read : Read) (limit : ℕ) (groups : List (List Node)) (said : List Text) (before : List Statement) (heard : List Text)
+    (statements : List Statement) → plan_groups read.book read.table limit groups said before ≡ planned heard statements
+    → (statement : Statement) → Contains statements statement → Contains before statement ⊎ IsOfGroup read limit groups statement
+unfolding plan_groups
+groups_told read limit [] said before heard statements e statement has =
+    inl (subst (λ (ss : List Statement). Contains ss statement) (sym (ap statements_in e)) has)
+groups_told read limit (group ∷ groups) said before heard statements e statement has =
+    by (command_for read.table limit group said) refl e
+  where
+    of_this : (told : List Text) (command : Option Text) → command_for read.table limit group said ≡ goes_on told command
+        → Contains (before ++ statement_of read.book group command ∷ []) statement
+        → Contains before statement ⊎ IsOfGroup read limit (group ∷ groups) statement
+    of_this told command is among = ⊎_elim
+        (λ (earlier : Contains before statement). inl earlier)
+        (λ (here : Contains (statement_of read.book group command ∷ []) statement). inr (record {
+          group = group;
+          among = Contains-here group groups;
+          command = command;
+          is_command = record { said = said; heard = told; expanded = is };
+          is = ⊎_elim
+              (λ (same : statement_of read.book group command ≡ statement). sym same)
+              (λ (none : Contains [] statement). Contains-none statement none)
+              (Contains-cases (statement_of read.book group command) [] statement here);
+        }))
+        (Contains-append_cases before (statement_of read.book group command ∷ []) statement among)
+
+    by : (progress : Progress) → command_for read.table limit group said ≡ progress
+        → after_command progress (λ told command. plan_groups read.book read.table limit groups told (before ++ statement_of read.book group command ∷ []))
+        ≡ planned heard statements → Contains before statement ⊎ IsOfGroup read limit (group ∷ groups) statement
+    by (goes_on told command) is f = ⊎_elim
+        (λ (among : Contains (before ++ statement_of read.book group command ∷ []) statement). of_this told command is among)
+        (λ (of : IsOfGroup read limit groups statement). inr (group_later read limit group groups statement of))
+        (groups_told read limit groups told (before ++ statement_of read.book group command ∷ []) heard statements f statement has)
+    by (ends told fault) is f = absurd (false≢true (ap is_planned f))
+
+-- ---- the plan of a sound graph
+
+module _ (rules : List Rule) (known goals : List Text) (nodes : List Node) (graph : IsGraph rules known goals nodes) where
+  -- a name of a group is made
+  pub of_group : (name : Text) (group : List Node) → Contains (groups_of nodes) group → Contains (outs_of group) name → IsMade rules known goals name
+  of_group name group is_group has =
+      let node = Contains-from_map name_in group name has in
+      let made = (law rules known goals nodes graph).made group node.0 is_group node.1 in
+      let kept = from_filter (λ (one : Node). not (is_leaf one.kind)) nodes node.0 made in
+      record {
+        reached = name_reached rules known goals nodes graph name (to_flat outs_of (groups_of nodes) group name is_group has);
+        made = ap (λ (n : Text). is_leaf (node_of rules known n).kind) (sym node.2)
+            ∙ ap (λ (one : Node). is_leaf one.kind) (node_is rules known goals nodes graph node.0 kept.0)
+            ∙ not_made (is_leaf node.0.kind) kept.1;
+      }
+    where
+      not_made : (b : Bool) → not b ≡ true → b ≡ false
+      not_made true e = absurd (false≢true e)
+      not_made false e = refl
+
+module _ (read : Read) (limit : ℕ) (known goals : List Text) (nodes : List Node) (sound : IsSoundGraph read.book known goals nodes)
+    (said heard : List Text) (statements : List Statement)
+    (groups_are : plan_groups read.book read.table limit (groups_of nodes) said [] ≡ planned heard statements)
+    (fine : IsWritable (plan_of statements goals)) where
+  abbrev all : List Statement
+  all = with_always_built statements
+
+  among_all : (statement : Statement) → Contains statements statement → Contains all statement
+  unfolding with_always_built
+  among_all statement has = by (list_any has_implicit statements)
+    where
+      by : (b : Bool) → Contains (cond b (always_built ∷ statements) statements) statement
+      by true = Contains-there always_built statements statement has
+      by false = has
+
+  outs : map outs_in statements ≡ map outs_of (groups_of nodes)
+  outs = outs_told read.book read.table limit (groups_of nodes) said [] heard statements groups_are
+
+  -- the node of a made name
+  node_named : (name : Text) → IsMade read.book known goals name → (node : Node) × Contains (made_nodes nodes) node × (node.name ≡ name)
+  node_named name made =
+      let node = Contains-from_map name_in nodes name ((sound.1.reached name).1 made.reached) in
+      (node.0, filter_there (λ (one : Node). not (is_leaf one.kind)) nodes node.0 node.1
+      (ap (λ (one : Node). not (is_leaf one.kind)) (sym (node_is read.book known goals nodes sound.1 node.0 node.1))
+      ∙ ap (λ (n : Text). not (is_leaf (node_of read.book known n).kind)) node.2 ∙ ap not made.made), node.2)
+
+  made_once : (name : Text) → IsMade read.book known goals name → IsMadeOnce all name
+  made_once name made =
+      let node = node_named name made in
+      let one = (law read.book known goals nodes sound.1).each node.0 node.1 in
+      let statement = Contains-from_map outs_in statements (outs_of one.group)
+      (subst (λ (l : List (List Text)). Contains l (outs_of one.group)) (sym outs) (Contains-map outs_of (groups_of nodes) one.group one.among)) in
+      let stands : Contains statement.0.outs name
+      = subst (λ (names : List Text). Contains names name) (sym statement.2)
+      (subst (λ (n : Text). Contains (outs_of one.group) n) node.2 (Contains-map name_in one.group node.0 one.stands)) in
+      record {
+        statement = statement.0;
+        among = among_all statement.0 statement.1;
+        stands = stands;
+        single = λ other has in_other. single_output all statement.0 other name fine.different (among_all statement.0 statement.1) stands has in_other;
+      }
+
+  of_statements : (name : Text) → Contains (outputs statements) name → IsMade read.book known goals name
+  of_statements name has =
+      let statement = from_flat outs_in statements name has in
+      let group = Contains-from_map outs_of (groups_of nodes) statement.0.outs
+      (subst (λ (l : List (List Text)). Contains l statement.0.outs) outs (Contains-map outs_in statements statement.0 statement.1)) in
+      of_group read.book known goals nodes sound.1 name group.0 group.1 (subst (λ (names : List Text). Contains names name) (sym group.2) statement.2)
+
+  only_made : (name : Text) → Contains (outputs all) name → IsMade read.book known goals name ⊎ (name ≡ always_build)
+  unfolding with_always_built
+  only_made name has = by (list_any has_implicit statements) has
+    where
+      by : (b : Bool) → Contains (outputs (cond b (always_built ∷ statements) statements)) name → IsMade read.book known goals name ⊎ (name ≡ always_build)
+      by false h = inl (of_statements name h)
+      by true h = ⊎_elim
+          (λ (same : always_build ≡ name). inr (sym same))
+          (λ (later : Contains (outputs statements) name). inl (of_statements name later))
+          (Contains-cases always_build (outputs statements) name h)
+
+  grouped : (statement : Statement) → Contains all statement → IsOfGroup read limit (groups_of nodes) statement ⊎ IsAlwaysBuilt all statement
+  unfolding with_always_built
+  grouped statement has = by (list_any has_implicit statements) refl has
+    where
+      of : Contains statements statement → IsOfGroup read limit (groups_of nodes) statement
+      of h = ⊎_elim
+          (λ (none : Contains [] statement). Contains-none statement none)
+          (λ (is : IsOfGroup read limit (groups_of nodes) statement). is)
+          (groups_told read limit (groups_of nodes) said [] heard statements groups_are statement h)
+
+      by : (b : Bool) → list_any has_implicit statements ≡ b → Contains (cond b (always_built ∷ statements) statements) statement
+          → IsOfGroup read limit (groups_of nodes) statement ⊎ IsAlwaysBuilt (cond b (always_built ∷ statements) statements) statement
+      by false is h = inl (of h)
+      by true is h = ⊎_elim
+          (λ (same : always_built ≡ statement). inr (sym same, is))
+          (λ (later : Contains statements statement). inl (of later))
+          (Contains-cases always_built statements statement h)
+
+  pub tells_graph : TellsGraph read limit known goals (plan_of statements goals)
+  tells_graph = record { nodes = nodes; graph = sound; each = made_once; only = only_made; grouped = grouped; defaults = refl }
+
+-- ---- the whole
+
+plan_told : (read : Read) (limit : ℕ) (known goals : List Text) (nodes : List Node) (said asked : List Text) (plan : Plan) → IsWritable plan
+    → IsSoundGraph read.book known goals nodes → Ok plan ≡ (meaning_of (plan_course read.book read.table limit goals nodes said asked)).result
+    → TellsGraph read limit known goals plan
+unfolding plan_course written
+plan_told read limit known goals nodes said asked plan fine sound e = by (plan_groups read.book read.table limit (groups_of nodes) said []) refl e
+  where
+    settled : (heard : List Text) (statements : List Statement) → plan_groups read.book read.table limit (groups_of nodes) said [] ≡ planned heard statements
+        → (trouble : Option Fault) → Ok plan ≡ (meaning_of (plan_unless heard asked (plan_of statements goals) trouble)).result
+        → TellsGraph read limit known goals plan
+    settled heard statements is None f =
+        let same : plan ≡ plan_of statements goals = ap (λ r. plan_in r plan) f in
+        subst (λ (p : Plan). TellsGraph read limit known goals p) (sym same)
+        (tells_graph read limit known goals nodes sound said heard statements is (subst IsWritable same fine))
+    settled heard statements is (Some fault) f = absurd (true≢false (ap has_plan f))
+
+    by : (planning : Planning) → plan_groups read.book read.table limit (groups_of nodes) said [] ≡ planning
+        → Ok plan ≡ (meaning_of (course_of_plan goals asked planning)).result → TellsGraph read limit known goals plan
+    by (planned heard statements) is f = settled heard statements is (unwritable_in (plan_of statements goals).statements) f
+    by (at_fault heard fault) is f = absurd (true≢false (ap has_plan f))
+
+goals_told : (limit : ℕ) (read : Read) (known said asked goals : List Text) (m : Meaning) (plan : Plan) → m.result ≡ Ok plan → IsWritable plan
+    → MeansGoals limit read known said asked goals m → TellsGraph read limit known goals plan
+goals_told limit read known said asked goals m plan ok fine (inl p) =
+    plan_told read limit known goals p.nodes said asked plan fine p.graph (sym ok ∙ ap (λ (n : Meaning). n.result) p.means)
+goals_told limit read known said asked goals m plan ok fine (inr trouble) =
+    absurd (false≢true (sym (ap (λ (n : Meaning). has_plan n.result) trouble.means) ∙ ap has_plan ok))
+
+pub are_graphs : PlansAreGraphs
+are_graphs args store asked m plan means ok =
+    let fine = (read_back args store asked m plan means ok).0 in
+    let list = went_on (listed store asked args.files) (MeansListed args store) m plan ok means in
+    let read = went_on (makefile_read args store list.asked) (MeansRead args list.value) m plan ok list.next in
+    let goals = went_on (chosen_goals args.limit read.value read.said read.asked args.goals)
+    (MeansGoals args.limit read.value (known_names read.value.book list.value)) m plan ok read.next in
+    record {
+      list = list.value;
+      before_list = list.said;
+      after_list = list.asked;
+      is_listed = list.is;
+      read = read.value;
+      told = read.said;
+      names = read.asked;
+      is_read = read.is;
+      goals = goals.value;
+      heard = goals.said;
+      same_names = goals.asked;
+      is_chosen = goals.is;
+      tells = goals_told args.limit read.value (known_names read.value.book list.value) goals.said goals.asked goals.value m plan ok fine goals.next;
+    }

@@ -1,0 +1,5 @@
+use Rattle.kati.proofs.ExactLemmas.{are_graphs}
+use Rattle.kati.proofs.laws.plans_are_graphs.Goals as goal
+
+pub returns : goal.returns
+returns c = are_graphs

@@ -1,0 +1,5 @@
+use Rattle.kati.proofs.SoundLemmas.{are_sound}
+use Rattle.kati.proofs.laws.plans_are_sound.Goals as goal
+
+pub returns : goal.returns
+returns c = are_sound
