@@ -25,6 +25,10 @@ computes_follows see (Err (stops.Fault fault)) said asked course h = h
 computes_follows see (Err (stops.Device name)) said asked course h = tt
 computes_follows see (Err stops.Memory) said asked course h = tt
 
+pub if_some-each : {T : Type 0} (o : Option T) (P : T → Type 0) → ((x : T) → P x) → IfSome o P
+if_some-each None P each = tt
+if_some-each (Some x) P each = each x
+
 pub if_some-weaker : {T : Type 0} (o : Option T) (P Q : T → Type 0) → ((x : T) → P x → Q x) → IfSome o P → IfSome o Q
 if_some-weaker None P Q more h = h
 if_some-weaker (Some x) P Q more h = more x h

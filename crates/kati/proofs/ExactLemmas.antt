@@ -39,7 +39,7 @@ later_differ x xs differ i j d lt within = differ (suc i) (suc j) d (omega arith
 
 first_differs : {A : Type 0} (x : A) (xs : List A) (y : A) → AllPairs (λ (a b : A). a ≢ b) (x ∷ xs) → Contains xs y → x ≢ y
 first_differs x xs y differ has same =
-    differ zero (suc has.0) x (omega arith) (let within = has.1 in omega arith) (same ∙ sym has.2)
+    differ zero (suc has.0) y (omega arith) (let within = has.1 in omega arith) (same ∙ sym has.2)
 
 rest_differ : (names rest : List Text) → AllPairs (λ (a b : Text). a ≢ b) (names ++ rest) → AllPairs (λ (a b : Text). a ≢ b) rest
 rest_differ [] rest differ = differ
@@ -57,19 +57,20 @@ single_output : (statements : List Statement) (one other : Statement) (name : Te
     → Contains statements one → Contains one.outs name → Contains statements other → Contains other.outs name → other ≡ one
 single_output [] one other name differ has_one in_one has_other in_other = Contains-none one has_one
 single_output (first ∷ statements) one other name differ has_one in_one has_other in_other =
-    by (Contains-cases first statements one has_one) (Contains-cases first statements other has_other)
+    by (λ rest later_one later_other. single_output statements one other name rest later_one in_one later_other in_other)
+    (Contains-cases first statements one has_one) (Contains-cases first statements other has_other)
   where
     apart : AllPairs (λ (a b : Text). a ≢ b) (first.outs ++ outputs statements)
     apart = subst (λ (names : List Text). AllPairs (λ (a b : Text). a ≢ b) names) (flat_map-cons outs_in first statements) differ
 
-    by : (first ≡ one) ⊎ Contains statements one → (first ≡ other) ⊎ Contains statements other → other ≡ one
-    by (inl is_one) (inl is_other) = sym is_other ∙ is_one
-    by (inl is_one) (inr later) = absurd (never_both first.outs (outputs statements) name apart
+    by : (AllPairs (λ (a b : Text). a ≢ b) (outputs statements) → Contains statements one → Contains statements other → other ≡ one)
+        → (first ≡ one) ⊎ Contains statements one → (first ≡ other) ⊎ Contains statements other → other ≡ one
+    by more (inl is_one) (inl is_other) = sym is_other ∙ is_one
+    by more (inl is_one) (inr later) = absurd (never_both first.outs (outputs statements) name apart
         (subst (λ (s : Statement). Contains s.outs name) (sym is_one) in_one) (to_flat outs_in statements other name later in_other))
-    by (inr later) (inl is_other) = absurd (never_both first.outs (outputs statements) name apart
+    by more (inr later) (inl is_other) = absurd (never_both first.outs (outputs statements) name apart
         (subst (λ (s : Statement). Contains s.outs name) (sym is_other) in_other) (to_flat outs_in statements one name later in_one))
-    by (inr later_one) (inr later_other) =
-        single_output statements one other name (rest_differ first.outs (outputs statements) apart) later_one in_one later_other in_other
+    by more (inr later_one) (inr later_other) = more (rest_differ first.outs (outputs statements) apart) later_one later_other
 
 -- ---- the statements of groups
 
@@ -90,7 +91,8 @@ unfolding plan_groups
 groups_told read limit [] said before heard statements e statement has =
     inl (subst (λ (ss : List Statement). Contains ss statement) (sym (ap statements_in e)) has)
 groups_told read limit (group ∷ groups) said before heard statements e statement has =
-    by (command_for read.table limit group said) refl e
+    by (λ told command f. groups_told read limit groups told (before ++ statement_of read.book group command ∷ []) heard statements f statement has)
+    (command_for read.table limit group said) refl e
   where
     of_this : (told : List Text) (command : Option Text) → command_for read.table limit group said ≡ goes_on told command
         → Contains (before ++ statement_of read.book group command ∷ []) statement
@@ -109,14 +111,17 @@ groups_told read limit (group ∷ groups) said before heard statements e stateme
         }))
         (Contains-append_cases before (statement_of read.book group command ∷ []) statement among)
 
-    by : (progress : Progress) → command_for read.table limit group said ≡ progress
+    by : ((told : List Text) (command : Option Text)
+        → plan_groups read.book read.table limit groups told (before ++ statement_of read.book group command ∷ []) ≡ planned heard statements
+        → Contains (before ++ statement_of read.book group command ∷ []) statement ⊎ IsOfGroup read limit groups statement)
+        → (progress : Progress) → command_for read.table limit group said ≡ progress
         → after_command progress (λ told command. plan_groups read.book read.table limit groups told (before ++ statement_of read.book group command ∷ []))
         ≡ planned heard statements → Contains before statement ⊎ IsOfGroup read limit (group ∷ groups) statement
-    by (goes_on told command) is f = ⊎_elim
+    by more (goes_on told command) is f = ⊎_elim
         (λ (among : Contains (before ++ statement_of read.book group command ∷ []) statement). of_this told command is among)
         (λ (of : IsOfGroup read limit groups statement). inr (group_later read limit group groups statement of))
-        (groups_told read limit groups told (before ++ statement_of read.book group command ∷ []) heard statements f statement has)
-    by (ends told fault) is f = absurd (false≢true (ap is_planned f))
+        (more told command f)
+    by more (ends told fault) is f = absurd (false≢true (ap is_planned f))
 
 -- ---- the plan of a sound graph
 
@@ -159,10 +164,13 @@ module _ (read : Read) (limit : ℕ) (known goals : List Text) (nodes : List Nod
   -- the node of a made name
   node_named : (name : Text) → IsMade read.book known goals name → (node : Node) × Contains (made_nodes nodes) node × (node.name ≡ name)
   node_named name made =
-      let node = Contains-from_map name_in nodes name ((sound.1.reached name).1 made.reached) in
-      (node.0, filter_there (λ (one : Node). not (is_leaf one.kind)) nodes node.0 node.1
-      (ap (λ (one : Node). not (is_leaf one.kind)) (sym (node_is read.book known goals nodes sound.1 node.0 node.1))
-      ∙ ap (λ (n : Text). not (is_leaf (node_of read.book known n).kind)) node.2 ∙ ap not made.made), node.2)
+      let node = Contains-from_map name_in nodes name ((sound.1.reached name).1 made.reached) in (
+        node.0,
+        filter_there (λ (one : Node). not (is_leaf one.kind)) nodes node.0 node.1
+            (ap (λ (one : Node). not (is_leaf one.kind)) (sym (node_is read.book known goals nodes sound.1 node.0 node.1))
+            ∙ ap (λ (n : Text). not (is_leaf (node_of read.book known n).kind)) node.2 ∙ ap not made.made),
+        node.2,
+      )
 
   made_once : (name : Text) → IsMade read.book known goals name → IsMadeOnce all name
   made_once name made =

@@ -9,3 +9,4 @@ pub mod TellLemmas
 pub mod AskedLemmas
 pub mod ExactLemmas
 pub mod SoundLemmas
+pub mod OnceLemmas

@@ -45,7 +45,7 @@ use Rattle.kati.specs.Stops.{IsFaultOf}
 use Rattle.kati.specs.Views.{is_text_trouble}
 use Rattle.std.proofs.lemmas.Option.{none-some, same_Some}
 
-abbrev order : Text → Text → Ordering
+abbrev pub order : Text → Text → Ordering
 order = slice_cmp nat_cmp
 
 abbrev pub name_in : Node → Text
@@ -64,7 +64,7 @@ all_if P [] each = All-nil P
 all_if P (x ∷ xs) each = All-cons P x xs (each x (Contains-here x xs)) (all_if P xs (λ y has. each y (Contains-there x xs y has)))
 
 -- a name isn't less than itself
-not_less : (name other : Text) → order name other ≡ Less → name ≢ other
+pub not_less : (name other : Text) → order name other ≡ Less → name ≢ other
 not_less name other less same =
     true≢false (sym ((bytes_eq-Decides name other).1 same) ∙ sym (is_eq-slice_cmp name other) ∙ ap is_eq less)
 

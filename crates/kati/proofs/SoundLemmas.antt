@@ -122,15 +122,16 @@ module _ (read : Read) (limit : ℕ) (known goals : List Text) (plan : Plan) (te
   path_of : (from : Text) (steps : List Text) (to : Text) → to ≢ always_build → Leads (NeedsInput plan.statements) from steps to
       → Leads (HasEdge read.book known goals) from steps to
   path_of from [] to other same = same
-  path_of from (step ∷ steps) to other (first, rest) = by (step_of from step first)
+  path_of from (step ∷ steps) to other (first, rest) = by (path_of step steps to other rest) (step_of from step first)
     where
       ended : (left : List Text) → step ≡ always_build → Leads (NeedsInput plan.statements) step left to → ⊥
       ended [] is same = other (sym same ∙ is)
       ended (next ∷ left) is (second, later) = no_step step next is second
 
-      by : HasEdge read.book known goals from step ⊎ (step ≡ always_build) → Leads (HasEdge read.book known goals) from (step ∷ steps) to
-      by (inl edge) = (edge, path_of step steps to other rest)
-      by (inr is) = absurd (ended steps is rest)
+      by : Leads (HasEdge read.book known goals) step steps to → HasEdge read.book known goals from step ⊎ (step ≡ always_build)
+          → Leads (HasEdge read.book known goals) from (step ∷ steps) to
+      by more (inl edge) = (edge, more)
+      by more (inr is) = absurd (ended steps is rest)
 
   uncircled : (name : Text) → NeedsItself plan.statements name → ⊥
   uncircled name round = by (step_of name round.next round.step)

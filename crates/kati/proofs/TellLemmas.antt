@@ -1,5 +1,6 @@
 -- What a sink is told in pieces.
-use Rattle.std.proofs.Common.{◌≡◌, ◌≤◌, ℕ, ◌++◌, ◌⊎◌, Option, inl, inr, arith}
+use Rattle.std.proofs.Common.{◌≡◌, ◌≤◌, ℕ, ◌++◌, ◌⊎◌, Option, Result, Ok, Err, inl, inr, arith}
+use Rattle.std.specs.Prelude.{OnErr, OnOk}
 use Rattle.kt_list.specs.Counters.{Rises}
 use Rattle.kt_text.specs.Words.{Text}
 use Rattle.kt_ninja.specs.Written.{appended, GrowsByFront}
@@ -22,3 +23,10 @@ pub told_since : (text : Text) (failed middle failed' : ℕ) (taken taken' : Opt
     → Tells text failed failed' taken taken'
 told_since text failed middle failed' taken taken' counts (inl whole) = inl whole
 told_since text failed middle failed' taken taken' counts (inr cut) = inr (omega (arith, cut.0), cut.1)
+
+-- what one call of `put` leaves
+pub told_by : {A B : Type 0} (result : Result A B) (text : Text) (failed failed' : ℕ) (taken taken' : Option Text)
+    → OnOk result (taken' ≡ appended taken text) → OnErr result (GrowsByFront taken taken' text) → OnErr result (Rises failed failed')
+    → Tells text failed failed' taken taken'
+told_by (Ok x) text failed failed' taken taken' whole cut fails = inl whole
+told_by (Err e) text failed failed' taken taken' whole cut fails = inr (fails, cut)

@@ -17,3 +17,4 @@ pub mod Limits
 pub mod ReadBack
 pub mod Exact
 pub mod Sound
+pub mod Once

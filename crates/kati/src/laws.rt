@@ -2,8 +2,14 @@
 ghost use Rattle.kati.specs.Asked.{NamesAreAsked};
 ghost use Rattle.kati.specs.Exact.{PlansAreGraphs};
 ghost use Rattle.kati.specs.Limits.{OnlyCuts};
+ghost use Rattle.kati.specs.Once.{HasOneMeaning};
 ghost use Rattle.kati.specs.ReadBack.{PlansReadBack};
 ghost use Rattle.kati.specs.Sound.{PlansAreSound};
+
+/// A run has one meaning: whatever is said of a run's meaning is said of this one.
+pub fn one_meaning()
+    ensures { HasOneMeaning }
+{}
 
 /// A limit of levels only cuts: what isn't too deep (E08) with a limit is the same with a larger one.
 pub fn limit_cuts()

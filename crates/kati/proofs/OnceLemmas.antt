@@ -1,0 +1,159 @@
+-- A run has one meaning.
+use Rattle.std.proofs.Common.{◌≡◌, List, [], ◌∷◌, map, Option, Some, None, refl, sym, ap, ◌∙◌, subst, ⊎_elim, inl, inr}
+use Rattle.std.specs.List.{Contains}
+use Rattle.std.specs.List.Sorted.{IsStrictlySortedBy}
+use Rattle.std.specs.Ordering.{is_lt, nat_cmp, ordering_reverse}
+use Rattle.std.specs.declared.cmp.Ordering.{Ordering}
+use Rattle.std.specs.declared.cmp.Ordering.TheVariants.{Less, Equal, Greater}
+use Rattle.std.specs.Cmp.Lexicographic.{slice_cmp}
+use Rattle.std.proofs.lemmas.Bool.{true≢false}
+use Rattle.std.proofs.lemmas.Cmp.{nat_list_cmp_total}
+use Rattle.std.proofs.lemmas.List.Elements.{All-contains}
+use Rattle.std.proofs.lemmas.Map.Keys.{sorted_tail}
+use Rattle.std.proofs.lemmas.Map.Lookups.{exact_bytes}
+use Rattle.std.proofs.lemmas.Map.Views.{All-after_first}
+use Rattle.std.proofs.lemmas.Option.{none-some, same_Some}
+use Rattle.kt_text.specs.Words.{Text}
+use Rattle.kt_rules.specs.Entry.{Rule}
+use Rattle.kt_eval.specs.Files.{Store}
+use Rattle.kt_eval.specs.Step.{fault_at}
+use Rattle.kt_graph.specs.Faults.{fault_number, fault_words}
+use Rattle.kt_graph.specs.Known.{known_names}
+use Rattle.kt_graph.specs.Node.{Node, node_of}
+use Rattle.kt_graph.specs.Reach.{ComesFirst, IsFirst, IsGraph, IsSound, Trouble, no_rule, circular, reserved_name, one_file}
+use Rattle.kt_graph.proofs.MemberLemmas.{Contains-cases, Contains-here, Contains-none, Contains-there}
+use Rattle.kati_args.specs.declared.args.Args.{Args}
+use Rattle.kati.specs.Chosen.{chosen_goals}
+use Rattle.kati.specs.Course.{Course, on_course, off_course}
+use Rattle.kati.specs.Listing.{listed}
+use Rattle.kati.specs.Makefile.{Read, makefile_read}
+use Rattle.kati.specs.Meaning.{EndsAs, Meaning, Means, MeansGoals, MeansListed, MeansRead, meaning_of}
+use Rattle.kati.specs.Once.{HasOneMeaning}
+use Rattle.kati.specs.Planned.{plan_course}
+use Rattle.kati.proofs.PlanLemmas.{name_in, not_less, order}
+
+-- ---- names in order
+
+never_back : (x y : Text) → order x y ≡ Less → order y x ≡ Less → ⊥
+never_back x y less back =
+    true≢false (sym (ap is_lt less) ∙ ap is_lt (nat_list_cmp_total.antisymm x y) ∙ ap (λ (o : Ordering). is_lt (ordering_reverse o)) back)
+
+equal_by : (x y : Text) → (order x y ≡ Less → ⊥) → (order y x ≡ Less → ⊥) → x ≡ y
+equal_by x y not_below not_above = by (order x y) refl
+  where
+    by : (o : Ordering) → order x y ≡ o → x ≡ y
+    by Less e = absurd (not_below e)
+    by Equal e = exact_bytes x y e
+    by Greater e = absurd (not_above (nat_list_cmp_total.antisymm y x ∙ ap ordering_reverse e))
+
+first_once : (P : Text → Type 0) (one other : Text) → IsFirst P one → IsFirst P other → one ≡ other
+first_once P one other f g = equal_by one other (g.least one f.holds) (f.least other g.holds)
+
+not_before_first : (first : Text) (names : List Text) (name : Text) → IsStrictlySortedBy order (first ∷ names) → Contains (first ∷ names) name
+    → order name first ≡ Less → ⊥
+not_before_first first names name rises has less = ⊎_elim
+    (λ (same : first ≡ name). not_less name first less (sym same))
+    (λ (later : Contains names name). never_back name first less
+    (All-contains (λ (q : Text). order first q ≡ Less) names name (All-after_first order first names rises) later))
+    (Contains-cases first names name has)
+
+later_of : (first : Text) (names : List Text) (name : Text) → (first ≡ name → ⊥) → Contains (first ∷ names) name → Contains names name
+later_of first names name other has = ⊎_elim
+    (λ (same : first ≡ name). absurd (other same))
+    (λ (later : Contains names name). later)
+    (Contains-cases first names name has)
+
+module _ (name other : Text) (names others : List Text) (rises : IsStrictlySortedBy order (name ∷ names)) where
+  -- what is contained after the first of two lists whose first names are the same
+  later_too : name ≡ other → ((one : Text) → Contains (name ∷ names) one → Contains (other ∷ others) one)
+      → (one : Text) → Contains names one → Contains others one
+  later_too first there one has =
+      later_of other others one (λ (same : other ≡ one). not_less name one above (first ∙ same)) (there one (Contains-there name names one has))
+    where
+      above : order name one ≡ Less
+      above = All-contains (λ (q : Text). order name q ≡ Less) names one (All-after_first order name names rises) has
+
+  same_first : IsStrictlySortedBy order (other ∷ others) → Contains (other ∷ others) name → Contains (name ∷ names) other → name ≡ other
+  same_first rise there back = equal_by name other (not_before_first other others name rise there) (not_before_first name names other rises back)
+
+-- names in order are told by what they contain
+same_names : (names others : List Text) → IsStrictlySortedBy order names → IsStrictlySortedBy order others
+    → ((name : Text) → Contains names name → Contains others name) → ((name : Text) → Contains others name → Contains names name) → names ≡ others
+same_names [] [] rises rise there back = refl
+same_names [] (other ∷ others) rises rise there back = Contains-none other (back other (Contains-here other others))
+same_names (name ∷ names) [] rises rise there back = Contains-none name (there name (Contains-here name names))
+same_names (name ∷ names) (other ∷ others) rises rise there back =
+    let first : name ≡ other
+    = same_first name other names others rises rise (there name (Contains-here name names)) (back other (Contains-here other others)) in
+    ap (λ (one : Text). one ∷ names) first
+    ∙ ap (λ (rest : List Text). other ∷ rest)
+    (same_names names others (sorted_tail order name names rises) (sorted_tail order other others rise)
+    (later_too name other names others rises first there) (later_too other name others names rise (sym first) back))
+
+-- ---- the graph and what is wrong with it
+
+module _ (rules : List Rule) (known goals : List Text) where
+  graph_once : (nodes others : List Node) → IsGraph rules known goals nodes → IsGraph rules known goals others → nodes ≡ others
+  graph_once nodes others one other = one.settled ∙ ap (map (node_of rules known)) same ∙ sym other.settled
+    where
+      same : map name_in nodes ≡ map name_in others
+      same = same_names (map name_in nodes) (map name_in others) one.rises other.rises
+          (λ name has. (other.reached name).1 ((one.reached name).0 has)) (λ name has. (one.reached name).1 ((other.reached name).0 has))
+
+  sound_or_not : (trouble : Trouble) → IsSound rules known goals → ComesFirst rules known goals (Some trouble) → ⊥
+  sound_or_not (no_rule goal) sound first = none-some goal (sym sound.free.uncircled.goals_made.made ∙ first)
+  sound_or_not (circular name) sound first = sound.free.uncircled.uncircled name first.1.holds
+  sound_or_not reserved_name sound first = sound.free.free first.1.0 first.1.1
+  sound_or_not (one_file name) sound first = sound.single name first.1.holds
+
+  trouble_once : (one other : Trouble) → ComesFirst rules known goals (Some one) → ComesFirst rules known goals (Some other) → one ≡ other
+  trouble_once (no_rule goal) (no_rule other) f g = ap no_rule (same_Some goal other (sym f ∙ g))
+  trouble_once (no_rule goal) (circular name) f g = absurd (none-some goal (sym g.0.made ∙ f))
+  trouble_once (no_rule goal) reserved_name f g = absurd (none-some goal (sym g.0.goals_made.made ∙ f))
+  trouble_once (no_rule goal) (one_file name) f g = absurd (none-some goal (sym g.0.uncircled.goals_made.made ∙ f))
+  trouble_once (circular name) (no_rule goal) f g = absurd (none-some goal (sym f.0.made ∙ g))
+  trouble_once (circular name) (circular other) f g = ap circular (first_once _ name other f.1 g.1)
+  trouble_once (circular name) reserved_name f g = absurd (g.0.uncircled name f.1.holds)
+  trouble_once (circular name) (one_file other) f g = absurd (g.0.uncircled.uncircled name f.1.holds)
+  trouble_once reserved_name (no_rule goal) f g = absurd (none-some goal (sym f.0.goals_made.made ∙ g))
+  trouble_once reserved_name (circular name) f g = absurd (f.0.uncircled name g.1.holds)
+  trouble_once reserved_name reserved_name f g = refl
+  trouble_once reserved_name (one_file name) f g = absurd (g.0.free f.1.0 f.1.1)
+  trouble_once (one_file name) (no_rule goal) f g = absurd (none-some goal (sym f.0.uncircled.goals_made.made ∙ g))
+  trouble_once (one_file name) (circular other) f g = absurd (f.0.uncircled.uncircled other g.1.holds)
+  trouble_once (one_file name) reserved_name f g = absurd (f.0.free g.1.0 g.1.1)
+  trouble_once (one_file name) (one_file other) f g = ap one_file (first_once _ name other f.1 g.1)
+
+-- ---- the whole
+
+goals_once : (limit : _) (read : Read) (known said asked goals : List Text) (m n : Meaning) → MeansGoals limit read known said asked goals m
+    → MeansGoals limit read known said asked goals n → m ≡ n
+goals_once limit read known said asked goals m n (inl p) (inl q) =
+    p.means
+    ∙ ap (λ (nodes : List Node). meaning_of (plan_course read.book read.table limit goals nodes said asked))
+    (graph_once read.book known goals p.nodes q.nodes p.graph.1 q.graph.1)
+    ∙ sym q.means
+goals_once limit read known said asked goals m n (inl p) (inr u) = absurd (sound_or_not read.book known goals u.trouble p.graph.0 u.first)
+goals_once limit read known said asked goals m n (inr t) (inl q) = absurd (sound_or_not read.book known goals t.trouble q.graph.0 t.first)
+goals_once limit read known said asked goals m n (inr t) (inr u) =
+    t.means
+    ∙ ap (λ (trouble : Trouble). meaning_of (off_course said asked (fault_at None (fault_number trouble) (fault_words trouble))))
+    (trouble_once read.book known goals t.trouble u.trouble t.first u.first)
+    ∙ sym u.means
+
+course_once : {A : Type 0} (course : Course A) (Next : List Text → List Text → A → Meaning → Type 0) (m n : Meaning)
+    → ((said asked : List Text) (x : A) → Next said asked x m → Next said asked x n → m ≡ n) → EndsAs course Next m → EndsAs course Next n → m ≡ n
+course_once (on_course said asked x) Next m n next h k = next said asked x h k
+course_once (off_course said asked fault) Next m n next h k = h ∙ sym k
+
+read_once : (args : Args) (list : Text) (said asked : List Text) (read : Read) (m n : Meaning) → MeansRead args list said asked read m
+    → MeansRead args list said asked read n → m ≡ n
+read_once args list said asked read m n h k =
+    course_once (chosen_goals args.limit read said asked args.goals) (MeansGoals args.limit read (known_names read.book list)) m n
+    (λ heard names goals f g. goals_once args.limit read (known_names read.book list) heard names goals m n f g) h k
+
+pub one_meaning : HasOneMeaning
+one_meaning args store asked m n h k =
+    course_once (listed store asked args.files) (MeansListed args store) m n
+    (λ said names list f g. course_once (makefile_read args store names) (MeansRead args list) m n
+    (λ heard middle read one other. read_once args list heard middle read m n one other) f g) h k
