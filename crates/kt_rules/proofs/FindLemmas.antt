@@ -1,17 +1,8 @@
--- Searches among numbers, and names put behind others.
-use Rattle.std.proofs.Common.{◌≡◌, ℕ, zero, suc, ◌+◌, ◌-◌, ◌<◌, Bool, true, false, cond, if◌then◌else◌, List, [], ◌∷◌, ◌++◌, fold, find, filter, map, take, drop, length, get_or, ◌≤◌, ◌&&◌, Some, None, refl, sym, ap, ◌∙◌, arith}
-use Rattle.std.specs.List.{range_with_len}
+-- Searches, and names put behind others.
+use Rattle.std.proofs.Common.{◌≡◌, ℕ, ◌+◌, ◌<◌, Bool, true, false, cond, if◌then◌else◌, List, [], ◌∷◌, ◌++◌, fold, find, filter, map, take, drop, length, get_or, ◌≤◌, ◌&&◌, Some, None, refl, sym, ap, ◌∙◌}
 use Rattle.std.proofs.lemmas.List.{append-nil, append_assoc, drop_more, drop_all}
 use Rattle.kt_text.specs.Words.{Text}
 use Rattle.kt_rules.specs.Names.{is_among, with_name}
-
--- the first of some numbers
-pub find-range : (test : ℕ → Bool) (from many : ℕ) → 0 < many
-    → find test (range_with_len from many) ≡ cond (test from) (Some from) (find test (range_with_len (from + 1) (many - 1)))
-find-range test from zero h = absurd (omega arith)
-find-range test from (suc many) h =
-    let e : suc many - 1 ≡ many = omega arith in
-    ap (λ n. cond (test from) (Some from) (find test (range_with_len (from + 1) n))) (sym e)
 
 one_grows : (names : List Text) (name : Text) (b : Bool) → (more : List Text) × ((if b then names else names ++ name ∷ []) ≡ names ++ more)
 one_grows names name true = ([], sym (append-nil names))

@@ -11,5 +11,6 @@ pub mod StartLemmas
 pub mod BookLemmas
 pub mod GoalLemmas
 pub mod AddLemmas
+pub mod CutBehindLemmas
 pub mod PatternLemmas
 pub mod CutLemmas

@@ -24,6 +24,7 @@ use crate::entry::Entry;
 use crate::fault::RuleFault;
 pub use entries::Entries;
 pub use explicit::Explicit;
+use explicit::skips_bare;
 use index::Index;
 use kt_list::Sequence;
 use matching::{candidates, unrepeated};
@@ -128,8 +129,9 @@ impl Book {
     pub fn explicit(&self, name: &[u8]) -> Explicit<'_>
         ensures { result ≡ explicit_rules self.now name.now }
     {
-        let skips_bare = is_suffix_name(&self.suffixes, name);
-        Explicit::new(self.slots.as_slice(), self.targets.spots(name), skips_bare)
+        let slots = self.slots.as_slice();
+        let spots = self.targets.spots(name);
+        Explicit::new(slots, spots, skips_bare(&self.suffixes, slots, spots, name))
     }
 
     /// Whether `.PHONY` needs the name (POSIX.1-2024 make, "Target Rules"). Takes no memory.
