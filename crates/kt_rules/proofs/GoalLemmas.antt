@@ -14,6 +14,7 @@ use Rattle.kt_rules.specs.SuffixCuts.{is_bare_at}
 use Rattle.kt_rules.specs.Suffixes.{is_bare, suffix_patterns, suffixes_of}
 use Rattle.kt_rules.specs.Book.{is_goal, first_goal_by, target_rules, explicit_rules, rules_of, recipes_of, is_double, is_group, xor, differ_in_colons, is_beside_group}
 use Rattle.kt_rules.specs.Slots.{rules_in, slot_goal, found, first_of, first_found, spot_rule, unless, explicit_left, IsKept}
+use Rattle.kt_rules.proofs.FindLemmas.{or_split}
 use Rattle.kt_rules.proofs.BookLemmas.{alike_first}
 
 goal_step : {A B : Type 0} (f : A → B) (x : A) (both one other : Option A) (b : Bool) → option_map f both ≡ option_or (option_map f one) (option_map f other)
@@ -101,17 +102,13 @@ keep_one : (made : Rule × Target) (rest one other : List (Rule × Target)) (ski
 keep_one made rest one other skips true b e h same = absurd (false≢true (sym h))
 keep_one made rest one other skips false b e h same = ap (λ xs. made ∷ xs) same
 
-rest_not : (a b : Bool) → (a || b) ≡ false → b ≡ false
-rest_not true b h = absurd (false≢true (sym h))
-rest_not false b h = h
-
 -- where no rule has the form of a suffix rule, none is left out
 none_bare : (skips : Bool) (rules : List (Rule × Target)) → list_any is_bare rules ≡ false
     → filter (λ made. not (is_bare made && false)) rules ≡ filter (λ made. not (is_bare made && skips)) rules
 none_bare skips [] h = refl
 none_bare skips (made ∷ rules) h =
     keep_one made rules (filter (λ (other : Rule × Target). not (is_bare other && false)) rules) (filter (λ (other : Rule × Target). not (is_bare other && skips)) rules) skips
-    (is_bare made) (list_any is_bare rules) refl h (none_bare skips rules (rest_not (is_bare made) (list_any is_bare rules) h))
+    (is_bare made) (list_any is_bare rules) refl h (none_bare skips rules (or_split (is_bare made) (list_any is_bare rules) h).1)
 
 guarded : (skips any : Bool) (rules : List (Rule × Target)) → list_any is_bare rules ≡ any
     → filter (λ made. not (is_bare made && (any && skips))) rules ≡ filter (λ made. not (is_bare made && skips)) rules

@@ -8,6 +8,7 @@ pub mod NameSetLemmas
 pub mod SlotLemmas
 pub mod FindLemmas
 pub mod StartLemmas
+pub mod GroupLemmas
 pub mod BookLemmas
 pub mod GoalLemmas
 pub mod AddLemmas

@@ -1,6 +1,6 @@
 //! The rules of a makefile, as a list of entries.
 ghost use Rattle.std.specs.Prelude.{◌≡◌, ◌++◌, ◌∷◌, [], IfOk, OnErr, OnOk, None, map, option_map};
-ghost use Rattle.kt_rules.specs.Book.{added, explicit_rules, first_goal_of, is_explicit, is_phony, override_messages, patterns_of, refusal_of};
+ghost use Rattle.kt_rules.specs.Book.{GroupsStandAlone, added, explicit_rules, first_goal_of, is_explicit, is_phony, override_messages, patterns_of, refusal_of};
 ghost use Rattle.kt_rules.specs.Refusals.{Answers};
 ghost use Rattle.kt_rules.specs.Slots.{rule_told};
 ghost use Rattle.kt_rules.specs.Suffixes.{suffixes_of};
@@ -107,8 +107,11 @@ impl Book {
     }
 
     /// All entries, in order. Takes no memory.
+    ///
+    /// A group shares no target with another entry that has a recipe.
     pub fn entries(&self) -> Entries<'_>
-        ensures { result ≡ self.now }
+        ensures all { result ≡ self.now }
+        ensures groups { GroupsStandAlone self.now }
     {
         Entries::new(self.slots.as_slice())
     }
