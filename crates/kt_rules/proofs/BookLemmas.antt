@@ -1,11 +1,12 @@
 -- What a book keeps beside its rules, as rules are added.
-use Rattle.std.proofs.Common.{◌≡◌, ℕ, ◌+◌, Bool, true, false, cond, ◌&&◌, ◌||◌, if◌then◌else◌, List, [], ◌∷◌, ◌++◌, length, map, filter, fold, find, drop, Option, Some, None, refl, sym, ap, ◌∙◌, subst, is_some, is_none, ◌⊎◌, inl, inr, ⊎_elim, length-append, true≢false}
+use Rattle.std.proofs.Common.{◌≡◌, ℕ, ◌+◌, Bool, true, false, cond, ◌&&◌, ◌||◌, if◌then◌else◌, List, [], ◌∷◌, ◌++◌, length, map, filter, fold, find, drop, Option, Some, None, refl, sym, ap, ◌∙◌, arith, subst, is_some, is_none, ◌⊎◌, inl, inr, ⊎_elim, length-append, true≢false}
 use Rattle.std.specs.Option.{option_map, option_and_then, option_or, option_map_or}
 use Rattle.std.specs.List.{flat_map, cons_option, list_any}
 use Rattle.std.specs.Str.{bytes_eq}
 use Rattle.std.proofs.lemmas.List.{append-nil}
 use Rattle.std.proofs.lemmas.List.Elements.{filter-append}
 use Rattle.std.proofs.lemmas.List.Folds.{list_any-append}
+use Rattle.std.proofs.lemmas.List.Quantifiers.{all_pairs_push}
 use Rattle.std.proofs.lemmas.Grind.{flat_map-append, fold-append}
 use Rattle.std.proofs.lemmas.Slice.Eq.{bytes_eq-Decides}
 use Rattle.kt_text.specs.Words.{Text}
@@ -17,8 +18,10 @@ use Rattle.kt_rules.specs.Refusals.{bad_group, both_colons, two_recipes}
 use Rattle.kt_rules.specs.Names.{is_among, with_name}
 use Rattle.kt_rules.specs.Indexes.{spots_at}
 use Rattle.kt_rules.specs.Suffixes.{suffixes_of, suffixes_after, start_suffixes}
-use Rattle.kt_rules.specs.Book.{is_made, made_targets, target_rules, rules_of, recipes_of, has_recipe, is_double, is_group, phony_of, is_phony, xor, differ_in_colons, is_beside_group, both_colons_in, beside_group_in, two_recipes_in, refusal_of}
+use Rattle.kt_rules.specs.Book.{AreApart, GroupsStandAlone, is_made, made_targets, target_rules, rules_of, recipes_of, has_recipe, is_double, is_group, phony_of, is_phony, xor, differ_in_colons, is_beside_group, both_colons_in, beside_group_in, two_recipes_in, refusal_of}
 use Rattle.kt_rules.specs.Slots.{rules_in, target_rule, spot_rule, found, first_of, spot_at, target_spots, spots_from, spots_for, AreBefore, AreIn, GrewIn, GotSpots, GotRecipes, AreAlike, Tells, IsKept}
+use Rattle.kt_rules.proofs.FindLemmas.{find_none, or_split, some_none}
+use Rattle.kt_rules.proofs.GroupLemmas.{apart_last}
 use Rattle.kt_rules.proofs.SlotLemmas.{rules_in-none, rules_in-some, found-before, found-in_none, found-append, before_more, before_in, before_append, in_spots_from, first_target, slot_last}
 
 -- the rules of a name among those of one rule
@@ -153,10 +156,6 @@ or_same : (b : Bool) → (b || b) ≡ b
 or_same true = refl
 or_same false = refl
 
-or_split : (a b : Bool) → (a || b) ≡ false → (a ≡ false) × (b ≡ false)
-or_split true b h = absurd (true≢false h)
-or_split false b h = (refl, h)
-
 or_assoc : (a b c : Bool) → ((a || b) || c) ≡ (a || (b || c))
 or_assoc true b c = refl
 or_assoc false b c = refl
@@ -192,13 +191,6 @@ alike_first f test (x ∷ xs) h =
 pub any_first : {A : Type 0} (xs : List A) → list_any (λ x. true) xs ≡ is_some (first_of xs)
 any_first [] = refl
 any_first (x ∷ xs) = refl
-
-some_none : {A : Type 0} (x : A) → Some x ≡ None → ⊥
-some_none x h = cc
-
-find_none : {A : Type 0} (b : Bool) (x : A) (rest : Option A) → cond b (Some x) rest ≡ None → (b ≡ false) × (rest ≡ None)
-find_none true x rest h = absurd (some_none x h)
-find_none false x rest h = (refl, h)
 
 refused_step : {A : Type 0} (one : A) (rest : List A) (test : Text → Bool) (name other : Text) (b : Bool) → bytes_eq name other ≡ b → test other ≡ false
     → (rest ≡ []) ⊎ (test name ≡ false) → (cond b (one ∷ rest) rest ≡ []) ⊎ (test name ≡ false)
@@ -331,6 +323,7 @@ kept_new targets recipes t r = record {
   suffixes_told = refl;
   colons = λ name. (true, refl);
   groups = λ name. (true, refl);
+  apart = λ i j d before within. absurd (omega arith);
 }
 
 -- without rules, as the parts are made
@@ -356,6 +349,7 @@ kept_none slots targets targets' recipes recipes' phony phony' suffixes suffixes
       suffixes_told = s ∙ kept.suffixes_told ∙ sym (ap suffixes_of e);
       colons = λ name. subst (λ rules. AreAlike (λ (made : Rule × Target). is_double made.0.kind) (rules_of rules name)) (sym e) (kept.colons name);
       groups = λ name. subst (λ rules. AreAlike (λ (made : Rule × Target). is_group made.0.kind) (recipes_of rules name)) (sym e) (kept.groups name);
+      apart = subst GroupsStandAlone (sym e) kept.apart;
     }
 
 -- one more rule
@@ -386,4 +380,5 @@ kept_some slots rule targets targets' recipes recipes' phony phony' suffixes suf
           subst (λ rules. AreAlike (λ (made : Rule × Target). is_group made.0.kind) (recipes_of rules name)) (sym e)
           (subst (AreAlike (λ (made : Rule × Target). is_group made.0.kind)) (sym (recipes_of-more (rules_in slots) rule name))
           (groups_more (rules_in slots) rule name (is_some rule.recipe) refl (kept.groups name) none.1));
+      apart = subst GroupsStandAlone (sym e) (all_pairs_push AreApart (rules_in slots) rule kept.apart (apart_last (rules_in slots) rule none.1));
     }

@@ -1,17 +1,8 @@
--- Searches among numbers, and names put behind others.
-use Rattle.std.proofs.Common.{◌≡◌, ℕ, zero, suc, ◌+◌, ◌-◌, ◌<◌, Bool, true, false, cond, if◌then◌else◌, List, [], ◌∷◌, ◌++◌, fold, find, filter, map, take, drop, length, get_or, ◌≤◌, ◌&&◌, Some, None, refl, sym, ap, ◌∙◌, arith}
-use Rattle.std.specs.List.{range_with_len}
+-- Searches, and names put behind others.
+use Rattle.std.proofs.Common.{◌≡◌, ℕ, ◌+◌, ◌<◌, Bool, true, false, cond, if◌then◌else◌, List, [], ◌∷◌, ◌++◌, fold, find, filter, map, take, drop, length, get_or, ◌≤◌, ◌&&◌, ◌||◌, Option, Some, None, refl, sym, ap, ◌∙◌, true≢false}
 use Rattle.std.proofs.lemmas.List.{append-nil, append_assoc, drop_more, drop_all}
 use Rattle.kt_text.specs.Words.{Text}
 use Rattle.kt_rules.specs.Names.{is_among, with_name}
-
--- the first of some numbers
-pub find-range : (test : ℕ → Bool) (from many : ℕ) → 0 < many
-    → find test (range_with_len from many) ≡ cond (test from) (Some from) (find test (range_with_len (from + 1) (many - 1)))
-find-range test from zero h = absurd (omega arith)
-find-range test from (suc many) h =
-    let e : suc many - 1 ≡ many = omega arith in
-    ap (λ n. cond (test from) (Some from) (find test (range_with_len (from + 1) n))) (sym e)
 
 one_grows : (names : List Text) (name : Text) (b : Bool) → (more : List Text) × ((if b then names else names ++ name ∷ []) ≡ names ++ more)
 one_grows names name true = ([], sym (append-nil names))
@@ -71,3 +62,15 @@ filter_at made test f xs i x h e =
     by true true g = ap (λ c. map f (cond c (x ∷ filter test (filter made (drop (i + 1) xs))) (filter test (filter made (drop (i + 1) xs))))) g
     by true false g = ap (λ c. map f (cond c (x ∷ filter test (filter made (drop (i + 1) xs))) (filter test (filter made (drop (i + 1) xs))))) g
     by false b g = refl
+
+pub or_split : (a b : Bool) → (a || b) ≡ false → (a ≡ false) × (b ≡ false)
+or_split true b h = absurd (true≢false h)
+or_split false b h = (refl, h)
+
+pub some_none : {A : Type 0} (x : A) → Some x ≡ None → ⊥
+some_none x h = cc
+
+-- where nothing is found
+pub find_none : {A : Type 0} (b : Bool) (x : A) (rest : Option A) → cond b (Some x) rest ≡ None → (b ≡ false) × (rest ≡ None)
+find_none true x rest h = absurd (some_none x h)
+find_none false x rest h = (refl, h)

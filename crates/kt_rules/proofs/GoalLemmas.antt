@@ -1,5 +1,6 @@
 -- Explicit rules and goals, slot by slot.
 use Rattle.std.proofs.Common.{◌≡◌, ℕ, ◌+◌, ◌<◌, ◌≤◌, length, drop, get_or, Bool, true, false, cond, not, ◌&&◌, ◌||◌, if◌then◌else◌, List, [], ◌∷◌, ◌++◌, filter, find, Option, Some, None, refl, sym, ap, ◌∙◌, is_some}
+use Rattle.std.proofs.lemmas.Bool.{false≢true}
 use Rattle.std.specs.Option.{option_map, option_or, option_map_or}
 use Rattle.std.specs.List.{filter_map, flat_map, cons_option, list_any}
 use Rattle.std.proofs.lemmas.List.{drop_more, drop_all}
@@ -9,9 +10,11 @@ use Rattle.kt_rules.specs.declared.book.index.Spot.{Spot}
 use Rattle.kt_rules.specs.declared.book.index.Index.{Index}
 use Rattle.kt_rules.specs.Entry.{Rule}
 use Rattle.kt_rules.specs.Indexes.{spots_at}
+use Rattle.kt_rules.specs.SuffixCuts.{is_bare_at}
 use Rattle.kt_rules.specs.Suffixes.{is_bare, suffix_patterns, suffixes_of}
 use Rattle.kt_rules.specs.Book.{is_goal, first_goal_by, target_rules, explicit_rules, rules_of, recipes_of, is_double, is_group, xor, differ_in_colons, is_beside_group}
 use Rattle.kt_rules.specs.Slots.{rules_in, slot_goal, found, first_of, first_found, spot_rule, unless, explicit_left, IsKept}
+use Rattle.kt_rules.proofs.FindLemmas.{or_split}
 use Rattle.kt_rules.proofs.BookLemmas.{alike_first}
 
 goal_step : {A B : Type 0} (f : A → B) (x : A) (both one other : Option A) (b : Bool) → option_map f both ≡ option_or (option_map f one) (option_map f other)
@@ -83,15 +86,45 @@ module _ (slots : List (Option Rule)) (targets recipes : Index) (phony suffixes 
       ∙ sym (alike_first (λ t. is_group rule.kind || t) (λ (made : Rule × Target). is_group made.0.kind) (recipes_of (rules_in slots) name) (kept.groups name))
       ∙ ap (λ rs. list_any (is_beside_group rule) (recipes_of rs name)) view
 
+bare_cons : (one : Option (Rule × Target)) (rest : List (Rule × Target)) (b : Bool) → b ≡ list_any is_bare rest
+    → (option_map_or is_bare one false || b) ≡ list_any is_bare (cons_option one rest)
+bare_cons None rest b h = h
+bare_cons (Some made) rest b h = ap (λ c. is_bare made || c) h
+
+-- the rules at spots are asked as they are found
+bare_found : (slots : List (Option Rule)) (spots : List Spot) → list_any (is_bare_at slots) spots ≡ list_any is_bare (found slots spots)
+unfolding found
+bare_found slots [] = refl
+bare_found slots (spot ∷ spots) = bare_cons (spot_rule slots spot) (found slots spots) (list_any (is_bare_at slots) spots) (bare_found slots spots)
+
+keep_one : (made : Rule × Target) (rest one other : List (Rule × Target)) (skips a b : Bool) → is_bare made ≡ a → (a || b) ≡ false → one ≡ other
+    → cond (not (a && false)) (made ∷ one) one ≡ cond (not (a && skips)) (made ∷ other) other
+keep_one made rest one other skips true b e h same = absurd (false≢true (sym h))
+keep_one made rest one other skips false b e h same = ap (λ xs. made ∷ xs) same
+
+-- where no rule has the form of a suffix rule, none is left out
+none_bare : (skips : Bool) (rules : List (Rule × Target)) → list_any is_bare rules ≡ false
+    → filter (λ made. not (is_bare made && false)) rules ≡ filter (λ made. not (is_bare made && skips)) rules
+none_bare skips [] h = refl
+none_bare skips (made ∷ rules) h =
+    keep_one made rules (filter (λ (other : Rule × Target). not (is_bare other && false)) rules) (filter (λ (other : Rule × Target). not (is_bare other && skips)) rules) skips
+    (is_bare made) (list_any is_bare rules) refl h (none_bare skips rules (or_split (is_bare made) (list_any is_bare rules) h).1)
+
+guarded : (skips any : Bool) (rules : List (Rule × Target)) → list_any is_bare rules ≡ any
+    → filter (λ made. not (is_bare made && (any && skips))) rules ≡ filter (λ made. not (is_bare made && skips)) rules
+guarded skips true rules h = refl
+guarded skips false rules h = none_bare skips rules h
+
 module _ (slots : List (Option Rule)) (targets recipes : Index) (phony suffixes : List Text) (kept : IsKept slots targets recipes phony suffixes)
     (rules : List Rule) (view : rules_in slots ≡ rules) (name : Text) where
   -- the explicit rules of a target
-  pub explicit_by_spots : (skips : Bool) (all : List (Option Rule)) (spots : List Spot) → skips ≡ is_some (suffix_patterns suffixes name)
+  pub explicit_by_spots : (skips : Bool) (all : List (Option Rule)) (spots : List Spot) → skips ≡ (list_any (is_bare_at all) spots && is_some (suffix_patterns suffixes name))
       → all ≡ slots → spots ≡ spots_at targets name → explicit_left skips all spots ≡ explicit_rules rules name
   unfolding explicit_rules
   explicit_by_spots skips all spots skip one two =
       explicit_found skips all spots
       ∙ ap (λ b. filter (λ (made : Rule × Target). not (is_bare made && b)) (found all spots)) skip
+      ∙ guarded (is_some (suffix_patterns suffixes name)) (list_any (is_bare_at all) spots) (found all spots) (sym (bare_found all spots))
       ∙ ap (λ xs. filter (λ (made : Rule × Target). not (is_bare made && is_some (suffix_patterns suffixes name))) (found xs spots)) one
       ∙ ap (λ xs. filter (λ (made : Rule × Target). not (is_bare made && is_some (suffix_patterns suffixes name))) (found slots xs)) two
       ∙ ap (filter (λ (made : Rule × Target). not (is_bare made && is_some (suffix_patterns suffixes name)))) (kept.targets_told.all name)

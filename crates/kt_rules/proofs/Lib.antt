@@ -8,8 +8,10 @@ pub mod NameSetLemmas
 pub mod SlotLemmas
 pub mod FindLemmas
 pub mod StartLemmas
+pub mod GroupLemmas
 pub mod BookLemmas
 pub mod GoalLemmas
 pub mod AddLemmas
+pub mod CutBehindLemmas
 pub mod PatternLemmas
 pub mod CutLemmas

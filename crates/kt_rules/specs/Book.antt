@@ -1,6 +1,6 @@
 -- The rules of a makefile as a list, and what is asked of it (POSIX.1-2024 make, "Target Rules"; GNU make manual, "Rules").
-use Rattle.std.specs.Prelude.{Bool, true, false, not, ◌&&◌, ◌||◌, ◌==◌, List, [], ◌∷◌, ◌++◌, map, filter, find, flat_map, filter_map, codes, bytes_eq, Option, Some, None, option_map, is_some, is_none, Result, Ok, Err, if◌then◌else◌}
-use Rattle.std.specs.List.{list_any}
+use Rattle.std.specs.Prelude.{◌≡◌, Bool, true, false, not, ◌&&◌, ◌||◌, ◌==◌, List, [], ◌∷◌, ◌++◌, map, filter, find, flat_map, filter_map, codes, bytes_eq, Option, Some, None, option_map, is_some, is_none, Result, Ok, Err, if◌then◌else◌}
+use Rattle.std.specs.List.{AllPairs, list_any}
 use Rattle.std.specs.Cmp.Lexicographic.{pointwise}
 use Rattle.std.specs.Option.{option_or, option_map_or}
 use Rattle.kt_text.specs.Words.{Text}
@@ -129,6 +129,20 @@ refusal_of rules rule =
     if is_group rule.kind && is_none rule.recipe then Some bad_group
     else option_or (option_map (λ target. both_colons target.name) (both_colons_in rules rule))
     (option_map (λ target. two_recipes target.name) (two_recipes_in rules rule))
+
+-- whether a rule makes a target of this name
+abbrev pub makes : Rule → Text → Bool
+makes rule name = list_any (λ target. bytes_eq name target.name) (made_targets rule)
+
+-- of two rules that have a recipe, one of them a group's, neither makes a target of the other
+abbrev pub AreApart : Rule → Rule → Type 0
+AreApart earlier later =
+    is_some earlier.recipe ≡ true → is_some later.recipe ≡ true → (is_group later.kind || is_group earlier.kind) ≡ true
+    → list_any (λ target. makes earlier target.name) (made_targets later) ≡ false
+
+-- a group shares no target with another rule that has a recipe (kati's own)
+abbrev pub GroupsStandAlone : List Rule → Type 0
+GroupsStandAlone rules = AllPairs AreApart rules
 
 -- the targets of which a rule with one colon has the later recipe; an earlier rule with a recipe has one colon too, else
 -- this one is refused (GNU make manual, "Multiple Rules for One Target")

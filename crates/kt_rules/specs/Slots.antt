@@ -8,7 +8,7 @@ use Rattle.kt_rules.specs.declared.book.index.Index.{Index}
 use Rattle.kt_rules.specs.declared.book.target_rule.TargetRule.{TargetRule}
 use Rattle.kt_rules.specs.Entry.{Rule}
 use Rattle.kt_rules.specs.Indexes.{spots_at}
-use Rattle.kt_rules.specs.Book.{is_made, goal_in, is_double, is_group, is_phony, rules_of, recipes_of, xor}
+use Rattle.kt_rules.specs.Book.{GroupsStandAlone, is_made, goal_in, is_double, is_group, is_phony, rules_of, recipes_of, xor}
 use Rattle.kt_rules.specs.Names.{is_among}
 use Rattle.kt_rules.specs.Suffixes.{suffixes_of, is_bare}
 
@@ -121,5 +121,6 @@ pub record IsKept (slots : List (Option Rule)) (targets recipes : Index) (phony 
   pub suffixes_told : suffixes ≡ suffixes_of (rules_in slots)
   -- no target has rules with one colon and with two
   pub colons : (name : Text) → AreAlike (λ made. is_double made.0.kind) (rules_of (rules_in slots) name)
-  -- where a group makes a target, no other rule of it has a recipe
+  -- all rules of a target that have a recipe are groups, or none is
   pub groups : (name : Text) → AreAlike (λ made. is_group made.0.kind) (recipes_of (rules_in slots) name)
+  pub apart : GroupsStandAlone (rules_in slots)

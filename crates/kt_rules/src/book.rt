@@ -1,6 +1,6 @@
 //! The rules of a makefile, as a list of entries.
 ghost use Rattle.std.specs.Prelude.{◌≡◌, ◌++◌, ◌∷◌, [], IfOk, OnErr, OnOk, None, map, option_map};
-ghost use Rattle.kt_rules.specs.Book.{added, explicit_rules, first_goal_of, is_explicit, is_phony, override_messages, patterns_of, refusal_of};
+ghost use Rattle.kt_rules.specs.Book.{GroupsStandAlone, added, explicit_rules, first_goal_of, is_explicit, is_phony, override_messages, patterns_of, refusal_of};
 ghost use Rattle.kt_rules.specs.Refusals.{Answers};
 ghost use Rattle.kt_rules.specs.Slots.{rule_told};
 ghost use Rattle.kt_rules.specs.Suffixes.{suffixes_of};
@@ -24,6 +24,7 @@ use crate::entry::Entry;
 use crate::fault::RuleFault;
 pub use entries::Entries;
 pub use explicit::Explicit;
+use explicit::skips_bare;
 use index::Index;
 use kt_list::Sequence;
 use matching::{candidates, unrepeated};
@@ -106,8 +107,11 @@ impl Book {
     }
 
     /// All entries, in order. Takes no memory.
+    ///
+    /// A group shares no target with another entry that has a recipe.
     pub fn entries(&self) -> Entries<'_>
-        ensures { result ≡ self.now }
+        ensures all { result ≡ self.now }
+        ensures groups { GroupsStandAlone self.now }
     {
         Entries::new(self.slots.as_slice())
     }
@@ -128,8 +132,9 @@ impl Book {
     pub fn explicit(&self, name: &[u8]) -> Explicit<'_>
         ensures { result ≡ explicit_rules self.now name.now }
     {
-        let skips_bare = is_suffix_name(&self.suffixes, name);
-        Explicit::new(self.slots.as_slice(), self.targets.spots(name), skips_bare)
+        let slots = self.slots.as_slice();
+        let spots = self.targets.spots(name);
+        Explicit::new(slots, spots, skips_bare(&self.suffixes, slots, spots, name))
     }
 
     /// Whether `.PHONY` needs the name (POSIX.1-2024 make, "Target Rules"). Takes no memory.

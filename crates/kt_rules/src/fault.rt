@@ -3,6 +3,7 @@ ghost use Rattle.std.specs.Prelude.{◌≡◌};
 ghost use Rattle.kt_rules.specs.declared.fault.RuleFault.TheVariants.{Memory};
 
 use crate::place::Place;
+use bstr::BStr;
 use kt_list::Sequence;
 use std::alloc::AllocError;
 use thiserror::Error;
@@ -14,7 +15,7 @@ pub enum RuleFault {
     #[error("out of memory")]
     Memory,
     /// The makefile is at fault.
-    #[error("E{number:02}")]
+    #[error("{told} [E{number:02}]", told = BStr::new(.words.as_slice()))]
     Refused {
         /// The number that a fault line ends with, as 5 of `[E05]`.
         number: u8,

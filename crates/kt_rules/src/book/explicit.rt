@@ -1,10 +1,15 @@
 //! The explicit rules of a target.
-ghost use Rattle.std.specs.Prelude.{◌≡◌, ◌∷◌, [], MatchOption, option_map};
+ghost use Rattle.std.specs.Prelude.{◌≡◌, ◌&&◌, ◌∷◌, [], MatchOption, is_some, option_map};
 ghost use Rattle.std.specs.Iterator.{YieldsFirstBy, item_count};
+ghost use Rattle.std.specs.List.{list_any};
 ghost use Rattle.kt_rules.specs.Slots.{explicit_left, explicit_rule, rule_told};
+ghost use Rattle.kt_rules.specs.SuffixCuts.{is_bare_at};
+ghost use Rattle.kt_rules.specs.Suffixes.{suffix_patterns};
 
 use super::index::Spot;
-use super::target_rule::{TargetRule, is_bare, rule_at};
+use super::name_set::NameSet;
+use super::suffix::is_suffix_name;
+use super::target_rule::{TargetRule, has_bare, is_bare, rule_at};
 use crate::entry::Entry;
 use std::marker::Model;
 
@@ -57,6 +62,19 @@ impl<'a> Iterator for Explicit<'a> {
         self.spots = spots;
         Some(rule)
     }
+}
+
+/// Whether the rules of this name at the spots that have the form of suffix rules are suffix rules.
+/// Where none has it, the name isn't looked at.
+pub(crate) fn skips_bare(
+    suffixes: &NameSet,
+    slots: &[Option<Entry>],
+    spots: &[Spot],
+    name: &[u8],
+) -> bool
+    ensures { result ≡ (list_any (is_bare_at slots.now) spots.now && is_some (suffix_patterns suffixes.now name.now)) }
+{
+    has_bare(slots, spots) && is_suffix_name(suffixes, name)
 }
 
 // The first explicit rule that stands at one of the spots, and the spots behind it.

@@ -72,7 +72,7 @@ impl<'a> Pattern<'a> {
     }
 
     /// The place of its rule line.
-    pub fn place(&self) -> &Place
+    pub fn place(&self) -> &'a Place
         ensures { result.now ≡ self.now.place }
     {
         self.entry.place()

@@ -1,7 +1,9 @@
 //! A rule as it stands for one of its targets.
 ghost use Rattle.std.specs.Prelude.{◌≡◌, not, ◌&&◌, is_some, option_map};
+ghost use Rattle.std.specs.List.{list_any};
 ghost use Rattle.kt_rules.specs.Book.{is_double, is_group, is_made, is_pattern};
 ghost use Rattle.kt_rules.specs.Slots.{first_found, rule_told, spot_rule, target_rule};
+ghost use Rattle.kt_rules.specs.SuffixCuts.{is_bare_at};
 ghost use Rattle.kt_rules.specs.Suffixes.{is_bare, is_empty, is_single, needs_nothing};
 
 use super::index::Spot;
@@ -82,6 +84,22 @@ pub(crate) fn rule_at<'a>(slots: &'a [Option<Entry>], spot: Spot) -> Option<Targ
     match slots.get(spot.entry) {
         Some(Some(entry)) => target_at(entry, spot.target),
         _ => None,
+    }
+}
+
+// Whether one of the rules that stand at the spots has the form of a suffix rule.
+pub(crate) fn has_bare(slots: &[Option<Entry>], spots: &[Spot]) -> bool
+    ensures { result ≡ list_any (is_bare_at slots.now) spots.now }
+{
+    spots.iter().any(|spot| is_bare_at(slots, *spot))
+}
+
+fn is_bare_at(slots: &[Option<Entry>], spot: Spot) -> bool
+    ensures { result ≡ is_bare_at slots.now spot }
+{
+    match rule_at(slots, spot) {
+        Some(rule) => is_bare(rule),
+        None => false,
     }
 }
 

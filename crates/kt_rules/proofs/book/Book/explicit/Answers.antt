@@ -7,4 +7,4 @@ returns c =
     c.new.ensures
     ∙ explicit_by_spots c.self.inside.slots.items c.self.inside.targets c.self.inside.recipes c.self.inside.phony c.self.inside.suffixes c.self.invariant
     c.args.self.now c.self.view_is c.args.name.now
-    c.is_suffix_name-skips_bare.result c.as_slice.result.now c.spots.result.now c.is_suffix_name-skips_bare.ensures c.as_slice.ensures.value c.spots.ensures
+    c.skips_bare.result c.as_slice-slots.result.now c.spots-spots.result.now c.skips_bare.ensures c.as_slice-slots.ensures.value c.spots-spots.ensures

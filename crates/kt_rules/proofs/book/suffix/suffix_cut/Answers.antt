@@ -1,20 +1,15 @@
-use Rattle.std.proofs.Common.{◌≡◌, ◌∙◌, ◌<◌, ◌-◌, ◌+◌, sym, ap, cond, Some, find, length, arith}
-use Rattle.std.specs.List.{range_with_len}
-use Rattle.kt_rules.specs.Suffixes.{is_cut_at}
-use Rattle.kt_rules.proofs.FindLemmas.{find-range}
+use Rattle.std.proofs.Common.{◌≡◌, ◌∙◌, ap}
+use Rattle.kt_rules.specs.SuffixCuts.{first_cut}
+use Rattle.kt_rules.specs.Suffixes.{suffix_cut}
+use Rattle.kt_rules.proofs.CutBehindLemmas.{all_cuts, cut_within}
 use Rattle.kt_rules.proofs.book.suffix.suffix_cut.Goals as goal
 
-pub returns-then-is_cut_at-clause-cut : goal.returns-then-is_cut_at-clause-cut
-returns-then-is_cut_at-clause-cut c =
-    let left : 0 < length c.args.name.now - c.loop-place.place = omega arith in
-    let step = find-range (is_cut_at c.args.suffixes.now c.args.name.now) c.loop-place.place (length c.args.name.now - c.loop-place.place) left in
-    ap (λ b. cond b (Some c.loop-place.place) (find (is_cut_at c.args.suffixes.now c.args.name.now) (range_with_len (c.loop-place.place + 1) (length c.args.name.now - c.loop-place.place - 1)))) (sym c.if-is_cut_at.true ∙ c.is_cut_at.ensures) ∙ sym step ∙ c.loop-place.invariant
+pub returns-clause-cut : goal.returns-clause-cut
+returns-clause-cut c =
+    c.first_cut.ensures ∙ ap (λ fronts. first_cut c.args.suffixes.now fronts c.args.name.now) c.as_slice.ensures ∙ all_cuts c.args.suffixes.now c.args.name.now
 
-pub loop-place-preserved : goal.loop-place-preserved
-loop-place-preserved c =
-    let left : 0 < length c.args.name.now - c.loop-place.place = omega arith in
-    let step = find-range (is_cut_at c.args.suffixes.now c.args.name.now) c.loop-place.place (length c.args.name.now - c.loop-place.place) left in
-    let e : length c.args.name.now - (c.loop-place.place + 1) ≡ length c.args.name.now - c.loop-place.place - 1 = omega arith in
-    ap (λ n. find (is_cut_at c.args.suffixes.now c.args.name.now) (range_with_len (c.loop-place.place + 1) n)) e
-    ∙ ap (λ b. cond b (Some c.loop-place.place) (find (is_cut_at c.args.suffixes.now c.args.name.now) (range_with_len (c.loop-place.place + 1) (length c.args.name.now - c.loop-place.place - 1)))) (sym c.if-is_cut_at.false ∙ c.is_cut_at.ensures)
-    ∙ sym step ∙ c.loop-place.invariant
+pub returns-clause-within : goal.returns-clause-within
+returns-clause-within c =
+    let cut : c.first_cut.result ≡ suffix_cut c.args.suffixes.now c.args.name.now
+    = c.first_cut.ensures ∙ ap (λ fronts. first_cut c.args.suffixes.now fronts c.args.name.now) c.as_slice.ensures ∙ all_cuts c.args.suffixes.now c.args.name.now in
+    cut_within c.args.suffixes.now c.args.name.now c.first_cut.result cut
