@@ -6,6 +6,7 @@ pub mod MaskLaw
 pub mod Masking
 pub mod ModifierLemmas
 pub mod NestingLemmas
+pub mod OwnSymbols
 pub mod ReadingOn
 pub mod RecipeLemmas
 pub mod Runs

@@ -8,6 +8,7 @@ mod form;
 mod kind;
 pub mod laws;
 mod mask;
+mod mask_tail;
 mod nesting;
 mod next_term;
 mod part;
