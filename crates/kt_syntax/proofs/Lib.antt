@@ -13,6 +13,7 @@ pub mod Runs
 pub mod SignLemmas
 pub mod Sound
 pub mod Splitting
+pub mod SymbolLemmas
 pub mod Uncommenting
 pub mod Unique
 pub mod WholeTree
