@@ -9,6 +9,7 @@ pub mod NestingLemmas
 pub mod OwnSymbols
 pub mod ReadingOn
 pub mod RecipeLemmas
+pub mod RoleLemmas
 pub mod Runs
 pub mod SignLemmas
 pub mod Sound

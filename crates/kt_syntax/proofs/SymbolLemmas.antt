@@ -30,14 +30,14 @@ byte_shown : (byte more : ℕ) → IsShown (mask_byte byte more) byte
 byte_shown byte more =
     ⊎_elim (λ (h : (byte == 36) ≡ true). inr (inr (rw h refl)))
     (λ (h : (byte == 36) ≡ false).
-        ⊎_elim (λ (k : (more == 0) ≡ true). inl (rw (h, k) refl)) (λ (k : (more == 0) ≡ false). inr (inl (rw (h, k) refl))) (cases_Bool (more == 0)))
+    ⊎_elim (λ (k : (more == 0) ≡ true). inl (rw (h, k) refl)) (λ (k : (more == 0) ≡ false). inr (inl (rw (h, k) refl))) (cases_Bool (more == 0)))
     (cases_Bool (byte == 36))
 
 other_shown : (byte more : ℕ) → 0 < more → IsOther (mask_byte byte more)
 other_shown byte more some =
     ⊎_elim (λ (h : (byte == 36) ≡ true). inr (rw h refl))
     (λ (h : (byte == 36) ≡ false).
-        let k : (more == 0) ≡ false = false_from_ne_true (more == 0) (λ e. let none = eqb-true more 0 e in omega arith) in inl (rw (h, k) refl))
+    let k : (more == 0) ≡ false = false_from_ne_true (more == 0) (λ e. let none = eqb-true more 0 e in omega arith) in inl (rw (h, k) refl))
     (cases_Bool (byte == 36))
 
 shown_from : (skip symbol : ℕ) (odd : Bool) (text : Text) → (0 < skip → IsOther symbol) → AreShown (mask_from skip symbol odd text) text
@@ -124,7 +124,7 @@ nothing_taken run (symbol ∷ mask) (byte ∷ text) shown absent =
     let other = not_shown 35 symbol byte refl refl shown.0 (absent_first 35 byte text absent) in
     let later = absent_rest 35 byte text absent in
     ⊎_elim (λ (h : (symbol == 92) ≡ true).
-        rw h (nothing_taken (run + 1) mask text shown.1 later ∙ one_backslash run text ∙ ap (λ b. backslashes run ++ b ∷ text) (own_backslash symbol byte shown.0 h)))
+    rw h (nothing_taken (run + 1) mask text shown.1 later ∙ one_backslash run text ∙ ap (λ b. backslashes run ++ b ∷ text) (own_backslash symbol byte shown.0 h)))
     (λ (h : (symbol == 92) ≡ false). rw (h, other) (ap (λ t. backslashes run ++ byte ∷ t) (nothing_taken 0 mask text shown.1 later)))
     (cases_Bool (symbol == 92))
 

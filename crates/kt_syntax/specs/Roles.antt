@@ -10,7 +10,12 @@ use Rattle.kt_syntax.specs.declared.role.Role.{Role}
 use Rattle.kt_syntax.specs.declared.role.Role.TheVariants.{Ordinary, Conditional, Else, Endif, Define, Endef}
 use Rattle.kt_text.specs.Words.{Text}
 use Rattle.kt_syntax.specs.Mask.{mask_of}
-use Rattle.kt_syntax.specs.Kinds.{Kind, blank, assignment, directive, refused, rule, block_word, comment_place, line_kind, past_word}
+use Rattle.kt_syntax.specs.Kinds.{Kind, blank, assignment, directive, refused, rule, block_word, comment_place, line_kind, past_blanks, past_word}
+
+-- the first word of a line, before its comment
+unfoldable pub line_word : Text → Text
+line_word text =
+    let mask = take (comment_place text) (mask_of text) in slice_range text (past_blanks 0 mask) (past_word (past_blanks 0 mask) mask)
 
 -- the first word of a text that begins with no blank, before its comment
 unfoldable pub first_word : Text → Text

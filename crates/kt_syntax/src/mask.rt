@@ -82,6 +82,8 @@ impl<'a> Iterator for Mask<'a> {
 
     ghost remaining = { item_count (λ rest. rest) };
 
+    // Loops over a line's own bytes then have no call.
+    #[inline(always)]
     fn next(&mut self) -> Option<Symbol> {
         if let Some((byte, rest)) = self.own.split_first() {
             self.own = rest;

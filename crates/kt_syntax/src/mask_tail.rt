@@ -46,6 +46,7 @@ impl<'a> Iterator for MaskTail<'a> {
 
     ghost remaining = { item_count (λ rest. rest) };
 
+    #[inline(never)]
     fn next(&mut self) -> Option<Symbol> {
         if self.left == 0 {
             return None;

@@ -1,0 +1,7 @@
+use Rattle.std.proofs.Common.{ap, ◌∙◌}
+use Rattle.kt_syntax.specs.Kinds.{block_word}
+use Rattle.kt_syntax.proofs.RoleLemmas.{word_role}
+use Rattle.kt_syntax.proofs.role.role_of.Goals as goal
+
+pub returns-in-None : goal.returns-in-None
+returns-in-None c = word_role c.args.text.now (c.in-None.ensures ∙ ap block_word c.line_word.ensures)
