@@ -1,9 +1,10 @@
 -- Bytes before the first dollar and backslash of a line are their own symbols.
-use Rattle.std.proofs.Common.{◌≡◌, ◌==◌, ◌||◌, ◌≤◌, ◌-◌, ◌+◌, ℕ, zero, suc, Bool, true, false, [], ◌∷◌, ◌++◌, length, take, drop, refl, sym, ap, ◌∙◌, arith, ⊎_elim, true≢false, length-take-le}
+use Rattle.std.proofs.Common.{◌≡◌, ◌==◌, ◌||◌, ◌≤◌, ◌-◌, ◌+◌, ℕ, zero, suc, Bool, true, false, List, [], ◌∷◌, ◌++◌, length, take, drop, refl, sym, ap, ◌∙◌, arith, ⊎_elim, true≢false, length-take-le}
 use Rattle.std.proofs.lemmas.Bool.{cases_Bool}
-use Rattle.std.proofs.Math.Seq.{take-append-add}
+use Rattle.std.proofs.Math.Seq.{drop-append_seam}
 use Rattle.std.specs.List.{position_or_len}
 use Rattle.kt_text.specs.Words.{Text}
+use Rattle.kt_syntax.proofs.Masking.{take_nil}
 use Rattle.kt_syntax.specs.Mask.{mask_from, mask_of, more_masked, goes_odd, mask_byte}
 
 -- a dollar or a backslash
@@ -44,14 +45,20 @@ own_front (suc count) (suc most) symbol (byte ∷ text) h =
     own_byte symbol byte text no_mark ∙ ap (λ m. byte ∷ m) (own_front count most byte text (omega arith)))
     (cases_Bool (is_mark byte))
 
--- the first symbols of a line, of which some are its own bytes
-pub own_symbols : (left most size : ℕ) (text : Text) → size ≡ position_or_len is_mark (take most text) → size ≤ left → size ≤ length text
-    → take size text ++ take (left - size) (mask_from 0 0 false (drop size text)) ≡ take left (mask_of text)
+drop_take : (count most : ℕ) (xs : List ℕ) → drop count (take most xs) ≡ take (most - count) (drop count xs)
+drop_take zero most xs = ap (λ n. take n xs) (let same : most ≡ most - 0 = omega arith in same)
+drop_take (suc count) zero xs = ap (λ n. take n (drop (suc count) xs)) (let none : 0 ≡ 0 - suc count = omega arith in none)
+drop_take (suc count) (suc most) [] = sym (take_nil (suc most - suc count))
+drop_take (suc count) (suc most) (x ∷ xs) =
+    drop_take count most xs ∙ ap (λ n. take n (drop count xs)) (let same : most - count ≡ suc most - suc count = omega arith in same)
+
+-- the symbols of a line behind so many of its own bytes
+pub behind_own : (text : Text) (most end size : ℕ) → size ≡ position_or_len is_mark (take most text) → size ≤ length text
+    → take (end - size) (mask_of (drop size text)) ≡ drop size (take end (mask_of text))
 unfolding mask_of
-own_symbols left most size text e low within =
+behind_own text most end size e within =
     let sizes = length-take-le size text within in
     let tail = mask_from 0 0 false (drop size text) in
-    let whole : left ≡ length (take size text) + (left - size) = omega arith in
-    sym (take-append-add (take size text) tail (left - size))
-    ∙ ap (λ n. take n (take size text ++ tail)) (sym whole)
-    ∙ ap (take left) (sym (own_front size most 0 text (omega arith)))
+    let behind : drop size (take size text ++ tail) ≡ tail =
+    ap (λ n. drop n (take size text ++ tail)) (sym sizes) ∙ drop-append_seam (take size text) tail in
+    sym (drop_take size end (mask_from 0 0 false text) ∙ ap (take (end - size)) (ap (drop size) (own_front size most 0 text (omega arith)) ∙ behind))

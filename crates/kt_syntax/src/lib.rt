@@ -8,7 +8,6 @@ mod form;
 mod kind;
 pub mod laws;
 mod mask;
-mod mask_tail;
 mod nesting;
 mod next_term;
 mod part;

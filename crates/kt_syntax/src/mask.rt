@@ -1,41 +1,45 @@
 //! A line with its references and continuations masked.
-ghost use Rattle.std.specs.Prelude.{◌≡◌, ◌≤◌, ◌+◌, ◌++◌, ◌==◌, ◌||◌, List, ℕ, length, drop, take, slice_index};
+ghost use Rattle.std.specs.Prelude.{◌≡◌, ◌<◌, ◌≤◌, ◌∷◌, ◌+◌, ◌==◌, ◌||◌, List, ℕ, length, drop, take, slice_index};
 ghost use Rattle.std.specs.Iterator.{YieldsFirst, item_count};
 ghost use Rattle.std.specs.List.{position_or_len};
-ghost use Rattle.kt_syntax.specs.Mask.{mask_of};
+ghost use Rattle.kt_syntax.specs.Mask.{goes_odd, mask_byte, mask_from, mask_of, more_masked};
+ghost use Rattle.kt_syntax.specs.Terms.{behind_dollar, kept};
 
-use crate::mask_tail::MaskTail;
+use crate::next_term::behind_dollar;
 use crate::symbol::Symbol;
 use memchr::memchr2;
 use std::marker::Model;
 
 /// The symbols of a line: those of its bytes, those of its references and spaces for continuations.
-///
-/// Before the first dollar and backslash each byte is its own symbol, and none is computed.
 #[derive(Drop)]
 pub(crate) struct Mask<'a> {
-    own: &'a [u8],
-    tail: MaskTail<'a>,
+    rest: &'a [u8],
+    skip: usize,
+    symbol: Symbol,
+    odd: bool,
+    left: usize,
 }
 
 impl<'a> Model for Mask<'a> {
     ghost Value = { List ℕ };
 
-    ghost view = { λ mask. mask.own.now ++ mask.tail };
+    ghost view = { λ mask. take mask.left (mask_from mask.skip mask.symbol mask.odd mask.rest.now) };
 }
 
 impl<'a> Mask<'a> {
     // The first symbols of a line.
+    #[tactic(auto, unfolding(crate::specs::Mask::mask_of))]
     pub(crate) fn new(text: &'a [u8], left: usize) -> Mask<'a>
         ensures value { result ≡ take left (mask_of text.now) }
         ensures size { left ≤ length text.now → length result ≡ left }
         ensures whole { left ≡ length text.now → result ≡ mask_of text.now }
     {
-        let size = own_length(&text[..left.min(text.len())]);
-        let (own, rest) = text.split_at(size);
         Mask {
-            own,
-            tail: MaskTail::new(rest, left - size),
+            rest: text,
+            skip: 0,
+            symbol: Symbol::of(0),
+            odd: false,
+            left,
         }
     }
 
@@ -44,9 +48,10 @@ impl<'a> Mask<'a> {
         ensures value { result ≡ drop from (take end (mask_of text.now)) }
         ensures size { from ≤ end → end ≤ length text.now → from + length result ≡ end }
     {
-        let mut mask = Mask::new(text, end);
-        let passed = mask.pass_own(from);
-        for place in passed..from {
+        // Bytes before the first dollar and backslash are their own symbols, and need no walk.
+        let own = own_length(text, from);
+        let mut mask = Mask::new(&text[own..], end.saturating_sub(own));
+        for place in own..from {
             let _ = mask.next();
         }
         mask
@@ -57,21 +62,10 @@ impl<'a> Mask<'a> {
         ensures symbol { result ≡ slice_index self.old count }
         ensures rest { self.new ≡ drop (count + 1) self.old }
     {
-        let passed = self.pass_own(count);
-        for _place in passed..count {
+        for _place in 0..count {
             let _ = self.next();
         }
         self.next().unwrap_or(Symbol::of(0))
-    }
-
-    // Takes so many symbols, as far as they are bytes of the line's own, and says how many.
-    fn pass_own(&mut self, count: usize) -> usize
-        ensures rest { self.new ≡ drop result self.old }
-        ensures bound { result ≤ count }
-    {
-        let passed = count.min(self.own.len());
-        self.own = &self.own[passed..];
-        passed
     }
 }
 
@@ -82,21 +76,98 @@ impl<'a> Iterator for Mask<'a> {
 
     ghost remaining = { item_count (λ rest. rest) };
 
-    // Loops over a line's own bytes then have no call.
+    // A loop over bytes that are their own symbols has no call then.
     #[inline(always)]
     fn next(&mut self) -> Option<Symbol> {
-        if let Some((byte, rest)) = self.own.split_first() {
-            self.own = rest;
-            return Some(Symbol::of(*byte));
+        if self.left == 0 {
+            return None;
         }
-        self.tail.next()
+        let (byte, text) = self.rest.split_first()?;
+        let (symbol, skip) = first_symbol(self.skip, &self.symbol, self.odd, *byte, text);
+        self.skip = skip;
+        self.symbol = symbol.again();
+        self.odd = goes_odd(self.odd, *byte);
+        self.rest = text;
+        self.left -= 1;
+        Some(symbol)
     }
 }
 
-// How many bytes stand before the first dollar and backslash.
-fn own_length(text: &[u8]) -> usize
-    ensures value { result ≡ position_or_len (λ byte. byte == 36 || byte == 92) text.now }
+// What stands for the first byte, and how many more bytes are masked by the same.
+#[inline(always)]
+fn first_symbol(skip: usize, symbol: &Symbol, odd: bool, byte: u8, text: &[u8]) -> (Symbol, usize)
+    ensures { mask_from skip symbol.now odd (byte ∷ text.now) ≡ result.0 ∷ mask_from result.1 result.0 (goes_odd odd byte) text.now }
+{
+    if skip > 0 {
+        return (symbol.again(), skip - 1);
+    }
+    let more = more_masked(odd, byte, text);
+    (mask_byte(byte, more), more)
+}
+
+// Whether an odd number of backslashes stands before the next byte.
+#[inline(always)]
+fn goes_odd(odd: bool, byte: u8) -> bool
+    ensures { result ≡ goes_odd odd byte }
+{
+    byte == b'\\' && !odd
+}
+
+// How many more bytes a dollar or a backslash takes with it.
+#[tactic(auto, unfolding(crate::specs::Mask::more_masked))]
+#[inline(always)]
+fn more_masked(odd: bool, byte: u8, text: &[u8]) -> usize
+    ensures value { result ≡ more_masked odd byte text.now }
     ensures bound { result ≤ length text.now }
 {
-    memchr2(b'$', b'\\', text).unwrap_or(text.len())
+    if byte == b'$' {
+        return behind_mark(text);
+    }
+    if !goes_odd(odd, byte) {
+        return 0;
+    }
+    match text {
+        [b'\n', ..] => 1,
+        [b'\r', b'\n', ..] => 2,
+        _ => 0,
+    }
+}
+
+// How many bytes the term behind a dollar takes: a continuation counts as one byte there.
+#[inline(never)]
+fn behind_mark(text: &[u8]) -> usize
+    ensures value { result ≡ (behind_dollar kept text.now).1 }
+    ensures bound { result ≤ length text.now }
+{
+    if text.starts_with(b"\\\n") {
+        2
+    } else if text.starts_with(b"\\\r\n") {
+        3
+    } else {
+        behind_dollar(text).1
+    }
+}
+
+// What stands for a byte that takes so many more with it.
+#[inline(always)]
+fn mask_byte(byte: u8, more: usize) -> Symbol
+    ensures { result ≡ mask_byte byte more }
+{
+    if byte == b'$' {
+        Symbol::inside()
+    } else if more == 0 {
+        Symbol::of(byte)
+    } else {
+        Symbol::of(b' ')
+    }
+}
+
+// How many of the first bytes of a line, up to a place, stand before its first dollar and backslash.
+fn own_length(text: &[u8], most: usize) -> usize
+    ensures value { result ≡ position_or_len (λ byte. byte == 36 || byte == 92) (take most text.now) }
+    ensures small { result ≤ most }
+    ensures bound { result ≤ length text.now }
+{
+    let front = &text[..most.min(text.len())];
+    memchr2(b'$', b'\\', front).unwrap_or(front.len())
 }

@@ -1,6 +1,6 @@
 use Rattle.std.proofs.Common.{ap, ◌∙◌, sym}
 use Rattle.kt_syntax.proofs.Masking.{behind-newline, behind-return, behind-other}
-use Rattle.kt_syntax.proofs.mask_tail.behind_mark.Goals as goal
+use Rattle.kt_syntax.proofs.mask.behind_mark.Goals as goal
 
 pub returns-then-starts_with-clause-value : goal.returns-then-starts_with-clause-value
 returns-then-starts_with-clause-value c = behind-newline c.args.text.now (sym c.starts_with.ensures.value ∙ c.if-starts_with.true)
