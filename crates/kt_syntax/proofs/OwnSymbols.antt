@@ -4,7 +4,7 @@ use Rattle.std.proofs.lemmas.Bool.{cases_Bool}
 use Rattle.std.proofs.Math.Seq.{drop-append_seam}
 use Rattle.std.specs.List.{position_or_len}
 use Rattle.kt_text.specs.Words.{Text}
-use Rattle.kt_syntax.proofs.Masking.{take_nil}
+use Rattle.kt_syntax.proofs.Masking.{step-outside, take_nil}
 use Rattle.kt_syntax.specs.Mask.{mask_from, mask_of, more_masked, goes_odd, mask_byte}
 
 -- a dollar or a backslash
@@ -25,6 +25,12 @@ same_symbol symbol other (byte ∷ text) = refl
 own_byte : (symbol byte : ℕ) (text : Text) → is_mark byte ≡ false → mask_from 0 symbol false (byte ∷ text) ≡ byte ∷ mask_from 0 byte false text
 unfolding mask_from more_masked
 own_byte symbol byte text h = let parts = or_parts (byte == 36) (byte == 92) h in rw (parts.0, parts.1) refl
+
+-- one of them is its own symbol and takes no other with it
+pub own_step : (skip symbol : ℕ) (odd : Bool) (byte : ℕ) (text : Text) → skip ≡ 0 → (byte == 36) ≡ false → (byte == 92) ≡ false
+    → mask_from skip symbol odd (byte ∷ text) ≡ byte ∷ mask_from 0 byte (goes_odd odd byte) text
+unfolding more_masked
+own_step skip symbol odd byte text none dollar backslash = step-outside skip symbol odd byte text 0 byte none (rw (dollar, backslash) refl) (rw dollar refl)
 
 position-yes : (byte : ℕ) (text : Text) → is_mark byte ≡ true → position_or_len is_mark (byte ∷ text) ≡ 0
 position-yes byte text h = rw h refl

@@ -1,14 +1,15 @@
 -- Roles of lines by their first words alone.
-use Rattle.std.proofs.Common.{◌≡◌, ◌==◌, ◌||◌, ℕ, List, Bool, true, false, Option, None, Some, length, take, drop, codes, refl, sym, ap, ◌∙◌, ⊎_elim}
+use Rattle.std.proofs.Common.{◌≡◌, ◌==◌, ◌||◌, ◌-◌, ℕ, zero, suc, List, [], ◌∷◌, Bool, true, false, true≢false, Option, None, Some, length, take, drop, codes, zero-add, arith, refl, sym, ap, ◌∙◌, ⊎_elim}
 use Rattle.std.proofs.lemmas.Bool.{cases_Bool}
+use Rattle.std.specs.List.{prefix_len}
 use Rattle.std.specs.List.{slice_range}
 use Rattle.std.specs.Str.{bytes_eq}
-use Rattle.kt_text.specs.Words.{Text}
+use Rattle.kt_text.specs.Words.{Text, is_blank}
 use Rattle.kt_text.specs.Lines.{condensed_of}
 use Rattle.kt_syntax.specs.declared.role.Role.TheVariants.{Ordinary}
-use Rattle.kt_syntax.specs.Mask.{mask_of}
-use Rattle.kt_syntax.specs.Kinds.{Parts, block_word, comment_place, directive_of, include_word, is_refused_word, kind_by_parts, kind_by_word, kind_of, kind_within, assignment_parts, line_kind, past_blanks, past_word, worded}
-use Rattle.kt_syntax.specs.Roles.{line_word, role_by_word, role_of}
+use Rattle.kt_syntax.specs.Mask.{mask_byte, mask_from, mask_of, more_masked}
+use Rattle.kt_syntax.specs.Kinds.{Parts, before_comment, block_word, comment_place, directive_of, include_word, is_refused_word, kind_by_parts, kind_by_word, kind_of, kind_within, assignment_parts, line_kind, past_blanks, past_word, worded}
+use Rattle.kt_syntax.specs.Roles.{line_word, may_open, role_by_word, role_of}
 
 refused_or_rule : (first rest : Text) → role_of (kind_by_word None first rest) ≡ Ordinary
 unfolding role_of
@@ -64,3 +65,72 @@ word_found text end begin after e b a =
     ap (λ x. slice_range text begin x) a
     ∙ ap (λ x. slice_range text x (past_word x (front end))) b
     ∙ ap (λ x. slice_range text (past_blanks 0 (front x)) (past_word (past_blanks 0 (front x)) (front x))) e
+
+-- ---- the first byte of a line
+
+or_left : (a b : Bool) → (a || b) ≡ false → a ≡ false
+or_left false b h = refl
+or_left true b h = absurd (true≢false h)
+
+or_right : (a b : Bool) → (a || b) ≡ false → b ≡ false
+or_right false b h = h
+or_right true b h = absurd (true≢false h)
+
+-- a byte that none of them is
+record IsNone (byte : ℕ) : Type 0 where
+  pub blank : is_blank byte ≡ false
+  pub backslash : (byte == 92) ≡ false
+  pub d : (byte == 100) ≡ false
+  pub e : (byte == 101) ≡ false
+  pub i : (byte == 105) ≡ false
+
+none_of : (byte : ℕ) (text : Text) → may_open (byte ∷ text) ≡ false → IsNone byte
+unfolding is_blank
+none_of byte text h =
+    let before_i = or_left _ (byte == 105) h in
+    let before_e = or_left _ (byte == 101) before_i in
+    let before_d = or_left _ (byte == 100) before_e in
+    record {
+      blank = or_left _ (byte == 92) before_d;
+      backslash = or_right _ (byte == 92) before_d;
+      d = or_right _ (byte == 100) before_e;
+      e = or_right _ (byte == 101) before_i;
+      i = or_right _ (byte == 105) h;
+    }
+
+front_blanks : (count symbol : ℕ) (mask : List ℕ) → is_blank symbol ≡ false → prefix_len is_blank (take count (symbol ∷ mask)) ≡ 0
+front_blanks zero symbol mask h = refl
+front_blanks (suc count) symbol mask h = rw h refl
+
+first_other : (byte : ℕ) (text : Text) → IsNone byte → is_blank (mask_byte byte (more_masked false byte text)) ≡ false
+unfolding more_masked is_blank
+first_other byte text none =
+    ⊎_elim (λ (h : (byte == 36) ≡ true). rw h refl) (λ (h : (byte == 36) ≡ false). rw (h, none.backslash) none.blank) (cases_Bool (byte == 36))
+
+begins_there : (byte : ℕ) (text : Text) → IsNone byte → past_blanks 0 (take (comment_place (byte ∷ text)) (mask_of (byte ∷ text))) ≡ 0
+unfolding mask_of mask_from
+begins_there byte text none =
+    zero-add _ ∙ front_blanks (comment_place (byte ∷ text)) (mask_byte byte (more_masked false byte text)) _ (first_other byte text none)
+
+no_word_taken : (count byte : ℕ) (text : Text) → IsNone byte → block_word (take count (byte ∷ text)) ≡ None
+unfolding block_word
+no_word_taken zero byte text none = refl
+no_word_taken (suc count) byte text none = rw (none.i, none.e, none.d) refl
+
+no_word : (count byte : ℕ) (text : Text) → IsNone byte → block_word (slice_range (byte ∷ text) 0 count) ≡ None
+no_word count byte text none =
+    ap (λ n. block_word (take n (byte ∷ text))) (let all : count - 0 ≡ count = omega arith in all) ∙ no_word_taken count byte text none
+
+empty_role : Ordinary ≡ role_of (kind_of [] false)
+unfolding line_word block_word before_comment mask_of mask_from
+empty_role = word_role [] refl
+
+-- a line that begins otherwise has no word of blocks
+pub first_role : (text : Text) → may_open text ≡ false → Ordinary ≡ role_of (kind_of text false)
+unfolding line_word
+first_role [] h = empty_role
+first_role (byte ∷ text) h =
+    let none = none_of byte text h in
+    let mask = take (comment_place (byte ∷ text)) (mask_of (byte ∷ text)) in
+    word_role (byte ∷ text)
+    (sym (ap (λ x. block_word (slice_range (byte ∷ text) x (past_word x mask))) (begins_there byte text none) ∙ no_word (past_word 0 mask) byte text none))

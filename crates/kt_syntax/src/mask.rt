@@ -101,6 +101,10 @@ fn first_symbol(skip: usize, symbol: &Symbol, odd: bool, byte: u8, text: &[u8]) 
     if skip > 0 {
         return (symbol.again(), skip - 1);
     }
+    // Nearly every byte is its own symbol.
+    if byte != b'$' && byte != b'\\' {
+        return (Symbol::of(byte), 0);
+    }
     let more = more_masked(odd, byte, text);
     (mask_byte(byte, more), more)
 }

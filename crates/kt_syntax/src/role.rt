@@ -2,7 +2,7 @@
 ghost use Rattle.std.specs.Prelude.{◌≡◌, ◌≤◌, false, length, IfOk};
 ghost use Rattle.std.specs.List.{slice_range};
 ghost use Rattle.kt_syntax.specs.Kinds.{block_word, kind_of, line_kind};
-ghost use Rattle.kt_syntax.specs.Roles.{first_word, head_of, line_text, line_word, opens_conditional, role_by_word, role_of, starts_condition};
+ghost use Rattle.kt_syntax.specs.Roles.{first_word, head_of, line_text, line_word, may_open, opens_conditional, role_by_word, role_of, starts_condition};
 
 use crate::form::{Directive, Form};
 use crate::kind::{block_word, classify};
@@ -68,9 +68,23 @@ fn line_role(alloc: Global, line: &[u8], tab: bool) -> Result<Role, AllocError>
 fn role_of(text: &[u8]) -> Role
     ensures { result ≡ role_of (kind_of text.now false) }
 {
+    if !may_open(text) {
+        return Role::Ordinary;
+    }
     match block_word(line_word(text)) {
         None => Role::Ordinary,
         Some(_) => classified_role(text),
+    }
+}
+
+// Whether a line begins with a blank, with what may stand for one, or as the words of conditionals
+// and `define` and their ends do.
+fn may_open(text: &[u8]) -> bool
+    ensures { result ≡ may_open text.now }
+{
+    match text {
+        [first, ..] => matches!(*first, b' ' | b'\t' | b'\\' | b'd' | b'e' | b'i'),
+        [] => false,
     }
 }
 
