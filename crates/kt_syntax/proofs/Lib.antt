@@ -6,12 +6,15 @@ pub mod MaskLaw
 pub mod Masking
 pub mod ModifierLemmas
 pub mod NestingLemmas
+pub mod OwnSymbols
 pub mod ReadingOn
 pub mod RecipeLemmas
+pub mod RoleLemmas
 pub mod Runs
 pub mod SignLemmas
 pub mod Sound
 pub mod Splitting
+pub mod SymbolLemmas
 pub mod Uncommenting
 pub mod Unique
 pub mod WholeTree

@@ -3,7 +3,8 @@ ghost use Rattle.std.specs.Prelude.{◌≡◌, ◌++◌, IfOk, replicate};
 ghost use Rattle.kt_syntax.specs.Comments.{backslashes, plain_of, uncommented_of};
 
 use crate::mask::Mask;
-use kt_text::condensed;
+use kt_text::joined;
+use memchr::memchr;
 use std::alloc::{AllocError, Global};
 
 /// The text of a part of a line, as the part stands in the file: without its comment, and with each
@@ -15,13 +16,23 @@ use std::alloc::{AllocError, Global};
 pub fn plain(alloc: Global, part: &[u8]) -> Result<Vec<u8>, AllocError>
     ensures { IfOk result (λ plain. plain.items ≡ plain_of part.now) }
 {
-    let text = condensed(alloc, part)?;
+    let text = joined(alloc, part)?;
     uncommented(alloc, text.as_slice())
 }
 
 // A text without continuations, without its comment.
-#[tactic(auto, unfolding(crate::specs::Comments::uncommented_of))]
 fn uncommented(alloc: Global, text: &[u8]) -> Result<Vec<u8>, AllocError>
+    ensures { IfOk result (λ plain. plain.items ≡ uncommented_of text.now) }
+{
+    match memchr(b'#', text) {
+        None => Vec::from_slice(alloc, text),
+        Some(_) => without_comment(alloc, text),
+    }
+}
+
+// The same for a text with a number sign.
+#[tactic(auto, unfolding(crate::specs::Comments::uncommented_of))]
+fn without_comment(alloc: Global, text: &[u8]) -> Result<Vec<u8>, AllocError>
     ensures { IfOk result (λ plain. plain.items ≡ uncommented_of text.now) }
 {
     let mut plain = Vec::new(alloc);

@@ -1,11 +1,13 @@
 //! A line with its references and continuations masked.
-ghost use Rattle.std.specs.Prelude.{◌≡◌, ◌<◌, ◌≤◌, ◌∷◌, ◌+◌, List, ℕ, length, drop, take, slice_index};
+ghost use Rattle.std.specs.Prelude.{◌≡◌, ◌<◌, ◌≤◌, ◌∷◌, ◌+◌, ◌==◌, ◌||◌, List, ℕ, length, drop, take, slice_index};
 ghost use Rattle.std.specs.Iterator.{YieldsFirst, item_count};
+ghost use Rattle.std.specs.List.{position_or_len};
 ghost use Rattle.kt_syntax.specs.Mask.{goes_odd, mask_byte, mask_from, mask_of, more_masked};
 ghost use Rattle.kt_syntax.specs.Terms.{behind_dollar, kept};
 
 use crate::next_term::behind_dollar;
 use crate::symbol::Symbol;
+use memchr::memchr2;
 use std::marker::Model;
 
 /// The symbols of a line: those of its bytes, those of its references and spaces for continuations.
@@ -46,8 +48,10 @@ impl<'a> Mask<'a> {
         ensures value { result ≡ drop from (take end (mask_of text.now)) }
         ensures size { from ≤ end → end ≤ length text.now → from + length result ≡ end }
     {
-        let mut mask = Mask::new(text, end);
-        for place in 0..from {
+        // Bytes before the first dollar and backslash are their own symbols, and need no walk.
+        let own = own_length(text, from);
+        let mut mask = Mask::new(&text[own..], end.saturating_sub(own));
+        for place in own..from {
             let _ = mask.next();
         }
         mask
@@ -72,6 +76,8 @@ impl<'a> Iterator for Mask<'a> {
 
     ghost remaining = { item_count (λ rest. rest) };
 
+    // A loop over bytes that are their own symbols has no call then.
+    #[inline(always)]
     fn next(&mut self) -> Option<Symbol> {
         if self.left == 0 {
             return None;
@@ -88,17 +94,23 @@ impl<'a> Iterator for Mask<'a> {
 }
 
 // What stands for the first byte, and how many more bytes are masked by the same.
+#[inline(always)]
 fn first_symbol(skip: usize, symbol: &Symbol, odd: bool, byte: u8, text: &[u8]) -> (Symbol, usize)
     ensures { mask_from skip symbol.now odd (byte ∷ text.now) ≡ result.0 ∷ mask_from result.1 result.0 (goes_odd odd byte) text.now }
 {
     if skip > 0 {
         return (symbol.again(), skip - 1);
     }
+    // Nearly every byte is its own symbol.
+    if byte != b'$' && byte != b'\\' {
+        return (Symbol::of(byte), 0);
+    }
     let more = more_masked(odd, byte, text);
     (mask_byte(byte, more), more)
 }
 
 // Whether an odd number of backslashes stands before the next byte.
+#[inline(always)]
 fn goes_odd(odd: bool, byte: u8) -> bool
     ensures { result ≡ goes_odd odd byte }
 {
@@ -107,6 +119,7 @@ fn goes_odd(odd: bool, byte: u8) -> bool
 
 // How many more bytes a dollar or a backslash takes with it.
 #[tactic(auto, unfolding(crate::specs::Mask::more_masked))]
+#[inline(always)]
 fn more_masked(odd: bool, byte: u8, text: &[u8]) -> usize
     ensures value { result ≡ more_masked odd byte text.now }
     ensures bound { result ≤ length text.now }
@@ -125,6 +138,7 @@ fn more_masked(odd: bool, byte: u8, text: &[u8]) -> usize
 }
 
 // How many bytes the term behind a dollar takes: a continuation counts as one byte there.
+#[inline(never)]
 fn behind_mark(text: &[u8]) -> usize
     ensures value { result ≡ (behind_dollar kept text.now).1 }
     ensures bound { result ≤ length text.now }
@@ -139,6 +153,7 @@ fn behind_mark(text: &[u8]) -> usize
 }
 
 // What stands for a byte that takes so many more with it.
+#[inline(always)]
 fn mask_byte(byte: u8, more: usize) -> Symbol
     ensures { result ≡ mask_byte byte more }
 {
@@ -149,4 +164,14 @@ fn mask_byte(byte: u8, more: usize) -> Symbol
     } else {
         Symbol::of(b' ')
     }
+}
+
+// How many of the first bytes of a line, up to a place, stand before its first dollar and backslash.
+fn own_length(text: &[u8], most: usize) -> usize
+    ensures value { result ≡ position_or_len (λ byte. byte == 36 || byte == 92) (take most text.now) }
+    ensures small { result ≤ most }
+    ensures bound { result ≤ length text.now }
+{
+    let front = &text[..most.min(text.len())];
+    memchr2(b'$', b'\\', front).unwrap_or(front.len())
 }

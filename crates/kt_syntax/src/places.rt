@@ -7,10 +7,22 @@ ghost use Rattle.kt_syntax.specs.Mask.{mask_of};
 
 use crate::mask::Mask;
 use crate::symbol::Symbol;
+use memchr::memchr;
 
 // Where the comment of a line begins, or the line's end.
-#[tactic(auto, unfolding(crate::specs::Kinds::before_comment))]
 pub(crate) fn comment_place(text: &[u8]) -> usize
+    ensures value { result ≡ comment_place text.now }
+    ensures bound { result ≤ length text.now }
+{
+    match memchr(b'#', text) {
+        None => text.len(),
+        Some(_) => sign_place(text),
+    }
+}
+
+// The same for a line with a number sign, which may be quoted or stand in a reference.
+#[tactic(auto, unfolding(crate::specs::Kinds::before_comment))]
+fn sign_place(text: &[u8]) -> usize
     ensures value { result ≡ comment_place text.now }
     ensures bound { result ≤ length text.now }
 {

@@ -1,12 +1,12 @@
 //! What lines are to the blocks round them.
-ghost use Rattle.std.specs.Prelude.{◌≡◌, ◌≤◌, length, IfOk};
+ghost use Rattle.std.specs.Prelude.{◌≡◌, ◌≤◌, false, length, IfOk};
 ghost use Rattle.std.specs.List.{slice_range};
-ghost use Rattle.kt_syntax.specs.Kinds.{block_word, kind_of};
-ghost use Rattle.kt_syntax.specs.Roles.{first_word, head_of, line_text, opens_conditional, role_by_word, role_of, starts_condition};
+ghost use Rattle.kt_syntax.specs.Kinds.{block_word, kind_of, line_kind};
+ghost use Rattle.kt_syntax.specs.Roles.{first_word, head_of, line_text, line_word, may_open, opens_conditional, role_by_word, role_of, starts_condition};
 
 use crate::form::{Directive, Form};
 use crate::kind::{block_word, classify};
-use crate::places::{comment_place, past_word};
+use crate::places::{comment_place, past_blanks, past_word};
 use kt_text::{Line, joined};
 use std::alloc::{AllocError, Global};
 
@@ -39,9 +39,8 @@ pub(crate) fn head_of(alloc: Global, text: &[u8], line: &Line) -> Result<Head, A
     requires within { line.now.span.end ≤ length text.now }
     ensures { IfOk result (λ head. head ≡ head_of text.now line.now) }
 {
-    let text = joined(alloc, line_text(text, line))?;
     Ok(Head {
-        role: role_of(text.as_slice(), line.tab),
+        role: line_role(alloc, line_text(text, line), line.tab)?,
         number: line.number,
     })
 }
@@ -54,14 +53,58 @@ fn line_text<'a>(text: &'a [u8], line: &Line) -> &'a [u8]
     &text[line.span.start..line.span.end]
 }
 
-#[tactic(auto, unfolding(crate::specs::Roles::role_of))]
-fn role_of(text: &[u8], tab: bool) -> Role
-    ensures { result ≡ role_of (kind_of text.now tab) }
+// The role of a line. One that begins with a tab has none, whatever stands on it.
+fn line_role(alloc: Global, line: &[u8], tab: bool) -> Result<Role, AllocError>
+    ensures { IfOk result (λ role. role ≡ role_of (line_kind line.now tab)) }
 {
-    match classify(text, tab) {
+    if tab {
+        return Ok(Role::Ordinary);
+    }
+    let text = joined(alloc, line)?;
+    Ok(role_of(text.as_slice()))
+}
+
+// The role of a line that begins with no tab. Few have one, and only those are classified here.
+fn role_of(text: &[u8]) -> Role
+    ensures { result ≡ role_of (kind_of text.now false) }
+{
+    if !may_open(text) {
+        return Role::Ordinary;
+    }
+    match block_word(line_word(text)) {
+        None => Role::Ordinary,
+        Some(_) => classified_role(text),
+    }
+}
+
+// Whether a line begins with a blank, with what may stand for one, or as the words of conditionals
+// and `define` and their ends do.
+fn may_open(text: &[u8]) -> bool
+    ensures { result ≡ may_open text.now }
+{
+    match text {
+        [first, ..] => matches!(*first, b' ' | b'\t' | b'\\' | b'd' | b'e' | b'i'),
+        [] => false,
+    }
+}
+
+#[tactic(auto, unfolding(crate::specs::Roles::role_of))]
+fn classified_role(text: &[u8]) -> Role
+    ensures { result ≡ role_of (kind_of text.now false) }
+{
+    match classify(text, false) {
         Form::Directive(word, rest) => role_by_word(word, rest),
         _ => Role::Ordinary,
     }
+}
+
+// The first word of a line, before its comment.
+fn line_word(text: &[u8]) -> &[u8]
+    ensures { result.now ≡ line_word text.now }
+{
+    let end = comment_place(text);
+    let begin = past_blanks(text, 0, end);
+    &text[begin..past_word(text, begin, end)]
 }
 
 #[tactic(auto, unfolding(crate::specs::Roles::role_by_word))]

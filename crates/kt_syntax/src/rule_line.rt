@@ -9,6 +9,7 @@ use crate::kind::{assignment, is_word};
 use crate::mask::Mask;
 use crate::places::{comment_place, is_blank, past_blanks, past_line_blanks};
 use crate::symbol::Symbol;
+use memchr::memchr;
 use thiserror::Error;
 
 /// The parts of a rule line.
@@ -75,8 +76,21 @@ fn first_recipe(line: &[u8]) -> Option<&[u8]>
 }
 
 // Where the head of a rule line ends.
-#[tactic(auto, unfolding(crate::specs::Heads::head_end))]
 fn head_end(text: &[u8], comment: usize) -> usize
+    requires before { comment ≡ comment_place text.now }
+    requires within { comment ≤ length text.now }
+    ensures value { result ≡ head_end text.now }
+    ensures bound { result ≤ comment }
+{
+    match memchr(b';', text) {
+        None => comment,
+        Some(_) => semicolon_place(text, comment),
+    }
+}
+
+// The same for a line with a semicolon, which may stand in a reference or in the comment.
+#[tactic(auto, unfolding(crate::specs::Heads::head_end))]
+fn semicolon_place(text: &[u8], comment: usize) -> usize
     requires before { comment ≡ comment_place text.now }
     requires within { comment ≤ length text.now }
     ensures value { result ≡ head_end text.now }

@@ -1,9 +1,18 @@
-use Rattle.std.proofs.Common.{arith}
+use Rattle.std.proofs.Common.{◌==◌, arith}
+use Rattle.std.proofs.lemmas.Bool.{eqb-true, false_from_ne_true}
 use Rattle.kt_syntax.proofs.Masking.{step-inside, step-outside}
+use Rattle.kt_syntax.proofs.OwnSymbols.{own_step}
 use Rattle.kt_syntax.proofs.mask.first_symbol.Goals as goal
 
 pub returns-then-skip-gt0 : goal.returns-then-skip-gt0
 returns-then-skip-gt0 c = rw c.again.ensures (step-inside c.args.skip c.args.symbol.now c.args.odd c.args.byte c.args.text.now (omega arith))
+
+pub returns-then-byte-ne92 : goal.returns-then-byte-ne92
+returns-then-byte-ne92 c =
+    rw c.of.ensures
+    (own_step c.args.skip c.args.symbol.now c.args.odd c.args.byte c.args.text.now (omega arith)
+    (false_from_ne_true (c.args.byte == 36) (λ e. c.if-byte-ne36.true (eqb-true c.args.byte 36 e)))
+    (false_from_ne_true (c.args.byte == 92) (λ e. c.if-byte-ne92.true (eqb-true c.args.byte 92 e))))
 
 pub returns : goal.returns
 returns c =

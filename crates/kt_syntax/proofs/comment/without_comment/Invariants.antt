@@ -1,6 +1,6 @@
 use Rattle.std.proofs.Common.{◌≡◌, ◌≤◌, ◌+◌, ◌++◌, length, drop}
 use Rattle.kt_syntax.specs.Comments.{uncommented, uncommented_of}
-use Rattle.kt_syntax.proofs.comment.uncommented.Given as goal
+use Rattle.kt_syntax.proofs.comment.without_comment.Given as goal
 
 abbrev pub invariant-loop-symbol : goal.invariant-loop-symbol
 invariant-loop-symbol l = record {
