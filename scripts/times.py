@@ -13,6 +13,7 @@ import argparse
 import os
 import resource
 import shutil
+import signal
 import subprocess
 import sys
 import tempfile
@@ -75,25 +76,29 @@ class Tool:
         self.before = None
 
     def next_size(self):
-        """Forgets the runs, but for the time by which growth is told."""
-        self.before, self.seconds, self.bytes, self.status = self.seconds, None, 0, None
+        """Forgets the runs, but for the time by which growth is told, and that there was no end."""
+        self.before, self.seconds, self.bytes = self.seconds, None, 0
+        self.status = "no end" if self.status == "no end" else None
 
     def run(self, folder, limit):
         """One run, whose output goes to a file beside the makefile."""
-        if self.status in ("no end", "too slow"):
+        if self.status == "no end":
             return
         note = folder / "memory.txt"
         words = ["/usr/bin/time", "-q", "-f", "%M", "-o", str(note), *self.words]
         with open(folder / f"{self.name}.out", "wb") as out:
             start = time.perf_counter()
+            process = subprocess.Popen(words, cwd=folder, stdin=subprocess.DEVNULL, stdout=out, stderr=subprocess.DEVNULL,
+                                       start_new_session=True, preexec_fn=self.take_stack)
             try:
-                run = subprocess.run(words, cwd=folder, stdin=subprocess.DEVNULL, stdout=out, stderr=subprocess.DEVNULL,
-                                     timeout=limit, preexec_fn=self.take_stack)
+                status = process.wait(timeout=limit)
             except subprocess.TimeoutExpired:
+                os.killpg(process.pid, signal.SIGKILL)
+                process.wait()
                 self.status, self.seconds = "no end", None
                 return
             seconds = time.perf_counter() - start
-        self.status = run.returncode
+        self.status = status
         self.seconds = seconds if self.seconds is None else min(self.seconds, seconds)
         self.bytes = max(self.bytes, int(note.read_text().split()[-1]) * 1024)
 
