@@ -3,122 +3,133 @@
 
     scripts/compare_with_ninja.py [PROGRAM]
 
-PROGRAM is the built kati_bench. For each text in scripts/ninja_texts, and each beginning of printed.ninja that is
-read, statements with their outputs, inputs and commands are compared with what `ninja -t targets all`, `-t query` and
-`-t commands -s` say. The exit status is 0 where only the texts differ that are known to.
+PROGRAM is the built kati. Each text NAME.ninja in scripts/ninja_texts says the build of the makefile NAME.mk in a spelling of its own;
+the makefile's goals stand in its first line behind `# goals: `. `kati --check` tells whether a text is read as the plan of its makefile.
+Ninja tells whether it reads the text as it reads what kati writes, by the outputs, inputs and commands that `ninja -t targets all`,
+`-t query` and `-t commands -s` print. Both are asked of each text, of each beginning of it, and of what each byte less and some bytes more
+above its last `default` line make of it: some ten thousand texts, in a minute or two. No tool of Ninja's prints default targets, so that
+a text which lacks a `default` line isn't compared. The exit status is 0 where both agree but for what is known.
 """
+import re
 import subprocess
 import sys
 import tempfile
+from collections import Counter
+from concurrent.futures import ThreadPoolExecutor
 from pathlib import Path
 
 HERE = Path(__file__).resolve().parent
-BUILT = HERE.parent / "crates/kati_bench/out/kati_bench"
+BUILT = HERE.parent / "crates/kati_program/out/kati_program"
+ADDED = [b" ", b"\n", b"$", b":", b"|", b"=", b"#", b"x"]
+DEFAULT_LINE = re.compile(rb"\ndefault ")
 
-# Where kati goes its own way.
-KNOWN = {
-    "name_over_lines": "a name goes on behind a joined newline; Ninja ends it there",
-    "joined_before_keyword": "Ninja takes no joined newline where a line begins",
-    "joined_comment": "Ninja takes no joined newline where a line begins",
-}
+TAKEN, REFUSED, OTHERWISE = "takes it for the plan", "refuses it", "reads something else"
 
-
-def unescaped(text):
-    """A shown text with its newlines and backslashes."""
-    parts = text.split("\\\\")
-    return "\\".join(part.replace("\\n", "\n") for part in parts)
-
-
-def read_by_kati(program, text):
-    """The statements of a text, or None where it has no reading."""
-    shown = subprocess.run([program, "show"], input=text, capture_output=True, check=True).stdout.decode()
-    if shown.startswith("not Ninja"):
-        return None
-    statements = []
-    for line in shown.splitlines():
-        word, _, rest = line.partition(" ")
-        if word == "statement":
-            statements.append({"out": [], "command": None, "in": [], "implicit": [], "order_only": []})
-        elif word == "command":
-            statements[-1][word] = unescaped(rest)
-        elif word != "default":
-            statements[-1][word].append(unescaped(rest))
-    return statements
+# What kati is known to take in its own way: whether it says that the text is the plan, what Ninja does, and what stands in the text.
+KNOWN = [
+    ("a joined newline where a line begins, which Ninja refuses", True, REFUSED, rb"^ *\$\n"),
+    ("a name that goes on behind a joined newline; Ninja ends it there", True, REFUSED, rb"\$\w+\$\n *\w"),
+    ("a `command` of the file, which Ninja takes where the statement has no block", True, OTHERWISE, rb"^command *="),
+    ("the same, where the file's is the command", False, TAKEN, rb"^command *="),
+    ("outputs behind a bar, which kati refuses", False, TAKEN, rb"^build(\$:|[^:\n])*\|"),
+    ("a keyword with no space behind it, which kati refuses", False, TAKEN, rb"^build[$=]"),
+    ("a `default` line that is joined to the line above it, of which no tool of Ninja's tells", False, TAKEN, rb"\$\ndefault "),
+]
 
 
 def ninja(folder, *words):
     """What a tool of Ninja prints, or None where it refuses the file."""
-    run = subprocess.run(["ninja", "-C", folder, "--quiet", "-t", *words], capture_output=True)
-    return run.stdout.decode() if run.returncode == 0 else None
+    run = subprocess.run(["ninja", "--quiet", "-t", *words], cwd=folder, capture_output=True)
+    return run.stdout if run.returncode == 0 else None
 
 
-def inputs_by_ninja(folder, out):
-    """The explicit, implicit and order-only inputs of an output."""
-    inputs = {"in": [], "implicit": [], "order_only": []}
-    for line in ninja(folder, "query", out).splitlines():
-        if line.startswith("    || "):
-            inputs["order_only"].append(line[7:])
-        elif line.startswith("    | "):
-            inputs["implicit"].append(line[6:])
-        elif line.startswith("    "):
-            inputs["in"].append(line[4:])
-        elif line.startswith("  outputs:"):
-            break
-    return inputs
-
-
-def differences(statements, text):
-    """What Ninja says otherwise, a line each."""
+def reading(text):
+    """What Ninja tells of a text: its outputs, their inputs and their commands; None where it refuses the text."""
     with tempfile.TemporaryDirectory() as folder:
         Path(folder, "build.ninja").write_bytes(text)
         targets = ninja(folder, "targets", "all")
         if targets is None:
-            return ["Ninja refuses it"]
-        rules = [tuple(line.rsplit(": ", 1)) for line in targets.splitlines()]
-        outs = [out for statement in statements for out in statement["out"]]
-        if outs != [out for out, _ in rules]:
-            return [f"outputs {outs}; Ninja: {[out for out, _ in rules]}"]
-        found = []
-        phony = {out for out, rule in rules if rule == "phony"}
-        for statement in statements:
-            for out in statement["out"]:
-                inputs = inputs_by_ninja(folder, out)
-                for kind, names in inputs.items():
-                    if statement[kind] != names:
-                        found.append(f"{kind} of {out}: {statement[kind]}; Ninja: {names}")
-                printed = None if out in phony else ninja(folder, "commands", "-s", out)
-                command = statement["command"]
-                if printed != (None if command is None else command + "\n"):
-                    found.append(f"command of {out}: {command!r}; Ninja: {printed!r}")
-        return found
+            return None
+        outputs = [line.rsplit(b": ", 1) for line in targets.splitlines()]
+        names = [name for name, _ in outputs]
+        kinds = [rule == b"phony" for _, rule in outputs]
+        inputs = ninja(folder, "query", *names) if names else b""
+        # Rules may have any names.
+        inputs = [line for line in inputs.splitlines() if not line.startswith(b"  input: ")]
+        return names, kinds, inputs, ninja(folder, "commands", "-s", *names) if names else b""
 
 
-def texts():
-    """Names and texts; a text that must be read has no number behind its name."""
-    for path in sorted((HERE / "ninja_texts").glob("*.ninja")):
-        text = path.read_bytes()
-        yield path.stem, text
-        if path.stem == "printed":
-            for length in range(len(text)):
-                yield f"{path.stem}/{length}", text[:length]
+class Pair:
+    """A makefile, and a text that says its build."""
+
+    def __init__(self, program, path):
+        self.name, self.program = path.stem, program
+        self.text, self.makefile = path.read_bytes(), path.with_suffix(".mk").read_bytes()
+        goals = re.match(rb"# goals: (.*)", self.makefile)
+        self.goals = goals[1].decode().split() if goals else []
+        self.plan = reading(self.run([], {}).stdout)
+
+    def run(self, words, files):
+        """kati on the makefile, in a folder that holds these files."""
+        with tempfile.TemporaryDirectory() as folder:
+            for name, text in {"Makefile": self.makefile, **files}.items():
+                Path(folder, name).write_bytes(text)
+            return subprocess.run([self.program, *words, *self.goals], cwd=folder, capture_output=True)
+
+    def is_plan(self, text):
+        """Whether kati reads the text as the makefile's plan."""
+        status = self.run(["--check", "text"], {"text": text}).returncode
+        if status not in (0, 1):
+            raise ValueError(f"kati ends with status {status} on {text!r}")
+        return status == 0
+
+    def told(self, text):
+        """What kati says of a text, and what Ninja does."""
+        found = reading(text)
+        return self.is_plan(text), REFUSED if found is None else TAKEN if found == self.plan else OTHERWISE
+
+    def texts(self):
+        """The text, its beginnings, and what a byte less or more makes of it, each once; those that hold all `default` lines."""
+        text, found = self.text, [self.text]
+        last = [line.start() for line in DEFAULT_LINE.finditer(text)][-1]
+        found += [text[:end] for end in range(len(text))]
+        for at in range(last):
+            found += [text[:at] + text[at + 1:], *(text[:at] + byte + text[at:] for byte in ADDED)]
+        lines = len(DEFAULT_LINE.findall(text))
+        return [one for one in dict.fromkeys(found) if len(DEFAULT_LINE.findall(one)) == lines]
+
+
+def known(text, is_plan, does):
+    """Why kati is known to read a text otherwise than Ninja, or None."""
+    for why, plan, done, pattern in KNOWN:
+        if (is_plan, does) == (plan, done) and re.search(pattern, text, re.MULTILINE):
+            return why
+    return None
 
 
 def main():
-    program = sys.argv[1] if len(sys.argv) > 1 else str(BUILT)
-    compared = wrong = 0
-    for name, text in texts():
-        statements = read_by_kati(program, text)
-        if statements is None and "/" in name:
-            continue
-        found = ["kati refuses it"] if statements is None else differences(statements, text)
-        compared += 1
-        for line in found:
-            print(f"{name}: {line}")
-        if name in KNOWN:
-            print(f"{name}: known: {KNOWN[name]}")
-        if bool(found) != (name in KNOWN):
+    program = str(Path(sys.argv[1] if len(sys.argv) > 1 else BUILT).resolve())
+    compared, wrong, reasons = 0, 0, Counter()
+    for path in sorted((HERE / "ninja_texts").glob("*.ninja")):
+        pair = Pair(program, path)
+        if not pair.is_plan(pair.text):
+            print(f"{pair.name}: kati doesn't read it as its makefile's plan")
             wrong += 1
-    print(f"{compared} texts compared, {len(KNOWN)} known to differ, {wrong} otherwise than expected")
+        texts = pair.texts()
+        compared += len(texts)
+        with ThreadPoolExecutor() as pool:
+            for text, (is_plan, does) in zip(texts, pool.map(pair.told, texts)):
+                if is_plan == (does == TAKEN):
+                    continue
+                why = known(text, is_plan, does)
+                reasons[why] += 1
+                if why is None:
+                    wrong += 1
+                    print(f"{pair.name}: for kati it is {'' if is_plan else 'not '}the plan, Ninja {does}: {text!r}")
+    for why, count in sorted(reasons.items(), key=str):
+        if why:
+            print(f"{count} texts: {why}")
+    print(f"{compared} texts compared, {sum(reasons.values())} read otherwise, {wrong} of them not as known")
     return 1 if wrong else 0
 
 

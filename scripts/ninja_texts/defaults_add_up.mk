@@ -1,0 +1,2 @@
+# goals: b c a
+a b c:

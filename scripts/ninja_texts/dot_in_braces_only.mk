@@ -1,0 +1,3 @@
+SHELL = 1.b
+.SHELLFLAGS = 2
+o: ; x

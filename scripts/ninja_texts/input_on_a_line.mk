@@ -1,0 +1,2 @@
+SHELL = cat a
+o: a ; x

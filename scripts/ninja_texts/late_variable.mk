@@ -1,0 +1,3 @@
+SHELL = 2
+.SHELLFLAGS = 1
+1: ; c

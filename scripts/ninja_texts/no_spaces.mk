@@ -1,0 +1,2 @@
+.PHONY: t
+t: a | c ; x

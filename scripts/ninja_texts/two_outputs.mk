@@ -1,0 +1,4 @@
+# goals: a b
+SHELL = sh
+.SHELLFLAGS = a b
+a b &: c ; x

@@ -1,0 +1,3 @@
+SHELL = a 
+.SHELLFLAGS = b
+b: ; p
