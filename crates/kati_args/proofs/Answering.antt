@@ -1,16 +1,17 @@
 -- What is asked for, put together; and what is answered for an error.
-use Rattle.std.proofs.Common.{◌≡◌, ◌∙◌, List, Some, None, true, false, Ok, Err, inl, inr, ap, subst, sym, ⊎_elim}
+use Rattle.std.proofs.Common.{◌≡◌, ◌∙◌, List, Some, None, false, Ok, Err, inl, inr, ap, subst, sym, ⊎_elim, [], ◌∷◌, true≢false}
 use Rattle.std.proofs.lemmas.Bool.{cases_Bool}
-use Rattle.std.specs.Prelude.{find, option_map, unwrap_or, codes, ◌≢◌}
+use Rattle.std.specs.Prelude.{find, option_map, unwrap_or, codes, Result, string_bytes, ◌≢◌}
 use Rattle.kt_text.specs.Words.{Text}
-use Rattle.clap.specs.Words.{HasKind, IsAmong, Row, fault_of, first_of, kind_of, takes}
+use Rattle.clap.specs.Words.{HasKind, IsAmong, Kinds, Row, fault_of, first_of, kind_of, matches_of, takes}
 use Rattle.clap.specs.declared.error.Error.{Error}
 use Rattle.clap.specs.declared.error.kind.ErrorKind.{ErrorKind}
-use Rattle.clap.specs.declared.error.kind.ErrorKind.TheVariants.{OutOfMemory}
+use Rattle.clap.specs.declared.error.kind.ErrorKind.TheVariants.{DisplayHelp, OutOfMemory}
 use Rattle.kati_args.specs.declared.args.Args.{Args}
 use Rattle.kati_args.specs.declared.fault.ArgFault.{ArgFault}
 use Rattle.kati_args.specs.declared.fault.ArgFault.TheVariants.{BadMacro, Help, Memory, Usage}
-use Rattle.kati_args.specs.Args.{Answers, Tells, answer_to, args_in, goals_in, is_bad_macro, kati_app, macros_in, number_in, unless_bad, words_in}
+use Rattle.kati_args.specs.Rows.{IsUsage}
+use Rattle.kati_args.specs.Args.{Answers, AnswersFound, IsTaken, Tells, answer_to, args_in, goals_in, is_bad_macro, kati_app, macros_in, number_in, unless_bad, words_in}
 
 pub args_are : (rows : List Row) (made : Args) → made.makefile ≡ first_of (codes "makefile") rows → made.files ≡ first_of (codes "files") rows
     → made.check ≡ first_of (codes "check") rows → made.limit ≡ unwrap_or (option_map number_in (first_of (codes "depth") rows)) 100
@@ -30,14 +31,23 @@ answers_args rows made none is = ap (unless_bad (args_in rows)) none ∙ ap Ok (
 pub answers_bad : (rows : List Row) (word : Text) → find is_bad_macro (words_in rows) ≡ Some word → answer_to rows ≡ Err word
 answers_bad rows word some = ap (unless_bad (args_in rows)) some
 
-not_taken : (words : List Text) (e : Error) → (takes kati_app words ≡ true → kind_of e ≡ OutOfMemory) → (kind_of e ≢ OutOfMemory) → takes kati_app words ≡ false
+pub answers_found : (words : List Text) (rows : List Row) (result : Result Args ArgFault) → rows ≡ matches_of kati_app words → IsTaken words
+    → AnswersFound rows result → Answers words result
+answers_found words rows (Ok args) found taken answered = (taken, subst (λ (r : List Row). answer_to r ≡ Ok args) found answered)
+answers_found words rows (Err (BadMacro word)) found taken answered =
+    (taken, subst (λ (r : List Row). answer_to r ≡ Err (string_bytes word)) found answered)
+answers_found words rows (Err Memory) found taken answered = tt
+answers_found words rows (Err (Help text)) found taken answered = absurd answered
+answers_found words rows (Err (Usage text)) found taken answered = absurd answered
+
+not_taken : (words : List Text) (e : Error) → (IsTaken words → kind_of e ≡ OutOfMemory) → (kind_of e ≢ OutOfMemory) → takes kati_app words ≡ false
 not_taken words e taken other = ⊎_elim (λ t. absurd (other (taken t))) (λ f. f) (cases_Bool (takes kati_app words))
 
 among : (words : List Text) (e : Error) → HasKind (fault_of kati_app words) e → (kind_of e ≢ OutOfMemory) → IsAmong (kind_of e) (fault_of kati_app words)
 among words e (inl memory) other = absurd (other memory)
 among words e (inr one) other = one
 
-pub answers_fault : (words : List Text) (e : Error) (fault : ArgFault) → (takes kati_app words ≡ true → kind_of e ≡ OutOfMemory)
+pub answers_fault : (words : List Text) (e : Error) (fault : ArgFault) → (IsTaken words → kind_of e ≡ OutOfMemory)
     → HasKind (fault_of kati_app words) e → Tells e fault → Answers words (Err fault)
 answers_fault words e (Help text) taken kinds told =
     let other : kind_of e ≢ OutOfMemory = λ memory. absurd (cc (told, memory)) in
@@ -46,3 +56,14 @@ answers_fault words e (Usage text) taken kinds told =
     (not_taken words e taken told.0, (kind_of e, told.1, among words e kinds told.0))
 answers_fault words e (BadMacro word) taken kinds told = absurd told
 answers_fault words e Memory taken kinds told = tt
+
+-- where clap doesn't take the words, for one reason that isn't its help, only usage may be answered
+pub usage_alone : (words : List Text) (kind : ErrorKind) → takes kati_app words ≡ false → fault_of kati_app words ≡ kind ∷ [] → (DisplayHelp ≡ kind → ⊥)
+    → (result : Result Args ArgFault) → Answers words result → IsUsage result
+usage_alone words kind untaken fault other (Ok args) answered = absurd (true≢false (sym answered.0 ∙ untaken))
+usage_alone words kind untaken fault other (Err (BadMacro word)) answered = absurd (true≢false (sym answered.0 ∙ untaken))
+usage_alone words kind untaken fault other (Err (Help text)) answered =
+    let among : IsAmong DisplayHelp (kind ∷ []) = subst (λ (k : Kinds). IsAmong DisplayHelp k) fault answered.1 in
+    absurd (⊎_elim other (λ none. none) among)
+usage_alone words kind untaken fault other (Err (Usage text)) answered = tt
+usage_alone words kind untaken fault other (Err Memory) answered = tt

@@ -1,3 +1,4 @@
 pub mod Cutting
 pub mod Depths
+pub mod Taking
 pub mod Answering

@@ -118,13 +118,18 @@ AnswersFound rows (Err Memory) = ⊤
 AnswersFound rows (Err (Help text)) = ⊥
 AnswersFound rows (Err (Usage text)) = ⊥
 
--- what may be answered to the words: help and usage only where clap doesn't take them, help only where clap shows it, and
--- usage only where clap finds another fault
+-- clap takes all of the words: it knows each option and accepts each value, and its help isn't asked for
+abbrev pub IsTaken : List Text → Type 0
+IsTaken words = takes kati_app words ≡ true
+
+-- what may be answered to the words: arguments and a bad macro only where clap takes them, help and usage only where it
+-- doesn't, help only where clap shows it, and usage only where clap finds another fault
 abbrev pub Answers : List Text → Result Args ArgFault → Type 0
 Answers words (Err (Help text)) = (takes kati_app words ≡ false) × IsAmong DisplayHelp (fault_of kati_app words)
 Answers words (Err (Usage text)) =
     (takes kati_app words ≡ false) × ((kind : ErrorKind) × (kind ≢ DisplayHelp) × IsAmong kind (fault_of kati_app words))
-Answers words result = AnswersFound (matches_of kati_app words) result
+Answers words (Err Memory) = ⊤
+Answers words result = IsTaken words × AnswersFound (matches_of kati_app words) result
 
 -- what is answered for an error of clap's
 abbrev pub Tells : Error → ArgFault → Type 0

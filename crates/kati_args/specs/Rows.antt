@@ -1,11 +1,13 @@
 -- Worked command lines, as facts that compute. The forms of options are those of clap.
-use Rattle.std.specs.Prelude.{◌≡◌, List, [], ◌∷◌, Option, Some, None, Result, Ok, Err, if◌then◌else◌, codes}
+use Rattle.std.specs.Prelude.{◌≡◌, ⊤, List, [], ◌∷◌, Option, Some, None, Result, Ok, Err, if◌then◌else◌, codes}
 use Rattle.kt_text.specs.Words.{Text}
 use Rattle.clap.specs.Words.{fault_of, matches_of, takes}
 use Rattle.clap.specs.declared.error.kind.ErrorKind.TheVariants.{ArgumentConflict, DisplayHelp, InvalidValue, TooManyValues, UnknownArgument, ValueValidation}
 use Rattle.kati_args.specs.declared.args.Args.{Args}
 use Rattle.kati_args.specs.declared.args.Macro.{Macro}
-use Rattle.kati_args.specs.Args.{answer_to, kati_app}
+use Rattle.kati_args.specs.declared.fault.ArgFault.{ArgFault}
+use Rattle.kati_args.specs.declared.fault.ArgFault.TheVariants.{Memory, Usage}
+use Rattle.kati_args.specs.Args.{Answers, answer_to, kati_app}
 
 -- the words of a command line, behind the program's name
 abbrev pub line : List Text → List Text
@@ -48,3 +50,20 @@ pub record RowsOfFaults : Type 0 where
   pub again : fault_of kati_app (line (codes "-f" ∷ codes "m" ∷ codes "-f" ∷ codes "m" ∷ [])) ≡ ArgumentConflict ∷ []
   pub value : fault_of kati_app (line (codes "--ninja=x" ∷ [])) ≡ TooManyValues ∷ []
   pub too_deep : fault_of kati_app (line (codes "A:=x" ∷ codes "--depth=401" ∷ [])) ≡ ValueValidation ∷ []
+
+-- usage, or that there isn't memory enough
+abbrev pub IsUsage : Result Args ArgFault → Type 0
+IsUsage (Err (Usage text)) = ⊤
+IsUsage (Err Memory) = ⊤
+IsUsage result = ⊥
+
+-- nothing else may be answered to the words
+abbrev pub AsksUsage : List Text → Type 0
+AsksUsage words = (result : Result Args ArgFault) → Answers (line words) result → IsUsage result
+
+pub record RowsOfUsage : Type 0 where
+  pub unknown : AsksUsage (codes "--nothing" ∷ [])
+  pub later : AsksUsage (codes "t" ∷ codes "A=1" ∷ codes "-x" ∷ [])
+  -- clap refuses a word behind a bad macro
+  pub too_deep : AsksUsage (codes "A:=x" ∷ codes "--depth=401" ∷ [])
+  pub no_value : AsksUsage (codes "=x" ∷ codes "-f" ∷ [])

@@ -1,5 +1,5 @@
 //! Laws of the definitions. These functions do nothing: their contracts are what counts.
-ghost use Rattle.kati_args.specs.Rows.{RowsOfFaults, RowsOfLines};
+ghost use Rattle.kati_args.specs.Rows.{RowsOfFaults, RowsOfLines, RowsOfUsage};
 
 /// Worked command lines.
 pub fn rows_of_lines()
@@ -9,4 +9,9 @@ pub fn rows_of_lines()
 /// Worked command lines that ask for nothing.
 pub fn rows_of_faults()
     ensures { RowsOfFaults }
+{}
+
+/// Worked command lines to which only usage may be answered.
+pub fn rows_of_usage()
+    ensures { RowsOfUsage }
 {}

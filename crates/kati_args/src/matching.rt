@@ -1,7 +1,7 @@
 //! The words, as clap matches them.
-ghost use Rattle.std.specs.Prelude.{◌≡◌, IfErr, IfOk, IfSome, codes, map, string_bytes, true};
-ghost use Rattle.clap.specs.Words.{HasKind, IsUnsignedIn, fault_of, first_value, found_of, kind_of, matches_of, rows_of, takes};
-ghost use Rattle.kati_args.specs.Args.{kati_app};
+ghost use Rattle.std.specs.Prelude.{◌≡◌, IfErr, IfOk, IfSome, codes, map, string_bytes};
+ghost use Rattle.clap.specs.Words.{HasKind, IsUnsignedIn, fault_of, first_value, found_of, kind_of, matches_of, rows_of};
+ghost use Rattle.kati_args.specs.Args.{IsTaken, kati_app};
 
 use crate::command::command;
 use clap::error::ErrorKind;
@@ -12,7 +12,8 @@ use std::alloc::Global;
 pub(crate) fn matched<'a>(alloc: Global, words: &'a [String]) -> Result<ArgMatches<'a>, Error>
     ensures found { IfOk result (λ m. rows_of (found_of m) ≡ matches_of kati_app (map string_bytes words.now)) }
     ensures depth { IfOk result (λ m. IfSome (first_value (found_of m) (codes "depth")) (IsUnsignedIn 1 400)) }
-    ensures taken { IfErr result (λ e. takes kati_app (map string_bytes words.now) ≡ true → kind_of e ≡ ErrorKind.OutOfMemory) }
+    ensures taken { IfOk result (λ _. IsTaken (map string_bytes words.now)) }
+    ensures memory { IfErr result (λ e. IsTaken (map string_bytes words.now) → kind_of e ≡ ErrorKind.OutOfMemory) }
     ensures kinds { IfErr result (HasKind (fault_of kati_app (map string_bytes words.now))) }
 {
     command(alloc)?.try_get_matches_from(words)

@@ -2,7 +2,7 @@
 use crate::told::told;
 
 /// Words on lines, and what is told of them.
-const ASKED: [(&str, &str); 38] = [
+const ASKED: [(&str, &str); 41] = [
     ("", "100"),
     ("kati", "100"),
     ("-f", "100"),
@@ -16,7 +16,11 @@ const ASKED: [(&str, &str); 38] = [
     ("kati\n-f==X", "100 -f =X"),
     ("kati\n-f\n", "100 -f "),
     ("kati\n-f\n-", "100 -f -"),
+    // a value in the word of its option may begin with a hyphen
     ("kati\n-f=-x", "100 -f -x"),
+    ("kati\n-f-x", "100 -f -x"),
+    ("kati\n--files=-x", "100 --files -x"),
+    ("kati\n--files=--ninja", "100 --files --ninja"),
     ("kati\n-f\nA=1", "100 -f A=1"),
     ("kati\n--files\nX", "100 --files X"),
     ("kati\n--files=X", "100 --files X"),
@@ -65,7 +69,7 @@ fn words_ask(rt: HostRuntime) {
 }
 
 /// Words on lines, and why they ask for nothing.
-const REFUSED: [(&str, &str); 45] = [
+const REFUSED: [(&str, &str); 52] = [
     ("kati\n-h", "help"),
     ("kati\n--help", "help"),
     ("kati\nall\n--help", "help"),
@@ -81,6 +85,7 @@ const REFUSED: [(&str, &str); 45] = [
     ("kati\n--depth", "usage"),
     ("kati\n-f\n--ninja", "usage"),
     ("kati\n-f\n-x", "usage"),
+    ("kati\n--files\n-x", "usage"),
     ("kati\n-f\n--", "usage"),
     ("kati\n-f\nMakefile\n-f\nMakefile", "usage"),
     ("kati\n--files\nx\n--files\nx", "usage"),
@@ -88,6 +93,9 @@ const REFUSED: [(&str, &str); 45] = [
     ("kati\n--depth=1\n--depth=1", "usage"),
     ("kati\n--ninja\n--ninja", "usage"),
     ("kati\n--ninja=x", "usage"),
+    ("kati\n--nothing", "usage"),
+    ("kati\nt\n--nothing", "usage"),
+    ("kati\nA=1\n--nothing=x", "usage"),
     ("kati\n-n", "usage"),
     ("kati\n-j4", "usage"),
     ("kati\n-V", "usage"),
@@ -116,6 +124,9 @@ const REFUSED: [(&str, &str); 45] = [
     // found after all words were taken
     ("kati\nA:=x\n--help", "help"),
     ("kati\nA:=x\n--depth=0", "usage"),
+    ("kati\nA:=x\n--depth=401", "usage"),
+    ("kati\n=x\n--nothing", "usage"),
+    ("kati\nA+=x\n-f", "usage"),
 ];
 
 #[test]

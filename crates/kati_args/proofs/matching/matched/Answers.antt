@@ -1,12 +1,20 @@
-use Rattle.std.proofs.Common.{◌∙◌, ap, map}
+use Rattle.std.proofs.Common.{◌≡◌, ◌∙◌, ap, map, refl, subst, true}
 use Rattle.std.proofs.lemmas.Result.{IfErr-weaker, IfOk-weaker}
 use Rattle.std.specs.Prelude.{string_bytes}
-use Rattle.clap.specs.Words.{App, takes}
+use Rattle.clap.specs.Words.{App, FailsBy, fault_of, is_simple_and_free, takes}
 use Rattle.kati_args.proofs.Depths.{depth_passes}
+use Rattle.kati_args.proofs.Taking.{taken_where_found}
 use Rattle.kati_args.proofs.matching.matched.Goals as goal
 
 pub returns-clause-taken : goal.returns-clause-taken
 returns-clause-taken c =
+    let words = map string_bytes c.args.words.now in
+    taken_where_found c.try_get_matches_from.result words
+    (subst (λ (app : App). is_simple_and_free app ≡ true → FailsBy (fault_of app words) c.try_get_matches_from.result) c.in_ok-command.ensures
+    c.try_get_matches_from.ensures.kinds refl)
+
+pub returns-clause-memory : goal.returns-clause-memory
+returns-clause-memory c =
     IfErr-weaker c.try_get_matches_from.result _ _
     (λ e passes taken. passes (ap (λ (app : App). takes app (map string_bytes c.args.words.now)) c.in_ok-command.ensures ∙ taken))
     c.try_get_matches_from.ensures.passes

@@ -1,0 +1,15 @@
+use Rattle.std.proofs.Common.{refl, [], ◌∷◌, codes}
+use Rattle.clap.proofs.OnLiterals.{clap_on_literals}
+use Rattle.clap.specs.declared.error.kind.ErrorKind.TheVariants.{InvalidValue, UnknownArgument, ValueValidation}
+use Rattle.kati_args.specs.Rows.{line}
+use Rattle.kati_args.proofs.Answering.{usage_alone}
+use Rattle.kati_args.proofs.laws.rows_of_usage.Goals as goal
+
+pub returns : goal.returns
+unfolding clap_on_literals
+returns c = record {
+  unknown = usage_alone (line (codes "--nothing" ∷ [])) UnknownArgument refl refl (λ help. absurd (cc help));
+  later = usage_alone (line (codes "t" ∷ codes "A=1" ∷ codes "-x" ∷ [])) UnknownArgument refl refl (λ help. absurd (cc help));
+  too_deep = usage_alone (line (codes "A:=x" ∷ codes "--depth=401" ∷ [])) ValueValidation refl refl (λ help. absurd (cc help));
+  no_value = usage_alone (line (codes "=x" ∷ codes "-f" ∷ [])) InvalidValue refl refl (λ help. absurd (cc help));
+}
