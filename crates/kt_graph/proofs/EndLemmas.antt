@@ -1,10 +1,9 @@
 -- Rules that are found by the ends of their targets.
-use Rattle.std.proofs.Common.{◌≡◌, ℕ, zero, suc, ◌+◌, ◌-◌, ◌<◌, ◌≤◌, Bool, true, false, ◌&&◌, ◌⊎◌, ⊎_elim, inl, inr, if◌then◌else◌, nat_eq, nat_le, List, [], ◌∷◌, ◌++◌, length, drop, get_or, filter_map, IfSome, Option, Some, None, option_map, slice_get, refl, sym, ap, ◌∙◌, subst, arith, All}
+use Rattle.std.proofs.Common.{◌≡◌, ℕ, zero, suc, ◌+◌, ◌-◌, ◌<◌, ◌≤◌, Bool, true, false, ◌&&◌, ◌⊎◌, ⊎_elim, inl, inr, if◌then◌else◌, nat_eq, nat_le, List, [], ◌∷◌, ◌++◌, length, drop, get_or, filter_map, IfSome, Option, Some, None, option_map, slice_get, refl, sym, ap, ◌∙◌, subst, arith}
 use Rattle.std.specs.List.{Contains, cons_option, dedup, ends_with, position_or_len, slice_index, starts_with}
 use Rattle.std.specs.List.Sorted.{IsPermutation, IsSorted, IsStrictlyIncreasing}
 use Rattle.std.specs.Ordering.{nat_cmp}
 use Rattle.std.specs.Option.{option_and_then, option_to_list}
-use Rattle.std.specs.Str.{bytes_eq}
 use Rattle.std.proofs.lemmas.Bool.{cases_eq, cases_lt, false≢true, leb-true}
 use Rattle.std.proofs.lemmas.List.{append-nil, append_assoc, drop-drop, drop_all, drop_more, length-drop}
 use Rattle.std.proofs.lemmas.List.Elements.{All-head, All-push, All-tail, filter_map-append}
@@ -25,7 +24,7 @@ use Rattle.kt_graph.specs.declared.candidate.Candidate.{Candidate as HeldCandida
 use Rattle.kt_graph.specs.Candidates.{Candidate, candidate_by, candidate_of, candidate_with, fit_of, has_slash, matched_part, matching_from, shortest, stem_of, unless_long}
 use Rattle.kt_graph.specs.Ends.{AreAllNoted, AreNoted, HasAll, IsNoted, candidate_numbered, candidates_numbered, numbers_at}
 use Rattle.kt_graph.specs.Views.{AreWithin, IsWithin, candidate_at, candidate_told, candidates_told, found_told}
-use Rattle.kt_graph.proofs.CandidateLemmas.{matching_at, matching_none, told_at}
+use Rattle.kt_graph.proofs.CandidateLemmas.{matching_at, matching_none, rule_at, told_at}
 use Rattle.kt_graph.proofs.MemberLemmas.{Contains-cases, Contains-none}
 
 -- nothing stands behind a percent sign that isn't there
@@ -107,10 +106,10 @@ targets_found : (ends : Ends) (name : Text) (number : ℕ) (rule : Rule) (found 
 targets_found ends name number rule found all [] noted = inl refl
 targets_found ends name number rule found all (target ∷ targets) noted = ⊎_elim
     (λ (none : candidate_by number rule name target ≡ None). ⊎_elim
-        (λ (rest : filter_map (candidate_by number rule name) targets ≡ []).
-        inl (ap (λ o. cons_option o (filter_map (candidate_by number rule name) targets)) none ∙ rest))
-        (λ (there : Contains found number). inr there)
-        (targets_found ends name number rule found all targets (All-tail (λ (t : Target). IsNoted ends (pattern_back t.name) number) target targets noted)))
+    (λ (rest : filter_map (candidate_by number rule name) targets ≡ []).
+    inl (ap (λ o. cons_option o (filter_map (candidate_by number rule name) targets)) none ∙ rest))
+    (λ (there : Contains found number). inr there)
+    (targets_found ends name number rule found all targets (All-tail (λ (t : Target). IsNoted ends (pattern_back t.name) number) target targets noted)))
     (λ (ending : EndsIn name (pattern_back target.name)).
     inr (end_found ends name (pattern_back target.name) number found all ending (All-head (λ (t : Target). IsNoted ends (pattern_back t.name) number) target targets noted)))
     (target_ends number rule name target)
@@ -192,9 +191,9 @@ covers_behind : (rules : List Rule) (name : Text) (at : ℕ) (numbers : List ℕ
 covers_behind rules name at numbers covers number rule above found = ⊎_elim
     (λ (none : candidate_of number rule name ≡ None). inl none)
     (λ (there : Contains (at ∷ numbers) number). ⊎_elim
-        (λ (same : at ≡ number). absurd (omega arith))
-        (λ (behind : Contains numbers number). inr behind)
-        (Contains-cases at numbers number there))
+    (λ (same : at ≡ number). absurd (omega arith))
+    (λ (behind : Contains numbers number). inr behind)
+    (Contains-cases at numbers number there))
     (covers number rule (omega arith) found)
 
 first_told : (rules : List Rule) (name : Text) (at : ℕ) (rule : Rule) (ones : List Candidate) → slice_get rules at ≡ Some rule
@@ -206,32 +205,27 @@ first_told rules name at rule ones found =
     by None = refl
     by (Some one) = refl
 
-rule_there : (rules : List Rule) (at : ℕ) → at < length rules → (rule : Rule) × (slice_get rules at ≡ Some rule)
-rule_there [] at within = absurd (omega arith)
-rule_there (rule ∷ rules) zero within = (rule, refl)
-rule_there (rule ∷ rules) (suc at) within = rule_there rules at (omega arith)
-
 -- so their candidates are those of all rules
 numbered_from : (rules : List Rule) (name : Text) (left at : ℕ) (numbers : List ℕ) → left + at ≡ length rules → Rises at numbers → CoversFrom at rules name numbers
     → candidates_numbered rules name numbers ≡ matching_from at (drop at rules) name
 numbered_from rules name zero at numbers size up covers =
     none_numbered rules name numbers at (omega arith) up ∙ sym (matching_none rules name at (omega arith))
 numbered_from rules name (suc left) at [] size up covers =
-    let there : (rule : Rule) × (slice_get rules at ≡ Some rule) = rule_there rules at (omega arith) in
+    let there : (rule : Rule) × (slice_get rules at ≡ Some rule) = rule_at rules at (omega arith) in
     numbered_from rules name left (at + 1) [] (omega arith) tt (λ number rule above found. covers number rule (omega arith) found)
     ∙ sym (passed_over rules name at [] there.0 there.1 covers tt (matching_from (at + 1) (drop (at + 1) rules) name))
     ∙ sym (matching_at rules name at there.0 (omega arith) (sym (get_or_from_slice_get rules at there.0 there.0 there.1)))
 numbered_from rules name (suc left) at (number ∷ numbers) size up covers = ⊎_elim
     (λ (same : number ≡ at).
-    let there : (rule : Rule) × (slice_get rules at ≡ Some rule) = rule_there rules at (omega arith) in
+    let there : (rule : Rule) × (slice_get rules at ≡ Some rule) = rule_at rules at (omega arith) in
     let here : CoversFrom at rules name (at ∷ numbers) = subst (λ (n : ℕ). CoversFrom at rules name (n ∷ numbers)) same covers in
     ap (λ (n : ℕ). candidates_numbered rules name (n ∷ numbers)) same
     ∙ ap (λ ones. cons_option (candidate_numbered rules name at) ones)
-        (numbered_from rules name left (at + 1) numbers (omega arith) (subst (λ (n : ℕ). Rises (n + 1) numbers) same up.1) (covers_behind rules name at numbers here))
+    (numbered_from rules name left (at + 1) numbers (omega arith) (subst (λ (n : ℕ). Rises (n + 1) numbers) same up.1) (covers_behind rules name at numbers here))
     ∙ first_told rules name at there.0 (matching_from (at + 1) (drop (at + 1) rules) name) there.1
     ∙ sym (matching_at rules name at there.0 (omega arith) (sym (get_or_from_slice_get rules at there.0 there.0 there.1))))
     (λ (differ : number ≡ at → ⊥).
-    let there : (rule : Rule) × (slice_get rules at ≡ Some rule) = rule_there rules at (omega arith) in
+    let there : (rule : Rule) × (slice_get rules at ≡ Some rule) = rule_at rules at (omega arith) in
     let later : Rises (at + 1) (number ∷ numbers) = (next_above at number up.0 differ, up.1) in
     numbered_from rules name left (at + 1) (number ∷ numbers) (omega arith) later (λ n rule above found. covers n rule (omega arith) found)
     ∙ sym (passed_over rules name at (number ∷ numbers) there.0 there.1 covers later (matching_from (at + 1) (drop (at + 1) rules) name))
@@ -250,9 +244,9 @@ pub numbers_in_order : (ends : Ends) (rules : List Rule) (name : Text) (found so
 numbers_in_order ends rules name found sorted kept noted all same order once =
     ap (candidates_numbered rules name) once
     ∙ numbered_all rules name (dedup nat_eq sorted) (IsStrictlyIncreasing-dedup sorted order) (λ number rule at. ⊎_elim
-        (λ (none : candidate_of number rule name ≡ None). inl none)
-        (λ (there : Contains found number). inr (Contains-dedup_nat sorted number (Contains-permutation found sorted number same there)))
-        (found_covers ends rules name found noted all number rule at))
+    (λ (none : candidate_of number rule name ≡ None). inl none)
+    (λ (there : Contains found number). inr (Contains-dedup_nat sorted number (Contains-permutation found sorted number same there)))
+    (found_covers ends rules name found noted all number rule at))
 
 -- ---- candidates as they are held
 
@@ -281,12 +275,12 @@ pub numbered_more : (rules : List Rule) (name : Text) (numbers : List ℕ) (i nu
     ≡ candidates_told rules name candidates ++ candidates_numbered rules name (drop i numbers)
 numbered_more rules name numbers i number candidates more found within at is grown =
     ap (λ (ones : List Candidate). ones ++ candidates_numbered rules name (drop (i + 1) numbers))
-        (ap (candidates_told rules name) grown ∙ filter_map-append (candidate_told rules name) candidates (option_to_list found))
+    (ap (candidates_told rules name) grown ∙ filter_map-append (candidate_told rules name) candidates (option_to_list found))
     ∙ append_assoc (candidates_told rules name candidates) (candidates_told rules name (option_to_list found)) (candidates_numbered rules name (drop (i + 1) numbers))
     ∙ ap (λ (ones : List Candidate). candidates_told rules name candidates ++ ones)
-        (by found (candidates_numbered rules name (drop (i + 1) numbers))
-        ∙ ap (λ o. cons_option o (candidates_numbered rules name (drop (i + 1) numbers))) is
-        ∙ sym (ap (candidates_numbered rules name) (drop_more numbers i number within ∙ ap (λ first. first ∷ drop (i + 1) numbers) (sym at))))
+    (by found (candidates_numbered rules name (drop (i + 1) numbers))
+    ∙ ap (λ o. cons_option o (candidates_numbered rules name (drop (i + 1) numbers))) is
+    ∙ sym (ap (candidates_numbered rules name) (drop_more numbers i number within ∙ ap (λ first. first ∷ drop (i + 1) numbers) (sym at))))
   where
     by : (o : Option HeldCandidate) (rest : List Candidate) → candidates_told rules name (option_to_list o) ++ rest ≡ cons_option (found_told rules name o) rest
     by None rest = refl

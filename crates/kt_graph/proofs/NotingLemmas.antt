@@ -1,5 +1,5 @@
 -- The numbers of ends, through changes of the map that holds them.
-use Rattle.std.proofs.Common.{◌≡◌, ℕ, ◌+◌, ◌-◌, ◌<◌, ◌≤◌, Bool, true, false, ◌⊎◌, ⊎_elim, nat_eq, if◌then◌else◌, List, [], ◌∷◌, ◌++◌, length, drop, take, get_or, Option, Some, None, option_map, slice_get, Vec, Global, refl, sym, ap, ◌∙◌, subst, arith, All}
+use Rattle.std.proofs.Common.{◌≡◌, ℕ, ◌+◌, ◌-◌, ◌<◌, ◌≤◌, Bool, true, false, ⊎_elim, nat_eq, if◌then◌else◌, List, [], ◌∷◌, ◌++◌, length, drop, take, get_or, Option, Some, option_map, slice_get, Vec, Global, refl, sym, ap, ◌∙◌, subst, arith}
 use Rattle.std.specs.List.{Contains, list_any}
 use Rattle.std.specs.Map.{lookup, KeepsOthers}
 use Rattle.std.specs.Option.{unwrap_or}
@@ -132,11 +132,11 @@ found_more ends name lengths found new more size before grown is one number ther
     (⊎_elim
     (λ (first : Contains lengths one). Contains-append_left found more number (before one number first fits held))
     (λ (last : Contains (size ∷ []) one). ⊎_elim
-        (λ (same : size ≡ one).
-        Contains-append_right found more number
-        (subst (λ (xs : List ℕ). Contains xs number) (sym (is (omega arith) ∙ ap (λ n. numbers_at ends (drop (length name - n) name)) same)) held))
-        (λ (none : Contains [] one). Contains-none one none)
-        (Contains-cases size [] one last))
+    (λ (same : size ≡ one).
+    Contains-append_right found more number
+    (subst (λ (xs : List ℕ). Contains xs number) (sym (is (omega arith) ∙ ap (λ n. numbers_at ends (drop (length name - n) name)) same)) held))
+    (λ (none : Contains [] one). Contains-none one none)
+    (Contains-cases size [] one last))
     (Contains-append_cases lengths (size ∷ []) one there))
 
 pub found_same : (ends : Ends) (name : Text) (lengths found : List ℕ) (size : ℕ) → HasAll ends name lengths found

@@ -1,4 +1,4 @@
-use Rattle.std.proofs.Common.{◌<◌, arith}
+use Rattle.std.proofs.Common.{arith}
 use Rattle.kt_graph.proofs.NotingLemmas.{rule_noted, rules_noted}
 use Rattle.kt_graph.proofs.patterns.ends_of.Goals as goal
 

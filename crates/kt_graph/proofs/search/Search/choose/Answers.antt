@@ -1,4 +1,4 @@
-use Rattle.std.proofs.Common.{◌≡◌, IfOk, sym, subst}
+use Rattle.std.proofs.Common.{IfOk, sym, subst}
 use Rattle.std.proofs.lemmas.Result.{IfOk-weaker}
 use Rattle.kt_graph.specs.Search.{IsFoundByTrees, Searching, choice_of}
 use Rattle.kt_graph.specs.Views.{choice_told}
