@@ -4,10 +4,9 @@ use Rattle.std.specs.List.{cons_option, list_any, range_with_len, slice_range}
 use Rattle.std.specs.List.Sorted.{IsNonDecreasingBy, IsPermutation, IsStableByKey}
 use Rattle.std.specs.Option.{option_and_then, option_to_list, unwrap_or}
 use Rattle.std.specs.Ordering.{nat_cmp}
-use Rattle.std.proofs.lemmas.List.{append-nil, append_assoc, drop_all, drop_more, length-take, length-drop}
-use Rattle.std.proofs.lemmas.List.Elements.{All-filter, All-head, All-push, All-tail, All-weaker, filter_map-append}
+use Rattle.std.proofs.lemmas.List.{drop_all, drop_more, length-take, length-drop}
+use Rattle.std.proofs.lemmas.List.Elements.{All-filter, All-head, All-tail, All-weaker, filter_map-append}
 use Rattle.std.proofs.lemmas.List.Sorted.{All-permutation}
-use Rattle.std.proofs.lemmas.Option.{slice_get_read}
 use Rattle.kt_text.specs.Words.{Text}
 use Rattle.kt_rules.specs.declared.entry.Needs.{Needs}
 use Rattle.kt_rules.specs.Entry.{Rule}
@@ -80,36 +79,6 @@ pub matching_none : (rules : List Rule) (name : Text) (i : ℕ) → length rules
 unfolding matching_from
 matching_none rules name i past = ap (λ left. matching_from i left name) (drop_all i rules past)
 
--- one more rule, which may match
-pub matching_more : (rules : List Rule) (name : Text) (i : ℕ) (rule : Rule) (candidates more : List HeldCandidate) (found : Option HeldCandidate)
-    → i < length rules → rule ≡ get_or rules i rule → IfSome found (λ candidate. (candidate.rule ≡ i) × IsWithin name candidate.fit)
-    → option_map (candidate_at name rule) found ≡ candidate_of i rule name → more ≡ candidates ++ option_to_list found
-    → candidates_told rules name more ++ matching_from (i + 1) (drop (i + 1) rules) name
-    ≡ candidates_told rules name candidates ++ matching_from i (drop i rules) name
-matching_more rules name i rule candidates more (Some candidate) within is there found grown =
-    let held : slice_get rules candidate.rule ≡ Some rule = ap (slice_get rules) there.0 ∙ slice_get_read rules (length rules) i rule refl within is in
-    let left : List Candidate = matching_from (i + 1) (drop (i + 1) rules) name in
-    ap (λ cs. candidates_told rules name cs ++ left) grown
-    ∙ ap (λ cs. cs ++ left) (filter_map-append (candidate_told rules name) candidates (candidate ∷ [])
-    ∙ ap (λ o. candidates_told rules name candidates ++ cons_option o []) (told_at rules name candidate rule held))
-    ∙ append_assoc (candidates_told rules name candidates) (candidate_at name rule candidate ∷ []) left
-    ∙ ap (λ o. candidates_told rules name candidates ++ (option_to_list o ++ left)) found
-    ∙ ap (λ cs. candidates_told rules name candidates ++ cs) (sym (matching_at rules name i rule within is))
-matching_more rules name i rule candidates more None within is there none grown =
-    ap (λ cs. candidates_told rules name cs ++ matching_from (i + 1) (drop (i + 1) rules) name) (grown ∙ append-nil candidates)
-    ∙ ap (λ cs. candidates_told rules name candidates ++ cs)
-    (ap (λ o. option_to_list o ++ matching_from (i + 1) (drop (i + 1) rules) name) none ∙ sym (matching_at rules name i rule within is))
-
-pub within_more : (rules : List Rule) (name : Text) (i : ℕ) (candidates more : List HeldCandidate) (found : Option HeldCandidate)
-    → i < length rules → IfSome found (λ candidate. (candidate.rule ≡ i) × IsWithin name candidate.fit) → more ≡ candidates ++ option_to_list found
-    → AreWithin rules name candidates → AreWithin rules name more
-within_more rules name i candidates more (Some candidate) below there grown within =
-    let numbered = there.0 in
-    subst (λ cs. AreWithin rules name cs) (sym grown)
-    (All-push (λ (c : HeldCandidate). (c.rule < length rules) × IsWithin name c.fit) candidates candidate within (omega arith, there.1))
-within_more rules name i candidates more None below there grown within =
-    subst (λ cs. AreWithin rules name cs) (sym (grown ∙ append-nil candidates)) within
-
 -- ---- one rule
 
 pub none_matches : (number : ℕ) (rule : Rule) (name : Text) → None ≡ shortest (filter_map (candidate_by number rule name) rule.targets) → None ≡ candidate_of number rule name
@@ -135,7 +104,7 @@ matches_unless number rule name candidate directory stem needs b found front mid
 -- ---- tests of candidates
 
 -- a rule of a number, where there is one
-rule_at : (rules : List Rule) (i : ℕ) → i < length rules → (rule : Rule) × (slice_get rules i ≡ Some rule)
+pub rule_at : (rules : List Rule) (i : ℕ) → i < length rules → (rule : Rule) × (slice_get rules i ≡ Some rule)
 rule_at [] i within = absurd (omega arith)
 rule_at (rule ∷ rules) zero within = (rule, refl)
 rule_at (rule ∷ rules) (suc i) within = rule_at rules i (omega arith)

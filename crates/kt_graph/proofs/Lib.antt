@@ -37,3 +37,5 @@ pub mod GroupLemmas
 pub mod GroupLaw
 pub mod ResolutionLemmas
 pub mod GroupingLemmas
+pub mod EndLemmas
+pub mod NotingLemmas

@@ -8,7 +8,7 @@ use Rattle.std.proofs.lemmas.Slice.Eq.{bytes_eq-Decides}
 use Rattle.kt_text.specs.Words.{Text}
 use Rattle.kt_graph.specs.Paths.{above_name, is_idle, is_rooted, parts_of, step_up, with_part}
 use Rattle.kt_graph.specs.Reach.{Leads, Reaches}
-use Rattle.kt_graph.specs.Resolution.{Cancels, IsName, IsReduced, IsResolution, IsResolved, MayGo, components}
+use Rattle.kt_graph.specs.Resolution.{Cancels, IsName, IsReduced, IsResolution, MayGo, components}
 use Rattle.kt_graph.proofs.CircleLemmas.{Reaches-join, Reaches-none, Reaches-step}
 use Rattle.kt_graph.proofs.PartLemmas.{above_stays, name_taken}
 

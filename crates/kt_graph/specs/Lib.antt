@@ -20,3 +20,4 @@ pub mod Inferring
 pub mod Building
 pub mod Whole
 pub mod Grouping
+pub mod Ends

@@ -1,14 +1,16 @@
 //! The pattern rules that may make a name, in the order in which they are tried.
-ghost use Rattle.std.specs.Prelude.{◌≡◌, ◌≤◌, ◌||◌, ◌++◌, ℕ, All, not, slice_get, option_map, option_to_list, filter_map, IfOk, IfSome, OnOk};
+ghost use Rattle.std.specs.Prelude.{◌≡◌, ◌<◌, ◌≤◌, ◌||◌, ◌++◌, ℕ, All, not, slice_get, option_map, option_to_list, filter_map, length, IfOk, IfSome, OnOk};
 ghost use Rattle.std.specs.List.{list_any};
 ghost use Rattle.std.specs.List.Sorted.{IsPermutation};
 ghost use Rattle.kt_rules.specs.Entry.{Rule};
 ghost use Rattle.kt_rules.specs.Patterns.{is_terminal};
 ghost use Rattle.kt_graph.specs.Candidates.{candidate_by, candidate_of, candidates_for, matching_from, shortest};
-ghost use Rattle.kt_graph.specs.Views.{AreWithin, IsWithin, candidate_at, candidates_told, fit_size, held_by_size, held_without_any, is_last_at, shorter_of, stays};
+ghost use Rattle.kt_graph.specs.Ends.{candidate_numbered, candidates_numbered};
+ghost use Rattle.kt_graph.specs.Views.{AreWithin, IsWithin, candidate_at, candidates_told, fit_size, found_told, held_by_size, held_without_any, is_last_at, shorter_of, stays};
 
 use crate::candidate::{Candidate, fit_of};
 use crate::needed::Stemming;
+use crate::patterns::Patterns;
 use kt_rules::{Pattern, Target};
 use std::alloc::{AllocError, Global};
 
@@ -16,7 +18,7 @@ use std::alloc::{AllocError, Global};
 /// (GNU make manual, "How Patterns Match").
 pub(crate) fn candidates_for(
     alloc: Global,
-    patterns: &[Pattern],
+    patterns: &Patterns,
     in_chain: bool,
     name: &[u8],
 ) -> Result<Vec<Candidate>, AllocError>
@@ -30,16 +32,37 @@ pub(crate) fn candidates_for(
 }
 
 // The candidates for a name, in order of definition.
-fn matching(alloc: Global, patterns: &[Pattern], name: &[u8]) -> Result<Vec<Candidate>, AllocError>
+fn matching(alloc: Global, patterns: &Patterns, name: &[u8]) -> Result<Vec<Candidate>, AllocError>
     ensures matching { IfOk result (λ candidates. candidates_told patterns.now name.now candidates.items ≡ matching_from 0 patterns.now name.now) }
     ensures within { IfOk result (λ candidates. AreWithin patterns.now name.now candidates.items) }
 {
+    let numbers = patterns.numbers(name)?;
+    of_numbers(alloc, patterns, numbers.as_slice(), name)
+}
+
+// The candidates for a name among the rules of these numbers.
+fn of_numbers(
+    alloc: Global,
+    patterns: &Patterns,
+    numbers: &[usize],
+    name: &[u8],
+) -> Result<Vec<Candidate>, AllocError>
+    ensures matching { IfOk result (λ candidates. candidates_told patterns.now name.now candidates.items ≡ candidates_numbered patterns.now name.now numbers.now) }
+    ensures within { IfOk result (λ candidates. AreWithin patterns.now name.now candidates.items) }
+{
     let mut candidates = Vec::new(alloc);
-    for (number, pattern) in patterns.iter().enumerate() {
-        let candidate = candidate_of(number, pattern, name);
-        add(&mut candidates, candidate)?;
+    for number in numbers {
+        add(&mut candidates, candidate_numbered(patterns, *number, name))?;
     }
     Ok(candidates)
+}
+
+fn candidate_numbered(patterns: &Patterns, number: usize, name: &[u8]) -> Option<Candidate>
+    ensures candidate { found_told patterns.now name.now result ≡ candidate_numbered patterns.now name.now number }
+    ensures within { IfSome result (λ candidate. (candidate.rule < length patterns.now) × IsWithin name.now candidate.fit) }
+{
+    let pattern = patterns.get(number)?;
+    candidate_of(number, pattern, name)
 }
 
 fn add(candidates: &mut Vec<Candidate>, candidate: Option<Candidate>) -> Result<(), AllocError>
@@ -104,7 +127,7 @@ fn shorter(best: Option<Candidate>, other: Option<Candidate>) -> Option<Candidat
 
 // Drops nonterminal rules for any name where a chain has begun or a rule matches by another target
 // (GNU make manual, "Match-Anything Pattern Rules").
-fn drop_any(patterns: &[Pattern], in_chain: bool, candidates: &mut Vec<Candidate>)
+fn drop_any(patterns: &Patterns, in_chain: bool, candidates: &mut Vec<Candidate>)
     ensures { candidates.new.items ≡ held_without_any patterns.now in_chain candidates.old.items }
 {
     if drops_any(in_chain, candidates.as_slice()) {
@@ -125,7 +148,7 @@ fn has_other(candidates: &[Candidate]) -> bool
     candidates.iter().any(|candidate| !candidate.is_any)
 }
 
-fn stays(patterns: &[Pattern], candidate: &Candidate) -> bool
+fn stays(patterns: &Patterns, candidate: &Candidate) -> bool
     ensures { result ≡ stays patterns.now candidate.now }
 {
     !candidate.is_any || is_last_at(patterns, candidate.rule)
@@ -141,14 +164,14 @@ fn sort_by_size(candidates: &mut Vec<Candidate>) -> Result<(), AllocError>
 }
 
 /// Whether no rule is searched for that makes a candidate's prerequisites.
-pub(crate) fn is_last(patterns: &[Pattern], candidate: &Candidate) -> bool
+pub(crate) fn is_last(patterns: &Patterns, candidate: &Candidate) -> bool
     ensures { IfSome (slice_get patterns.now candidate.now.rule) (λ rule. result ≡ is_terminal rule.kind) }
 {
     is_last_at(patterns, candidate.rule)
 }
 
 // The same by a rule's number.
-fn is_last_at(patterns: &[Pattern], rule: usize) -> bool
+fn is_last_at(patterns: &Patterns, rule: usize) -> bool
     ensures { result ≡ is_last_at patterns.now rule }
 {
     match patterns.get(rule) {

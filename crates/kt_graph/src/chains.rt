@@ -14,6 +14,7 @@ use crate::candidates::{candidates_for, is_last};
 use crate::choice::{Choice, Chosen};
 use crate::known::Known;
 use crate::needed::Stemming;
+use crate::patterns::Patterns;
 use crate::question::Question;
 use crate::tried::{Placed, Tried};
 use indexmap::IndexSet;
@@ -31,12 +32,12 @@ const CHAIN_LIMIT: usize = 8;
 #[derive(Drop)]
 pub(crate) struct Chains<'a> {
     alloc: Global,
-    patterns: Vec<Pattern<'a>>,
+    patterns: Patterns<'a>,
     known: &'a Known,
 }
 
 impl<'a> Chains<'a> {
-    pub(crate) fn new(alloc: Global, patterns: Vec<Pattern<'a>>, known: &'a Known) -> Chains<'a>
+    pub(crate) fn new(alloc: Global, patterns: Patterns<'a>, known: &'a Known) -> Chains<'a>
         ensures patterns { result.patterns ≡ patterns.entry }
         ensures known { result.known ≡ known.entry }
     {
@@ -48,17 +49,17 @@ impl<'a> Chains<'a> {
     }
 
     pub(crate) fn patterns(&self) -> &[Pattern<'a>]
-        ensures { result.now ≡ self.now.patterns.items }
+        ensures { result.now ≡ self.now.patterns }
     {
-        self.patterns.as_slice()
+        self.patterns.rules()
     }
 
     /// The rule that makes a name, where no chain has begun. Where memory is refused, questions may be
     /// left that have no answer.
     pub(crate) fn choice(&self, tried: &mut Tried, name: &[u8]) -> Result<Choice, AllocError>
-        requires { IsRightFor self.now.patterns.items self.now.known.now tried.old 0 }
-        ensures chosen { IfOk result (λ choice. choice ≡ option_map choice_told (choice_of self.now.patterns.items self.now.known.now name.now)) }
-        ensures leaves { OnOk result (Leaves self.now.patterns.items self.now.known.now tried.old tried.new 0 (asking self.now.patterns.items self.now.known.now chain_limit [] name.now)) }
+        requires { IsRightFor self.now.patterns self.now.known.now tried.old 0 }
+        ensures chosen { IfOk result (λ choice. choice ≡ option_map choice_told (choice_of self.now.patterns self.now.known.now name.now)) }
+        ensures leaves { OnOk result (Leaves self.now.patterns self.now.known.now tried.old tried.new 0 (asking self.now.patterns self.now.known.now chain_limit [] name.now)) }
         ensures kept { Keeps tried.old tried.new }
     {
         match self.ask(tried, CHAIN_LIMIT, name, &[])? {
@@ -77,9 +78,9 @@ impl<'a> Chains<'a> {
         used: &[usize],
     ) -> Result<Option<Candidate>, AllocError>
         requires whole { left + length used.now ≡ chain_limit }
-        requires ready { IsRightFor self.now.patterns.items self.now.known.now tried.old (length used.now) }
-        ensures found { IfOk result (IsFound self.now.patterns.items name.now (fitting self.now.patterns.items self.now.known.now left used.now name.now)) }
-        ensures leaves { OnOk result (Leaves self.now.patterns.items self.now.known.now tried.old tried.new (length used.now) (asking self.now.patterns.items self.now.known.now left used.now name.now)) }
+        requires ready { IsRightFor self.now.patterns self.now.known.now tried.old (length used.now) }
+        ensures found { IfOk result (IsFound self.now.patterns name.now (fitting self.now.patterns self.now.known.now left used.now name.now)) }
+        ensures leaves { OnOk result (Leaves self.now.patterns self.now.known.now tried.old tried.new (length used.now) (asking self.now.patterns self.now.known.now left used.now name.now)) }
         ensures kept { Keeps tried.old tried.new }
     {
         let question = Question::new(self.alloc, name, used)?;
@@ -103,9 +104,9 @@ impl<'a> Chains<'a> {
         used: &[usize],
     ) -> Result<Option<Candidate>, AllocError>
         requires whole { left + length used.now ≡ chain_limit }
-        requires ready { IsRightFor self.now.patterns.items self.now.known.now tried.old (length used.now + 1) }
-        ensures found { IfOk result (IsFound self.now.patterns.items name.now (fitting self.now.patterns.items self.now.known.now left used.now name.now)) }
-        ensures leaves { OnOk result (Leaves self.now.patterns.items self.now.known.now tried.old tried.new (length used.now + 1) (asked_behind self.now.patterns.items self.now.known.now left used.now name.now)) }
+        requires ready { IsRightFor self.now.patterns self.now.known.now tried.old (length used.now + 1) }
+        ensures found { IfOk result (IsFound self.now.patterns name.now (fitting self.now.patterns self.now.known.now left used.now name.now)) }
+        ensures leaves { OnOk result (Leaves self.now.patterns self.now.known.now tried.old tried.new (length used.now + 1) (asked_behind self.now.patterns self.now.known.now left used.now name.now)) }
         ensures kept { Keeps tried.old tried.new }
     {
         if left == 0 {
@@ -124,9 +125,9 @@ impl<'a> Chains<'a> {
         used: &[usize],
     ) -> Result<Option<Candidate>, AllocError>
         requires whole { left + 1 + length used.now ≡ chain_limit }
-        requires ready { IsRightFor self.now.patterns.items self.now.known.now tried.old (length used.now + 1) }
-        ensures found { IfOk result (IsFound self.now.patterns.items name.now (chosen_of self.now.known.now (fitting self.now.patterns.items self.now.known.now left) used.now (open_candidates self.now.patterns.items used.now name.now))) }
-        ensures leaves { OnOk result (Leaves self.now.patterns.items self.now.known.now tried.old tried.new (length used.now + 1) (asked_inside self.now.known.now (fitting self.now.patterns.items self.now.known.now left) (asking self.now.patterns.items self.now.known.now left) used.now (open_candidates self.now.patterns.items used.now name.now))) }
+        requires ready { IsRightFor self.now.patterns self.now.known.now tried.old (length used.now + 1) }
+        ensures found { IfOk result (IsFound self.now.patterns name.now (chosen_of self.now.known.now (fitting self.now.patterns self.now.known.now left) used.now (open_candidates self.now.patterns used.now name.now))) }
+        ensures leaves { OnOk result (Leaves self.now.patterns self.now.known.now tried.old tried.new (length used.now + 1) (asked_inside self.now.known.now (fitting self.now.patterns self.now.known.now left) (asking self.now.patterns self.now.known.now left) used.now (open_candidates self.now.patterns used.now name.now))) }
         ensures kept { Keeps tried.old tried.new }
     {
         let open = self.open(name, used)?;
@@ -138,11 +139,10 @@ impl<'a> Chains<'a> {
 
     // The candidates for a name that don't stand in the chain.
     fn open(&self, name: &[u8], used: &[usize]) -> Result<Vec<Candidate>, AllocError>
-        ensures candidates { IfOk result (λ kept. candidates_told self.now.patterns.items name.now kept.items ≡ open_candidates self.now.patterns.items used.now name.now) }
-        ensures within { IfOk result (λ kept. AreWithin self.now.patterns.items name.now kept.items) }
+        ensures candidates { IfOk result (λ kept. candidates_told self.now.patterns name.now kept.items ≡ open_candidates self.now.patterns used.now name.now) }
+        ensures within { IfOk result (λ kept. AreWithin self.now.patterns name.now kept.items) }
     {
-        let patterns = self.patterns.as_slice();
-        let mut open = candidates_for(self.alloc, patterns, !used.is_empty(), name)?;
+        let mut open = candidates_for(self.alloc, &self.patterns, !used.is_empty(), name)?;
         open.retain(|candidate| !is_used(used, candidate.rule));
         Ok(open)
     }
@@ -153,8 +153,8 @@ impl<'a> Chains<'a> {
         name: &[u8],
         candidates: &[Candidate],
     ) -> Result<Option<Candidate>, AllocError>
-        requires { AreWithin self.now.patterns.items name.now candidates.now }
-        ensures { IfOk result (IsFound self.now.patterns.items name.now (find (is_met self.now.known.now) (candidates_told self.now.patterns.items name.now candidates.now))) }
+        requires { AreWithin self.now.patterns name.now candidates.now }
+        ensures { IfOk result (IsFound self.now.patterns name.now (find (is_met self.now.known.now) (candidates_told self.now.patterns name.now candidates.now))) }
     {
         for candidate in candidates {
             if self.is_met(name, candidate)? {
@@ -165,8 +165,8 @@ impl<'a> Chains<'a> {
     }
 
     fn is_met(&self, name: &[u8], candidate: &Candidate) -> Result<bool, AllocError>
-        requires { AreWithin self.now.patterns.items name.now (candidate.now ∷ []) }
-        ensures { IfOk result (λ met. IfSome (candidate_told self.now.patterns.items name.now candidate.now) (λ told. met ≡ is_met self.now.known.now told)) }
+        requires { AreWithin self.now.patterns name.now (candidate.now ∷ []) }
+        ensures { IfOk result (λ met. IfSome (candidate_told self.now.patterns name.now candidate.now) (λ told. met ≡ is_met self.now.known.now told)) }
     {
         let unknown = self.unknown(name, candidate)?;
         Ok(unknown.is_empty())
@@ -183,10 +183,10 @@ impl<'a> Chains<'a> {
         candidates: &[Candidate],
     ) -> Result<Option<Candidate>, AllocError>
         requires whole { left + 1 + length used.now ≡ chain_limit }
-        requires within { AreWithin self.now.patterns.items name.now candidates.now }
-        requires ready { IsRightFor self.now.patterns.items self.now.known.now tried.old (length used.now + 1) }
-        ensures found { IfOk result (IsFound self.now.patterns.items name.now (find (is_inferred self.now.known.now (fitting self.now.patterns.items self.now.known.now left) used.now) (candidates_told self.now.patterns.items name.now candidates.now))) }
-        ensures leaves { OnOk result (Leaves self.now.patterns.items self.now.known.now tried.old tried.new (length used.now + 1) (asked_among self.now.known.now (fitting self.now.patterns.items self.now.known.now left) (asking self.now.patterns.items self.now.known.now left) used.now (candidates_told self.now.patterns.items name.now candidates.now))) }
+        requires within { AreWithin self.now.patterns name.now candidates.now }
+        requires ready { IsRightFor self.now.patterns self.now.known.now tried.old (length used.now + 1) }
+        ensures found { IfOk result (IsFound self.now.patterns name.now (find (is_inferred self.now.known.now (fitting self.now.patterns self.now.known.now left) used.now) (candidates_told self.now.patterns name.now candidates.now))) }
+        ensures leaves { OnOk result (Leaves self.now.patterns self.now.known.now tried.old tried.new (length used.now + 1) (asked_among self.now.known.now (fitting self.now.patterns self.now.known.now left) (asking self.now.patterns self.now.known.now left) used.now (candidates_told self.now.patterns name.now candidates.now))) }
         ensures kept { Keeps tried.old tried.new }
     {
         let mut at = 0;
@@ -210,13 +210,13 @@ impl<'a> Chains<'a> {
         candidate: Candidate,
     ) -> Result<bool, AllocError>
         requires whole { left + 1 + length used.now ≡ chain_limit }
-        requires within { AreWithin self.now.patterns.items name.now (candidate ∷ []) }
-        requires ready { IsRightFor self.now.patterns.items self.now.known.now tried.old (length used.now + 1) }
-        ensures inferred { IfOk result (λ yes. IfSome (candidate_told self.now.patterns.items name.now candidate) (λ told. yes ≡ is_inferred self.now.known.now (fitting self.now.patterns.items self.now.known.now left) used.now told)) }
-        ensures leaves { OnOk result (IfSome (candidate_told self.now.patterns.items name.now candidate) (λ told. Leaves self.now.patterns.items self.now.known.now tried.old tried.new (length used.now + 1) (asked_by self.now.known.now (fitting self.now.patterns.items self.now.known.now left) (asking self.now.patterns.items self.now.known.now left) used.now told))) }
+        requires within { AreWithin self.now.patterns name.now (candidate ∷ []) }
+        requires ready { IsRightFor self.now.patterns self.now.known.now tried.old (length used.now + 1) }
+        ensures inferred { IfOk result (λ yes. IfSome (candidate_told self.now.patterns name.now candidate) (λ told. yes ≡ is_inferred self.now.known.now (fitting self.now.patterns self.now.known.now left) used.now told)) }
+        ensures leaves { OnOk result (IfSome (candidate_told self.now.patterns name.now candidate) (λ told. Leaves self.now.patterns self.now.known.now tried.old tried.new (length used.now + 1) (asked_by self.now.known.now (fitting self.now.patterns self.now.known.now left) (asking self.now.patterns self.now.known.now left) used.now told))) }
         ensures kept { Keeps tried.old tried.new }
     {
-        if is_last(self.patterns.as_slice(), &candidate) {
+        if is_last(&self.patterns, &candidate) {
             return Ok(false);
         }
         let unknown = self.unknown(name, &candidate)?;
@@ -234,9 +234,9 @@ impl<'a> Chains<'a> {
         used: &[usize],
     ) -> Result<bool, AllocError>
         requires whole { left + length used.now ≡ chain_limit }
-        requires ready { IsRightFor self.now.patterns.items self.now.known.now tried.old (length used.now) }
-        ensures found { IfOk result (λ all. all ≡ list_all (λ name. is_some (fitting self.now.patterns.items self.now.known.now left used.now name)) (map (λ name. name.items) names.now)) }
-        ensures leaves { OnOk result (Leaves self.now.patterns.items self.now.known.now tried.old tried.new (length used.now) (asked_for (fitting self.now.patterns.items self.now.known.now left) (asking self.now.patterns.items self.now.known.now left) used.now (map (λ name. name.items) names.now))) }
+        requires ready { IsRightFor self.now.patterns self.now.known.now tried.old (length used.now) }
+        ensures found { IfOk result (λ all. all ≡ list_all (λ name. is_some (fitting self.now.patterns self.now.known.now left used.now name)) (map (λ name. name.items) names.now)) }
+        ensures leaves { OnOk result (Leaves self.now.patterns self.now.known.now tried.old tried.new (length used.now) (asked_for (fitting self.now.patterns self.now.known.now left) (asking self.now.patterns self.now.known.now left) used.now (map (λ name. name.items) names.now))) }
         ensures kept { Keeps tried.old tried.new }
     {
         let mut at = 0;
@@ -251,10 +251,10 @@ impl<'a> Chains<'a> {
 
     // What a candidate needs that isn't known, in order and each once.
     fn unknown(&self, name: &[u8], candidate: &Candidate) -> Result<IndexSet<Vec<u8>>, AllocError>
-        requires { AreWithin self.now.patterns.items name.now (candidate.now ∷ []) }
-        ensures { IfOk result (λ unknown. IfSome (candidate_told self.now.patterns.items name.now candidate.now) (λ told. map (λ name. name.items) unknown.keys ≡ unknown_needs self.now.known.now told)) }
+        requires { AreWithin self.now.patterns name.now (candidate.now ∷ []) }
+        ensures { IfOk result (λ unknown. IfSome (candidate_told self.now.patterns name.now candidate.now) (λ told. map (λ name. name.items) unknown.keys ≡ unknown_needs self.now.known.now told)) }
     {
-        match self.patterns.as_slice().get(candidate.rule) {
+        match self.patterns.get(candidate.rule) {
             Some(pattern) => self.unknown_with(
                 Stemming::new(&candidate.fit, name),
                 pattern.needs(),
@@ -307,8 +307,8 @@ impl<'a> Chains<'a> {
 
     // A candidate for a name as it is told.
     fn chosen(&self, name: &[u8], candidate: Candidate) -> Result<Chosen, AllocError>
-        requires { AreWithin self.now.patterns.items name.now (candidate ∷ []) }
-        ensures { IfOk result (λ chosen. IfSome (candidate_told self.now.patterns.items name.now candidate) (λ told. chosen ≡ choice_told told)) }
+        requires { AreWithin self.now.patterns name.now (candidate ∷ []) }
+        ensures { IfOk result (λ chosen. IfSome (candidate_told self.now.patterns name.now candidate) (λ told. chosen ≡ choice_told told)) }
     {
         let directory = Vec::from_slice(self.alloc, candidate.fit.directory(name))?;
         let stem = Vec::from_slice(self.alloc, candidate.fit.stem(name))?;

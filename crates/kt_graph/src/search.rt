@@ -8,6 +8,7 @@ ghost use Rattle.kt_graph.specs.Views.{asked_told, choice_told};
 use crate::chains::Chains;
 use crate::choice::Choice;
 use crate::known::Known;
+use crate::patterns::Patterns;
 use crate::question::Question;
 use crate::tried::Tried;
 use kt_rules::{Book, Pattern};
@@ -35,12 +36,12 @@ impl<'a> Model for Search<'a> {
     ghost use Rattle.kt_graph.specs.Views.{asked_told};
 
     ghost view = { λ search. record {
-      rules = search.chains.patterns.items;
+      rules = search.chains.patterns;
       known = search.chains.known.now;
       asked = map asked_told search.tried.questions.keys;
     } };
 
-    ghost invariant = { λ search. IsRight search.chains.patterns.items search.chains.known.now search.tried.questions.keys search.tried.answers.items 0 };
+    ghost invariant = { λ search. IsRight search.chains.patterns search.chains.known.now search.tried.questions.keys search.tried.answers.items 0 };
 }
 
 impl<'a> Search<'a> {
@@ -50,8 +51,9 @@ impl<'a> Search<'a> {
     pub fn new(alloc: Global, book: &'a Book, known: &'a Known) -> Result<Search<'a>, AllocError>
         ensures { IfOk result (λ search. search ≡ record { rules = patterns_of book.now; known = known.now; asked = [] }) }
     {
+        let patterns = Patterns::of(alloc, book.patterns()?)?;
         Ok(Search {
-            chains: Chains::new(alloc, book.patterns()?, known),
+            chains: Chains::new(alloc, patterns, known),
             tried: Tried::new(alloc),
         })
     }

@@ -153,6 +153,31 @@ fn questions(rt: HostRuntime) -> Result<(), Fail> {
     Ok(())
 }
 
+const ENDS: &[u8] = b"%:: any;x\n%.o: o;x\n%c.o: co;x\nlib%.o: lo;x";
+
+/// The shortest stem first, and of equals the first rule (GNU make manual, "How Patterns Match"), where targets end
+/// differently.
+#[test]
+fn ends_of_targets(rt: HostRuntime) -> Result<(), Fail> {
+    const ROWS: &[Row] = &[
+        (
+            ENDS,
+            b"any\no\nco\nlo",
+            b"libabc.o abc.o x.o c.o lib.o ab d/libabc.o",
+            b"3 ,abc 01;2 ,ab 02;1 ,x 03;1 ,c 04;1 ,lib 05;0 ,ab 06;3 d/,abc 07;",
+        ),
+        (ENDS, b"any\no\nco", b"libabc.o", b"2 ,libab 01;"),
+        (ENDS, b"any\no", b"libabc.o", b"1 ,libabc 01;"),
+        (ENDS, b"any", b"libabc.o", b"0 ,libabc.o 01;"),
+        (b"%b.o: k;x\na%.o: k;x", b"k", b"axb.o", b"0 ,ax 01;"),
+        (b"a%.o: k;x\n%b.o: k;x", b"k", b"axb.o", b"0 ,xb 01;"),
+        (b"a%.o ab%.o: k;x", b"k", b"abc.o", b"0 ,c 01;"),
+        (b"%/x.o: k;x", b"k", b"d/x.o", b"0 ,d 01;"),
+    ];
+    tells(&rt, rt.alloc(), ROWS, false)?;
+    Ok(())
+}
+
 /// What is told where a prerequisite of so many bytes stands behind the rules.
 fn put_with(told: &mut Vec<u8>, alloc: Global, rules: &[u8], len: usize) -> Result<(), AllocError> {
     let name = vec![in alloc; b'y'; len]?;

@@ -27,7 +27,7 @@ decreases-all_found l = 6 * l.left + 2
 
 abbrev pub invariant-all_found-loop-at : goal.invariant-all_found-loop-at
 invariant-all_found-loop-at l =
-    let rules = l.self.patterns.items in
+    let rules = l.self.patterns in
     let known = l.self.known.now in
     let deeper = fitting rules known l.left in
     record {
@@ -40,7 +40,7 @@ decreases-all_found-loop-at l = length l.names - l.at
 
 abbrev pub invariant-first_inferred-loop-at : goal.invariant-first_inferred-loop-at
 invariant-first_inferred-loop-at l =
-    let rules = l.self.patterns.items in
+    let rules = l.self.patterns in
     let known = l.self.known.now in
     let deeper = fitting rules known l.left in
     record {

@@ -7,5 +7,5 @@ use Rattle.kt_graph.proofs.chains.Chains.first_met.Given as goal
 -- what is found from here is what is found from the start
 abbrev pub invariant-loop-candidate : goal.invariant-loop-candidate
 invariant-loop-candidate l =
-    find (is_met l.self.known.now) (candidates_told l.self.patterns.items l.name (drop l.candidate-index l.candidates))
-    ≡ find (is_met l.self.known.now) (candidates_told l.self.patterns.items l.name l.candidates)
+    find (is_met l.self.known.now) (candidates_told l.self.patterns l.name (drop l.candidate-index l.candidates))
+    ≡ find (is_met l.self.known.now) (candidates_told l.self.patterns l.name l.candidates)

@@ -1,4 +1,4 @@
-use Rattle.std.proofs.Common.{◌≡◌, IfOk, sym, subst}
+use Rattle.std.proofs.Common.{IfOk, sym, subst}
 use Rattle.std.proofs.lemmas.Result.{IfOk-weaker}
 use Rattle.kt_graph.specs.Search.{IsFoundByTrees, Searching, choice_of}
 use Rattle.kt_graph.specs.Views.{choice_told}
@@ -7,7 +7,7 @@ use Rattle.kt_graph.proofs.search.Search.choose.Goals as goal
 
 pub returns-else-is_err-clause-trees : goal.returns-else-is_err-clause-trees
 returns-else-is_err-clause-trees c =
-    let rules = c.self.inside.chains.patterns.items in
+    let rules = c.self.inside.chains.patterns in
     let known = c.self.inside.chains.known.now in
     let name = c.args.name.now in
     subst (λ (search : Searching). IfOk c.choice-choice.result (IsFoundByTrees search.rules search.known name)) c.self.view_is
