@@ -1,9 +1,9 @@
 #!/usr/bin/env python3
 """Runs the gate on a clean checkout of HEAD and tells what it cost.
 
-    scripts/gate_cost.py [REVISION]
+    scripts/gate_cost.py [REVISION [LOG]]
 
-Prints the gate's last line, the minutes that it took and the processor minutes, and then the processor seconds of each crate: its
+LOG gets what the gate prints. The script prints the gate's last line, the minutes that it took and the processor minutes, and then the processor seconds of each crate: its
 proof, its tests and its edits, told apart by the folder and the arguments of each process of the prover. A machine with other work on it
 takes longer, but hardly more processor time.
 """
@@ -67,11 +67,12 @@ def main():
         subprocess.run(["git", "checkout", "-q", revision], cwd=folder, check=True)
         sampler, started = Sampler(folder), time.time()
         sampler.start()
-        with open(Path(name) / "log", "wb") as log:
+        path = Path(sys.argv[2] if len(sys.argv) > 2 else Path(name) / "log")
+        with open(path, "wb") as log:
             status = subprocess.run([folder / ".ci/run"], stdout=log, stderr=subprocess.STDOUT).returncode
         sampler.ended = True
         used = resource.getrusage(resource.RUSAGE_CHILDREN)
-        print((Path(name) / "log").read_text(errors="replace").rstrip().splitlines()[-1])
+        print(path.read_text(errors="replace").rstrip().splitlines()[-1])
         print(f"{(time.time() - started) / 60:.0f} minutes, {(used.ru_utime + used.ru_stime) / 60:.0f} processor minutes")
         print("| Crate | " + " | ".join(PARTS) + " |")
         for crate, row in sorted(sampler.table().items()):

@@ -20,6 +20,7 @@ import tempfile
 import time
 from pathlib import Path
 
+sys.dont_write_bytecode = True
 import large_makefiles as large
 
 BUILT = Path(__file__).resolve().parent.parent / "crates/kati_program/out/kati_program"

@@ -1,71 +1,243 @@
-//! Runs over memory.
-use kati::{RunFault, Status, run, whole};
-use kati_args::Args;
+//! Runs over memory, whose files and outputs may fail.
+use kati::whole;
 use kt_eval::{Files, MemFiles};
-use kt_list::Sequence;
 use kt_ninja::MemSink;
 use std::alloc::Global;
 use std::process::Abort;
+
+/// A run whose devices don't fail: the words behind the program's name, the files, the names that it asks for, the exit
+/// status, the output and the error output.
+type Row = (
+    &'static [&'static str],
+    &'static [(&'static str, &'static [u8])],
+    &'static [&'static str],
+    u8,
+    &'static [u8],
+    &'static [u8],
+);
 
 const ONE_RULE: &[u8] = b"a.o: a.c\n\tcc -c a.c -o a.o\n";
 
 const ONE_RULE_TEXT: &[u8] =
     b"# kati\nrule r0\n command = /bin/sh -c 'cc -c a.c -o a.o'\nbuild a.o: r0 a.c\ndefault a.o\n";
 
-const NO_TARGETS: &[u8] = b"kati: *** no targets [E26]\n";
+const BOTH: &[&str] = &["makefile", "Makefile"];
 
-/// Files of which one, of this name, is there, and the nth read fails.
-fn one_file(rt: &impl Abort, alloc: Global, name: &str, text: &[u8], nth: u64) -> MemFiles {
-    let name = name.to_string(alloc).expect(rt, "memory");
-    let text = Vec::from_slice(alloc, text).expect(rt, "memory");
-    let mut pairs = Vec::new(alloc);
-    pairs.push((name, text)).ok().expect(rt, "memory");
-    MemFiles::new(alloc, pairs, nth)
+/// Runs whose files and outputs fail in turn.
+const ROWS: [Row; 8] = [
+    (&[], &[("Makefile", ONE_RULE)], BOTH, 0, ONE_RULE_TEXT, b""),
+    (
+        &["CC=tcc"],
+        &[("Makefile", b"CC = cc\na: ; $(CC) $@\n")],
+        BOTH,
+        0,
+        b"# kati\nrule r0\n command = /bin/sh -c 'tcc a'\nbuild a: r0\ndefault a\n",
+        b"",
+    ),
+    (
+        &[],
+        &[("Makefile", b"t: x | x y\n\techo $^ - $|\n")],
+        BOTH,
+        0,
+        b"# kati\nrule r0\n command = /bin/sh -c 'echo x - y'\nbuild t: r0 x || y\ndefault t\n",
+        b"",
+    ),
+    (
+        &["-f", "m"],
+        &[("m", b"include a.mk\ninclude a.mk\n"), ("a.mk", b"")],
+        &["m", "a.mk", "a.mk"],
+        2,
+        b"",
+        b"kati: *** no targets [E26]\n",
+    ),
+    (
+        &["--check", "o"],
+        &[
+            ("Makefile", b"t: ; echo \"it's $$HOME\"\n"),
+            (
+                "o",
+                b"# kati\nrule r0\n command = /bin/sh -c 'echo \"it'\\''s $$HOME\"'\nbuild t: r0\ndefault t\n",
+            ),
+        ],
+        &["makefile", "Makefile", "o"],
+        0,
+        b"",
+        b"",
+    ),
+    (
+        &["a", "b"],
+        &[(
+            "Makefile",
+            b"define R\n$(1): $(1).c ; cc $(1).c\nendef\n$(foreach p,a b,$(eval $(call R,$(p))))\n",
+        )],
+        BOTH,
+        0,
+        b"# kati\nrule r0\n command = /bin/sh -c 'cc a.c'\nbuild a: r0 a.c\nrule r1\n command = /bin/sh -c 'cc b.c'\nbuild b: r1 b.c\ndefault a b\n",
+        b"",
+    ),
+    (
+        &["--files", "l"],
+        &[
+            (
+                "Makefile",
+                b"%.o: %.c ; cc $<\n%.c: %.y ; yacc $<\nall: x.o\n",
+            ),
+            ("l", b"./x.y\n"),
+        ],
+        &["l", "makefile", "Makefile"],
+        0,
+        b"# kati\nbuild all: phony x.o\nrule r0\n command = /bin/sh -c 'yacc x.y'\nbuild x.c: r0 x.y\nrule r1\n command = /bin/sh -c 'cc x.c'\nbuild x.o: r1 x.c\ndefault all\n",
+        b"",
+    ),
+    // Both outputs get something.
+    (
+        &[],
+        &[("Makefile", b"t: ; echo $(info hi)x\n")],
+        BOTH,
+        0,
+        b"# kati\nrule r0\n command = /bin/sh -c 'echo x'\nbuild t: r0\ndefault t\n",
+        b"hi\n",
+    ),
+];
+
+/// Further runs.
+const FURTHER: [Row; 12] = [
+    (
+        &[],
+        &[("makefile", ONE_RULE)],
+        &["makefile"],
+        0,
+        ONE_RULE_TEXT,
+        b"",
+    ),
+    (
+        &["a.o"],
+        &[("Makefile", ONE_RULE)],
+        BOTH,
+        0,
+        ONE_RULE_TEXT,
+        b"",
+    ),
+    (
+        &[],
+        &[("GNUmakefile", ONE_RULE)],
+        BOTH,
+        2,
+        b"",
+        b"kati: *** no makefile [E03]\n",
+    ),
+    (
+        &[],
+        &[("Makefile", b"")],
+        BOTH,
+        2,
+        b"",
+        b"kati: *** no targets [E26]\n",
+    ),
+    (
+        &[],
+        &[("Makefile", b"A = 1\n")],
+        BOTH,
+        2,
+        b"",
+        b"kati: *** no targets [E26]\n",
+    ),
+    (
+        &[],
+        &[("Makefile", b"a: b\nc\0")],
+        BOTH,
+        2,
+        b"",
+        b"Makefile:2: *** NUL byte [E01]\n",
+    ),
+    (
+        &[],
+        &[("Makefile", b"a \\\nb\0\n")],
+        BOTH,
+        2,
+        b"",
+        b"Makefile:2: *** NUL byte [E01]\n",
+    ),
+    (
+        &[],
+        &[("Makefile", b"\0\n\0")],
+        BOTH,
+        2,
+        b"",
+        b"Makefile:1: *** NUL byte [E01]\n",
+    ),
+    (
+        &[],
+        &[("Makefile", b"a: a\n\tx\n")],
+        BOTH,
+        2,
+        b"",
+        b"kati: *** circular: a [E28]\n",
+    ),
+    (
+        &["--check", "Makefile"],
+        &[("Makefile", ONE_RULE)],
+        &["makefile", "Makefile", "Makefile"],
+        1,
+        b"",
+        b"",
+    ),
+    (
+        &["--check", "plan"],
+        &[("Makefile", ONE_RULE)],
+        &["makefile", "Makefile", "plan"],
+        1,
+        b"",
+        b"",
+    ),
+    (
+        &["CC:=x"],
+        &[("Makefile", ONE_RULE)],
+        &[],
+        64,
+        b"",
+        b"kati: bad macro CC:=x\n",
+    ),
+];
+
+const CANNOT_WRITE: &[u8] = b"kati: cannot write\n";
+
+/// Which read fails, or 0, and the room of each output and how much it takes in a call.
+type Devices = (u64, (usize, usize), (usize, usize));
+
+const AMPLE: (usize, usize) = (4096, 4096);
+
+fn put(text: &mut Vec<u8>, part: &[u8]) {
+    let _refused = text.extend_from_slice(part);
 }
 
-fn sink(rt: &impl Abort, alloc: Global, room: usize, step: usize) -> MemSink {
-    MemSink::new(alloc, room, step).expect(rt, "memory")
+fn put_name(told: &mut Vec<u8>, name: &str) {
+    put(told, name.as_bytes());
+    put(told, b"\n");
 }
 
-/// The arguments of a command line without words.
-fn no_words(alloc: Global) -> Args {
-    Args {
-        makefile: None,
-        files: None,
-        check: None,
-        limit: 100,
-        goals: Sequence::from(Vec::new(alloc)),
-        macros: Sequence::from(Vec::new(alloc)),
+/// The end of an outcome: the exit status, and what both outputs hold.
+fn put_end(told: &mut Vec<u8>, status: u8, out: &[u8], err: &[&[u8]]) {
+    put(told, &[status]);
+    put(told, b"\nout: ");
+    put(told, out);
+    put(told, b"\nerr: ");
+    for part in err {
+        put(told, part);
     }
 }
 
-/// How a run ended.
-fn ended(
-    alloc: Global,
-    files: &mut MemFiles,
-    out: &mut MemSink,
-    err: &mut MemSink,
-) -> &'static str {
-    match run(alloc, &no_words(alloc), files, out, err) {
-        Ok(Status::Done) => "done",
-        Ok(Status::Differs) => "differs",
-        Ok(Status::Fault) => "fault",
-        Err(RunFault::Read(_)) => "read",
-        Err(RunFault::WriteOut) => "write out",
-        Err(RunFault::WriteErr) => "write err",
-        Err(RunFault::Memory) => "memory",
+/// An outcome as one text: the names that were asked for, and the end.
+fn wanted(alloc: Global, names: &[&str], status: u8, out: &[u8], err: &[&[u8]]) -> Vec<u8> {
+    let mut told = Vec::new(alloc);
+    for name in names {
+        put_name(&mut told, name);
     }
+    put_end(&mut told, status, out, err);
+    told
 }
 
-/// The exit status of the program with these words behind its name.
-fn exit(
-    rt: &impl Abort,
-    alloc: Global,
-    further: &[&str],
-    files: &mut MemFiles,
-    out: &mut MemSink,
-    err: &mut MemSink,
-) -> u8 {
+fn words_of(rt: &impl Abort, alloc: Global, further: &[&str]) -> Vec<String> {
     let mut words = Vec::new(alloc);
     words
         .push("kati".to_string(alloc).expect(rt, "memory"))
@@ -77,213 +249,172 @@ fn exit(
             .ok()
             .expect(rt, "memory");
     }
-    whole(alloc, words.as_slice(), files, out, err)
+    words
 }
 
-/// What the program on a file leaves, with ample room on both outputs, and how many names it asks for.
-fn check_makefile(
+fn files_of(rt: &impl Abort, alloc: Global, files: &[(&str, &[u8])], nth: u64) -> MemFiles {
+    let mut pairs = Vec::new(alloc);
+    for (name, text) in files {
+        let name = name.to_string(alloc).expect(rt, "memory");
+        let text = Vec::from_slice(alloc, text).expect(rt, "memory");
+        pairs.push((name, text)).ok().expect(rt, "memory");
+    }
+    MemFiles::new(alloc, pairs, nth)
+}
+
+fn sink(rt: &impl Abort, alloc: Global, (room, step): (usize, usize)) -> MemSink {
+    MemSink::new(alloc, room, step).expect(rt, "memory")
+}
+
+/// Calls. It stands apart so that what the contract says burdens no other proof.
+fn exit(
+    alloc: Global,
+    words: &[String],
+    files: &mut MemFiles,
+    out: &mut MemSink,
+    err: &mut MemSink,
+) -> u8 {
+    whole(alloc, words, files, out, err)
+}
+
+/// Appends the outcome of the program on the row's words and files, with these devices; returns how often each output
+/// was called.
+fn put_run(
+    told: &mut Vec<u8>,
     rt: &impl Abort,
     alloc: Global,
-    (name, text): (&str, &[u8]),
-    code: u8,
-    (told_out, told_err): (&[u8], &[u8]),
-    asked: usize,
-) {
-    let mut files = one_file(rt, alloc, name, text, 0);
-    let mut out = sink(rt, alloc, 1000, 1000);
-    let mut err = sink(rt, alloc, 1000, 1000);
-    let status = exit(rt, alloc, &[], &mut files, &mut out, &mut err);
-    assert_eq!(rt; out.as_slice(), told_out);
-    assert_eq!(rt; err.as_slice(), told_err);
-    assert_eq!(rt; (status, files.asked().len()), (code, asked));
-}
-
-/// Makefiles by name and text, the status, what both outputs hold, and how many names are asked for.
-const MAKEFILES: [(&str, &[u8], u8, &[u8], &[u8], usize); 9] = [
-    ("Makefile", ONE_RULE, 0, ONE_RULE_TEXT, b"", 2),
-    ("makefile", ONE_RULE, 0, ONE_RULE_TEXT, b"", 1),
-    (
-        "GNUmakefile",
-        ONE_RULE,
-        2,
-        b"",
-        b"kati: *** no makefile [E03]\n",
-        2,
-    ),
-    ("Makefile", b"", 2, b"", NO_TARGETS, 2),
-    (
-        "Makefile",
-        b"a: b\nc\0",
-        2,
-        b"",
-        b"Makefile:2: *** NUL byte [E01]\n",
-        2,
-    ),
-    (
-        "Makefile",
-        b"a \\\nb\0\n",
-        2,
-        b"",
-        b"Makefile:2: *** NUL byte [E01]\n",
-        2,
-    ),
-    (
-        "Makefile",
-        b"\0\n\0",
-        2,
-        b"",
-        b"Makefile:1: *** NUL byte [E01]\n",
-        2,
-    ),
-    ("Makefile", b"A = 1\n", 2, b"", NO_TARGETS, 2),
-    (
-        "Makefile",
-        b"a: a\n\tx\n",
-        2,
-        b"",
-        b"kati: *** circular: a [E28]\n",
-        2,
-    ),
-];
-
-#[test]
-fn translates_makefiles(rt: HostRuntime) {
-    for (name, text, code, out, err, asked) in MAKEFILES {
-        check_makefile(&rt, rt.alloc(), (name, text), code, (out, err), asked);
+    row: &Row,
+    (nth, out, err): Devices,
+) -> (u64, u64) {
+    let words = words_of(rt, alloc, row.0);
+    let mut files = files_of(rt, alloc, row.1, nth);
+    let mut out = sink(rt, alloc, out);
+    let mut err = sink(rt, alloc, err);
+    let status = exit(alloc, words.as_slice(), &mut files, &mut out, &mut err);
+    for name in files.asked() {
+        put_name(told, name.as_str());
     }
+    put_end(told, status, out.as_slice(), &[err.as_slice()]);
+    (out.calls(), err.calls())
 }
 
-#[test]
-fn asks_for_both_names_and_writes_once(rt: HostRuntime) {
-    let mut files = one_file(&rt, rt.alloc(), "Makefile", ONE_RULE, 0);
-    let mut out = sink(&rt, rt.alloc(), 1000, 1000);
-    let mut err = sink(&rt, rt.alloc(), 1000, 1000);
-    assert_eq!(rt; ended(rt.alloc(), &mut files, &mut out, &mut err), "done");
-    assert_eq!(rt; (out.calls(), err.calls(), files.asked().len()), (1, 0, 2));
-    for (asked, name) in files.asked().iter().zip(["makefile", "Makefile"]) {
-        assert_eq!(rt; asked.as_str(), name);
-    }
-}
-
-/// Runs on a Makefile of this text with outputs of these rooms and one step: how they end, and what both outputs hold.
-fn check_run(
+/// The run of a row with these devices asks for these names and ends so.
+fn check(
     rt: &impl Abort,
     alloc: Global,
-    text: &[u8],
-    (out_room, err_room, step): (usize, usize, usize),
-    end: &str,
-    (held_out, held_err): (&[u8], &[u8]),
+    row: &Row,
+    devices: Devices,
+    names: &[&str],
+    status: u8,
+    (out, err): (&[u8], &[&[u8]]),
 ) {
-    let mut files = one_file(rt, alloc, "Makefile", text, 0);
-    let mut out = sink(rt, alloc, out_room, step);
-    let mut err = sink(rt, alloc, err_room, step);
-    let ended = ended(alloc, &mut files, &mut out, &mut err);
-    assert_eq!(rt; ended, end);
-    assert_eq!(rt; out.as_slice(), held_out);
-    assert_eq!(rt; err.as_slice(), held_err);
+    let wanted = wanted(alloc, names, status, out, err);
+    let mut told = Vec::new(alloc);
+    let _calls = put_run(&mut told, rt, alloc, row, devices);
+    assert_eq!(rt; told.as_slice(), wanted.as_slice());
 }
 
-/// A byte a call, and none.
-#[test]
-fn writes_to_sinks_that_dawdle(rt: HostRuntime) {
-    let rows: [(&[u8], usize, &str, &[u8], &[u8]); 4] = [
-        (ONE_RULE, 1, "done", ONE_RULE_TEXT, b""),
-        (b"", 1, "fault", b"", NO_TARGETS),
-        (ONE_RULE, 0, "write out", b"", b""),
-        (b"", 0, "write err", b"", b""),
-    ];
-    for (text, step, end, out, err) in rows {
-        check_run(&rt, rt.alloc(), text, (1000, 1000, step), end, (out, err));
-    }
-}
-
-#[test]
-fn stops_at_an_output_that_fails(rt: HostRuntime) {
-    for room in 0..ONE_RULE_TEXT.len() {
-        let held = (&ONE_RULE_TEXT[..room], b"".as_slice());
-        check_run(
-            &rt,
-            rt.alloc(),
-            ONE_RULE,
-            (room, 1000, 1000),
-            "write out",
-            held,
+/// With ample room each text is written by one call, and by a byte a call it is the same text.
+fn check_ends(rt: &impl Abort, alloc: Global, row: &Row) {
+    let mut told = Vec::new(alloc);
+    let calls = put_run(&mut told, rt, alloc, row, (0, AMPLE, AMPLE));
+    let wanted = wanted(alloc, row.2, row.3, row.4, &[row.5]);
+    assert_eq!(rt; told.as_slice(), wanted.as_slice());
+    if row.3 < 64 {
+        assert_eq!(rt;
+            calls,
+            (u64::from(!row.4.is_empty()), u64::from(!row.5.is_empty()))
         );
     }
+    let slow = (4096, 1);
+    check(
+        rt,
+        alloc,
+        row,
+        (0, slow, slow),
+        row.2,
+        row.3,
+        (row.4, &[row.5]),
+    );
 }
 
 #[test]
-fn stops_at_an_error_output_that_fails(rt: HostRuntime) {
-    for room in 0..NO_TARGETS.len() {
-        let held = (b"".as_slice(), &NO_TARGETS[..room]);
-        check_run(&rt, rt.alloc(), b"", (1000, room, 1000), "write err", held);
+fn ends_with_ample_room_and_by_a_byte_a_call(rt: HostRuntime) {
+    for row in ROWS {
+        check_ends(&rt, rt.alloc(), &row);
+    }
+    for row in FURTHER {
+        check_ends(&rt, rt.alloc(), &row);
     }
 }
 
-/// Which read fails, the room of the output, what it holds then, and what the program tells.
-const TROUBLES: [(u64, usize, &[u8], &[u8]); 3] = [
-    (1, 1000, b"", b"kati: cannot read makefile\n"),
-    (2, 1000, b"", b"kati: cannot read Makefile\n"),
-    (0, 10, b"# kati\nrul", b"kati: cannot write\n"),
-];
-
+/// Each read that fails ends the run: its name is told, and nothing is written.
 #[test]
-fn tells_what_kept_it_from_its_end(rt: HostRuntime) {
-    for (nth, room, written, told) in TROUBLES {
-        let mut files = one_file(&rt, rt.alloc(), "Makefile", ONE_RULE, nth);
-        let mut out = sink(&rt, rt.alloc(), room, 1000);
-        let mut err = sink(&rt, rt.alloc(), 1000, 1000);
-        let status = exit(&rt, rt.alloc(), &[], &mut files, &mut out, &mut err);
-        assert_eq!(rt; status, 3);
-        assert_eq!(rt; out.as_slice(), written);
-        assert_eq!(rt; err.as_slice(), told);
+fn stops_at_each_read_that_fails(rt: HostRuntime) {
+    for row in ROWS {
+        for before in 0..row.2.len() {
+            let names = &row.2[..before + 1];
+            if let Some(name) = names.last() {
+                let told: [&[u8]; 3] = [b"kati: cannot read ", name.as_bytes(), b"\n"];
+                let devices = (names.len() as u64, AMPLE, AMPLE);
+                check(&rt, rt.alloc(), &row, devices, names, 3, (b"", &told));
+            }
+        }
     }
 }
 
-/// Each read that fails ends the run, with nothing written.
+/// An output that fails after any number of bytes holds these, and the run ends there.
 #[test]
-fn stops_at_a_read_that_fails(rt: HostRuntime) {
-    for (nth, asked) in [(1, 1), (2, 2)] {
-        let mut files = one_file(&rt, rt.alloc(), "Makefile", ONE_RULE, nth);
-        let mut out = sink(&rt, rt.alloc(), 1000, 1000);
-        let mut err = sink(&rt, rt.alloc(), 1000, 1000);
-        assert_eq!(rt; ended(rt.alloc(), &mut files, &mut out, &mut err), "read");
-        assert_eq!(rt; (files.asked().len(), files.failures()), (asked, 1));
-        assert_eq!(rt; (out.calls(), err.calls()), (0, 0));
+fn stops_at_each_byte_of_the_output(rt: HostRuntime) {
+    for row in ROWS {
+        for room in 0..row.4.len() {
+            let told = [row.5, CANNOT_WRITE];
+            let held = (&row.4[..room], told.as_slice());
+            check(
+                &rt,
+                rt.alloc(),
+                &row,
+                (0, (room, 4096), AMPLE),
+                row.2,
+                3,
+                held,
+            );
+        }
     }
 }
 
-/// Words behind the program's name, which read fails, the status, how many names are asked for, and what is told.
-const WORDS: [(&[&str], u64, u8, usize, &[u8]); 7] = [
-    (&["a.o"], 0, 0, 2, b""),
-    (&["--check", "Makefile"], 0, 1, 3, b""),
-    (&["--check", "plan"], 0, 1, 3, b""),
-    (
-        &["--check", "Makefile"],
-        3,
-        3,
-        3,
-        b"kati: cannot read Makefile\n",
-    ),
-    (&["--files", "l"], 1, 3, 1, b"kati: cannot read l\n"),
-    (
-        &["-f", "Makefile", "CC=x"],
-        1,
-        3,
-        1,
-        b"kati: cannot read Makefile\n",
-    ),
-    (&["CC:=x"], 0, 64, 0, b"kati: bad macro CC:=x\n"),
-];
-
+/// Of an error output that fails nothing more is told, and the output gets nothing.
 #[test]
-fn takes_words(rt: HostRuntime) {
-    for (words, nth, code, asked, told) in WORDS {
-        let mut files = one_file(&rt, rt.alloc(), "Makefile", ONE_RULE, nth);
-        let mut out = sink(&rt, rt.alloc(), 1000, 1000);
-        let mut err = sink(&rt, rt.alloc(), 1000, 1000);
-        let status = exit(&rt, rt.alloc(), words, &mut files, &mut out, &mut err);
-        assert_eq!(rt; (status, files.asked().len()), (code, asked));
-        assert_eq!(rt; err.as_slice(), told);
+fn stops_at_each_byte_of_the_error_output(rt: HostRuntime) {
+    for row in ROWS {
+        for room in 0..row.5.len() {
+            let told = [&row.5[..room]];
+            let held = (b"".as_slice(), told.as_slice());
+            check(
+                &rt,
+                rt.alloc(),
+                &row,
+                (0, AMPLE, (room, 4096)),
+                row.2,
+                3,
+                held,
+            );
+        }
+    }
+}
+
+/// Outputs that answer 0 to every piece.
+#[test]
+fn stops_at_outputs_that_stall(rt: HostRuntime) {
+    for row in ROWS {
+        if !row.4.is_empty() {
+            let told = [row.5, CANNOT_WRITE];
+            let held = (b"".as_slice(), told.as_slice());
+            check(&rt, rt.alloc(), &row, (0, (4096, 0), AMPLE), row.2, 3, held);
+        }
+        if !row.5.is_empty() {
+            let held = (b"".as_slice(), [].as_slice());
+            check(&rt, rt.alloc(), &row, (0, AMPLE, (4096, 0)), row.2, 3, held);
+        }
     }
 }

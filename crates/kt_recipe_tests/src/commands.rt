@@ -1,9 +1,8 @@
 //! Commands: pieces, prefixes, the shell, order, faults.
 use crate::told::{Row, tells};
-use std::test::Fail;
 
 #[test]
-fn quotes_and_joins(rt: HostRuntime) -> Result<(), Fail> {
+fn quotes_and_joins(rt: HostRuntime) {
     const ROWS: &[Row] = &[
         (
             "t: ; echo \"it's $$HOME\"\n",
@@ -33,12 +32,11 @@ fn quotes_and_joins(rt: HostRuntime) -> Result<(), Fail> {
         ("t:\n\ta; \\\n\tb\n", "", "t", "/bin/sh -c 'a; b'\n"),
         ("SHELL = $() sh\nt: ; true\n", "", "t", " sh -c 'true'\n"),
     ];
-    tells(&rt, rt.alloc(), 100, ROWS)?;
-    Ok(())
+    tells(&rt, rt.alloc(), 100, ROWS);
 }
 
 #[test]
-fn takes_prefixes(rt: HostRuntime) -> Result<(), Fail> {
+fn takes_prefixes(rt: HostRuntime) {
     const ROWS: &[Row] = &[
         ("t: ; \\\n\t @ echo a\n", "", "t", "/bin/sh -c 'echo a'\n"),
         (
@@ -55,24 +53,22 @@ fn takes_prefixes(rt: HostRuntime) -> Result<(), Fail> {
         ),
         ("t:\n\ta \n\t @ \n", "", "t", "/bin/sh -c 'a '\n"),
     ];
-    tells(&rt, rt.alloc(), 100, ROWS)?;
-    Ok(())
+    tells(&rt, rt.alloc(), 100, ROWS);
 }
 
 #[test]
-fn makes_phony(rt: HostRuntime) -> Result<(), Fail> {
+fn makes_phony(rt: HostRuntime) {
     const ROWS: &[Row] = &[
         ("t: ; $(X)\n", "", "t", "phony\n"),
         ("t: ;\n", "", "t", "phony\n"),
         ("t: b\n", "", "t", "phony\n"),
         ("t:\n\t\n", "", "t", "phony\n"),
     ];
-    tells(&rt, rt.alloc(), 100, ROWS)?;
-    Ok(())
+    tells(&rt, rt.alloc(), 100, ROWS);
 }
 
 #[test]
-fn tells_in_order(rt: HostRuntime) -> Result<(), Fail> {
+fn tells_in_order(rt: HostRuntime) {
     const ROWS: &[Row] = &[
         (
             "t: ; echo $(info hi)x\n",
@@ -93,12 +89,11 @@ fn tells_in_order(rt: HostRuntime) -> Result<(), Fail> {
             "/bin/sh -c 'echo '\nMakefile:6: w\n",
         ),
     ];
-    tells(&rt, rt.alloc(), 100, ROWS)?;
-    Ok(())
+    tells(&rt, rt.alloc(), 100, ROWS);
 }
 
 #[test]
-fn stops_at_faults(rt: HostRuntime) -> Result<(), Fail> {
+fn stops_at_faults(rt: HostRuntime) {
     const ROWS: &[Row] = &[
         (
             "t: ; $(eval A = 1)\n",
@@ -125,12 +120,11 @@ fn stops_at_faults(rt: HostRuntime) -> Result<(), Fail> {
             "Makefile:3: *** unterminated reference [E07]\n1\n",
         ),
     ];
-    tells(&rt, rt.alloc(), 100, ROWS)?;
-    Ok(())
+    tells(&rt, rt.alloc(), 100, ROWS);
 }
 
 #[test]
-fn counts_levels(rt: HostRuntime) -> Result<(), Fail> {
+fn counts_levels(rt: HostRuntime) {
     const ROWS: &[Row] = &[
         ("t: ; a\n", "", "t", "/bin/sh -c 'a'\n"),
         ("A = $(B)\nt: ; $(A)\n", "", "t", "phony\n"),
@@ -147,6 +141,5 @@ fn counts_levels(rt: HostRuntime) -> Result<(), Fail> {
             "Makefile:3: *** nesting too deep [E08]\n",
         ),
     ];
-    tells(&rt, rt.alloc(), 1, ROWS)?;
-    Ok(())
+    tells(&rt, rt.alloc(), 1, ROWS);
 }

@@ -4,94 +4,66 @@ use kt_graph::{Graph, Known, Node, graph};
 use kt_list::Sequence;
 use kt_recipe::command;
 use kt_rules::Name;
-use std::alloc::{AllocError, Global};
+use std::alloc::Global;
 use std::process::Abort;
 
 /// A makefile, a list of files, goals, and what is told.
 pub(crate) type Row<'a> = (&'a str, &'a str, &'a str, &'a str);
 
-pub(crate) fn tells(
-    rt: &impl Abort,
-    alloc: Global,
-    limit: u64,
-    rows: &[Row],
-) -> Result<(), AllocError> {
+pub(crate) fn tells(rt: &impl Abort, alloc: Global, limit: u64, rows: &[Row]) {
     for row in rows {
-        let found = told(alloc, limit, row)?;
-        assert_eq!(rt; found.as_slice(), row.3.as_bytes(), "of {}", row.0);
+        let mut told = Vec::new(alloc);
+        put_row(&mut told, rt, alloc, limit, row);
+        assert_eq!(rt; told.as_slice(), row.3.as_bytes());
     }
-    Ok(())
 }
 
-fn told(alloc: Global, limit: u64, row: &Row) -> Result<Vec<u8>, AllocError> {
-    let mut told = Vec::new(alloc);
-    put_row(&mut told, alloc, limit, row)?;
-    Ok(told)
-}
-
-/// Each value that is made with a `?` has a helper of its own, which lends it to the next: so no other `?` drops it.
-fn put_row(told: &mut Vec<u8>, alloc: Global, limit: u64, row: &Row) -> Result<(), AllocError> {
-    let goals = names(alloc, row.2.as_bytes())?;
-    put_makefile(told, alloc, limit, row, goals.as_slice())
+fn put_row(told: &mut Vec<u8>, rt: &impl Abort, alloc: Global, limit: u64, row: &Row) {
+    let goals = names(rt, alloc, row.2.as_bytes());
+    let mut files = files_with(rt, alloc, row.0.as_bytes());
+    let machine = Machine::new(alloc, Macros::new(alloc), limit).expect(rt, "memory");
+    put_run(
+        told,
+        rt,
+        alloc,
+        (limit, row.1, goals.as_slice()),
+        machine,
+        &mut files,
+    );
 }
 
 /// The lines of a text as names.
-fn names(alloc: Global, words: &[u8]) -> Result<Vec<Name>, AllocError> {
+fn names(rt: &impl Abort, alloc: Global, words: &[u8]) -> Vec<Name> {
     let mut names = Vec::new(alloc);
     for word in words.split(|byte| *byte == b'\n') {
-        names.push(Sequence::from(Vec::from_slice(alloc, word)?))?;
+        let word = Vec::from_slice(alloc, word).expect(rt, "memory");
+        names.push(Sequence::from(word)).ok().expect(rt, "memory");
     }
-    Ok(names)
+    names
 }
 
-fn put_makefile(
-    told: &mut Vec<u8>,
-    alloc: Global,
-    limit: u64,
-    row: &Row,
-    goals: &[Name],
-) -> Result<(), AllocError> {
-    let mut files = files_with(alloc, row.0.as_bytes())?;
-    put_files(told, alloc, limit, row.1.as_bytes(), goals, &mut files)
-}
-
-fn files_with(alloc: Global, makefile: &[u8]) -> Result<MemFiles, AllocError> {
+fn files_with(rt: &impl Abort, alloc: Global, makefile: &[u8]) -> MemFiles {
+    let name = "Makefile".to_string(alloc).expect(rt, "memory");
+    let text = Vec::from_slice(alloc, makefile).expect(rt, "memory");
     let mut pairs = Vec::new(alloc);
-    pairs.push((
-        "Makefile".to_string(alloc)?,
-        Vec::from_slice(alloc, makefile)?,
-    ))?;
-    Ok(MemFiles::new(alloc, pairs, 0))
+    pairs.push((name, text)).ok().expect(rt, "memory");
+    MemFiles::new(alloc, pairs, 0)
 }
 
-fn put_files(
-    told: &mut Vec<u8>,
-    alloc: Global,
-    limit: u64,
-    list: &[u8],
-    goals: &[Name],
-    files: &mut MemFiles,
-) -> Result<(), AllocError> {
-    let machine = Machine::new(alloc, Macros::new(alloc), limit)?;
-    put_run(told, alloc, limit, list, goals, machine, files)
-}
+/// What is asked of a reading: the commands by this limit, list of files and goals.
+type Asked<'a> = (u64, &'a str, &'a [Name]);
 
 fn put_run(
     told: &mut Vec<u8>,
+    rt: &impl Abort,
     alloc: Global,
-    limit: u64,
-    list: &[u8],
-    goals: &[Name],
-    machine: Machine,
+    asked: Asked,
+    mut machine: Machine,
     files: &mut MemFiles,
-) -> Result<(), AllocError> {
-    let mut machine = machine;
+) {
     match read(&mut machine, files) {
-        Ok(()) => put_reading(told, alloc, &machine.finish(), list, goals, limit),
-        Err(stop) => {
-            put_stop(told, &stop);
-            Ok(())
-        }
+        Ok(()) => put_reading(told, rt, alloc, asked, &machine.finish()),
+        Err(stop) => put_stop(told, &stop),
     }
 }
 
@@ -102,18 +74,16 @@ fn read(machine: &mut Machine, files: &mut MemFiles) -> Result<(), Stop> {
 
 fn put_reading(
     told: &mut Vec<u8>,
+    rt: &impl Abort,
     alloc: Global,
+    (limit, list, goals): Asked,
     reading: &Reading,
-    list: &[u8],
-    goals: &[Name],
-    limit: u64,
-) -> Result<(), AllocError> {
-    let known = Known::of(alloc, &reading.book, list)?;
+) {
+    let known = Known::of(alloc, &reading.book, list.as_bytes()).expect(rt, "memory");
     match graph(alloc, &reading.book, &known, goals) {
         Ok(graph) => put_commands(told, alloc, &reading.macros, &graph, limit),
         Err(_) => put(told, b"no graph"),
     }
-    Ok(())
 }
 
 /// The messages and commands of the made nodes, in byte order.

@@ -1,160 +1,10 @@
-//! Books of rules, a line each: the head, and a recipe behind the first `;`.
-use crate::telling::{put, put_fault, put_needs, put_place, read};
-use kt_rules::{Book, Entry, Explicit, Pattern, RuleFault, TargetRule, Warnings};
-use memchr::memchr;
+//! Books of rules, a line each.
+use crate::asking::{Question, add, answers, put_answer, put_answer_to};
+use crate::telling::put_place;
+use kt_rules::{Book, Place};
 use std::alloc::{AllocError, Global};
 use std::process::Abort;
 use std::test::Fail;
-
-/// The entry of a line.
-fn entry(alloc: Global, line: &[u8], number: u64) -> Result<Entry, RuleFault> {
-    match memchr(b';', line) {
-        Some(end) => read(alloc, &line[..end], Some(&line[end + 1..]), number),
-        None => read(alloc, line, None, number),
-    }
-}
-
-/// Adds the entry of a line.
-fn add(alloc: Global, book: &mut Book, line: &[u8], number: u64) -> Result<Warnings, RuleFault> {
-    let entry = entry(alloc, line, number)?;
-    book.add(entry)
-}
-
-/// Adds the entries of lines, and tells what `add` answers.
-fn add_lines(alloc: Global, book: &mut Book, text: &[u8], told: &mut Vec<u8>) {
-    let mut number = 0u64;
-    for line in text.split(|byte| *byte == b'\n') {
-        number = number.saturating_add(1);
-        put_answer(told, add(alloc, book, line, number));
-    }
-}
-
-fn put_answer(told: &mut Vec<u8>, answer: Result<Warnings, RuleFault>) {
-    match answer {
-        Ok(warnings) => put_warnings(told, &warnings),
-        Err(fault) => put_fault(told, &fault),
-    }
-}
-
-fn put_warnings(told: &mut Vec<u8>, warnings: &Warnings) {
-    for line in warnings.as_slice() {
-        put(told, line.as_slice());
-        put(told, b".");
-    }
-}
-
-/// The lines of a target's explicit rules.
-fn put_explicit(told: &mut Vec<u8>, rules: Explicit) {
-    for rule in rules {
-        put_place(told, rule.entry.place());
-        put(told, rule.target.name.as_slice());
-        put(told, b".");
-    }
-}
-
-/// All entries with their targets, a star behind each that is explicit.
-fn put_entries(told: &mut Vec<u8>, book: &Book) {
-    for entry in book.entries() {
-        put_place(told, entry.place());
-        put_targets(told, book, entry);
-        put(told, b".");
-    }
-}
-
-fn put_targets(told: &mut Vec<u8>, book: &Book, entry: &Entry) {
-    for target in entry.targets() {
-        put(told, target.name.as_slice());
-        put(
-            told,
-            if book.is_explicit(TargetRule { entry, target }) {
-                b"* "
-            } else {
-                b" "
-            },
-        );
-    }
-}
-
-fn put_suffixes(told: &mut Vec<u8>, suffixes: &[Vec<u8>]) {
-    for suffix in suffixes {
-        put(told, suffix.as_slice());
-    }
-}
-
-/// The pattern rules, each with its line and its recipe's text.
-fn put_patterns(told: &mut Vec<u8>, book: &Book) {
-    let Ok(patterns) = book.patterns() else {
-        put(told, b"memory");
-        return;
-    };
-    for pattern in patterns.as_slice() {
-        put_pattern(told, pattern);
-        put(told, b".");
-    }
-}
-
-fn put_pattern(told: &mut Vec<u8>, pattern: &Pattern) {
-    put_place(told, pattern.place());
-    for target in pattern.targets() {
-        put(told, target.name.as_slice());
-        put(told, b" ");
-    }
-    put(told, if pattern.is_terminal() { b":: " } else { b": " });
-    put_needs(told, pattern.needs());
-    for line in pattern.recipe().unwrap_or(&[]) {
-        put(told, line.text.as_slice());
-    }
-}
-
-/// What is asked of a book.
-#[derive(Clone, Copy)]
-enum Question<'a> {
-    /// What `add` answered.
-    Messages,
-    Entries,
-    Explicit(&'a [u8]),
-    IsPhony(&'a [u8]),
-    Suffixes,
-    Goal,
-    Patterns,
-}
-
-fn put_answer_to(told: &mut Vec<u8>, book: &Book, question: Question) {
-    match question {
-        Question::Messages => {}
-        Question::Entries => put_entries(told, book),
-        Question::Explicit(name) => put_explicit(told, book.explicit(name)),
-        Question::IsPhony(name) => put(told, if book.is_phony(name) { b"yes" } else { b"no" }),
-        Question::Suffixes => put_suffixes(told, book.suffixes()),
-        Question::Goal => put(told, book.first_goal().unwrap_or(b"none")),
-        Question::Patterns => put_patterns(told, book),
-    }
-}
-
-/// What a book answers after the lines of a text.
-fn answer(alloc: Global, text: &[u8], question: Question) -> Result<Vec<u8>, AllocError> {
-    let mut told = Vec::new(alloc);
-    let mut book = Book::new(alloc)?;
-    add_lines(alloc, &mut book, text, &mut told);
-    if !matches!(question, Question::Messages) {
-        told.clear();
-    }
-    put_answer_to(&mut told, &book, question);
-    Ok(told)
-}
-
-/// Each row is a text, a question and its answer.
-fn answers(
-    rt: &impl Abort,
-    alloc: Global,
-    rows: &[(&[u8], Question, &[u8])],
-) -> Result<(), AllocError> {
-    for row in rows {
-        let told = answer(alloc, row.0, row.1)?;
-        assert_eq!(rt; told.as_slice(), row.2);
-    }
-    Ok(())
-}
 
 #[test]
 fn tells_of_refusals_and_second_recipes(rt: HostRuntime) -> Result<(), Fail> {
@@ -212,6 +62,11 @@ fn tells_of_refusals_and_second_recipes(rt: HostRuntime) -> Result<(), Fail> {
                 b"m:2: warning: overriding recipe for target '.c.o'.",
             ),
             (
+                b"a b c &:;x\nd:;y\nc d e:;z",
+                Question::Messages,
+                b"m:3 36 two recipes on c",
+            ),
+            (
                 b"b:;x\na c:;y\na d b:;z",
                 Question::Messages,
                 b"m:3: warning: overriding recipe for target 'a'.m:3: warning: overriding recipe for target 'b'.",
@@ -223,6 +78,46 @@ fn tells_of_refusals_and_second_recipes(rt: HostRuntime) -> Result<(), Fail> {
             (b"%.o:;x\n%.o:;y", Question::Messages, b""),
         ],
     )?;
+    Ok(())
+}
+
+/// What a book tells of two entries at these lines.
+fn told_of_lines(
+    alloc: Global,
+    first: (&[u8], u64),
+    next: (&[u8], u64),
+) -> Result<Vec<u8>, AllocError> {
+    let mut told = Vec::new(alloc);
+    let mut book = Book::new(alloc)?;
+    put_answer(&mut told, add(alloc, &mut book, first.0, first.1));
+    put_answer(&mut told, add(alloc, &mut book, next.0, next.1));
+    Ok(told)
+}
+
+#[test]
+fn tells_of_any_line(rt: HostRuntime) -> Result<(), Fail> {
+    let rows: &[((&[u8], u64), (&[u8], u64), &[u8])] = &[
+        (
+            (b"a: b", 65_535),
+            (b"a:: c", 65_536),
+            b"m:65536 24 single and double colon on a",
+        ),
+        ((b"a: b", 0), (b"a b &: c", 0), b"m:0 35 bad group"),
+        (
+            (b"a:;x", 4_294_967_295),
+            (b"b a &:;y", 4_294_967_296),
+            b"m:4294967296 36 two recipes on a",
+        ),
+        (
+            (b"a:;x", 70_000),
+            (b"a:;y", 70_001),
+            b"m:70001: warning: overriding recipe for target 'a'.",
+        ),
+    ];
+    for row in rows {
+        let told = told_of_lines(rt.alloc(), row.0, row.1)?;
+        assert_eq!(rt; told.as_slice(), row.2);
+    }
     Ok(())
 }
 
@@ -264,6 +159,17 @@ fn finds_explicit_rules(rt: HostRuntime) -> Result<(), Fail> {
                 b".c.o:;x\n.SUFFIXES:",
                 Question::Explicit(b".c.o"),
                 b"m:1 .c.o.",
+            ),
+            // Suffixes of several dots; the name without a recipe is no suffix rule, and hides none.
+            (
+                b".SUFFIXES: .a.b .c.d\n.a.b.c.d:\n.a.b.c.d:;x\n.a.b.c.d:;y",
+                Question::Explicit(b".a.b.c.d"),
+                b"m:2 .a.b.c.d.",
+            ),
+            (
+                b".SUFFIXES: .a.b .c.d\n.a.b.q:;x",
+                Question::Explicit(b".a.b.q"),
+                b"m:2 .a.b.q.",
             ),
             (b".c.o: | p;x", Question::Explicit(b".c.o"), b"m:1 .c.o."),
             (b".c.o::;x", Question::Explicit(b".c.o"), b"m:1 .c.o."),
@@ -401,6 +307,24 @@ fn lists_pattern_rules(rt: HostRuntime) -> Result<(), Fail> {
                 Question::Patterns,
                 b"m:1 %.o : %.x,|cc.",
             ),
+            // A name is cut at the first place that fits, wherever the suffixes stand among the others.
+            (
+                b".SUFFIXES: .x.y .z .x .y.z\n.x.y.z:;cc",
+                Question::Patterns,
+                b"m:2 %.y.z : %.x,|cc.",
+            ),
+            (
+                b".SUFFIXES: .x .y.z .x.y .z\n.x.y.z:;cc",
+                Question::Patterns,
+                b"m:2 %.y.z : %.x,|cc.",
+            ),
+            (
+                b".SUFFIXES: .x.y .z .x\n.x.y.z:;cc",
+                Question::Patterns,
+                b"m:2 %.z : %.x.y,|cc.",
+            ),
+            // A name that begins with a suffix and doesn't go on with one.
+            (b".c.:;cc\n.cx:;cc\n.c.q:;cc", Question::Patterns, b""),
             (b".c.o: .c%:;cc", Question::Patterns, b"m:1 %.o : %.c,|cc."),
             (b".SUFFIXES:\n.c.o:;cc", Question::Patterns, b""),
             (b".c.o: | p;cc", Question::Patterns, b""),
@@ -414,6 +338,28 @@ fn lists_pattern_rules(rt: HostRuntime) -> Result<(), Fail> {
             ),
         ],
     )?;
+    Ok(())
+}
+
+/// The place of the first pattern rule, which stays when the list is gone.
+fn first_place(book: &Book) -> Result<Option<&Place>, AllocError> {
+    let patterns = book.patterns()?;
+    match patterns.as_slice().first() {
+        Some(pattern) => Ok(Some(pattern.place())),
+        None => Ok(None),
+    }
+}
+
+#[test]
+fn lends_places_of_pattern_rules(rt: HostRuntime) -> Result<(), Fail> {
+    let alloc = rt.alloc();
+    let mut told = Vec::new(alloc);
+    let mut book = Book::new(alloc)?;
+    assert!(rt; takes(alloc, &mut book, b".c.o:;cc", 3));
+    if let Some(place) = first_place(&book)? {
+        put_place(&mut told, place);
+    }
+    assert_eq!(rt; told.as_slice(), b"m:3 ".as_slice());
     Ok(())
 }
 

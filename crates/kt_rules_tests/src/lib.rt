@@ -5,6 +5,8 @@
 #[cfg(test)]
 mod adding;
 #[cfg(test)]
+mod asking;
+#[cfg(test)]
 mod reading;
 #[cfg(test)]
 mod telling;

@@ -69,6 +69,11 @@ fn reads_rules(rt: HostRuntime) {
             (b".PHONY: | b", b"one .PHONY<|b,>"),
             (b"a\\ b: c\\:d ", b"one a b<c:d,|>"),
             (b"a\\\\:b: c", b"one a\\:b<c,|>"),
+            (
+                b"a\\\\\\:b\\\\\\ c: d\\\\\\:\\\\\\",
+                b"one a\\\\:b\\\\ c<d\\\\:\\\\\\,|>",
+            ),
+            (b"./././///a////b:   c \t\n \t d", b"one a////b<c,d,|>"),
             (b"a: b\\\tc", b"one a<b\\,c,|>"),
             (
                 b"all: ./x .//x ././/x .// a//b ./",
@@ -149,6 +154,9 @@ fn refuses_lines_in_order(rt: HostRuntime) {
             (b"a: b: %: c: d", b"m:7 05 missing separator"),
             (b"a ::: b", b"m:7 21 bad static pattern "),
             (b"a.o: %.o  %.x: b", b"m:7 21 bad static pattern %.o  %.x"),
+            // A quoted space at the end belongs to the name.
+            (b"a: b\\  : c", b"m:7 21 bad static pattern b\\ "),
+            (b"a: b\\\\\\   : c", b"m:7 21 bad static pattern b\\\\\\ "),
             (b"\na: b\nc: d", b"m:7 21 bad static pattern b\nc"),
             (b"a: b: *", b"m:7 21 bad static pattern b"),
             (b"a: *.c", b"m:7 20 refused name *.c"),
@@ -181,6 +189,42 @@ fn refuses_lines_in_order(rt: HostRuntime) {
             (b".PHONY: *", b"m:7 20 refused name *"),
         ],
     );
+}
+
+/// So many letters as no name of the other rows has.
+const LONG: [u8; 300] = [b'x'; 300];
+
+/// A text with the long word for each `@`.
+fn lengthened(alloc: Global, text: &[u8]) -> Vec<u8> {
+    let mut long = Vec::new(alloc);
+    for byte in text {
+        match *byte {
+            b'@' => put(&mut long, &LONG),
+            other => put(&mut long, &[other]),
+        }
+    }
+    long
+}
+
+#[test]
+fn reads_long_words(rt: HostRuntime) {
+    let rows: &[(&[u8], &[u8])] = &[
+        (b"@: @.c | @", b"one @<@.c,|@,>"),
+        (b"./@: ././@", b"one @<@,|>"),
+        (b"@\\ @: a", b"one @ @<a,|>"),
+        (b"%@: @%", b"any %@<@%,|>"),
+        (b"@.o: %.o: %.c", b"one @.o[@]<@.c,|>"),
+        (b"@", b"m:7 05 missing separator"),
+        (b"a: *@", b"m:7 20 refused name *@"),
+        (b"a: @: b", b"m:7 21 bad static pattern @"),
+        (b"@: y%: z", b"m:7 21 bad static pattern @"),
+    ];
+    let alloc = rt.alloc();
+    for row in rows {
+        let told = told(alloc, lengthened(alloc, row.0).as_slice());
+        let expected = lengthened(alloc, row.1);
+        assert_eq!(rt; told.as_slice(), expected.as_slice());
+    }
 }
 
 /// The lines of a recipe.
@@ -221,14 +265,56 @@ fn begins_recipes(rt: HostRuntime) -> Result<(), Fail> {
     Ok(())
 }
 
-/// The place of a rule, shared.
+/// What a rule and a fault tell of a line.
+fn told_of_line(alloc: Global, line: u64) -> Result<Vec<u8>, AllocError> {
+    let mut told = Vec::new(alloc);
+    if let Ok(entry) = read(alloc, b"a:", None, line) {
+        put_place(&mut told, &entry.place().share()?);
+    }
+    if let Err(fault) = read(alloc, b"a", None, line) {
+        put_fault(&mut told, &fault);
+    }
+    Ok(told)
+}
+
+/// The place of a rule, shared, and that of a fault.
 #[test]
 fn tells_file_and_line(rt: HostRuntime) -> Result<(), Fail> {
-    let alloc = rt.alloc();
-    let mut told = Vec::new(alloc);
-    let entry = read(alloc, b"a:", None, 12)?;
-    put_place(&mut told, &entry.place().share()?);
-    assert_eq!(rt; told.as_slice(), b"m:12 ".as_slice());
+    let rows: &[(u64, &[u8])] = &[
+        (0, b"m:0 m:0 05 missing separator"),
+        (12, b"m:12 m:12 05 missing separator"),
+        (65_535, b"m:65535 m:65535 05 missing separator"),
+        (65_536, b"m:65536 m:65536 05 missing separator"),
+        (
+            18_446_744_073_709_551_615,
+            b"m:18446744073709551615 m:18446744073709551615 05 missing separator",
+        ),
+    ];
+    for row in rows {
+        let told = told_of_line(rt.alloc(), row.0)?;
+        assert_eq!(rt; told.as_slice(), row.1);
+    }
+    Ok(())
+}
+
+/// What is printed of the fault of a line.
+fn printed(alloc: Global, head: &[u8]) -> Result<String, AllocError> {
+    match read(alloc, head, None, 7) {
+        Ok(_entry) => Ok(String::new(alloc)),
+        Err(fault) => format!(in alloc; "{fault}"),
+    }
+}
+
+#[test]
+fn prints_faults(rt: HostRuntime) -> Result<(), Fail> {
+    let rows: &[(&[u8], &str)] = &[
+        (b"a", "missing separator [E05]"),
+        (b"a: *.c", "refused name *.c [E20]"),
+    ];
+    for row in rows {
+        let printed = printed(rt.alloc(), row.0)?;
+        assert_eq!(rt; printed.as_str(), row.1);
+    }
     Ok(())
 }
 

@@ -1,0 +1,161 @@
+//! What books answer, as texts: their rules are a line each, the head, and a recipe behind the first `;`.
+use crate::telling::{put, put_fault, put_needs, put_place, read};
+use kt_rules::{Book, Entry, Explicit, Pattern, RuleFault, TargetRule, Warnings};
+use memchr::memchr;
+use std::alloc::{AllocError, Global};
+use std::process::Abort;
+
+/// The entry of a line.
+fn entry(alloc: Global, line: &[u8], number: u64) -> Result<Entry, RuleFault> {
+    match memchr(b';', line) {
+        Some(end) => read(alloc, &line[..end], Some(&line[end + 1..]), number),
+        None => read(alloc, line, None, number),
+    }
+}
+
+/// Adds the entry of a line.
+pub(crate) fn add(
+    alloc: Global,
+    book: &mut Book,
+    line: &[u8],
+    number: u64,
+) -> Result<Warnings, RuleFault> {
+    let entry = entry(alloc, line, number)?;
+    book.add(entry)
+}
+
+/// Adds the entries of lines, and tells what `add` answers.
+fn add_lines(alloc: Global, book: &mut Book, text: &[u8], told: &mut Vec<u8>) {
+    let mut number = 0u64;
+    for line in text.split(|byte| *byte == b'\n') {
+        number = number.saturating_add(1);
+        put_answer(told, add(alloc, book, line, number));
+    }
+}
+
+pub(crate) fn put_answer(told: &mut Vec<u8>, answer: Result<Warnings, RuleFault>) {
+    match answer {
+        Ok(warnings) => put_warnings(told, &warnings),
+        Err(fault) => put_fault(told, &fault),
+    }
+}
+
+fn put_warnings(told: &mut Vec<u8>, warnings: &Warnings) {
+    for line in warnings.as_slice() {
+        put(told, line.as_slice());
+        put(told, b".");
+    }
+}
+
+/// The lines of a target's explicit rules.
+fn put_explicit(told: &mut Vec<u8>, rules: Explicit) {
+    for rule in rules {
+        put_place(told, rule.entry.place());
+        put(told, rule.target.name.as_slice());
+        put(told, b".");
+    }
+}
+
+/// All entries with their targets, a star behind each that is explicit.
+fn put_entries(told: &mut Vec<u8>, book: &Book) {
+    for entry in book.entries() {
+        put_place(told, entry.place());
+        put_targets(told, book, entry);
+        put(told, b".");
+    }
+}
+
+fn put_targets(told: &mut Vec<u8>, book: &Book, entry: &Entry) {
+    for target in entry.targets() {
+        put(told, target.name.as_slice());
+        put(
+            told,
+            if book.is_explicit(TargetRule { entry, target }) {
+                b"* "
+            } else {
+                b" "
+            },
+        );
+    }
+}
+
+fn put_suffixes(told: &mut Vec<u8>, suffixes: &[Vec<u8>]) {
+    for suffix in suffixes {
+        put(told, suffix.as_slice());
+    }
+}
+
+/// The pattern rules, each with its line and its recipe's text.
+fn put_patterns(told: &mut Vec<u8>, book: &Book) {
+    let Ok(patterns) = book.patterns() else {
+        put(told, b"memory");
+        return;
+    };
+    for pattern in patterns.as_slice() {
+        put_pattern(told, pattern);
+        put(told, b".");
+    }
+}
+
+fn put_pattern(told: &mut Vec<u8>, pattern: &Pattern) {
+    put_place(told, pattern.place());
+    for target in pattern.targets() {
+        put(told, target.name.as_slice());
+        put(told, b" ");
+    }
+    put(told, if pattern.is_terminal() { b":: " } else { b": " });
+    put_needs(told, pattern.needs());
+    for line in pattern.recipe().unwrap_or(&[]) {
+        put(told, line.text.as_slice());
+    }
+}
+
+/// What is asked of a book.
+#[derive(Clone, Copy)]
+pub(crate) enum Question<'a> {
+    /// What `add` answered.
+    Messages,
+    Entries,
+    Explicit(&'a [u8]),
+    IsPhony(&'a [u8]),
+    Suffixes,
+    Goal,
+    Patterns,
+}
+
+pub(crate) fn put_answer_to(told: &mut Vec<u8>, book: &Book, question: Question) {
+    match question {
+        Question::Messages => {}
+        Question::Entries => put_entries(told, book),
+        Question::Explicit(name) => put_explicit(told, book.explicit(name)),
+        Question::IsPhony(name) => put(told, if book.is_phony(name) { b"yes" } else { b"no" }),
+        Question::Suffixes => put_suffixes(told, book.suffixes()),
+        Question::Goal => put(told, book.first_goal().unwrap_or(b"none")),
+        Question::Patterns => put_patterns(told, book),
+    }
+}
+
+/// What a book answers after the lines of a text.
+fn answer(alloc: Global, text: &[u8], question: Question) -> Result<Vec<u8>, AllocError> {
+    let mut told = Vec::new(alloc);
+    let mut book = Book::new(alloc)?;
+    add_lines(alloc, &mut book, text, &mut told);
+    if !matches!(question, Question::Messages) {
+        told.clear();
+    }
+    put_answer_to(&mut told, &book, question);
+    Ok(told)
+}
+
+/// Each row is a text, a question and its answer.
+pub(crate) fn answers(
+    rt: &impl Abort,
+    alloc: Global,
+    rows: &[(&[u8], Question, &[u8])],
+) -> Result<(), AllocError> {
+    for row in rows {
+        let told = answer(alloc, row.0, row.1)?;
+        assert_eq!(rt; told.as_slice(), row.2);
+    }
+    Ok(())
+}
