@@ -24,4 +24,5 @@ names_asked args store asked = names_after_list args store (listed store asked a
 
 -- the names that a run means are these, whatever its goals need
 abbrev pub NamesAreAsked : Type 0
-NamesAreAsked = (args : Args) (store : Store) (asked : List Text) (m : Meaning) → Means args store asked m → m.asked ≡ names_asked args store asked
+NamesAreAsked = (args : Args) (store : Store) (asked : List Text) (m : Meaning) → Means args store asked m
+    → m.asked ≡ names_asked args store asked

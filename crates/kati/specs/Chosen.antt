@@ -1,4 +1,5 @@
--- What is to be made (GNU make manual, "Arguments to Specify the Goals", "Other Special Variables", on `.DEFAULT_GOAL`).
+-- What is to be made (GNU make manual, "Arguments to Specify the Goals", "Other Special Variables", on
+-- `.DEFAULT_GOAL`).
 use Rattle.std.specs.Prelude.{ℕ, false, List, [], ◌∷◌, None, codes}
 use Rattle.kt_text.specs.Words.{Text}
 use Rattle.kt_rules.specs.Entry.{Rule}

@@ -17,8 +17,8 @@ pub data Course (A : Type 0) : Type 0 where
 abbrev pub fault_nowhere : FaultKind → Text → Fault
 fault_nowhere kind name = fault_at None (number_of kind) (wording kind ++ name)
 
--- what a call answered, seen by `see`, with the messages and the names asked for that it left, is this step; where memory was refused
--- or a device failed, nothing is said of it
+-- what a call answered, seen by `see`, with the messages and the names asked for that it left, is this step; where
+-- memory was refused or a device failed, nothing is said of it
 abbrev pub Follows : {A B : Type 0} → (A → B) → Result A Stop → List Text → List Text → Course B → Type 0
 Follows see (Ok x) said asked course = course ≡ on_course said asked (see x)
 Follows see (Err (stops.Fault fault)) said asked course = course ≡ off_course said asked fault
@@ -32,7 +32,8 @@ Computes see (Err (stops.Fault fault)) said asked course = course ≡ off_course
 Computes see (Err (stops.Device name)) said asked course = ⊥
 Computes see (Err stops.Memory) said asked course = Unit {0}
 
--- what a run came to, a value or a fault, has this property; where memory was refused or a device failed, nothing is said
+-- what a run came to, a value or a fault, has this property; where memory was refused or a device failed, nothing is
+-- said
 abbrev pub Comes : {A : Type 0} → Result A Stop → (Result A Fault → Type 0) → Type 0
 Comes (Ok x) P = P (Ok x)
 Comes (Err (stops.Fault fault)) P = P (Err fault)

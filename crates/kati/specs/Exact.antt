@@ -1,4 +1,5 @@
--- What the statements of a plan are: the graph of what the goals need, and nothing else (kati's own; Ninja manual, "Build statements").
+-- What the statements of a plan are: the graph of what the goals need, and nothing else (kati's own; Ninja manual,
+-- "Build statements").
 use Rattle.std.specs.Prelude.{◌≡◌, ◌⊎◌, ℕ, true, List, Option, Result, Ok}
 use Rattle.std.specs.List.{Contains, list_any}
 use Rattle.kt_text.specs.Words.{Text}
@@ -52,7 +53,8 @@ pub record TellsGraph (read : Read) (limit : ℕ) (known goals : List Text) (pla
   -- each target that a rule makes and the goals reach has its statement
   pub each : (name : Text) → IsMade read.book known goals name → IsMadeOnce plan.statements name
   -- and there is no other output and no other statement
-  pub only : (name : Text) → Contains (outputs plan.statements) name → IsMade read.book known goals name ⊎ (name ≡ always_build)
+  pub only : (name : Text) → Contains (outputs plan.statements) name → IsMade read.book known goals name
+      ⊎ (name ≡ always_build)
   pub grouped : (statement : Statement) → Contains plan.statements statement
       → IsOfGroup read limit (groups_of nodes) statement ⊎ IsAlwaysBuilt plan.statements statement
   pub defaults : plan.defaults ≡ goals
@@ -75,5 +77,6 @@ pub record IsGraphOf (args : Args) (store : Store) (asked : List Text) (plan : P
 
 -- each plan that a run means is just that graph
 abbrev pub PlansAreGraphs : Type 0
-PlansAreGraphs = (args : Args) (store : Store) (asked : List Text) (m : Meaning) (plan : Plan) → Means args store asked m → m.result ≡ Ok plan
+PlansAreGraphs = (args : Args) (store : Store) (asked : List Text) (m : Meaning) (plan : Plan)
+    → Means args store asked m → m.result ≡ Ok plan
     → IsGraphOf args store asked plan

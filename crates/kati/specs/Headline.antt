@@ -19,8 +19,10 @@ use Rattle.kati.specs.Checked.{AskedAtCheck, HasStatus, names_with_check}
 use Rattle.kati.specs.Messages.{err_text, out_text}
 use Rattle.kati.specs.Told.{RefusesBy, Tells, fault_words}
 
--- the run came to its end: the outputs have grown by the texts of the meaning, the status is its, and the names asked for are its
-pub record Ends (args : Args) (store : Store) (status : Status) (asked asked' : List Text) (out out' err err' : Option Text) : Type 0 where
+-- the run came to its end: the outputs have grown by the texts of the meaning, the status is its, and the names asked
+-- for are its
+pub record Ends (args : Args) (store : Store) (status : Status) (asked asked' : List Text)
+    (out out' err err' : Option Text) : Type 0 where
   pub meaning : Meaning
   pub means : Means args store asked meaning
   pub names : asked' ≡ names_with_check args.check meaning.result meaning.asked
@@ -29,7 +31,8 @@ pub record Ends (args : Args) (store : Store) (status : Status) (asked asked' : 
   pub told : err' ≡ appended err (err_text meaning)
 
 -- the output failed: the makefile has a plan, the output a prefix of its text, and the error output all of its
-pub record EndsAtOut (args : Args) (store : Store) (asked asked' : List Text) (out out' err err' : Option Text) : Type 0 where
+pub record EndsAtOut (args : Args) (store : Store) (asked asked' : List Text)
+    (out out' err err' : Option Text) : Type 0 where
   pub meaning : Meaning
   pub means : Means args store asked meaning
   pub names : asked' ≡ meaning.asked
@@ -39,21 +42,25 @@ pub record EndsAtOut (args : Args) (store : Store) (asked asked' : List Text) (o
   pub told : err' ≡ appended err (err_text meaning)
 
 -- the error output failed: it has a prefix of its text, and the output nothing
-pub record EndsAtErr (args : Args) (store : Store) (asked asked' : List Text) (out out' err err' : Option Text) : Type 0 where
+pub record EndsAtErr (args : Args) (store : Store) (asked asked' : List Text)
+    (out out' err err' : Option Text) : Type 0 where
   pub meaning : Meaning
   pub means : Means args store asked meaning
   pub names : asked' ≡ meaning.asked
   pub written : out' ≡ out
   pub told : GrowsByFront err err' (err_text meaning)
 
--- the translation was stopped: nothing was written, and the names asked for are a prefix of those that are asked for without that
-pub record EndsEarly (args : Args) (store : Store) (asked asked' : List Text) (out out' err err' : Option Text) : Type 0 where
+-- the translation was stopped: nothing was written, and the names asked for are a prefix of those that are asked for
+-- without that
+pub record EndsEarly (args : Args) (store : Store) (asked asked' : List Text)
+    (out out' err err' : Option Text) : Type 0 where
   pub names : IsFront asked' (names_asked args store asked)
   pub written : out' ≡ out
   pub told : err' ≡ err
 
 -- the file to be checked couldn't be read: the error output has the messages, and the output nothing
-pub record EndsAtCheck (args : Args) (store : Store) (fault : RunFault) (asked asked' : List Text) (out out' err err' : Option Text) : Type 0 where
+pub record EndsAtCheck (args : Args) (store : Store) (fault : RunFault) (asked asked' : List Text)
+    (out out' err err' : Option Text) : Type 0 where
   pub meaning : Meaning
   pub means : Means args store asked meaning
   pub planned : IsOk meaning.result
@@ -64,23 +71,30 @@ pub record EndsAtCheck (args : Args) (store : Store) (fault : RunFault) (asked a
   pub told : err' ≡ appended err (err_text meaning)
 
 -- the run was kept from its end before anything was written, or at the file to be checked
-abbrev pub IsKept : Args → Store → RunFault → List Text → List Text → Option Text → Option Text → Option Text → Option Text → Type 0
+abbrev pub IsKept : Args → Store → RunFault → List Text → List Text → Option Text → Option Text → Option Text
+    → Option Text → Type 0
 IsKept args store fault asked asked' out out' err err' =
     EndsEarly args store asked asked' out out' err err' ⊎ EndsAtCheck args store fault asked asked' out out' err err'
 
 -- what a run over these files leaves, as it ended
-abbrev pub Leaves : Args → Store → Result Status RunFault → List Text → List Text → Option Text → Option Text → Option Text → Option Text → Type 0
+abbrev pub Leaves : Args → Store → Result Status RunFault → List Text → List Text → Option Text → Option Text
+    → Option Text → Option Text → Type 0
 Leaves args store (Ok status) asked asked' out out' err err' = Ends args store status asked asked' out out' err err'
-Leaves args store (Err faults.WriteOut) asked asked' out out' err err' = EndsAtOut args store asked asked' out out' err err'
-Leaves args store (Err faults.WriteErr) asked asked' out out' err err' = EndsAtErr args store asked asked' out out' err err'
-Leaves args store (Err (faults.Read name)) asked asked' out out' err err' = IsKept args store (faults.Read name) asked asked' out out' err err'
-Leaves args store (Err faults.Memory) asked asked' out out' err err' = IsKept args store faults.Memory asked asked' out out' err err'
+Leaves args store (Err faults.WriteOut) asked asked' out out' err err' = EndsAtOut args store asked asked'
+    out out' err err'
+Leaves args store (Err faults.WriteErr) asked asked' out out' err err' = EndsAtErr args store asked asked'
+    out out' err err'
+Leaves args store (Err (faults.Read name)) asked asked' out out' err err' = IsKept args store (faults.Read name) asked
+    asked' out out' err err'
+Leaves args store (Err faults.Memory) asked asked' out out' err err' = IsKept args store faults.Memory asked asked'
+    out out' err err'
 
--- what is to blame for a fault of a run: the counter of that device rose, by the name that was asked for last where it is the files';
--- or memory was refused, and no file failed; a run that comes to its end has met no failure
+-- what is to blame for a fault of a run: the counter of that device rose, by the name that was asked for last where
+-- it is the files'; or memory was refused, and no file failed; a run that comes to its end has met no failure
 abbrev pub Blames : Result Status RunFault → List Text → ℕ → ℕ → ℕ → ℕ → ℕ → ℕ → Type 0
 Blames (Ok status) asked files files' out out' err err' = (files' ≡ files) × (out' ≡ out) × (err' ≡ err)
-Blames (Err (faults.Read name)) asked files files' out out' err err' = Rises files files' × (last asked ≡ Some (string_bytes name))
+Blames (Err (faults.Read name)) asked files files' out out' err err' = Rises files files'
+    × (last asked ≡ Some (string_bytes name))
 Blames (Err faults.Memory) asked files files' out out' err err' = files' ≡ files
 Blames (Err faults.WriteOut) asked files files' out out' err err' = Rises out out'
 Blames (Err faults.WriteErr) asked files files' out out' err err' = Rises err err'
@@ -99,7 +113,8 @@ Translates args store outcome asked asked' =
     Means args store asked (record { messages = outcome.messages; result = outcome.result; asked = asked' })
 
 -- what a run by these arguments leaves, and the exit status; only of a run that was kept from its end is told after it
-pub record RunExits (args : Args) (known : Option Store) (code : ℕ) (asked asked' : List Text) (files files' outs outs' errs errs' : ℕ)
+pub record RunExits (args : Args) (known : Option Store) (code : ℕ) (asked asked' : List Text)
+    (files files' outs outs' errs errs' : ℕ)
     (out out' err err' : Option Text) : Type 0 where
   pub run : Result Status RunFault
   pub after : Option Text
@@ -118,7 +133,8 @@ ExitsBy (Err fault) known code asked asked' files files' outs outs' errs errs' o
     (asked' ≡ asked) × RefusesBy fault code outs outs' errs errs' out out' err err'
 
 -- the whole program: what its words ask for, and how that ends
-pub record Exits (words : List Text) (known : Option Store) (code : ℕ) (asked asked' : List Text) (files files' outs outs' errs errs' : ℕ)
+pub record Exits (words : List Text) (known : Option Store) (code : ℕ) (asked asked' : List Text)
+    (files files' outs outs' errs errs' : ℕ)
     (out out' err err' : Option Text) : Type 0 where
   pub answered : Result Args ArgFault
   pub answers : Answers words answered

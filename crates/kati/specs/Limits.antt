@@ -19,4 +19,5 @@ IsTooDeep (Err fault) = fault.number ≡ 8
 -- what isn't too deep with a limit is the same with a larger one: messages, plan or fault, and names asked for
 abbrev pub OnlyCuts : Type 0
 OnlyCuts = (args : Args) (store : Store) (asked : List Text) (limit larger : ℕ) (m : Meaning) → limit ≤ larger
-    → Means (with_limit limit args) store asked m → (IsTooDeep m.result → ⊥) → Means (with_limit larger args) store asked m
+    → Means (with_limit limit args) store asked m → (IsTooDeep m.result → ⊥)
+    → Means (with_limit larger args) store asked m

@@ -22,7 +22,8 @@ pub record Meaning : Type 0 where
   pub result : Result Plan Fault
   pub asked : List Text
 
--- a course that goes on means what comes after it; one that ends at a fault means that fault, with the messages and names before it
+-- a course that goes on means what comes after it; one that ends at a fault means that fault, with the messages and
+-- names before it
 abbrev pub EndsAs : {A : Type 0} → Course A → (List Text → List Text → A → Meaning → Type 0) → Meaning → Type 0
 EndsAs (on_course said asked value) Next m = Next said asked value m
 EndsAs (off_course said asked fault) Next m = m ≡ record { messages = said; result = Err fault; asked = asked }
@@ -52,7 +53,8 @@ MeansGoals limit read known said asked goals m =
 
 abbrev pub MeansRead : Args → Text → List Text → List Text → Read → Meaning → Type 0
 MeansRead args list said asked read m =
-    EndsAs (chosen_goals args.limit read said asked args.goals) (MeansGoals args.limit read (known_names read.book list)) m
+    EndsAs (chosen_goals args.limit read said asked args.goals)
+    (MeansGoals args.limit read (known_names read.book list)) m
 
 abbrev pub MeansListed : Args → Store → List Text → List Text → Text → Meaning → Type 0
 MeansListed args store said asked list m = EndsAs (makefile_read args store asked) (MeansRead args list) m

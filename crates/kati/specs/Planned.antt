@@ -1,5 +1,5 @@
--- The plan of what goals need (Ninja manual, "Build statements", "Build dependencies", "Default target statements"; which statements
--- there are, their order and the name that is always built are kati's own).
+-- The plan of what goals need (Ninja manual, "Build statements", "Build dependencies", "Default target statements";
+-- which statements there are, their order and the name that is always built are kati's own).
 use Rattle.std.specs.Prelude.{ℕ, Bool, not, ◌&&◌, List, [], ◌∷◌, ◌++◌, map, filter, flat_map, Option, Some, None, is_some, slice_get, if◌then◌else◌}
 use Rattle.std.specs.List.{list_any}
 use Rattle.std.specs.Option.{option_and_then, option_map_or}
@@ -104,7 +104,8 @@ first_output [] = []
 first_output (name ∷ names) = name
 
 abbrev pub least_output : List Statement → ℕ → Text
-least_output statements number = option_map_or (λ statement. first_output statement.outs) (slice_get statements number) []
+least_output statements number = option_map_or
+    (λ statement. first_output statement.outs) (slice_get statements number) []
 
 abbrev pub text_fault : List Statement → Trouble → Option Fault
 text_fault statements (bad_name name) = Some (fault_nowhere NameNotWritable name)

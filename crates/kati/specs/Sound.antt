@@ -1,5 +1,5 @@
--- What no plan has: a name that needs itself, two outputs that are one file, a name that is kati's own (kati's own; Ninja manual, "Build
--- statements").
+-- What no plan has: a name that needs itself, two outputs that are one file, a name that is kati's own (kati's own;
+-- Ninja manual, "Build statements").
 use Rattle.std.specs.Prelude.{◌≡◌, ◌≢◌, false, List, ◌++◌, Result, Ok}
 use Rattle.std.specs.List.{Contains}
 use Rattle.kt_text.specs.Words.{Text}
@@ -28,10 +28,13 @@ pub record NeedsItself (statements : List Statement) (name : Text) : Type 0 wher
 
 pub record IsSoundPlan (plan : Plan) : Type 0 where
   pub uncircled : (name : Text) → ¬ NeedsItself plan.statements name
-  pub files_differ : (one other : Text) → Contains (outputs plan.statements) one → Contains (outputs plan.statements) other
+  pub files_differ : (one other : Text) → Contains (outputs plan.statements) one
+      → Contains (outputs plan.statements) other
       → canon_of one ≡ canon_of other → one ≡ other
-  pub unreserved : (name : Text) → Contains (outputs plan.statements) name → name ≢ always_build → is_reserved name ≡ false
+  pub unreserved : (name : Text) → Contains (outputs plan.statements) name → name ≢ always_build
+      → is_reserved name ≡ false
 
 abbrev pub PlansAreSound : Type 0
-PlansAreSound = (args : Args) (store : Store) (asked : List Text) (m : Meaning) (plan : Plan) → Means args store asked m → m.result ≡ Ok plan
+PlansAreSound = (args : Args) (store : Store) (asked : List Text) (m : Meaning) (plan : Plan)
+    → Means args store asked m → m.result ≡ Ok plan
     → IsSoundPlan plan

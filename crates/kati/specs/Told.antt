@@ -18,7 +18,8 @@ fault_words faults.Memory = codes "kati: no memory\n"
 
 -- a sink took the text; or it failed, and took a prefix of it
 abbrev pub Tells : Text → ℕ → ℕ → Option Text → Option Text → Type 0
-Tells text failed failed' taken taken' = (taken' ≡ appended taken text) ⊎ (Rises failed failed' × GrowsByFront taken taken' text)
+Tells text failed failed' taken taken' = (taken' ≡ appended taken text)
+    ⊎ (Rises failed failed' × GrowsByFront taken taken' text)
 
 -- the help goes to the output, and of a failure there the error output is told
 abbrev pub GivesHelp : Text → ℕ → ℕ → ℕ → ℕ → ℕ → Option Text → Option Text → Option Text → Option Text → Type 0
@@ -29,7 +30,8 @@ GivesHelp text code outs outs' errs errs' out out' err err' =
 
 -- what else words can ask for that is no run goes to the error output
 abbrev pub Refuses : ℕ → Text → ℕ → ℕ → ℕ → Option Text → Option Text → Option Text → Option Text → Type 0
-Refuses expected text code errs errs' out out' err err' = (code ≡ expected) × (out' ≡ out) × Tells text errs errs' err err'
+Refuses expected text code errs errs' out out' err err' = (code ≡ expected) × (out' ≡ out)
+    × Tells text errs errs' err err'
 
 -- how the program ends whose words ask for no run
 abbrev pub RefusesBy : ArgFault → ℕ → ℕ → ℕ → ℕ → ℕ → Option Text → Option Text → Option Text → Option Text → Type 0

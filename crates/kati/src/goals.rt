@@ -68,7 +68,8 @@ fn default_goal_text(
 
 // The goal that a text names, or else the first target.
 fn one_goal(alloc: Global, book: &Book, text: &[u8]) -> Result<Vec<Name>, Stop>
-    ensures { (said asked : List Text) → Computes (λ v. v.items) result said asked (goals_or_none said asked (default_goals book.now text.now)) }
+    ensures { (said asked : List Text)
+        → Computes (λ v. v.items) result said asked (goals_or_none said asked (default_goals book.now text.now)) }
 {
     match default_goal(alloc, book, text)? {
         Some(goal) => Ok(vec![in alloc; goal]?),

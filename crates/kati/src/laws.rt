@@ -21,19 +21,21 @@ pub fn plans_read_back()
     ensures { PlansReadBack }
 {}
 
-/// A plan is the graph of what the goals need: each target that a rule makes and the goals reach is an output of exactly one
-/// statement, which has the inputs, order-only inputs and command of its group, and nothing else stands there but the statement
-/// of what is always built, where one needs it.
+/// A plan is the graph of what the goals need: each target that a rule makes and the goals reach is an output of
+/// exactly one statement, which has the inputs, order-only inputs and command of its group, and nothing else stands
+/// there but the statement of what is always built, where one needs it.
 pub fn plans_are_graphs()
     ensures { PlansAreGraphs }
 {}
 
-/// A run asks for the names that the list and the makefile ask for, and for no other: what the goals need asks for none.
+/// A run asks for the names that the list and the makefile ask for, and for no other: what the goals need asks for
+/// none.
 pub fn names_are_asked()
     ensures { NamesAreAsked }
 {}
 
-/// No plan has a name that needs itself, two outputs that are one file, or, but for what is always built, a reserved output.
+/// No plan has a name that needs itself, two outputs that are one file, or, but for what is always built, a reserved
+/// output.
 pub fn plans_are_sound()
     ensures { PlansAreSound }
 {}

@@ -27,7 +27,8 @@ pub(crate) fn listed<F: Files>(
 ) -> Result<Vec<u8>, Stop>
     ensures means { IfSome (F.known files.old) (λ store. Follows (λ v. v.items) result [] (F.names files.new)
         (listed store (F.names files.old) name.now)) }
-    ensures asked { IfSome (F.known files.old) (λ store. IsFront (F.names files.new) (names_of (listed store (F.names files.old) name.now))) }
+    ensures asked { IfSome (F.known files.old)
+        (λ store. IsFront (F.names files.new) (names_of (listed store (F.names files.old) name.now))) }
     ensures keeps { F.known files.new ≡ F.known files.old }
     ensures blames { Blames result (F.failed files.old) (F.failed files.new) (F.names files.new) }
 {
@@ -40,7 +41,8 @@ pub(crate) fn listed<F: Files>(
 fn read_list<F: Files>(alloc: Global, name: &str, files: &mut F) -> Result<Vec<u8>, Stop>
     ensures means { IfSome (F.known files.old) (λ store. Follows (λ v. v.items) result [] (F.names files.new)
         (listed store (F.names files.old) (Some name.now))) }
-    ensures asked { IfSome (F.known files.old) (λ store. IsFront (F.names files.new) (names_of (listed store (F.names files.old) (Some name.now)))) }
+    ensures asked { IfSome (F.known files.old)
+        (λ store. IsFront (F.names files.new) (names_of (listed store (F.names files.old) (Some name.now)))) }
     ensures keeps { F.known files.new ≡ F.known files.old }
     ensures blames { Blames result (F.failed files.old) (F.failed files.new) (F.names files.new) }
 {
@@ -55,7 +57,8 @@ fn read_list<F: Files>(alloc: Global, name: &str, files: &mut F) -> Result<Vec<u
 
 // The text of a list that was looked for.
 fn list_in(alloc: Global, name: &str, found: Option<Vec<u8>>) -> Result<Vec<u8>, Stop>
-    ensures { (asked : List Text) → Computes (λ v. v.items) result [] asked (list_in name.now asked (option_map (λ v. v.items) found)) }
+    ensures { (asked : List Text) → Computes
+        (λ v. v.items) result [] asked (list_in name.now asked (option_map (λ v. v.items) found)) }
 {
     match found {
         Some(text) => checked(alloc, name, text),

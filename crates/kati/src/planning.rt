@@ -34,7 +34,8 @@ pub(crate) fn plan(
 ) -> Result<Plan, Stop>
     ensures means { (asked : List Text) → Computes (λ plan. plan) result messages.new.items asked
         (plan_course makefile.now.book makefile.now.macros limit goals.items graph.now messages.old.items asked) }
-    ensures writable { (known : List Text) → IsSoundGraph makefile.now.book known goals.items graph.now → IfOk result IsWritable }
+    ensures writable { (known : List Text) → IsSoundGraph makefile.now.book known goals.items graph.now
+        → IfOk result IsWritable }
 {
     let groups = graph.groups()?;
     let statements = statements(alloc, makefile, limit, groups.as_slice(), messages)?;
@@ -50,7 +51,8 @@ fn statements(
     messages: &mut Vec<Sequence<u8>>,
 ) -> Result<Vec<Statement>, Stop>
     ensures { Plans (λ v. v.items) result messages.new.items
-        (plan_groups makefile.now.book makefile.now.macros limit (map (λ group. group.items) groups.now) messages.old.items []) }
+        (plan_groups makefile.now.book makefile.now.macros limit (map
+        (λ group. group.items) groups.now) messages.old.items []) }
 {
     let mut statements = Vec::new(alloc);
     for group in groups {
@@ -77,7 +79,8 @@ fn add(
 ) -> Result<(), Stop>
     ensures { Plans (λ _. statements.new.items) result messages.new.items
         (after_command (command_for makefile.now.macros limit group.now messages.old.items)
-        (λ heard command. planned heard (statements.old.items ++ statement_of makefile.now.book group.now command ∷ []))) }
+        (λ heard command. planned heard (statements.old.items
+        ++ statement_of makefile.now.book group.now command ∷ []))) }
 {
     let command = command_for(alloc, &makefile.macros, limit, group, messages)?;
     statements.push(statement_of(alloc, &makefile.book, group, command)?)?;
@@ -92,7 +95,8 @@ fn command_for(
     group: &[Node],
     messages: &mut Vec<Sequence<u8>>,
 ) -> Result<Option<Vec<u8>>, Stop>
-    ensures { Tells (option_map (λ text. text.items)) result messages.new.items (command_for macros.now limit group.now messages.old.items) }
+    ensures { Tells (option_map (λ text. text.items)) result messages.new.items
+        (command_for macros.now limit group.now messages.old.items) }
 {
     match group {
         [least, ..] => command(alloc, macros, least, messages, limit),
@@ -160,8 +164,10 @@ fn text_stop(alloc: Global, plan: &Plan) -> Option<Stop>
 }
 
 fn stop_of(alloc: Global, statements: &[Statement], trouble: Unwritable) -> Option<Stop>
-    ensures { MatchOption result ((text_fault statements.now (told_trouble trouble.entry) ≡ None) × (is_text_trouble (told_trouble trouble.entry) ≡ false))
-        (λ stop. (fault : FaultType) × (text_fault statements.now (told_trouble trouble.entry) ≡ Some fault) × IsFaultOf fault stop) }
+    ensures { MatchOption result ((text_fault statements.now (told_trouble trouble.entry) ≡ None)
+        × (is_text_trouble (told_trouble trouble.entry) ≡ false))
+        (λ stop. (fault : FaultType) × (text_fault statements.now (told_trouble trouble.entry) ≡ Some fault)
+        × IsFaultOf fault stop) }
 {
     match trouble {
         Unwritable::BadName(name) => Some(stop_on(alloc, FaultKind::NameNotWritable, name, None)),

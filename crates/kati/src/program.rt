@@ -17,7 +17,8 @@ pub const USAGE: u8 = 64;
 
 /// Puts the words, the name and a newline, as far as the sink takes them.
 fn put_line<E: Sink>(err: &mut E, words: &[u8], name: &str) -> Result<(), WriteFault>
-    ensures told { Tells (words.now ++ (name.now ++ codes "\n")) (E.failed err.old) (E.failed err.new) (E.written err.old) (E.written err.new) }
+    ensures told { Tells (words.now ++ (name.now ++ codes "\n")) (E.failed err.old) (E.failed err.new)
+        (E.written err.old) (E.written err.new) }
     ensures counts { E.failed err.old ≤ E.failed err.new }
 {
     put(err, words)?;
@@ -35,7 +36,8 @@ fn tell_text<E: Sink>(err: &mut E, text: &[u8])
 
 /// Puts the line of these words and this name, as far as the sink takes it.
 fn tell_line<E: Sink>(err: &mut E, words: &[u8], name: &str)
-    ensures told { Tells (words.now ++ (name.now ++ codes "\n")) (E.failed err.old) (E.failed err.new) (E.written err.old) (E.written err.new) }
+    ensures told { Tells (words.now ++ (name.now ++ codes "\n")) (E.failed err.old) (E.failed err.new)
+        (E.written err.old) (E.written err.new) }
     ensures counts { E.failed err.old ≤ E.failed err.new }
 {
     let _ = put_line(err, words, name);
@@ -43,7 +45,8 @@ fn tell_line<E: Sink>(err: &mut E, words: &[u8], name: &str)
 
 /// Tells what kept a run from its end, as far as the sink takes it. Takes no memory.
 fn tell<E: Sink>(err: &mut E, fault: &RunFault)
-    ensures told { Tells (fault_words fault.now) (E.failed err.old) (E.failed err.new) (E.written err.old) (E.written err.new) }
+    ensures told { Tells (fault_words fault.now) (E.failed err.old) (E.failed err.new) (E.written err.old)
+        (E.written err.new) }
     ensures counts { E.failed err.old ≤ E.failed err.new }
 {
     match fault {
@@ -57,7 +60,8 @@ fn tell<E: Sink>(err: &mut E, fault: &RunFault)
 pub fn finish<E: Sink>(err: &mut E, ended: Result<Status, RunFault>) -> u8
     ensures code { result ≡ exit_code ended }
     ensures quiet { OnOk ended (err.new ≡ err.old) }
-    ensures told { IfErr ended (λ fault. Tells (fault_words fault) (E.failed err.old) (E.failed err.new) (E.written err.old) (E.written err.new)) }
+    ensures told { IfErr ended (λ fault. Tells (fault_words fault) (E.failed err.old) (E.failed err.new)
+        (E.written err.old) (E.written err.new)) }
     ensures counts { E.failed err.old ≤ E.failed err.new }
 {
     match ended {
@@ -103,7 +107,8 @@ fn refuse<O: Sink, E: Sink>(out: &mut O, err: &mut E, fault: &ArgFault) -> u8
 /// output where something kept the run from its end, and the exit status.
 ///
 /// It is 0 where the plan was written, or the file to be checked is the plan, 1 where that file isn't, 2 after a
-/// makefile's fault, 3 after a device's failure, 4 where memory was refused, and 64 where the words are no command line.
+/// makefile's fault, 3 after a device's failure, 4 where memory was refused, and 64 where the words are no command
+/// line.
 pub fn whole<F: Files, O: Sink, E: Sink>(
     alloc: Global,
     words: &[String],
@@ -112,7 +117,8 @@ pub fn whole<F: Files, O: Sink, E: Sink>(
     err: &mut E,
 ) -> u8
     ensures { Exits (map string_bytes words.now) (F.known files.old) result (F.names files.old) (F.names files.new)
-        (F.failed files.old) (F.failed files.new) (O.failed out.old) (O.failed out.new) (E.failed err.old) (E.failed err.new)
+        (F.failed files.old) (F.failed files.new) (O.failed out.old) (O.failed out.new) (E.failed err.old)
+        (E.failed err.new)
         (O.written out.old) (O.written out.new) (E.written err.old) (E.written err.new) }
 {
     match args_of(alloc, words) {

@@ -30,7 +30,8 @@ pub(crate) fn makefile_read<F: Files>(
 ) -> (Vec<Sequence<u8>>, Result<Makefile, Stop>)
     ensures means { IfSome (F.known files.old) (λ store. Follows read_of result.1 result.0.items (F.names files.new)
         (makefile_read args.now store (F.names files.old))) }
-    ensures asked { IfSome (F.known files.old) (λ store. IsFront (F.names files.new) (names_of (makefile_read args.now store (F.names files.old)))) }
+    ensures asked { IfSome (F.known files.old)
+        (λ store. IsFront (F.names files.new) (names_of (makefile_read args.now store (F.names files.old)))) }
     ensures keeps { F.known files.new ≡ F.known files.old }
     ensures blames { Blames result.1 (F.failed files.old) (F.failed files.new) (F.names files.new) }
 {
@@ -77,13 +78,18 @@ fn read<F: Files>(
     name: &Option<Word>,
     files: &mut F,
 ) -> (Vec<Sequence<u8>>, Result<Makefile, Stop>)
-    ensures reads { machine.refusal ≡ None → IfSome (F.known files.old) (λ store. Follows read_of result.1 result.0.items (F.names files.new)
-        (course_of_reading (reading store (makefile_names name.now) machine.limit machine.table machine.book machine.said
+    ensures reads { machine.refusal ≡ None
+        → IfSome (F.known files.old) (λ store. Follows read_of result.1 result.0.items (F.names files.new)
+        (course_of_reading (reading store (makefile_names name.now) machine.limit machine.table
+        machine.book machine.said
         (F.names files.old)))) }
-    ensures asked { machine.refusal ≡ None → IfSome (F.known files.old) (λ store. IsFront (F.names files.new) (names_of (course_of_reading
-        (reading store (makefile_names name.now) machine.limit machine.table machine.book machine.said (F.names files.old))))) }
+    ensures asked { machine.refusal ≡ None
+        → IfSome (F.known files.old) (λ store. IsFront (F.names files.new) (names_of (course_of_reading
+        (reading store (makefile_names name.now) machine.limit machine.table machine.book machine.said
+        (F.names files.old))))) }
     ensures keeps { F.known files.new ≡ F.known files.old }
-    ensures blames { machine.refusal ≡ None → Blames result.1 (F.failed files.old) (F.failed files.new) (F.names files.new) }
+    ensures blames { machine.refusal ≡ None
+        → Blames result.1 (F.failed files.old) (F.failed files.new) (F.names files.new) }
 {
     let mut machine = machine;
     let ended = read_by_name(&mut machine, name, files);
@@ -96,10 +102,14 @@ fn read_by_name<F: Files>(
     name: &Option<Word>,
     files: &mut F,
 ) -> Result<(), Stop>
-    ensures reads { machine.old.refusal ≡ None → IfSome (F.known files.old) (λ store. Reads result machine.new.table machine.new.book machine.new.said (F.names files.new)
-        (reading store (makefile_names name.now) machine.old.limit machine.old.table machine.old.book machine.old.said (F.names files.old))) }
+    ensures reads { machine.old.refusal ≡ None
+        → IfSome (F.known files.old) (λ store. Reads result machine.new.table machine.new.book machine.new.said
+        (F.names files.new)
+        (reading store (makefile_names name.now) machine.old.limit machine.old.table machine.old.book machine.old.said
+        (F.names files.old))) }
     ensures keeps { F.known files.new ≡ F.known files.old }
-    ensures blames { machine.old.refusal ≡ None → Blames result (F.failed files.old) (F.failed files.new) (F.names files.new) }
+    ensures blames { machine.old.refusal ≡ None
+        → Blames result (F.failed files.old) (F.failed files.new) (F.names files.new) }
 {
     match name {
         Some(name) => machine.read_file(files, &[name.as_str()]),
@@ -112,7 +122,8 @@ fn told_and_read(
     ended: Result<(), Stop>,
     reading: Reading,
 ) -> (Vec<Sequence<u8>>, Result<Makefile, Stop>)
-    ensures follows { (asked : List Text) (ending : Ending) → Reads ended reading.macros reading.book reading.messages asked ending
+    ensures follows { (asked : List Text) (ending : Ending)
+        → Reads ended reading.macros reading.book reading.messages asked ending
         → Follows read_of result.1 result.0.items asked (course_of_reading ending) }
     ensures blames { (old new : ℕ) (asked : List Text) → Blames ended old new asked → Blames result.1 old new asked }
 {
@@ -125,7 +136,8 @@ fn told_and_read(
 }
 
 fn makefile_if(ended: Result<(), Stop>, macros: Macros, book: Book) -> Result<Makefile, Stop>
-    ensures follows { (said asked : List Text) (ending : Ending) → Reads ended macros book said asked ending → Follows read_of result said asked (course_of_reading ending) }
+    ensures follows { (said asked : List Text) (ending : Ending) → Reads ended macros book said asked ending
+        → Follows read_of result said asked (course_of_reading ending) }
     ensures blames { (old new : ℕ) (asked : List Text) → Blames ended old new asked → Blames result old new asked }
 {
     match ended {

@@ -65,7 +65,8 @@ pub fn run<F: Files, O: Sink, E: Sink>(
     out: &mut O,
     err: &mut E,
 ) -> Result<Status, RunFault>
-    ensures leaves { IfSome (F.known files.old) (λ store. Leaves args.now store result (F.names files.old) (F.names files.new)
+    ensures leaves { IfSome (F.known files.old)
+        (λ store. Leaves args.now store result (F.names files.old) (F.names files.new)
         (O.written out.old) (O.written out.new) (E.written err.old) (E.written err.new)) }
     ensures blames { Blames result (F.names files.new) (F.failed files.old) (F.failed files.new)
         (O.failed out.old) (O.failed out.new) (E.failed err.old) (E.failed err.new) }
@@ -105,7 +106,8 @@ fn deliver<F: Files, O: Sink>(
 fn write<O: Sink>(plan: &Plan, out: &mut O) -> Result<Status, RunFault>
     requires { IsWritable plan.now }
     ensures writes { Writes plan.now result (O.written out.old) (O.written out.new) }
-    ensures blames { MatchResult result (λ _. O.failed out.new ≡ O.failed out.old) (λ _. Rises (O.failed out.old) (O.failed out.new)) }
+    ensures blames { MatchResult result (λ _. O.failed out.new ≡ O.failed out.old)
+        (λ _. Rises (O.failed out.old) (O.failed out.new)) }
 {
     match write_plan(plan, out) {
         Ok(()) => Ok(Status::Done),

@@ -24,7 +24,8 @@ pub(crate) fn statement_of(
     group: &[Node],
     command: Option<Vec<u8>>,
 ) -> Result<Statement, AllocError>
-    ensures { IfOk result (λ statement. statement ≡ statement_of book.now group.now (option_map (λ text. text.items) command)) }
+    ensures { IfOk result (λ statement. statement
+        ≡ statement_of book.now group.now (option_map (λ text. text.items) command)) }
 {
     let implicit = implicit_of(alloc, command.is_some() && has_phony(book, group))?;
     statement_with(alloc, group, made_by(command), implicit)
@@ -147,7 +148,8 @@ fn is_in(names: &IndexSet<Vec<u8>>, name: &[u8]) -> bool
 
 #[tactic(auto, unfolding(kt_rules::specs::Names::without_repeats))]
 fn all_order_only(alloc: Global, group: &[Node]) -> Result<IndexSet<Vec<u8>>, AllocError>
-    ensures { IfOk result (λ names. map (λ name. name.items) names.keys ≡ without_repeats (flat_map order_only_of group.now)) }
+    ensures { IfOk result (λ names. map (λ name. name.items) names.keys
+        ≡ without_repeats (flat_map order_only_of group.now)) }
 {
     let mut names = IndexSet::new(alloc);
     for node in group {
@@ -159,7 +161,8 @@ fn all_order_only(alloc: Global, group: &[Node]) -> Result<IndexSet<Vec<u8>>, Al
 // Adds the names that aren't there.
 #[tactic(auto, using(kt_graph::proofs::NameKeys::key_added))]
 fn add(alloc: Global, set: &mut IndexSet<Vec<u8>>, names: Inputs) -> Result<(), AllocError>
-    ensures { OnOk result (map (λ name. name.items) set.new.keys ≡ fold with_name (map (λ name. name.items) set.old.keys) names.entry) }
+    ensures { OnOk result (map (λ name. name.items) set.new.keys
+        ≡ fold with_name (map (λ name. name.items) set.old.keys) names.entry) }
 {
     for name in names {
         set.insert(Vec::from_slice(alloc, name)?)?;

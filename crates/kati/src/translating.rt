@@ -29,8 +29,10 @@ use std::alloc::Global;
 
 /// Translates the makefile that the arguments name, or else the first of `makefile` and `Makefile` that is there.
 pub fn translate<F: Files>(alloc: Global, args: &Args, files: &mut F) -> Result<Outcome, RunFault>
-    ensures means { IfSome (F.known files.old) (λ store. IfOk result (λ outcome. Translates args.now store outcome (F.names files.old) (F.names files.new))) }
-    ensures asked { IfSome (F.known files.old) (λ store. IsFront (F.names files.new) (names_asked args.now store (F.names files.old))) }
+    ensures means { IfSome (F.known files.old)
+        (λ store. IfOk result (λ outcome. Translates args.now store outcome (F.names files.old) (F.names files.new))) }
+    ensures asked { IfSome (F.known files.old)
+        (λ store. IsFront (F.names files.new) (names_asked args.now store (F.names files.old))) }
     ensures writable { IfOk result (λ outcome. IfOk outcome.result IsWritable) }
     ensures keeps { F.known files.new ≡ F.known files.old }
     ensures blames { ReadBlames result (F.failed files.old) (F.failed files.new) (F.names files.new) }
@@ -68,7 +70,8 @@ fn planned<F: Files>(
     requires { messages.old.items ≡ [] }
     ensures means { IfSome (F.known files.old) (λ store. Comes result (λ r. Means args.now store (F.names files.old)
         (record { messages = messages.new.items; result = r; asked = F.names files.new }))) }
-    ensures asked { IfSome (F.known files.old) (λ store. IsFront (F.names files.new) (names_asked args.now store (F.names files.old))) }
+    ensures asked { IfSome (F.known files.old)
+        (λ store. IsFront (F.names files.new) (names_asked args.now store (F.names files.old))) }
     ensures keeps { F.known files.new ≡ F.known files.old }
     ensures blames { Blames result (F.failed files.old) (F.failed files.new) (F.names files.new) }
     ensures writable { IfOk result IsWritable }
@@ -87,9 +90,12 @@ fn planned_listed<F: Files>(
     files: &mut F,
     messages: &mut Vec<Sequence<u8>>,
 ) -> Result<Plan, Stop>
-    ensures means { (said : List Text) → IfSome (F.known files.old) (λ store. Comes result (λ r. MeansListed args.now store said (F.names files.old) list.now
+    ensures means { (said : List Text)
+        → IfSome (F.known files.old) (λ store. Comes result
+        (λ r. MeansListed args.now store said (F.names files.old) list.now
         (record { messages = messages.new.items; result = r; asked = F.names files.new }))) }
-    ensures asked { IfSome (F.known files.old) (λ store. IsFront (F.names files.new) (names_of (makefile_read args.now store (F.names files.old)))) }
+    ensures asked { IfSome (F.known files.old)
+        (λ store. IsFront (F.names files.new) (names_of (makefile_read args.now store (F.names files.old)))) }
     ensures keeps { F.known files.new ≡ F.known files.old }
     ensures blames { Blames result (F.failed files.old) (F.failed files.new) (F.names files.new) }
     ensures writable { IfOk result IsWritable }
@@ -108,7 +114,11 @@ fn planned_if_read(
     messages: &mut Vec<Sequence<u8>>,
 ) -> Result<Plan, Stop>
     ensures means { (names : List Text) (course : Course Read) → Follows read_of read messages.old.items names course
-        → Comes result (λ r. EndsAs course (MeansRead args.now list.now) (record { messages = messages.new.items; result = r; asked = names })) }
+        → Comes result (λ r. EndsAs course (MeansRead args.now list.now) (record {
+          messages = messages.new.items;
+          result = r;
+          asked = names;
+        })) }
     ensures blames { (old new : ℕ) (names : List Text) → Blames read old new names → Blames result old new names }
     ensures writable { IfOk result IsWritable }
 {
@@ -126,7 +136,8 @@ fn planned_read(
     makefile: &Makefile,
     messages: &mut Vec<Sequence<u8>>,
 ) -> Result<Plan, Stop>
-    ensures means { (asked : List Text) → ComesTo result (λ r. MeansRead args.now list.now messages.old.items asked (read_of makefile.now)
+    ensures means { (asked : List Text)
+        → ComesTo result (λ r. MeansRead args.now list.now messages.old.items asked (read_of makefile.now)
         (record { messages = messages.new.items; result = r; asked = asked })) }
     ensures writable { IfOk result IsWritable }
 {
@@ -145,7 +156,8 @@ fn planned_goals(
     goals: Vec<Name>,
     messages: &mut Vec<Sequence<u8>>,
 ) -> Result<Plan, Stop>
-    ensures means { (asked : List Text) → ComesTo result (λ r. MeansGoals limit (read_of makefile.now) (known_names makefile.now.book list.now)
+    ensures means { (asked : List Text)
+        → ComesTo result (λ r. MeansGoals limit (read_of makefile.now) (known_names makefile.now.book list.now)
         messages.old.items asked goals.items (record { messages = messages.new.items; result = r; asked = asked })) }
     ensures writable { IfOk result IsWritable }
 {

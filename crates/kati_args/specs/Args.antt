@@ -1,4 +1,5 @@
--- What the words of the command line ask for (kati's own). Which words are options and which are their values is clap's.
+-- What the words of the command line ask for (kati's own). Which words are options and which are their values is
+-- clap's.
 use Rattle.std.specs.Prelude.{◌≡◌, ◌≢◌, ℕ, ◌-◌, ◌==◌, ◌&&◌, ◌||◌, ⊤, Bool, true, false, not, List, [], ◌∷◌, map, filter, find, codes, length, slice_get, Some, None, option_map, unwrap_or, Result, Ok, Err, string_bytes, Option}
 use Rattle.std.specs.List.{list_any, before_first, after_first}
 use Rattle.std.specs.Option.{option_map_or}
@@ -127,7 +128,8 @@ IsTaken words = takes kati_app words ≡ true
 abbrev pub Answers : List Text → Result Args ArgFault → Type 0
 Answers words (Err (Help text)) = (takes kati_app words ≡ false) × IsAmong DisplayHelp (fault_of kati_app words)
 Answers words (Err (Usage text)) =
-    (takes kati_app words ≡ false) × ((kind : ErrorKind) × (kind ≢ DisplayHelp) × IsAmong kind (fault_of kati_app words))
+    (takes kati_app words ≡ false) × ((kind : ErrorKind) × (kind ≢ DisplayHelp)
+    × IsAmong kind (fault_of kati_app words))
 Answers words (Err Memory) = ⊤
 Answers words result = IsTaken words × AnswersFound (matches_of kati_app words) result
 

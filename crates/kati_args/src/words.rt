@@ -11,7 +11,8 @@ use std::alloc::{AllocError, Global};
 /// What stands before the first equals sign of a word, and what stands behind it.
 fn split(word: &str) -> Option<(&str, &str)>
     ensures { MatchOption result (is_macro word.now ≡ false)
-        (λ cut. (is_macro word.now ≡ true) × (cut.0.now ≡ name_in word.now) × (cut.1.now ≡ after_first is_equals word.now)) }
+        (λ cut. (is_macro word.now ≡ true) × (cut.0.now ≡ name_in word.now)
+        × (cut.1.now ≡ after_first is_equals word.now)) }
 {
     word.split_once('=')
 }

@@ -37,7 +37,8 @@ is_bad_name name = length name == 0 || list_any is_separator name
 -- an assignment to an expanded name; what it does is found before its text is expanded
 unfoldable pub assign_named : Evaluator → Operator → Text → Text → Step (Unit {0})
 assign_named e operator text name =
-    if is_bad_name name then stop 9 (codes "bad macro name") else (λ w. assign e name text (assigning operator (find name w.table)) w)
+    if is_bad_name name then stop 9 (codes "bad macro name")
+    else (λ w. assign e name text (assigning operator (find name w.table)) w)
 
 -- an assignment by its operator; `!=` is refused before its name is expanded
 unfoldable pub assign_line : Evaluator → Text → Operator → Text → Step (Unit {0})

@@ -1,5 +1,5 @@
--- What a reference asks for (GNU make manual, "Basics of Variable References", "Substitution References" and "Function Call
--- Syntax").
+-- What a reference asks for (GNU make manual, "Basics of Variable References", "Substitution References" and
+-- "Function Call Syntax").
 use Rattle.std.specs.Prelude.{ℕ, zero, suc, ◌+◌, ◌-◌, Bool, true, false, ◌==◌, ◌&&◌, ◌||◌, List, [], ◌∷◌, ◌++◌, length, take, drop, Option, Some, None, codes, bytes_eq, is_some, if◌then◌else◌}
 use Rattle.std.specs.List.{prefix_len, suffix_len, position_or_len, before_first, after_first, list_any}
 use Rattle.kt_text.specs.Words.{Text, is_separator}
@@ -193,8 +193,8 @@ one_less (Some more) = Some (more - 1)
 abbrev pub nested : Mark → ℕ → ℕ → ℕ
 nested mark depth byte = if byte == opener mark then depth + 1 else (if byte == closer mark then depth - 1 else depth)
 
--- the arguments, cut byte by byte at commas outside nested marks of the reference's own kind: what comes before the text is
--- given, how many marks are nested there, and how many commas may cut
+-- the arguments, cut byte by byte at commas outside nested marks of the reference's own kind: what comes before the
+-- text is given, how many marks are nested there, and how many commas may cut
 unfoldable pub arguments_from : Mark → Option ℕ → ℕ → Text → Text → List Text
 arguments_from mark left depth argument [] = argument ∷ []
 arguments_from mark left depth argument (byte ∷ text) =
@@ -253,9 +253,11 @@ substituting_ends name pattern replacement =
     if has_percent pattern then substituting name pattern replacement
     else substituting name (37 ∷ pattern) (37 ∷ replacement)
 
--- the first colon, and the first equals sign after it, cut an expanded body [GNU make manual, "Substitution References"]
+-- the first colon, and the first equals sign after it, cut an expanded body [GNU make manual, "Substitution
+-- References"]
 unfoldable pub naming_of : Text → Naming
 naming_of body =
     let rest = after_first is_colon body in
-    if list_any is_colon body && list_any is_equals rest then substituting_ends (before_first is_colon body) (before_first is_equals rest) (after_first is_equals rest)
+    if list_any is_colon body && list_any is_equals rest
+    then substituting_ends (before_first is_colon body) (before_first is_equals rest) (after_first is_equals rest)
     else plainly body

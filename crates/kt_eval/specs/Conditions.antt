@@ -1,5 +1,5 @@
--- The conditions of `ifeq` and `ifneq` (GNU make manual, "Syntax of Conditionals"), found in the text as it stands in the
--- file, byte by byte (kati's own).
+-- The conditions of `ifeq` and `ifneq` (GNU make manual, "Syntax of Conditionals"), found in the text as it stands in
+-- the file, byte by byte (kati's own).
 use Rattle.std.specs.Prelude.{ℕ, ◌+◌, ◌-◌, ◌==◌, ◌&&◌, ◌||◌, [], ◌∷◌, take, drop, Option, Some, None, option_map, position, if◌then◌else◌}
 use Rattle.std.specs.Option.{option_and_then}
 use Rattle.kt_text.specs.Words.{Text, trimmed_start, trimmed_end}
@@ -29,7 +29,8 @@ second_in first rest =
 
 -- two texts in parentheses, behind the opening one
 unfoldable pub in_parentheses : Text → Option Compared
-in_parentheses text = option_and_then (λ comma. second_in (take comma text) (drop (comma + 1) text)) (bare_place 44 0 0 text)
+in_parentheses text = option_and_then (λ comma. second_in (take comma text) (drop (comma + 1) text))
+    (bare_place 44 0 0 text)
 
 -- the text up to the next equal quote, and what follows that
 abbrev pub quoted_by : ℕ → Text → Option (Text × Text)
@@ -43,7 +44,8 @@ quoted (byte ∷ text) = if byte == 34 || byte == 39 then quoted_by byte text el
 -- two texts in quotes
 unfoldable pub in_quotes : Text → Option Compared
 in_quotes text =
-    option_and_then (λ first. option_map (λ second. record { first = first.0; second = second.0 }) (quoted (trimmed_start first.1))) (quoted text)
+    option_and_then (λ first. option_map
+    (λ second. record { first = first.0; second = second.0 }) (quoted (trimmed_start first.1))) (quoted text)
 
 -- the two texts of a condition; what follows them is ignored
 unfoldable pub compared_of : Text → Option Compared

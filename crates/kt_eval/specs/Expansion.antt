@@ -1,5 +1,5 @@
--- What a text is expanded to, level by level (POSIX.1-2024 make, "Macros"; GNU make manual, "Basics of Variable References"
--- and "Functions for Transforming Text"). How levels are counted is kati's own.
+-- What a text is expanded to, level by level (POSIX.1-2024 make, "Macros"; GNU make manual, "Basics of Variable
+-- References" and "Functions for Transforming Text"). How levels are counted is kati's own.
 use Rattle.std.specs.Prelude.{Bool, ◌==◌, ◌||◌, List, [], ◌∷◌, ◌++◌, length, Option, Some, None, codes, if◌then◌else◌}
 use Rattle.std.specs.List.{list_any}
 use Rattle.kt_text.specs.Words.{Text, words_of}
@@ -16,8 +16,8 @@ use Rattle.kt_eval.specs.State.{lookup, raw_value, bind, unbind, say, warn}
 use Rattle.kt_eval.specs.Step.{Step, Gave, ◌>>=◌, ◌>>◌, done, stop, change}
 use Rattle.kt_eval.specs.Calls.{Asked, calls, refuses, refers, asked_by, Naming, plainly, substituting, naming_of, arity, text_result, text_function_name, stripped, is_function_name}
 
--- what may be done one level deeper: expand a text, read the text of an `eval`, read an included file, which may be absent
--- or not; and whether anything may be read at all
+-- what may be done one level deeper: expand a text, read the text of an `eval`, read an included file, which may be
+-- absent or not; and whether anything may be read at all
 pub record Evaluator : Type 0 where
   pub reads : Bool
   pub expand : Text → Step Text

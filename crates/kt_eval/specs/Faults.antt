@@ -89,4 +89,5 @@ two_digits number = if nat_lt number 10 then codes "0" ++ decimal number else de
 -- `FILE:LINE: *** WORDS [Enn]`, with the program's name where there is no place
 abbrev pub fault_line : Fault → Text
 fault_line fault =
-    message_place fault.place ++ (codes ": *** " ++ (fault.words ++ (codes " [E" ++ (two_digits fault.number ++ codes "]"))))
+    message_place fault.place ++ (codes ": *** "
+    ++ (fault.words ++ (codes " [E" ++ (two_digits fault.number ++ codes "]"))))

@@ -1,5 +1,5 @@
--- What is left of reading makefiles, and what a machine holds between two readings (kati's own; GNU make manual, "What Name
--- to Give Your Makefile").
+-- What is left of reading makefiles, and what a machine holds between two readings (kati's own; GNU make manual,
+-- "What Name to Give Your Makefile").
 use Rattle.std.specs.Prelude.{◌≡◌, ℕ, string_bytes, true, List, [], Option, Some, None, codes, Result, Ok, Err}
 use Rattle.kt_text.specs.Words.{Text}
 use Rattle.kt_rules.specs.Entry.{Rule}
@@ -35,7 +35,8 @@ with_default name value table = default_by name value table (find name table)
 -- the macros that are there before any makefile is read
 abbrev pub predefined : Table → Table
 predefined table =
-    with_default (codes "MAKE") (codes "make") (with_default (codes ".SHELLFLAGS") (codes "-c") (with_default (codes "SHELL") (codes "/bin/sh") table))
+    with_default (codes "MAKE") (codes "make")
+    (with_default (codes ".SHELLFLAGS") (codes "-c") (with_default (codes "SHELL") (codes "/bin/sh") table))
 
 -- nothing is read yet
 abbrev pub nothing_read : ℕ → Table → Held
@@ -54,8 +55,8 @@ first_world table book said asked = record {
   rule = None;
 }
 
--- how a reading ends: what it leaves of macros, rules, messages and names asked for; after a fault the messages and the names
--- before it
+-- how a reading ends: what it leaves of macros, rules, messages and names asked for; after a fault the messages and
+-- the names before it
 pub data Ending : Type 0 where
   read_all : (table : Table) (book : List Rule) (said asked : List Text) → Ending
   at_fault : (said asked : List Text) (fault : Fault) → Ending
@@ -79,13 +80,15 @@ abbrev pub names_of : Ending → List Text
 names_of (read_all table book said asked) = asked
 names_of (at_fault said asked fault) = asked
 
--- what a call answered, and the macros, rules, messages and names asked for that it left, are that ending; where memory is
--- wanted or a device failed, the messages and the names are a beginning of its messages and names
+-- what a call answered, and the macros, rules, messages and names asked for that it left, are that ending; where
+-- memory is wanted or a device failed, the messages and the names are a beginning of its messages and names
 abbrev pub Reads : Result (Unit {0}) Stop → Table → List Rule → List Text → List Text → Ending → Type 0
 Reads (Ok x) table book said asked expected = expected ≡ read_all table book said asked
 Reads (Err (stops.Fault fault)) table book said asked expected = expected ≡ at_fault said asked fault
-Reads (Err (stops.Device name)) table book said asked expected = IsFront said (messages_of expected) × IsFront asked (names_of expected)
-Reads (Err stops.Memory) table book said asked expected = IsFront said (messages_of expected) × IsFront asked (names_of expected)
+Reads (Err (stops.Device name)) table book said asked expected = IsFront said (messages_of expected)
+    × IsFront asked (names_of expected)
+Reads (Err stops.Memory) table book said asked expected = IsFront said (messages_of expected)
+    × IsFront asked (names_of expected)
 
 abbrev pub IsDeviceOf : Text → Stop → Type 0
 IsDeviceOf name (stops.Fault fault) = ⊥

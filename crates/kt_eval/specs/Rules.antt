@@ -1,5 +1,5 @@
--- How rules are opened, go on and are closed (POSIX.1-2024 make, "Target Rules"; GNU make manual, "Rule Syntax" and "Recipe
--- Syntax"). When a rule is closed is kati's own.
+-- How rules are opened, go on and are closed (POSIX.1-2024 make, "Target Rules"; GNU make manual, "Rule Syntax" and
+-- "Recipe Syntax"). When a rule is closed is kati's own.
 use Rattle.std.specs.Prelude.{List, [], ◌∷◌, ◌++◌, drop, Option, Some, None, option_map, Result, Ok, Err, codes}
 use Rattle.kt_text.specs.Words.{Text}
 use Rattle.kt_syntax.specs.Comments.{plain_of}

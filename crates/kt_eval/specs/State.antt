@@ -1,4 +1,5 @@
--- What reading and expanding know and change: macros, bindings, the rules so far, messages, the names asked for, the place.
+-- What reading and expanding know and change: macros, bindings, the rules so far, messages, the names asked for, the
+-- place.
 use Rattle.std.specs.Prelude.{◌-◌, Bool, false, ◌==◌, ◌&&◌, List, [], ◌∷◌, ◌++◌, length, take, Option, Some, None, option_map, unwrap_or, codes, bytes_eq, if◌then◌else◌}
 use Rattle.std.specs.List.{list_all, slice_get}
 use Rattle.std.specs.Char.{is_ascii_digit}
@@ -15,8 +16,8 @@ use Rattle.kt_eval.specs.declared.state.Frame.TheVariants.{Loop, Call}
 use Rattle.kt_eval.specs.Files.{Store, look}
 use Rattle.kt_eval.specs.Table.{Table, find, put}
 
--- the bindings stand innermost last; `automatic` has the automatic macros of a recipe, `book` the rules that are closed, `rule`
--- the one that is open
+-- the bindings stand innermost last; `automatic` has the automatic macros of a recipe, `book` the rules that are
+-- closed, `rule` the one that is open
 pub record World : Type 0 where
   pub table : Table
   pub automatic : Store
@@ -90,7 +91,16 @@ message_place (Some place) = place_text place
 -- the world of a recipe: macros and automatic ones, a place, and the messages so far
 abbrev pub frozen_world : Table → Store → Option Place → List Text → World
 frozen_world table automatic place said =
-    record { table = table; automatic = automatic; frames = []; said = said; asked = []; place = place; book = []; rule = None }
+    record {
+      table = table;
+      automatic = automatic;
+      frames = [];
+      said = said;
+      asked = [];
+      place = place;
+      book = [];
+      rule = None;
+    }
 
 -- what each change leaves
 abbrev pub bind : Frame → World → World

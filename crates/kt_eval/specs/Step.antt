@@ -11,8 +11,8 @@ use Rattle.kt_eval.specs.Files.{Store}
 use Rattle.kt_eval.specs.Fronts.{IsFront, last}
 use Rattle.kt_eval.specs.State.{World}
 
--- what is seen of an evaluation: its world, the bytes behind the names of its files, where they are known, how often a read
--- failed, and by which reference it holds the files
+-- what is seen of an evaluation: its world, the bytes behind the names of its files, where they are known, how often
+-- a read failed, and by which reference it holds the files
 pub record Seen : Type 0 where
   pub world : World
   pub known : Option Store
@@ -34,7 +34,8 @@ trail of w = one_of of w.said w.asked
 -- each list of the first world is a beginning of that of the second
 abbrev pub GoesOn : World → World → Type 0
 GoesOn old new =
-    ((of : Trail) → length (trail of old) ≤ length (trail of new)) × ((of : Trail) (count : ℕ) → count ≤ length (trail of old) → take count (trail of new) ≡ take count (trail of old))
+    ((of : Trail) → length (trail of old) ≤ length (trail of new))
+    × ((of : Trail) (count : ℕ) → count ≤ length (trail of old) → take count (trail of new) ≡ take count (trail of old))
 
 -- the files are the same, with the same bytes; no failure is forgotten, no message is taken back, and no name asked for
 abbrev pub Keeps : Seen → Seen → Type 0
@@ -79,8 +80,8 @@ stop number words w = Stopped w (fault_at w.place number words)
 abbrev pub change : (World → World) → Step (Unit {0})
 change f w = Gave (f w) tt
 
--- the fault that is answered is the one that the step stops at; where memory is wanted or a device failed, the messages so
--- far and the names asked for are a beginning of those of the step
+-- the fault that is answered is the one that the step stops at; where memory is wanted or a device failed, the
+-- messages so far and the names asked for are a beginning of those of the step
 abbrev pub Fails : {A : Type 0} → Stop → World → Outcome A → Type 0
 Fails (stops.Fault fault) w outcome = outcome ≡ Stopped w fault
 Fails (stops.Device name) w outcome = GoesOn w (world_of outcome)
@@ -110,8 +111,8 @@ abbrev pub messages_of : Ending → List Text
 messages_of (with_text said text) = said
 messages_of (with_fault said fault) = said
 
--- what a call answered, and the messages that it left, are that ending; where memory is wanted, a beginning of its messages;
--- no device is there to fail
+-- what a call answered, and the messages that it left, are that ending; where memory is wanted, a beginning of its
+-- messages; no device is there to fail
 abbrev pub Ends : Result (Vec ℕ Global) Stop → List Text → Ending → Type 0
 Ends (Ok text) said expected = expected ≡ with_text said text.items
 Ends (Err (stops.Fault fault)) said expected = expected ≡ with_fault said fault
@@ -126,8 +127,8 @@ AreKnown known = is_some known ≡ true
 abbrev pub store_of : Option Store → Store
 store_of known = unwrap_or known []
 
--- a failed device is answered where the count of failures rose, by the name that was asked for last; nothing else is answered
--- where a device failed
+-- a failed device is answered where the count of failures rose, by the name that was asked for last; nothing else is
+-- answered where a device failed
 abbrev pub Blames : {A : Type 0} → Result A Stop → ℕ → ℕ → List Text → Type 0
 Blames (Ok x) old new asked = new ≡ old
 Blames (Err (stops.Fault fault)) old new asked = new ≡ old

@@ -23,7 +23,8 @@ find name (entry ∷ table) = if bytes_eq name entry.0 then Some entry.1 else fi
 -- a name that is there keeps its place, and a new one goes last
 unfoldable pub put : Text → Macro → Table → Table
 put name value [] = (name, value) ∷ []
-put name value (entry ∷ table) = if bytes_eq name entry.0 then (entry.0, value) ∷ table else entry ∷ put name value table
+put name value (entry ∷ table) = if bytes_eq name entry.0 then (entry.0, value) ∷ table
+    else entry ∷ put name value table
 
 -- a macro that a makefile sets
 abbrev pub set_by_makefile : Flavour → Text → Macro

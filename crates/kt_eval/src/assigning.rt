@@ -27,7 +27,8 @@ pub(crate) fn assignment_of(
     operator: Operator,
     old: Option<&Macro>,
 ) -> Result<Assigning, AllocError>
-    ensures { IfOk result (λ found. assigning_told found ≡ assigning operator (option_map (λ entry. entry.now) old.entry)) }
+    ensures { IfOk result (λ found. assigning_told found
+        ≡ assigning operator (option_map (λ entry. entry.now) old.entry)) }
 {
     match old {
         None => Ok(assigning_new(operator)),

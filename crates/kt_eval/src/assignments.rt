@@ -49,7 +49,8 @@ impl<'a, M: Scope, F: Files> Evaluation<'a, M, F> {
         does: Assigning,
     ) -> Result<(), Stop>
         requires { M.writable ≡ true }
-        ensures gives { AreKnown self.old.known → Gives (λ u. u) result self.new.world (assign (evaluator M.writable (store_of self.old.known) below) name.items text.now (assigning_told does) self.old.world) }
+        ensures gives { AreKnown self.old.known → Gives (λ u. u) result self.new.world (assign (evaluator M.writable (store_of self.old.known) below)
+            name.items text.now (assigning_told does) self.old.world) }
         ensures kept { Keeps self.old self.new }
         ensures blames { Blames result self.old.failed self.new.failed self.new.world.asked }
     {
@@ -78,7 +79,9 @@ impl<'a, M: Scope, F: Files> Evaluation<'a, M, F> {
         name: Vec<u8>,
     ) -> Result<(), Stop>
         requires { M.writable ≡ true }
-        ensures gives { AreKnown self.old.known → Gives (λ u. u) result self.new.world (assign_named (evaluator M.writable (store_of self.old.known) below) operator text.now name.items self.old.world) }
+        ensures gives { AreKnown self.old.known → Gives (λ u. u) result self.new.world
+            (assign_named (evaluator M.writable (store_of self.old.known) below) operator text.now name.items
+            self.old.world) }
         ensures kept { Keeps self.old self.new }
         ensures blames { Blames result self.old.failed self.new.failed self.new.world.asked }
     {
@@ -100,7 +103,8 @@ impl<'a, M: Scope, F: Files> Evaluation<'a, M, F> {
         text: &[u8],
     ) -> Result<(), Stop>
         requires { M.writable ≡ true }
-        ensures gives { AreKnown self.old.known → Gives (λ u. u) result self.new.world (assign_line (evaluator M.writable (store_of self.old.known) below) name.now operator text.now self.old.world) }
+        ensures gives { AreKnown self.old.known → Gives (λ u. u) result self.new.world (assign_line (evaluator M.writable (store_of self.old.known) below)
+            name.now operator text.now self.old.world) }
         ensures kept { Keeps self.old self.new }
         ensures blames { Blames result self.old.failed self.new.failed self.new.world.asked }
     {
@@ -122,7 +126,8 @@ impl<'a, M: Scope, F: Files> Evaluation<'a, M, F> {
         body: &[u8],
     ) -> Result<(), Stop>
         requires { M.writable ≡ true }
-        ensures gives { AreKnown self.old.known → Gives (λ u. u) result self.new.world (define (evaluator M.writable (store_of self.old.known) below) rest.now (kind_told form.entry) body.now self.old.world) }
+        ensures gives { AreKnown self.old.known → Gives (λ u. u) result self.new.world (define (evaluator M.writable (store_of self.old.known) below)
+            rest.now (kind_told form.entry) body.now self.old.world) }
         ensures kept { Keeps self.old self.new }
         ensures blames { Blames result self.old.failed self.new.failed self.new.world.asked }
     {

@@ -94,7 +94,8 @@ fn arguments_of(
     commas: Option<usize>,
     text: &[u8],
 ) -> Result<Vec<&[u8]>, AllocError>
-    ensures { IfOk result (λ arguments. map (λ argument. argument.now) arguments.items ≡ arguments_of mark commas text.now) }
+    ensures { IfOk result (λ arguments. map (λ argument. argument.now) arguments.items
+        ≡ arguments_of mark commas text.now) }
 {
     let mut arguments = Vec::new(alloc);
     let mut left = commas;
@@ -114,7 +115,8 @@ fn arguments_of(
 }
 
 fn push<'a>(arguments: &mut Vec<&'a [u8]>, argument: &'a [u8]) -> Result<(), AllocError>
-    ensures { OnOk result (map (λ a. a.now) arguments.new.items ≡ map (λ a. a.now) arguments.old.items ++ argument.now ∷ []) }
+    ensures { OnOk result (map (λ a. a.now) arguments.new.items ≡ map (λ a. a.now) arguments.old.items
+        ++ argument.now ∷ []) }
 {
     arguments.push(argument)?;
     Ok(())
@@ -238,7 +240,9 @@ pub(crate) fn name_in(alloc: Global, body: &[u8]) -> Result<Naming<'_>, AllocErr
 // What stands before the first such byte, and after it.
 fn cut_at(wanted: u8, text: &[u8]) -> Option<(&[u8], &[u8])>
     ensures { MatchOption result (list_any (λ byte. byte == wanted) text.now ≡ false)
-        (λ cut. (list_any (λ byte. byte == wanted) text.now ≡ true) × (cut.0.now ≡ before_first (λ byte. byte == wanted) text.now) × (cut.1.now ≡ after_first (λ byte. byte == wanted) text.now)) }
+        (λ cut. (list_any (λ byte. byte == wanted) text.now ≡ true)
+        × (cut.0.now ≡ before_first (λ byte. byte == wanted) text.now)
+        × (cut.1.now ≡ after_first (λ byte. byte == wanted) text.now)) }
 {
     let place = memchr(wanted, text)?;
     Some((&text[..place], &text[place + 1..]))

@@ -48,7 +48,8 @@ impl<'a, M: Scope, F: Files> Evaluation<'a, M, F> {
     #[tactic(auto, using(crate::proofs::FrontLemmas::is_set_longer, crate::proofs::FrontLemmas::is_set_same), unfolding(crate::specs::Conditionals::is_defined))]
     pub(crate) fn is_defined(&mut self, below: u64, text: &[u8]) -> Result<bool, Stop>
         requires { M.writable ≡ true }
-        ensures gives { AreKnown self.old.known → Gives (λ b. b) result self.new.world (is_defined (evaluator M.writable (store_of self.old.known) below) text.now self.old.world) }
+        ensures gives { AreKnown self.old.known → Gives (λ b. b) result self.new.world (is_defined (evaluator M.writable (store_of self.old.known) below)
+            text.now self.old.world) }
         ensures kept { Keeps self.old self.new }
         ensures blames { Blames result self.old.failed self.new.failed self.new.world.asked }
     {
@@ -64,7 +65,8 @@ impl<'a, M: Scope, F: Files> Evaluation<'a, M, F> {
         compared: Option<Compared<'_>>,
     ) -> Result<bool, Stop>
         requires { M.writable ≡ true }
-        ensures gives { AreKnown self.old.known → Gives (λ b. b) result self.new.world (are_equal (evaluator M.writable (store_of self.old.known) below) (option_map compared_told compared.entry) self.old.world) }
+        ensures gives { AreKnown self.old.known → Gives (λ b. b) result self.new.world (are_equal (evaluator M.writable (store_of self.old.known) below)
+            (option_map compared_told compared.entry) self.old.world) }
         ensures kept { Keeps self.old self.new }
         ensures blames { Blames result self.old.failed self.new.failed self.new.world.asked }
     {
@@ -80,7 +82,8 @@ impl<'a, M: Scope, F: Files> Evaluation<'a, M, F> {
     #[tactic(auto, unfolding(crate::specs::Conditionals::holds))]
     pub(crate) fn holds(&mut self, below: u64, word: Directive, text: &[u8]) -> Result<bool, Stop>
         requires { M.writable ≡ true }
-        ensures gives { AreKnown self.old.known → Gives (λ b. b) result self.new.world (holds (evaluator M.writable (store_of self.old.known) below) word text.now self.old.world) }
+        ensures gives { AreKnown self.old.known → Gives (λ b. b) result self.new.world (holds (evaluator M.writable (store_of self.old.known) below) word
+            text.now self.old.world) }
         ensures kept { Keeps self.old self.new }
         ensures blames { Blames result self.old.failed self.new.failed self.new.world.asked }
     {
@@ -102,7 +105,9 @@ impl<'a, M: Scope, F: Files> Evaluation<'a, M, F> {
         text: &[u8],
     ) -> Result<bool, Stop>
         requires { M.writable ≡ true }
-        ensures gives { AreKnown self.old.known → Gives (λ b. b) result self.new.world (worded_holds (evaluator M.writable (store_of self.old.known) below) (kind_told form.entry) text.now self.old.world) }
+        ensures gives { AreKnown self.old.known → Gives (λ b. b) result self.new.world
+            (worded_holds (evaluator M.writable (store_of self.old.known) below) (kind_told form.entry) text.now
+            self.old.world) }
         ensures kept { Keeps self.old self.new }
         ensures blames { Blames result self.old.failed self.new.failed self.new.world.asked }
     {
@@ -116,7 +121,8 @@ impl<'a, M: Scope, F: Files> Evaluation<'a, M, F> {
     #[tactic(auto, unfolding(crate::specs::Conditionals::text_holds))]
     pub(crate) fn text_holds(&mut self, below: u64, text: &[u8]) -> Result<bool, Stop>
         requires { M.writable ≡ true }
-        ensures gives { AreKnown self.old.known → Gives (λ b. b) result self.new.world (text_holds (evaluator M.writable (store_of self.old.known) below) text.now self.old.world) }
+        ensures gives { AreKnown self.old.known → Gives (λ b. b) result self.new.world (text_holds (evaluator M.writable (store_of self.old.known) below)
+            text.now self.old.world) }
         ensures kept { Keeps self.old self.new }
         ensures blames { Blames result self.old.failed self.new.failed self.new.world.asked }
     {
@@ -137,7 +143,8 @@ impl<'a, M: Scope, F: Files> Evaluation<'a, M, F> {
         rest: &[u8],
     ) -> Result<bool, Stop>
         requires { M.writable ≡ true }
-        ensures gives { AreKnown self.old.known → Gives (λ b. b) result self.new.world (else_holds (evaluator M.writable (store_of self.old.known) below) condition rest.now self.old.world) }
+        ensures gives { AreKnown self.old.known → Gives (λ b. b) result self.new.world (else_holds (evaluator M.writable (store_of self.old.known) below)
+            condition rest.now self.old.world) }
         ensures kept { Keeps self.old self.new }
         ensures blames { Blames result self.old.failed self.new.failed self.new.world.asked }
     {
@@ -157,7 +164,8 @@ impl<'a, M: Scope, F: Files> Evaluation<'a, M, F> {
         form: Form<'_>,
     ) -> Result<bool, Stop>
         requires { M.writable ≡ true }
-        ensures gives { AreKnown self.old.known → Gives (λ b. b) result self.new.world (line_holds (evaluator M.writable (store_of self.old.known) below) condition (kind_told form.entry) self.old.world) }
+        ensures gives { AreKnown self.old.known → Gives (λ b. b) result self.new.world (line_holds (evaluator M.writable (store_of self.old.known) below)
+            condition (kind_told form.entry) self.old.world) }
         ensures kept { Keeps self.old self.new }
         ensures blames { Blames result self.old.failed self.new.failed self.new.world.asked }
     {

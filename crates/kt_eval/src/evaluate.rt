@@ -36,7 +36,8 @@ impl<'a, M: Scope, F: Files> Evaluation<'a, M, F> {
     #[cycle(evaluate)]
     #[tactic(auto, using(crate::proofs::LevelLemmas::evaluator_above), unfolding(crate::specs::Levels::evaluator, crate::specs::Levels::none_left, crate::specs::Levels::above))]
     pub(crate) fn expand(&mut self, levels: u64, text: &[u8]) -> Result<Vec<u8>, Stop>
-        ensures gives { AreKnown self.old.known → Gives (λ v. v.items) result self.new.world ((evaluator M.writable (store_of self.old.known) levels).expand text.now self.old.world) }
+        ensures gives { AreKnown self.old.known → Gives (λ v. v.items) result self.new.world
+            ((evaluator M.writable (store_of self.old.known) levels).expand text.now self.old.world) }
         ensures kept { Keeps self.old self.new }
         ensures blames { Blames result self.old.failed self.new.failed self.new.world.asked }
     {
@@ -50,7 +51,8 @@ impl<'a, M: Scope, F: Files> Evaluation<'a, M, F> {
     #[cycle(evaluate)]
     #[tactic(auto, using(crate::proofs::FrontLemmas::each_term_longer, crate::proofs::FrontLemmas::each_term_same), unfolding(crate::specs::Expansion::each_term, crate::specs::Expansion::expanded))]
     pub(crate) fn expand_here(&mut self, below: u64, text: &[u8]) -> Result<Vec<u8>, Stop>
-        ensures gives { AreKnown self.old.known → Gives (λ v. v.items) result self.new.world (expanded (evaluator M.writable (store_of self.old.known) below) text.now self.old.world) }
+        ensures gives { AreKnown self.old.known → Gives (λ v. v.items) result self.new.world
+            (expanded (evaluator M.writable (store_of self.old.known) below) text.now self.old.world) }
         ensures kept { Keeps self.old self.new }
         ensures blames { Blames result self.old.failed self.new.failed self.new.world.asked }
     {
@@ -70,7 +72,8 @@ impl<'a, M: Scope, F: Files> Evaluation<'a, M, F> {
         below: u64,
         term: Result<Term<'_>, Unterminated>,
     ) -> Result<Vec<u8>, Stop>
-        ensures gives { AreKnown self.old.known → Gives (λ v. v.items) result self.new.world (term_of (evaluator M.writable (store_of self.old.known) below) (piece_of term.entry) self.old.world) }
+        ensures gives { AreKnown self.old.known → Gives (λ v. v.items) result self.new.world
+            (term_of (evaluator M.writable (store_of self.old.known) below) (piece_of term.entry) self.old.world) }
         ensures kept { Keeps self.old self.new }
         ensures blames { Blames result self.old.failed self.new.failed self.new.world.asked }
     {
@@ -90,7 +93,8 @@ impl<'a, M: Scope, F: Files> Evaluation<'a, M, F> {
     #[cycle(evaluate)]
     #[tactic(auto, using(crate::proofs::FrontLemmas::value_named_longer, crate::proofs::FrontLemmas::value_named_same), unfolding(crate::specs::Expansion::referred))]
     pub(crate) fn refer(&mut self, below: u64, asked: Asked<'_>) -> Result<Vec<u8>, Stop>
-        ensures gives { AreKnown self.old.known → Gives (λ v. v.items) result self.new.world (referred (evaluator M.writable (store_of self.old.known) below) (asked_told asked.entry) self.old.world) }
+        ensures gives { AreKnown self.old.known → Gives (λ v. v.items) result self.new.world
+            (referred (evaluator M.writable (store_of self.old.known) below) (asked_told asked.entry) self.old.world) }
         ensures kept { Keeps self.old self.new }
         ensures blames { Blames result self.old.failed self.new.failed self.new.world.asked }
     {
@@ -110,7 +114,8 @@ impl<'a, M: Scope, F: Files> Evaluation<'a, M, F> {
     #[cycle(evaluate)]
     #[tactic(auto, unfolding(crate::specs::Expansion::body_of))]
     pub(crate) fn body_of(&mut self, below: u64, body: &[u8]) -> Result<Vec<u8>, Stop>
-        ensures gives { AreKnown self.old.known → Gives (λ v. v.items) result self.new.world (body_of (evaluator M.writable (store_of self.old.known) below) body.now self.old.world) }
+        ensures gives { AreKnown self.old.known → Gives (λ v. v.items) result self.new.world
+            (body_of (evaluator M.writable (store_of self.old.known) below) body.now self.old.world) }
         ensures kept { Keeps self.old self.new }
         ensures blames { Blames result self.old.failed self.new.failed self.new.world.asked }
     {
@@ -123,7 +128,8 @@ impl<'a, M: Scope, F: Files> Evaluation<'a, M, F> {
     #[cycle(evaluate)]
     #[tactic(auto, using(crate::proofs::FrontLemmas::value_named_longer, crate::proofs::FrontLemmas::value_named_same, crate::proofs::FrontLemmas::accepted_longer, crate::proofs::FrontLemmas::accepted_same), unfolding(crate::specs::Expansion::value_named))]
     pub(crate) fn value_named(&mut self, below: u64, body: &[u8]) -> Result<Vec<u8>, Stop>
-        ensures gives { AreKnown self.old.known → Gives (λ v. v.items) result self.new.world (value_named (evaluator M.writable (store_of self.old.known) below) (naming_of body.now) self.old.world) }
+        ensures gives { AreKnown self.old.known → Gives (λ v. v.items) result self.new.world
+            (value_named (evaluator M.writable (store_of self.old.known) below) (naming_of body.now) self.old.world) }
         ensures kept { Keeps self.old self.new }
         ensures blames { Blames result self.old.failed self.new.failed self.new.world.asked }
     {
@@ -140,7 +146,9 @@ impl<'a, M: Scope, F: Files> Evaluation<'a, M, F> {
     #[cycle(evaluate)]
     #[tactic(auto, using(crate::proofs::FrontLemmas::value_of_longer, crate::proofs::FrontLemmas::value_of_same), unfolding(crate::specs::Expansion::value_of))]
     pub(crate) fn value_of(&mut self, below: u64, name: &[u8]) -> Result<Vec<u8>, Stop>
-        ensures gives { AreKnown self.old.known → Gives (λ v. v.items) result self.new.world (value_of (evaluator M.writable (store_of self.old.known) below) (lookup name.now self.old.world) self.old.world) }
+        ensures gives { AreKnown self.old.known → Gives (λ v. v.items) result self.new.world
+            (value_of (evaluator M.writable (store_of self.old.known) below) (lookup name.now self.old.world)
+            self.old.world) }
         ensures kept { Keeps self.old self.new }
         ensures blames { Blames result self.old.failed self.new.failed self.new.world.asked }
     {
@@ -161,7 +169,8 @@ impl<'a, M: Scope, F: Files> Evaluation<'a, M, F> {
         function: Function,
         arguments: &[&[u8]],
     ) -> Result<Vec<u8>, Stop>
-        ensures gives { AreKnown self.old.known → Gives (λ v. v.items) result self.new.world (apply (evaluator M.writable (store_of self.old.known) below) function (map (λ a. a.now) arguments.now) self.old.world) }
+        ensures gives { AreKnown self.old.known → Gives (λ v. v.items) result self.new.world (apply (evaluator M.writable (store_of self.old.known) below)
+            function (map (λ a. a.now) arguments.now) self.old.world) }
         ensures kept { Keeps self.old self.new }
         ensures blames { Blames result self.old.failed self.new.failed self.new.world.asked }
     {
@@ -213,7 +222,9 @@ impl<'a, M: Scope, F: Files> Evaluation<'a, M, F> {
         function: TextFunction,
         texts: &[&[u8]],
     ) -> Result<Vec<u8>, Stop>
-        ensures gives { AreKnown self.old.known → Gives (λ v. v.items) result self.new.world (apply_text (evaluator M.writable (store_of self.old.known) below) function (map (λ a. a.now) texts.now) self.old.world) }
+        ensures gives { AreKnown self.old.known → Gives (λ v. v.items) result self.new.world
+            (apply_text (evaluator M.writable (store_of self.old.known) below) function (map
+            (λ a. a.now) texts.now) self.old.world) }
         ensures kept { Keeps self.old self.new }
         ensures blames { Blames result self.old.failed self.new.failed self.new.world.asked }
     {
@@ -234,7 +245,9 @@ impl<'a, M: Scope, F: Files> Evaluation<'a, M, F> {
         first: Vec<Shared<u8>>,
         texts: &[&[u8]],
     ) -> Result<Vec<Shared<u8>>, Stop>
-        ensures gives { AreKnown self.old.known → Gives (λ v. v.items) result self.new.world (each_argument (evaluator M.writable (store_of self.old.known) below) first.items (map (λ a. a.now) texts.now) self.old.world) }
+        ensures gives { AreKnown self.old.known → Gives (λ v. v.items) result self.new.world
+            (each_argument (evaluator M.writable (store_of self.old.known) below) first.items (map
+            (λ a. a.now) texts.now) self.old.world) }
         ensures kept { Keeps self.old self.new }
         ensures blames { Blames result self.old.failed self.new.failed self.new.world.asked }
     {
@@ -257,7 +270,9 @@ impl<'a, M: Scope, F: Files> Evaluation<'a, M, F> {
         chosen: &[u8],
         other: Option<&[u8]>,
     ) -> Result<Vec<u8>, Stop>
-        ensures gives { AreKnown self.old.known → Gives (λ v. v.items) result self.new.world (apply_if (evaluator M.writable (store_of self.old.known) below) condition.now chosen.now (option_map (λ t. t.now) other.entry) self.old.world) }
+        ensures gives { AreKnown self.old.known → Gives (λ v. v.items) result self.new.world
+            (apply_if (evaluator M.writable (store_of self.old.known) below) condition.now chosen.now (option_map
+            (λ t. t.now) other.entry) self.old.world) }
         ensures kept { Keeps self.old self.new }
         ensures blames { Blames result self.old.failed self.new.failed self.new.world.asked }
     {
@@ -274,7 +289,9 @@ impl<'a, M: Scope, F: Files> Evaluation<'a, M, F> {
     #[cycle(evaluate)]
     #[tactic(auto, using(crate::proofs::FrontLemmas::apply_or_longer, crate::proofs::FrontLemmas::apply_or_same), unfolding(crate::specs::Expansion::apply_or))]
     pub(crate) fn apply_or(&mut self, below: u64, texts: &[&[u8]]) -> Result<Vec<u8>, Stop>
-        ensures gives { AreKnown self.old.known → Gives (λ v. v.items) result self.new.world (apply_or (evaluator M.writable (store_of self.old.known) below) (map (λ a. a.now) texts.now) self.old.world) }
+        ensures gives { AreKnown self.old.known → Gives (λ v. v.items) result self.new.world
+            (apply_or (evaluator M.writable (store_of self.old.known) below) (map
+            (λ a. a.now) texts.now) self.old.world) }
         ensures kept { Keeps self.old self.new }
         ensures blames { Blames result self.old.failed self.new.failed self.new.world.asked }
     {
@@ -292,7 +309,9 @@ impl<'a, M: Scope, F: Files> Evaluation<'a, M, F> {
     #[cycle(evaluate)]
     #[tactic(auto, using(crate::proofs::FrontLemmas::apply_and_longer, crate::proofs::FrontLemmas::apply_and_same), unfolding(crate::specs::Expansion::apply_and))]
     pub(crate) fn apply_and(&mut self, below: u64, texts: &[&[u8]]) -> Result<Vec<u8>, Stop>
-        ensures gives { AreKnown self.old.known → Gives (λ v. v.items) result self.new.world (apply_and (evaluator M.writable (store_of self.old.known) below) (map (λ a. a.now) texts.now) self.old.world) }
+        ensures gives { AreKnown self.old.known → Gives (λ v. v.items) result self.new.world
+            (apply_and (evaluator M.writable (store_of self.old.known) below) (map
+            (λ a. a.now) texts.now) self.old.world) }
         ensures kept { Keeps self.old self.new }
         ensures blames { Blames result self.old.failed self.new.failed self.new.world.asked }
     {
@@ -316,7 +335,9 @@ impl<'a, M: Scope, F: Files> Evaluation<'a, M, F> {
         list: &[u8],
         body: &[u8],
     ) -> Result<Vec<u8>, Stop>
-        ensures gives { AreKnown self.old.known → Gives (λ v. v.items) result self.new.world (apply_foreach (evaluator M.writable (store_of self.old.known) below) variable.now list.now body.now self.old.world) }
+        ensures gives { AreKnown self.old.known → Gives (λ v. v.items) result self.new.world
+            (apply_foreach (evaluator M.writable (store_of self.old.known) below) variable.now list.now body.now
+            self.old.world) }
         ensures kept { Keeps self.old self.new }
         ensures blames { Blames result self.old.failed self.new.failed self.new.world.asked }
     {
@@ -336,7 +357,9 @@ impl<'a, M: Scope, F: Files> Evaluation<'a, M, F> {
         list: &[u8],
         body: &[u8],
     ) -> Result<Vec<u8>, Stop>
-        ensures gives { AreKnown self.old.known → Gives (λ v. v.items) result self.new.world (each_word (evaluator M.writable (store_of self.old.known) below) name.now body.now [] [] (words_of list.now) self.old.world) }
+        ensures gives { AreKnown self.old.known → Gives (λ v. v.items) result self.new.world
+            (each_word (evaluator M.writable (store_of self.old.known) below) name.now body.now [] []
+            (words_of list.now) self.old.world) }
         ensures kept { Keeps self.old self.new }
         ensures blames { Blames result self.old.failed self.new.failed self.new.world.asked }
     {
@@ -358,7 +381,9 @@ impl<'a, M: Scope, F: Files> Evaluation<'a, M, F> {
     #[cycle(evaluate)]
     #[tactic(auto, using(crate::proofs::FrontLemmas::call_by_name_longer, crate::proofs::FrontLemmas::call_by_name_same), unfolding(crate::specs::Expansion::apply_call))]
     pub(crate) fn apply_call(&mut self, below: u64, texts: &[&[u8]]) -> Result<Vec<u8>, Stop>
-        ensures gives { AreKnown self.old.known → Gives (λ v. v.items) result self.new.world (apply_call (evaluator M.writable (store_of self.old.known) below) (map (λ a. a.now) texts.now) self.old.world) }
+        ensures gives { AreKnown self.old.known → Gives (λ v. v.items) result self.new.world
+            (apply_call (evaluator M.writable (store_of self.old.known) below) (map
+            (λ a. a.now) texts.now) self.old.world) }
         ensures kept { Keeps self.old self.new }
         ensures blames { Blames result self.old.failed self.new.failed self.new.world.asked }
     {
@@ -377,7 +402,9 @@ impl<'a, M: Scope, F: Files> Evaluation<'a, M, F> {
         name: &[u8],
         texts: &[&[u8]],
     ) -> Result<Vec<u8>, Stop>
-        ensures gives { AreKnown self.old.known → Gives (λ v. v.items) result self.new.world (call_by_name (evaluator M.writable (store_of self.old.known) below) name.now (map (λ a. a.now) texts.now) self.old.world) }
+        ensures gives { AreKnown self.old.known → Gives (λ v. v.items) result self.new.world
+            (call_by_name (evaluator M.writable (store_of self.old.known) below) name.now (map
+            (λ a. a.now) texts.now) self.old.world) }
         ensures kept { Keeps self.old self.new }
         ensures blames { Blames result self.old.failed self.new.failed self.new.world.asked }
     {
@@ -399,7 +426,8 @@ impl<'a, M: Scope, F: Files> Evaluation<'a, M, F> {
         name: &[u8],
         arguments: Vec<Shared<u8>>,
     ) -> Result<Vec<u8>, Stop>
-        ensures gives { AreKnown self.old.known → Gives (λ v. v.items) result self.new.world (called (evaluator M.writable (store_of self.old.known) below) name.now arguments.items self.old.world) }
+        ensures gives { AreKnown self.old.known → Gives (λ v. v.items) result self.new.world
+            (called (evaluator M.writable (store_of self.old.known) below) name.now arguments.items self.old.world) }
         ensures kept { Keeps self.old self.new }
         ensures blames { Blames result self.old.failed self.new.failed self.new.world.asked }
     {
@@ -412,7 +440,8 @@ impl<'a, M: Scope, F: Files> Evaluation<'a, M, F> {
     #[cycle(evaluate)]
     #[tactic(auto, unfolding(crate::specs::Expansion::apply_value))]
     pub(crate) fn apply_value(&mut self, below: u64, text: &[u8]) -> Result<Vec<u8>, Stop>
-        ensures gives { AreKnown self.old.known → Gives (λ v. v.items) result self.new.world (apply_value (evaluator M.writable (store_of self.old.known) below) text.now self.old.world) }
+        ensures gives { AreKnown self.old.known → Gives (λ v. v.items) result self.new.world
+            (apply_value (evaluator M.writable (store_of self.old.known) below) text.now self.old.world) }
         ensures kept { Keeps self.old self.new }
         ensures blames { Blames result self.old.failed self.new.failed self.new.world.asked }
     {
@@ -426,7 +455,8 @@ impl<'a, M: Scope, F: Files> Evaluation<'a, M, F> {
     #[cycle(evaluate)]
     #[tactic(auto, using(crate::proofs::FrontLemmas::eval_longer, crate::proofs::FrontLemmas::eval_same, crate::proofs::LevelLemmas::evaluator_reads), unfolding(crate::specs::Expansion::apply_eval))]
     pub(crate) fn apply_eval(&mut self, below: u64, text: &[u8]) -> Result<Vec<u8>, Stop>
-        ensures gives { AreKnown self.old.known → Gives (λ v. v.items) result self.new.world (apply_eval (evaluator M.writable (store_of self.old.known) below) text.now self.old.world) }
+        ensures gives { AreKnown self.old.known → Gives (λ v. v.items) result self.new.world
+            (apply_eval (evaluator M.writable (store_of self.old.known) below) text.now self.old.world) }
         ensures kept { Keeps self.old self.new }
         ensures blames { Blames result self.old.failed self.new.failed self.new.world.asked }
     {
@@ -441,7 +471,8 @@ impl<'a, M: Scope, F: Files> Evaluation<'a, M, F> {
     #[cycle(evaluate)]
     #[tactic(auto, unfolding(crate::specs::Expansion::apply_error))]
     pub(crate) fn apply_error(&mut self, below: u64, text: &[u8]) -> Result<Vec<u8>, Stop>
-        ensures gives { AreKnown self.old.known → Gives (λ v. v.items) result self.new.world (apply_error (evaluator M.writable (store_of self.old.known) below) text.now self.old.world) }
+        ensures gives { AreKnown self.old.known → Gives (λ v. v.items) result self.new.world
+            (apply_error (evaluator M.writable (store_of self.old.known) below) text.now self.old.world) }
         ensures kept { Keeps self.old self.new }
         ensures blames { Blames result self.old.failed self.new.failed self.new.world.asked }
     {
@@ -452,7 +483,8 @@ impl<'a, M: Scope, F: Files> Evaluation<'a, M, F> {
     #[cycle(evaluate)]
     #[tactic(auto, unfolding(crate::specs::Expansion::apply_warning))]
     pub(crate) fn apply_warning(&mut self, below: u64, text: &[u8]) -> Result<Vec<u8>, Stop>
-        ensures gives { AreKnown self.old.known → Gives (λ v. v.items) result self.new.world (apply_warning (evaluator M.writable (store_of self.old.known) below) text.now self.old.world) }
+        ensures gives { AreKnown self.old.known → Gives (λ v. v.items) result self.new.world
+            (apply_warning (evaluator M.writable (store_of self.old.known) below) text.now self.old.world) }
         ensures kept { Keeps self.old self.new }
         ensures blames { Blames result self.old.failed self.new.failed self.new.world.asked }
     {
@@ -464,7 +496,8 @@ impl<'a, M: Scope, F: Files> Evaluation<'a, M, F> {
     #[cycle(evaluate)]
     #[tactic(auto, unfolding(crate::specs::Expansion::apply_info))]
     pub(crate) fn apply_info(&mut self, below: u64, text: &[u8]) -> Result<Vec<u8>, Stop>
-        ensures gives { AreKnown self.old.known → Gives (λ v. v.items) result self.new.world (apply_info (evaluator M.writable (store_of self.old.known) below) text.now self.old.world) }
+        ensures gives { AreKnown self.old.known → Gives (λ v. v.items) result self.new.world
+            (apply_info (evaluator M.writable (store_of self.old.known) below) text.now self.old.world) }
         ensures kept { Keeps self.old self.new }
         ensures blames { Blames result self.old.failed self.new.failed self.new.world.asked }
     {
@@ -478,7 +511,8 @@ impl<'a, M: Scope, F: Files> Evaluation<'a, M, F> {
     #[tactic(auto, using(crate::proofs::LevelLemmas::evaluator_above), unfolding(crate::specs::Levels::evaluator, crate::specs::Levels::none_left, crate::specs::Levels::above))]
     pub(crate) fn eval(&mut self, levels: u64, text: &[u8]) -> Result<(), Stop>
         requires { M.writable ≡ true }
-        ensures gives { AreKnown self.old.known → Gives (λ u. u) result self.new.world ((evaluator M.writable (store_of self.old.known) levels).eval text.now self.old.world) }
+        ensures gives { AreKnown self.old.known → Gives (λ u. u) result self.new.world ((evaluator M.writable (store_of self.old.known) levels).eval
+            text.now self.old.world) }
         ensures kept { Keeps self.old self.new }
         ensures blames { Blames result self.old.failed self.new.failed self.new.world.asked }
     {

@@ -128,7 +128,8 @@ impl<'a, M: Scope, F: Files> Evaluation<'a, M, F> {
 
     // A fault of this kind at the place that is being read, which tells of this name.
     pub(crate) fn fault(&self, kind: FaultKind, name: &[u8]) -> Result<Fault, AllocError>
-        ensures { IfOk result (λ fault. fault ≡ fault_at self.now.world.place (number_of kind) (wording kind ++ name.now)) }
+        ensures { IfOk result (λ fault. fault ≡ fault_at self.now.world.place (number_of kind) (wording kind
+            ++ name.now)) }
     {
         let place = self.place()?;
         Fault::new(self.alloc, kind, name, place)
@@ -149,7 +150,8 @@ impl<'a, M: Scope, F: Files> Evaluation<'a, M, F> {
         name: &[u8],
         outcome: Result<Vec<u8>, TextFault>,
     ) -> Result<Vec<u8>, Stop>
-        ensures gives { (expected : Option (List ℕ)) → Answers outcome expected → Gives (λ v. v.items) result self.now.world (accepted name.now expected self.now.world) }
+        ensures gives { (expected : Option (List ℕ)) → Answers outcome expected
+            → Gives (λ v. v.items) result self.now.world (accepted name.now expected self.now.world) }
         ensures blames { Blames result self.now.failed self.now.failed self.now.world.asked }
     {
         match outcome {
@@ -221,7 +223,8 @@ impl<'a, M: Scope, F: Files> Evaluation<'a, M, F> {
 
     // What an assignment to a name does.
     pub(crate) fn assigning(&self, operator: Operator, name: &[u8]) -> Result<Assigning, AllocError>
-        ensures { IfOk result (λ found. assigning_told found ≡ assigning operator (find name.now self.now.world.table)) }
+        ensures { IfOk result (λ found. assigning_told found
+            ≡ assigning operator (find name.now self.now.world.table)) }
     {
         assignment_of(operator, self.macros.get(name))
     }
@@ -235,7 +238,11 @@ impl<'a, M: Scope, F: Files> Evaluation<'a, M, F> {
         text: &[u8],
     ) -> Result<(), AllocError>
         requires { M.writable ≡ true }
-        ensures done { OnOk result (self.new ≡ record self.old { world = set_macro name.items (set_by_makefile flavour (front_told front ++ text.now)) self.old.world }) }
+        ensures done { OnOk result (self.new
+            ≡ record self.old {
+              world = set_macro name.items (set_by_makefile flavour (front_told front ++ text.now))
+                  self.old.world;
+            }) }
         ensures kept { Keeps self.old self.new }
         ensures unfailed { self.new.failed ≡ self.old.failed }
         ensures said { self.new.world.said ≡ self.old.world.said }
@@ -348,11 +355,12 @@ impl<'a, M: Scope, F: Files> Evaluation<'a, M, F> {
         Ok(())
     }
 
-    // Reads the bytes of a file, if it is there. Its name is copied first, so that no failure of the device ends in want of
-    // memory.
+    // Reads the bytes of a file, if it is there. Its name is copied first, so that no failure of the device ends in
+    // want of memory.
     #[tactic(auto, using(crate::proofs::FrontLemmas::asked_longer, crate::proofs::FrontLemmas::asked_same, crate::proofs::LastLemmas::last_behind), unfolding(crate::specs::Reading::read_bytes))]
     pub(crate) fn read_bytes(&mut self, name: &str) -> Result<Option<Vec<u8>>, Stop>
-        ensures gives { AreKnown self.old.known → Gives (λ found. option_map (λ v. v.items) found) result self.new.world (read_bytes (store_of self.old.known) name.now self.old.world) }
+        ensures gives { AreKnown self.old.known → Gives (λ found. option_map
+            (λ v. v.items) found) result self.new.world (read_bytes (store_of self.old.known) name.now self.old.world) }
         ensures kept { Keeps self.old self.new }
         ensures blames { Blames result self.old.failed self.new.failed self.new.world.asked }
     {

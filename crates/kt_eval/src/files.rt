@@ -28,7 +28,8 @@ pub trait Files {
     /// The bytes of the file, or `None` where there is none of this name. The name counts as asked for, but where
     /// memory was refused. A failure of the device is counted, and nothing else is.
     fn read(&mut self, name: &str) -> Result<Option<Vec<u8>>, FileFault>
-        ensures found { IfSome (known self.old) (λ store. IfOk result (λ found. option_map (λ v. v.items) found ≡ look store name.now)) }
+        ensures found { IfSome (known self.old)
+            (λ store. IfOk result (λ found. option_map (λ v. v.items) found ≡ look store name.now)) }
         ensures keeps { known self.new ≡ known self.old }
         ensures asked { AskedAfter result (names self.old) (names self.new) name.now }
         ensures counts { failed self.old ≤ failed self.new }

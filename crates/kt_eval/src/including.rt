@@ -35,7 +35,8 @@ fn is_pattern(name: &[u8]) -> bool
 // The name as text, if it is UTF-8.
 #[tactic(auto, using(crate::proofs::TextLemmas::utf8_found, crate::proofs::TextLemmas::utf8_not_found))]
 fn as_text(name: &[u8]) -> Option<&str>
-    ensures { MatchOption result (is_utf8 name.now ≡ false) (λ text. (is_utf8 name.now ≡ true) × (text.now ≡ name.now)) }
+    ensures { MatchOption result (is_utf8 name.now ≡ false) (λ text. (is_utf8 name.now ≡ true)
+        × (text.now ≡ name.now)) }
 {
     match from_utf8(name) {
         Ok(text) => Some(text),
@@ -60,7 +61,8 @@ impl<'a, M: Scope, F: Files> Evaluation<'a, M, F> {
         text: &[u8],
     ) -> Result<(), Stop>
         requires { M.writable ≡ true }
-        ensures gives { AreKnown self.old.known → Gives (λ u. u) result self.new.world (include_line (evaluator M.writable (store_of self.old.known) below) optional text.now self.old.world) }
+        ensures gives { AreKnown self.old.known → Gives (λ u. u) result self.new.world
+            (include_line (evaluator M.writable (store_of self.old.known) below) optional text.now self.old.world) }
         ensures kept { Keeps self.old self.new }
         ensures blames { Blames result self.old.failed self.new.failed self.new.world.asked }
     {
@@ -77,7 +79,9 @@ impl<'a, M: Scope, F: Files> Evaluation<'a, M, F> {
         names: &[u8],
     ) -> Result<(), Stop>
         requires { M.writable ≡ true }
-        ensures gives { AreKnown self.old.known → Gives (λ u. u) result self.new.world (each_include (evaluator M.writable (store_of self.old.known) below) optional (words_of names.now) self.old.world) }
+        ensures gives { AreKnown self.old.known → Gives (λ u. u) result self.new.world
+            (each_include (evaluator M.writable (store_of self.old.known) below) optional (words_of names.now)
+            self.old.world) }
         ensures kept { Keeps self.old self.new }
         ensures blames { Blames result self.old.failed self.new.failed self.new.world.asked }
     {
@@ -97,7 +101,8 @@ impl<'a, M: Scope, F: Files> Evaluation<'a, M, F> {
         name: &[u8],
     ) -> Result<(), Stop>
         requires { M.writable ≡ true }
-        ensures gives { AreKnown self.old.known → Gives (λ u. u) result self.new.world (include_named (evaluator M.writable (store_of self.old.known) below) optional name.now self.old.world) }
+        ensures gives { AreKnown self.old.known → Gives (λ u. u) result self.new.world
+            (include_named (evaluator M.writable (store_of self.old.known) below) optional name.now self.old.world) }
         ensures kept { Keeps self.old self.new }
         ensures blames { Blames result self.old.failed self.new.failed self.new.world.asked }
     {
@@ -115,7 +120,8 @@ impl<'a, M: Scope, F: Files> Evaluation<'a, M, F> {
     #[tactic(auto, using(crate::proofs::LevelLemmas::evaluator_above), unfolding(crate::specs::Levels::evaluator, crate::specs::Levels::none_left, crate::specs::Levels::above))]
     pub(crate) fn include(&mut self, levels: u64, optional: bool, name: &str) -> Result<(), Stop>
         requires { M.writable ≡ true }
-        ensures gives { AreKnown self.old.known → Gives (λ u. u) result self.new.world ((evaluator M.writable (store_of self.old.known) levels).include optional name.now self.old.world) }
+        ensures gives { AreKnown self.old.known → Gives (λ u. u) result self.new.world ((evaluator M.writable (store_of self.old.known) levels).include
+            optional name.now self.old.world) }
         ensures kept { Keeps self.old self.new }
         ensures blames { Blames result self.old.failed self.new.failed self.new.world.asked }
     {
@@ -129,7 +135,9 @@ impl<'a, M: Scope, F: Files> Evaluation<'a, M, F> {
     #[tactic(auto, using(crate::proofs::FrontLemmas::read_included_longer, crate::proofs::FrontLemmas::read_included_same), unfolding(crate::specs::Reading::included))]
     pub(crate) fn included(&mut self, below: u64, optional: bool, name: &str) -> Result<(), Stop>
         requires { M.writable ≡ true }
-        ensures gives { AreKnown self.old.known → Gives (λ u. u) result self.new.world (included (store_of self.old.known) (evaluator M.writable (store_of self.old.known) below) optional name.now self.old.world) }
+        ensures gives { AreKnown self.old.known → Gives (λ u. u) result self.new.world
+            (included (store_of self.old.known) (evaluator M.writable (store_of self.old.known) below) optional
+            name.now self.old.world) }
         ensures kept { Keeps self.old self.new }
         ensures blames { Blames result self.old.failed self.new.failed self.new.world.asked }
     {
@@ -148,7 +156,9 @@ impl<'a, M: Scope, F: Files> Evaluation<'a, M, F> {
         found: Option<Vec<u8>>,
     ) -> Result<(), Stop>
         requires { M.writable ≡ true }
-        ensures gives { AreKnown self.old.known → Gives (λ u. u) result self.new.world (read_included (evaluator M.writable (store_of self.old.known) below) optional name.now (option_map (λ v. v.items) found) self.old.world) }
+        ensures gives { AreKnown self.old.known → Gives (λ u. u) result self.new.world
+            (read_included (evaluator M.writable (store_of self.old.known) below) optional name.now (option_map
+            (λ v. v.items) found) self.old.world) }
         ensures kept { Keeps self.old self.new }
         ensures blames { Blames result self.old.failed self.new.failed self.new.world.asked }
     {
@@ -172,7 +182,8 @@ impl<'a, M: Scope, F: Files> Evaluation<'a, M, F> {
     #[tactic(auto, using(crate::proofs::FrontLemmas::read_text_longer, crate::proofs::FrontLemmas::read_text_same), unfolding(crate::specs::Reading::read_file))]
     pub(crate) fn read_file(&mut self, below: u64, name: &str, text: &[u8]) -> Result<(), Stop>
         requires { M.writable ≡ true }
-        ensures gives { AreKnown self.old.known → Gives (λ u. u) result self.new.world (read_file (evaluator M.writable (store_of self.old.known) below) name.now text.now self.old.world) }
+        ensures gives { AreKnown self.old.known → Gives (λ u. u) result self.new.world (read_file (evaluator M.writable (store_of self.old.known) below)
+            name.now text.now self.old.world) }
         ensures kept { Keeps self.old self.new }
         ensures blames { Blames result self.old.failed self.new.failed self.new.world.asked }
     {
@@ -187,7 +198,9 @@ impl<'a, M: Scope, F: Files> Evaluation<'a, M, F> {
     #[tactic(auto, using(crate::proofs::FrontLemmas::read_first_longer, crate::proofs::FrontLemmas::read_first_same), unfolding(crate::specs::Reading::read_first))]
     pub(crate) fn read_first(&mut self, limit: u64, names: &[&str]) -> Result<(), Stop>
         requires { M.writable ≡ true }
-        ensures gives { AreKnown self.old.known → Gives (λ u. u) result self.new.world (read_first (store_of self.old.known) (evaluator M.writable (store_of self.old.known) limit) (map (λ name. name.now) names.now) self.old.world) }
+        ensures gives { AreKnown self.old.known → Gives (λ u. u) result self.new.world
+            (read_first (store_of self.old.known) (evaluator M.writable (store_of self.old.known) limit) (map
+            (λ name. name.now) names.now) self.old.world) }
         ensures kept { Keeps self.old self.new }
         ensures blames { Blames result self.old.failed self.new.failed self.new.world.asked }
     {

@@ -31,14 +31,20 @@ pub fn rows_of_reading()
 
 /// No message is taken back, and no name that was asked for.
 pub fn nothing_is_taken_back()
-    ensures expanding { (reads : Bool) (store : Store) (levels : ℕ) (text : Text) → TakesNothingBack (expanded (evaluator reads store levels) text) }
-    ensures applying { (reads : Bool) (store : Store) (levels : ℕ) (function : Function) (arguments : List Text) → TakesNothingBack (apply (evaluator reads store levels) function arguments) }
-    ensures reading { (reads : Bool) (store : Store) (levels : ℕ) (names : List Text) → TakesNothingBack (read_first store (evaluator reads store levels) names) }
+    ensures expanding { (reads : Bool) (store : Store) (levels : ℕ) (text : Text)
+        → TakesNothingBack (expanded (evaluator reads store levels) text) }
+    ensures applying { (reads : Bool) (store : Store) (levels : ℕ) (function : Function) (arguments : List Text)
+        → TakesNothingBack (apply (evaluator reads store levels) function arguments) }
+    ensures reading { (reads : Bool) (store : Store) (levels : ℕ) (names : List Text)
+        → TakesNothingBack (read_first store (evaluator reads store levels) names) }
 {}
 
 /// What isn't too deep (E08) with so many levels is the same with one more.
 pub fn one_deeper()
-    ensures expanding { (reads : Bool) (store : Store) (text : Text) → StaysOneDeeper (λ levels. expanded (evaluator reads store levels) text) }
-    ensures applying { (reads : Bool) (store : Store) (function : Function) (arguments : List Text) → StaysOneDeeper (λ levels. apply (evaluator reads store levels) function arguments) }
-    ensures reading { (reads : Bool) (store : Store) (names : List Text) → StaysOneDeeper (λ levels. read_first store (evaluator reads store levels) names) }
+    ensures expanding { (reads : Bool) (store : Store) (text : Text)
+        → StaysOneDeeper (λ levels. expanded (evaluator reads store levels) text) }
+    ensures applying { (reads : Bool) (store : Store) (function : Function) (arguments : List Text)
+        → StaysOneDeeper (λ levels. apply (evaluator reads store levels) function arguments) }
+    ensures reading { (reads : Bool) (store : Store) (names : List Text)
+        → StaysOneDeeper (λ levels. read_first store (evaluator reads store levels) names) }
 {}

@@ -78,16 +78,22 @@ impl Machine {
     /// device fails, a beginning of them, and a beginning of the names is asked for. A failed device
     /// is answered by the name asked for last; nothing else is answered where one failed.
     pub fn read_file<F: Files>(&mut self, files: &mut F, names: &[&str]) -> Result<(), Stop>
-        ensures reads { self.old.refusal ≡ None → IfSome (F.known files.old) (λ store. Reads result self.new.table self.new.book self.new.said (F.names files.new) (reading store (map (λ name. name.now) names.now) self.old.limit self.old.table self.old.book self.old.said (F.names files.old))) }
+        ensures reads { self.old.refusal ≡ None
+            → IfSome (F.known files.old)
+            (λ store. Reads result self.new.table self.new.book self.new.said (F.names files.new) (reading store (map
+            (λ name. name.now) names.now) self.old.limit self.old.table self.old.book self.old.said
+            (F.names files.old))) }
         ensures repeats { (stop : StopType) → self.old.refusal ≡ Some stop → Repeats result stop }
-        ensures untouched { (stop : StopType) → self.old.refusal ≡ Some stop → (files.new ≡ files.old) × (self.new ≡ self.old) }
+        ensures untouched { (stop : StopType) → self.old.refusal ≡ Some stop → (files.new ≡ files.old)
+            × (self.new ≡ self.old) }
         ensures remembers { self.old.refusal ≡ None → Remembers result self.new.refusal }
         ensures limited { self.new.limit ≡ self.old.limit }
         ensures said { IsFront self.old.said self.new.said }
         ensures asked { IsFront (F.names files.old) (F.names files.new) }
         ensures keeps { F.known files.new ≡ F.known files.old }
         ensures counts { F.failed files.old ≤ F.failed files.new }
-        ensures blames { self.old.refusal ≡ None → Blames result (F.failed files.old) (F.failed files.new) (F.names files.new) }
+        ensures blames { self.old.refusal ≡ None
+            → Blames result (F.failed files.old) (F.failed files.new) (F.names files.new) }
     {
         if let Some(refusal) = &self.refusal {
             return Err(copy_or_memory(self.alloc, refusal));
@@ -101,7 +107,10 @@ impl Machine {
 
     // Reads once.
     fn read<F: Files>(&mut self, files: &mut F, names: &[&str]) -> Result<(), Stop>
-        ensures reads { IfSome (F.known files.old) (λ store. Reads result self.new.table self.new.book self.new.said (F.names files.new) (reading store (map (λ name. name.now) names.now) self.old.limit self.old.table self.old.book self.old.said (F.names files.old))) }
+        ensures reads { IfSome (F.known files.old)
+            (λ store. Reads result self.new.table self.new.book self.new.said (F.names files.new) (reading store (map
+            (λ name. name.now) names.now) self.old.limit self.old.table self.old.book self.old.said
+            (F.names files.old))) }
         ensures limited { self.new.limit ≡ self.old.limit }
         ensures refusal { self.new.refusal ≡ self.old.refusal }
         ensures said { IsFront self.old.said self.new.said }
@@ -121,7 +130,10 @@ impl Machine {
         files: &mut F,
         names: &[&str],
     ) -> Result<(), Stop>
-        ensures reads { IfSome (F.known files.old) (λ store. Reads result self.new.table self.new.book self.new.said (F.names files.new) (reading store (map (λ name. name.now) names.now) self.old.limit self.old.table self.old.book self.old.said (F.names files.old))) }
+        ensures reads { IfSome (F.known files.old)
+            (λ store. Reads result self.new.table self.new.book self.new.said (F.names files.new) (reading store (map
+            (λ name. name.now) names.now) self.old.limit self.old.table self.old.book self.old.said
+            (F.names files.old))) }
         ensures limited { self.new.limit ≡ self.old.limit }
         ensures refusal { self.new.refusal ≡ self.old.refusal }
         ensures said { IsFront self.old.said self.new.said }
@@ -164,8 +176,8 @@ impl Machine {
     }
 }
 
-// Reads the first of these files that is there, from its first line to its end. The evaluation is made and ends here, in a
-// function without branches, so that the files are the caller's again.
+// Reads the first of these files that is there, from its first line to its end. The evaluation is made and ends here,
+// in a function without branches, so that the files are the caller's again.
 fn read_once<F: Files>(
     alloc: Global,
     limit: u64,
@@ -174,7 +186,9 @@ fn read_once<F: Files>(
     files: &mut F,
     names: &[&str],
 ) -> (Makefile, Vec<Sequence<u8>>, Result<(), Stop>)
-    ensures reads { IfSome (F.known files.old) (λ store. Reads result.2 result.0.macros result.0.book result.1.items (F.names files.new) (reading store (map (λ name. name.now) names.now) limit makefile.macros makefile.book messages.items (F.names files.old))) }
+    ensures reads { IfSome (F.known files.old)
+        (λ store. Reads result.2 result.0.macros result.0.book result.1.items (F.names files.new) (reading store (map
+        (λ name. name.now) names.now) limit makefile.macros makefile.book messages.items (F.names files.old))) }
     ensures said { IsFront messages.items result.1.items }
     ensures asked { IsFront (F.names files.old) (F.names files.new) }
     ensures keeps { F.known files.new ≡ F.known files.old }

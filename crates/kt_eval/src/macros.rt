@@ -132,7 +132,8 @@ impl Macros {
         front: Shared<u8>,
         text: &[u8],
     ) -> Result<(), AllocError>
-        ensures { OnOk result (self.new ≡ put name.items (set_by_makefile flavour ((front ++ codes " ") ++ text.now)) self.old) }
+        ensures { OnOk result (self.new
+            ≡ put name.items (set_by_makefile flavour ((front ++ codes " ") ++ text.now)) self.old) }
     {
         let mut longer = Macro::of_makefile(flavour, front);
         match self.entries.get_mut(name.as_slice()) {

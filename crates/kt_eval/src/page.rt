@@ -56,7 +56,8 @@ impl<'a> Model for Page<'a> {
       blocks = page.blocks;
     } };
 
-    ghost invariant = { λ page. (length page.blocks.steps ≡ length page.lines.items) × (left_at page.blocks.steps 0 ≡ tree_of page.blocks.steps) };
+    ghost invariant = { λ page. (length page.blocks.steps ≡ length page.lines.items)
+        × (left_at page.blocks.steps 0 ≡ tree_of page.blocks.steps) };
 }
 
 impl<'a> Page<'a> {
@@ -112,8 +113,10 @@ impl<'a> Page<'a> {
     // whether it has a condition, and where the next one begins.
     pub(crate) fn branch(&self, place: usize, after: usize) -> Option<(bool, usize)>
         ensures before { IfSome result (λ found. place < after) }
-        ensures some { IfSome result (λ found. (more : ℕ) × (slice_get self.now.blocks.steps place ≡ Some (step.Branch found.0 found.1 more))) }
-        ensures none { result ≡ None → (condition : Bool) → (next : ℕ) → slice_get self.now.blocks.steps place ≡ Some (step.Branch condition next after) → ⊥ }
+        ensures some { IfSome result (λ found. (more : ℕ)
+            × (slice_get self.now.blocks.steps place ≡ Some (step.Branch found.0 found.1 more))) }
+        ensures none { result ≡ None → (condition : Bool) → (next : ℕ) → slice_get self.now.blocks.steps place
+            ≡ Some (step.Branch condition next after) → ⊥ }
         ensures ahead { IfSome result (λ found. (place < found.1) × (found.1 ≤ length self.now.blocks.steps)) }
     {
         match self.blocks.get(place) {
@@ -174,14 +177,19 @@ impl<'a> Page<'a> {
     ) -> Result<Vec<u8>, AllocError>
         requires order { start ≤ end }
         requires within { end ≤ length self.now.blocks.steps }
-        ensures { IfOk result (λ body. body.items ≡ body_text (map (λ raw. raw.text) (slice_range self.now.lines start end))) }
+        ensures { IfOk result (λ body. body.items
+            ≡ body_text (map (λ raw. raw.text) (slice_range self.now.lines start end))) }
     {
         body_text(alloc, self.text, &self.lines[start..end])
     }
 }
 
 fn raw_line<'a>(text: &'a [u8], line: &Line) -> RawLine<'a>
-    ensures { raw_told result ≡ record { number = line.now.number; tab = line.now.tab; text = line_text text.now line.now } }
+    ensures { raw_told result ≡ record {
+      number = line.now.number;
+      tab = line.now.tab;
+      text = line_text text.now line.now;
+    } }
 {
     RawLine {
         number: line.number,

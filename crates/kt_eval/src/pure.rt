@@ -33,7 +33,8 @@ impl Macros {
     ) -> Result<Vec<u8>, Stop>
         ensures appends { IsFront messages.old.items messages.new.items }
         ensures ends { Ends result messages.new.items
-            (ending (expanded (evaluator false [] limit) text.now (frozen_world self.now (A.values automatic.now) place messages.old.items))) }
+            (ending (expanded (evaluator false [] limit) text.now
+            (frozen_world self.now (A.values automatic.now) place messages.old.items))) }
     {
         let before = std::mem::replace(messages, Vec::new(alloc));
         let mut files = NoFiles;

@@ -69,7 +69,8 @@ impl<'a, M: Scope, F: Files> Evaluation<'a, M, F> {
     #[tactic(auto, unfolding(crate::specs::Reading::read_held))]
     pub(crate) fn read_held(&mut self, below: u64, text: &[u8]) -> Result<(), Stop>
         requires { M.writable ≡ true }
-        ensures gives { AreKnown self.old.known → Gives (λ u. u) result self.new.world (read_held (evaluator M.writable (store_of self.old.known) below) text.now self.old.world) }
+        ensures gives { AreKnown self.old.known → Gives (λ u. u) result self.new.world (read_held (evaluator M.writable (store_of self.old.known) below)
+            text.now self.old.world) }
         ensures kept { Keeps self.old self.new }
         ensures blames { Blames result self.old.failed self.new.failed self.new.world.asked }
     {
@@ -83,7 +84,8 @@ impl<'a, M: Scope, F: Files> Evaluation<'a, M, F> {
     #[tactic(auto, using(crate::proofs::FrontLemmas::read_sheet_longer, crate::proofs::FrontLemmas::read_sheet_same, crate::proofs::FrontLemmas::read_without_nul_longer, crate::proofs::FrontLemmas::read_without_nul_same), unfolding(crate::specs::Reading::read_text))]
     pub(crate) fn read_text(&mut self, below: u64, source: &Source, text: &[u8]) -> Result<(), Stop>
         requires { M.writable ≡ true }
-        ensures gives { AreKnown self.old.known → Gives (λ u. u) result self.new.world (read_text (evaluator M.writable (store_of self.old.known) below) source.now text.now self.old.world) }
+        ensures gives { AreKnown self.old.known → Gives (λ u. u) result self.new.world (read_text (evaluator M.writable (store_of self.old.known) below)
+            source.now text.now self.old.world) }
         ensures kept { Keeps self.old self.new }
         ensures blames { Blames result self.old.failed self.new.failed self.new.world.asked }
     {
@@ -104,7 +106,8 @@ impl<'a, M: Scope, F: Files> Evaluation<'a, M, F> {
     #[tactic(auto, using(crate::proofs::FrontLemmas::close_rule_longer, crate::proofs::FrontLemmas::close_rule_same, crate::proofs::FrontLemmas::read_end_longer, crate::proofs::FrontLemmas::read_end_same), unfolding(crate::specs::Reading::read_sheet))]
     pub(crate) fn read_page(&mut self, below: u64, page: &Page<'_>) -> Result<(), Stop>
         requires { M.writable ≡ true }
-        ensures gives { AreKnown self.old.known → Gives (λ u. u) result self.new.world (read_sheet (evaluator M.writable (store_of self.old.known) below) page.now self.old.world) }
+        ensures gives { AreKnown self.old.known → Gives (λ u. u) result self.new.world (read_sheet (evaluator M.writable (store_of self.old.known) below)
+            page.now self.old.world) }
         ensures kept { Keeps self.old self.new }
         ensures blames { Blames result self.old.failed self.new.failed self.new.world.asked }
     {
@@ -117,7 +120,8 @@ impl<'a, M: Scope, F: Files> Evaluation<'a, M, F> {
     #[tactic(auto, unfolding(crate::specs::Reading::read_items))]
     pub(crate) fn read_items(&mut self, below: u64, page: &Page<'_>) -> Result<(), Stop>
         requires { M.writable ≡ true }
-        ensures gives { AreKnown self.old.known → Gives (λ u. u) result self.new.world (read_items (evaluator M.writable (store_of self.old.known) below) page.now (tree_of page.now.blocks.steps) self.old.world) }
+        ensures gives { AreKnown self.old.known → Gives (λ u. u) result self.new.world (read_items (evaluator M.writable (store_of self.old.known) below)
+            page.now (tree_of page.now.blocks.steps) self.old.world) }
         ensures kept { Keeps self.old self.new }
         ensures blames { Blames result self.old.failed self.new.failed self.new.world.asked }
     {
@@ -144,7 +148,10 @@ impl<'a, M: Scope, F: Files> Evaluation<'a, M, F> {
         requires ahead { IsAhead place (length page.now.blocks.steps) step }
         requires within { place < length page.now.blocks.steps }
         ensures ahead { IfOk result (λ at. (place < at) × (at ≤ length page.now.blocks.steps)) }
-        ensures gives { AreKnown self.old.known → GivesOn result self.new.world (λ at. read_items (evaluator M.writable (store_of self.old.known) below) page.now (left_at page.now.blocks.steps at)) (read_items (evaluator M.writable (store_of self.old.known) below) page.now (left_at page.now.blocks.steps place) self.old.world) }
+        ensures gives { AreKnown self.old.known → GivesOn result self.new.world
+            (λ at. read_items (evaluator M.writable (store_of self.old.known) below) page.now
+            (left_at page.now.blocks.steps at)) (read_items (evaluator M.writable (store_of self.old.known) below)
+            page.now (left_at page.now.blocks.steps place) self.old.world) }
         ensures kept { Keeps self.old self.new }
         ensures blames { Blames result self.old.failed self.new.failed self.new.world.asked }
     {
@@ -187,7 +194,10 @@ impl<'a, M: Scope, F: Files> Evaluation<'a, M, F> {
         requires reads { IsConditional page.now.blocks.steps place next after }
         requires ahead { IsAhead place (length page.now.blocks.steps) (step.Conditional next after) }
         ensures ahead { IfOk result (λ at. (place < at) × (at ≤ length page.now.blocks.steps)) }
-        ensures gives { AreKnown self.old.known → GivesOn result self.new.world (λ at. read_items (evaluator M.writable (store_of self.old.known) below) page.now (left_at page.now.blocks.steps at)) (read_items (evaluator M.writable (store_of self.old.known) below) page.now (left_at page.now.blocks.steps place) self.old.world) }
+        ensures gives { AreKnown self.old.known → GivesOn result self.new.world
+            (λ at. read_items (evaluator M.writable (store_of self.old.known) below) page.now
+            (left_at page.now.blocks.steps at)) (read_items (evaluator M.writable (store_of self.old.known) below)
+            page.now (left_at page.now.blocks.steps place) self.old.world) }
         ensures kept { Keeps self.old self.new }
         ensures blames { Blames result self.old.failed self.new.failed self.new.world.asked }
     {
@@ -214,7 +224,9 @@ impl<'a, M: Scope, F: Files> Evaluation<'a, M, F> {
         condition: bool,
     ) -> Result<bool, Stop>
         requires { M.writable ≡ true }
-        ensures gives { AreKnown self.old.known → Gives (λ b. b) result self.new.world (branch_holds (evaluator M.writable (store_of self.old.known) below) page.now place condition self.old.world) }
+        ensures gives { AreKnown self.old.known → Gives (λ b. b) result self.new.world
+            (branch_holds (evaluator M.writable (store_of self.old.known) below) page.now place condition
+            self.old.world) }
         ensures kept { Keeps self.old self.new }
         ensures blames { Blames result self.old.failed self.new.failed self.new.world.asked }
     {
@@ -227,7 +239,8 @@ impl<'a, M: Scope, F: Files> Evaluation<'a, M, F> {
     #[tactic(auto, using(crate::proofs::FrontLemmas::read_kind_longer, crate::proofs::FrontLemmas::read_kind_same), unfolding(crate::specs::Reading::read_line))]
     pub(crate) fn read_line(&mut self, below: u64, line: RawLine<'_>) -> Result<(), Stop>
         requires { M.writable ≡ true }
-        ensures gives { AreKnown self.old.known → Gives (λ u. u) result self.new.world (read_line (evaluator M.writable (store_of self.old.known) below) (raw_told line.entry) self.old.world) }
+        ensures gives { AreKnown self.old.known → Gives (λ u. u) result self.new.world (read_line (evaluator M.writable (store_of self.old.known) below)
+            (raw_told line.entry) self.old.world) }
         ensures kept { Keeps self.old self.new }
         ensures blames { Blames result self.old.failed self.new.failed self.new.world.asked }
     {
@@ -248,7 +261,8 @@ impl<'a, M: Scope, F: Files> Evaluation<'a, M, F> {
     #[tactic(auto, unfolding(crate::specs::Reading::read_tab))]
     pub(crate) fn read_tab(&mut self, below: u64, text: &[u8]) -> Result<(), Stop>
         requires { M.writable ≡ true }
-        ensures gives { AreKnown self.old.known → Gives (λ u. u) result self.new.world (read_tab (evaluator M.writable (store_of self.old.known) below) text.now self.old.world) }
+        ensures gives { AreKnown self.old.known → Gives (λ u. u) result self.new.world (read_tab (evaluator M.writable (store_of self.old.known) below)
+            text.now self.old.world) }
         ensures kept { Keeps self.old self.new }
         ensures blames { Blames result self.old.failed self.new.failed self.new.world.asked }
     {
@@ -263,7 +277,9 @@ impl<'a, M: Scope, F: Files> Evaluation<'a, M, F> {
     #[tactic(auto, using(crate::proofs::FrontLemmas::read_bare_tab_longer, crate::proofs::FrontLemmas::read_bare_tab_same))]
     pub(crate) fn read_bare_tab(&mut self, below: u64, line: &[u8]) -> Result<(), Stop>
         requires { M.writable ≡ true }
-        ensures gives { AreKnown self.old.known → Gives (λ u. u) result self.new.world (read_bare_tab (evaluator M.writable (store_of self.old.known) below) (line_kind line.now true) self.old.world) }
+        ensures gives { AreKnown self.old.known → Gives (λ u. u) result self.new.world
+            (read_bare_tab (evaluator M.writable (store_of self.old.known) below) (line_kind line.now true)
+            self.old.world) }
         ensures kept { Keeps self.old self.new }
         ensures blames { Blames result self.old.failed self.new.failed self.new.world.asked }
     {
@@ -275,7 +291,9 @@ impl<'a, M: Scope, F: Files> Evaluation<'a, M, F> {
     #[tactic(auto, unfolding(crate::specs::Reading::read_bare_tab))]
     pub(crate) fn read_bare_form(&mut self, below: u64, form: Form<'_>) -> Result<(), Stop>
         requires { M.writable ≡ true }
-        ensures gives { AreKnown self.old.known → Gives (λ u. u) result self.new.world (read_bare_tab (evaluator M.writable (store_of self.old.known) below) (kind_told form.entry) self.old.world) }
+        ensures gives { AreKnown self.old.known → Gives (λ u. u) result self.new.world
+            (read_bare_tab (evaluator M.writable (store_of self.old.known) below) (kind_told form.entry)
+            self.old.world) }
         ensures kept { Keeps self.old self.new }
         ensures blames { Blames result self.old.failed self.new.failed self.new.world.asked }
     {
@@ -298,7 +316,8 @@ impl<'a, M: Scope, F: Files> Evaluation<'a, M, F> {
         value: &[u8],
     ) -> Result<(), Stop>
         requires { M.writable ≡ true }
-        ensures gives { AreKnown self.old.known → Gives (λ u. u) result self.new.world (assign_line (evaluator M.writable (store_of self.old.known) below) (plain_of name.now) operator (plain_of value.now) self.old.world) }
+        ensures gives { AreKnown self.old.known → Gives (λ u. u) result self.new.world (assign_line (evaluator M.writable (store_of self.old.known) below)
+            (plain_of name.now) operator (plain_of value.now) self.old.world) }
         ensures kept { Keeps self.old self.new }
         ensures blames { Blames result self.old.failed self.new.failed self.new.world.asked }
     {
@@ -319,7 +338,8 @@ impl<'a, M: Scope, F: Files> Evaluation<'a, M, F> {
     ) -> Result<(), Stop>
         requires writable { M.writable ≡ true }
         requires text { text.now ≡ condensed_of line.now }
-        ensures gives { AreKnown self.old.known → Gives (λ u. u) result self.new.world (read_kind (evaluator M.writable (store_of self.old.known) below) line.now (kind_told form.entry) self.old.world) }
+        ensures gives { AreKnown self.old.known → Gives (λ u. u) result self.new.world (read_kind (evaluator M.writable (store_of self.old.known) below)
+            line.now (kind_told form.entry) self.old.world) }
         ensures kept { Keeps self.old self.new }
         ensures blames { Blames result self.old.failed self.new.failed self.new.world.asked }
     {
@@ -351,7 +371,8 @@ impl<'a, M: Scope, F: Files> Evaluation<'a, M, F> {
         rest: &[u8],
     ) -> Result<(), Stop>
         requires { M.writable ≡ true }
-        ensures gives { AreKnown self.old.known → Gives (λ u. u) result self.new.world (read_include (evaluator M.writable (store_of self.old.known) below) optional rest.now self.old.world) }
+        ensures gives { AreKnown self.old.known → Gives (λ u. u) result self.new.world
+            (read_include (evaluator M.writable (store_of self.old.known) below) optional rest.now self.old.world) }
         ensures kept { Keeps self.old self.new }
         ensures blames { Blames result self.old.failed self.new.failed self.new.world.asked }
     {
@@ -365,7 +386,8 @@ impl<'a, M: Scope, F: Files> Evaluation<'a, M, F> {
     #[tactic(auto, using(crate::proofs::FrontLemmas::read_define_longer, crate::proofs::FrontLemmas::read_define_same))]
     pub(crate) fn read_define(&mut self, below: u64, line: &[u8], body: &[u8]) -> Result<(), Stop>
         requires { M.writable ≡ true }
-        ensures gives { AreKnown self.old.known → Gives (λ u. u) result self.new.world (read_define (evaluator M.writable (store_of self.old.known) below) (line_kind line.now false) body.now self.old.world) }
+        ensures gives { AreKnown self.old.known → Gives (λ u. u) result self.new.world (read_define (evaluator M.writable (store_of self.old.known) below)
+            (line_kind line.now false) body.now self.old.world) }
         ensures kept { Keeps self.old self.new }
         ensures blames { Blames result self.old.failed self.new.failed self.new.world.asked }
     {
@@ -382,7 +404,8 @@ impl<'a, M: Scope, F: Files> Evaluation<'a, M, F> {
         body: &[u8],
     ) -> Result<(), Stop>
         requires { M.writable ≡ true }
-        ensures gives { AreKnown self.old.known → Gives (λ u. u) result self.new.world (read_define (evaluator M.writable (store_of self.old.known) below) (kind_told form.entry) body.now self.old.world) }
+        ensures gives { AreKnown self.old.known → Gives (λ u. u) result self.new.world (read_define (evaluator M.writable (store_of self.old.known) below)
+            (kind_told form.entry) body.now self.old.world) }
         ensures kept { Keeps self.old self.new }
         ensures blames { Blames result self.old.failed self.new.failed self.new.world.asked }
     {
@@ -400,7 +423,8 @@ impl<'a, M: Scope, F: Files> Evaluation<'a, M, F> {
     pub(crate) fn rule_line(&mut self, below: u64, line: &[u8], text: &[u8]) -> Result<(), Stop>
         requires writable { M.writable ≡ true }
         requires text { text.now ≡ condensed_of line.now }
-        ensures gives { AreKnown self.old.known → Gives (λ u. u) result self.new.world (rule_line (evaluator M.writable (store_of self.old.known) below) line.now self.old.world) }
+        ensures gives { AreKnown self.old.known → Gives (λ u. u) result self.new.world (rule_line (evaluator M.writable (store_of self.old.known) below)
+            line.now self.old.world) }
         ensures kept { Keeps self.old self.new }
         ensures blames { Blames result self.old.failed self.new.failed self.new.world.asked }
     {
@@ -423,7 +447,9 @@ impl<'a, M: Scope, F: Files> Evaluation<'a, M, F> {
         recipe: Option<&[u8]>,
     ) -> Result<(), Stop>
         requires { M.writable ≡ true }
-        ensures gives { AreKnown self.old.known → Gives (λ u. u) result self.new.world (rule_of_parts (evaluator M.writable (store_of self.old.known) below) (Some (record { head = head.now; recipe = option_map (λ text. text.now) recipe.entry })) self.old.world) }
+        ensures gives { AreKnown self.old.known → Gives (λ u. u) result self.new.world
+            (rule_of_parts (evaluator M.writable (store_of self.old.known) below)
+            (Some (record { head = head.now; recipe = option_map (λ text. text.now) recipe.entry })) self.old.world) }
         ensures kept { Keeps self.old self.new }
         ensures blames { Blames result self.old.failed self.new.failed self.new.world.asked }
     {

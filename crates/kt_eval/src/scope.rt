@@ -51,7 +51,8 @@ pub(crate) trait Scope {
         front: Shared<u8>,
         text: &[u8],
     ) -> Result<(), AllocError>
-        ensures set { OnOk result (table self.new ≡ put name.items (set_by_makefile flavour ((front ++ codes " ") ++ text.now)) (table self.old)) }
+        ensures set { OnOk result (table self.new
+            ≡ put name.items (set_by_makefile flavour ((front ++ codes " ") ++ text.now)) (table self.old)) }
         ensures kept_automatic { automatic self.new ≡ automatic self.old }
         ensures kept_book { book self.new ≡ book self.old };
 

@@ -135,7 +135,8 @@ fn put_told(out: &mut Vec<u8>, reading: &Reading, asked: &[String], outcome: &Re
     put_end(out, &reading.book, outcome);
 }
 
-/// What is told of reading `Makefile`. It is cut into small parts, since each value that an early end drops is dear to prove.
+/// What is told of reading `Makefile`. It is cut into small parts, since each value that an early end drops is dear
+/// to prove.
 fn told(alloc: Global, start: Start<'_>, makefile: &[u8]) -> Result<Vec<u8>, AllocError> {
     let files = files_with(alloc, start, makefile)?;
     let machine = machine_of(alloc, start)?;

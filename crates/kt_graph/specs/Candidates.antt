@@ -109,7 +109,8 @@ shortest (candidate ∷ candidates) = Some (fold shorter candidate candidates)
 abbrev pub unless_long : Rule → Candidate → Option Candidate
 unless_long rule candidate = if are_short candidate.directory candidate.stem rule.needs then Some candidate else None
 
--- a rule as it makes a name: by the target with the shortest stem (kati's own where it has several), and only where no prerequisite gets too long
+-- a rule as it makes a name: by the target with the shortest stem (kati's own where it has several), and only where
+-- no prerequisite gets too long
 unfoldable pub candidate_of : ℕ → Rule → Text → Option Candidate
 candidate_of number rule name =
     option_and_then (unless_long rule) (shortest (filter_map (candidate_by number rule name) rule.targets))
@@ -117,7 +118,8 @@ candidate_of number rule name =
 -- the candidates of rules that are numbered from a number on, in order of definition
 unfoldable pub matching_from : ℕ → List Rule → Text → List Candidate
 matching_from number [] name = []
-matching_from number (rule ∷ rules) name = option_to_list (candidate_of number rule name) ++ matching_from (number + 1) rules name
+matching_from number (rule ∷ rules) name = option_to_list (candidate_of number rule name)
+    ++ matching_from (number + 1) rules name
 
 -- whether nonterminal rules for any name are dropped: a chain has begun, or a rule matches by another target
 -- [Match-Anything Pattern Rules]
@@ -126,7 +128,8 @@ drops_any in_chain candidates = in_chain || list_any (λ candidate. not candidat
 
 abbrev pub without_any : Bool → List Candidate → List Candidate
 without_any in_chain candidates =
-    if drops_any in_chain candidates then filter (λ candidate. not candidate.is_any || candidate.is_last) candidates else candidates
+    if drops_any in_chain candidates then filter (λ candidate. not candidate.is_any || candidate.is_last) candidates
+    else candidates
 
 -- the shortest stems first, and of equals the first [How Patterns Match]; no stem is longer than the name
 abbrev pub by_size : Text → List Candidate → List Candidate

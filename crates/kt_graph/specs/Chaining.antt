@@ -13,7 +13,8 @@ use Rattle.kt_graph.specs.Search.{Asked, asked_eq, asked_inside, asking, chain_l
 use Rattle.kt_graph.specs.Views.{IsWithin, asked_told, found_told}
 
 -- what was found for a name is this candidate; it is one of a rule, and its places lie in the name
-pub record IsFound (rules : List Rule) (name : Text) (expected : Option Candidate) (found : Option HeldCandidate) : Type 0 where
+pub record IsFound (rules : List Rule) (name : Text) (expected : Option Candidate)
+    (found : Option HeldCandidate) : Type 0 where
   pub told : found_told rules name found ≡ expected
   pub within : IfSome found (λ candidate. (candidate.rule < length rules) × IsWithin name candidate.fit)
 
@@ -31,14 +32,18 @@ asked_behind rules known zero used name = []
 asked_behind rules known (suc left) used name =
     asked_inside known (fitting rules known left) (asking rules known left) used (open_candidates rules used name)
 
--- the questions with at least so many rules in their chains have their answers, and stand with all that these asked for; those
--- with fewer may still be open
-pub record IsRight (rules : List Rule) (known : List Text) (tried : List Question) (answers : List (Option HeldCandidate)) (least : ℕ) : Type 0 where
+-- the questions with at least so many rules in their chains have their answers, and stand with all that these asked
+-- for; those with fewer may still be open
+pub record IsRight (rules : List Rule) (known : List Text) (tried : List Question)
+    (answers : List (Option HeldCandidate)) (least : ℕ) : Type 0 where
   pub as_many : length answers ≡ length tried
-  pub found : (place : ℕ) (question : Question) → slice_get tried place ≡ Some question → least ≤ length question.used.items
+  pub found : (place : ℕ) (question : Question) → slice_get tried place ≡ Some question
+      → least ≤ length question.used.items
       → IsFound rules question.name.items (expected_for rules known question) (unwrap_or (slice_get answers place) None)
-  pub closed : (place : ℕ) (question : Question) → slice_get tried place ≡ Some question → least ≤ length question.used.items
-      → (asked : Asked) → Contains (asking rules known (left_for question) question.used.items question.name.items) asked
+  pub closed : (place : ℕ) (question : Question) → slice_get tried place ≡ Some question
+      → least ≤ length question.used.items
+      → (asked : Asked) → Contains (asking rules known (left_for question) question.used.items question.name.items)
+      asked
       → list_any (asked_eq asked) (map asked_told tried) ≡ true
 
 abbrev pub IsRightFor : List Rule → List Text → Tried → ℕ → Type 0
@@ -48,9 +53,10 @@ IsRightFor rules known tried least = IsRight rules known tried.questions.keys tr
 abbrev pub Asks : Tried → Tried → List Asked → Type 0
 Asks old new asked = map asked_told new.questions.keys ≡ fold with_question (map asked_told old.questions.keys) asked
 
--- what a step of the search leaves, where all that it asks has so many rules in its chain: it has asked this, and all of it
--- has its answer
-pub record Leaves (rules : List Rule) (known : List Text) (old new : Tried) (least : ℕ) (asked : List Asked) : Type 0 where
+-- what a step of the search leaves, where all that it asks has so many rules in its chain: it has asked this, and all
+-- of it has its answer
+pub record Leaves (rules : List Rule) (known : List Text) (old new : Tried) (least : ℕ)
+    (asked : List Asked) : Type 0 where
   pub put : Asks old new asked
   pub right : IsRightFor rules known new least
 

@@ -1,5 +1,5 @@
--- Vertices and where they lead, as the code finds cycles among them (kati's own). A vertex of a name has its number; behind the
--- names stand the makings of several names.
+-- Vertices and where they lead, as the code finds cycles among them (kati's own). A vertex of a name has its number;
+-- behind the names stand the makings of several names.
 use Rattle.std.specs.Prelude.{◌≡◌, ◌↔◌, ℕ, suc, ◌+◌, ◌<◌, true, false, Bool, ◌⊎◌, List, [], ◌∷◌, ◌++◌, length, get_or, set, take, replicate, fold, map, All, IfSome, if◌then◌else◌, Option, Some, None, slice_get}
 use Rattle.std.specs.List.{Contains, count_by}
 use Rattle.kt_graph.specs.declared.settled.Settled.{Settled}
@@ -132,7 +132,8 @@ pub record IsFirstBack (edges : Edges) (order : List ℕ) (vertex : ℕ) : Type 
 -- those of the vertices that lead to another which were passed, so many from their front, aren't left
 abbrev pub ArePassed : Edges → List Bool → List ℕ → Type 0
 ArePassed arrivals held passed =
-    (vertex from : ℕ) → Contains (take (get_or passed vertex 0) (next_of arrivals vertex)) from → holds_in held from ≡ false
+    (vertex from : ℕ) → Contains (take (get_or passed vertex 0) (next_of arrivals vertex)) from
+    → holds_in held from ≡ false
 
 -- while vertices are taken away: what leads back to itself is left, and what was passed isn't
 pub record IsKept (arrivals : Edges) (held : List Bool) (passed : List ℕ) : Type 0 where
@@ -159,7 +160,8 @@ pub record IsDoneWith (edges : Edges) (first : ℕ) (unvisited : List Bool) (ver
   pub other : ¬ (vertex ≡ first)
   pub onward : (next : ℕ) → HasNext edges vertex next → holds_in unvisited next ≡ false
 
--- while a search goes on from a vertex: what is in the work is reached, and what was visited is in the work or done with
+-- while a search goes on from a vertex: what is in the work is reached, and what was visited is in the work or done
+-- with
 pub record Searches (edges : Edges) (first : ℕ) (held unvisited : List Bool) (work : List ℕ) : Type 0 where
   pub reached : (vertex : ℕ) → Contains work vertex → LeadsOn edges first vertex
   pub begun : (next : ℕ) → HasNext edges first next → holds_in unvisited next ≡ false

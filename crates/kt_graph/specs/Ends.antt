@@ -43,7 +43,8 @@ pub record NotesAll (old new : Ends) (targets : List Target) (number : ℕ) : Ty
 
 -- each rule's number is there at the ends of its targets
 abbrev pub AreAllNoted : Ends → List Rule → Type 0
-AreAllNoted ends rules = (number : ℕ) (rule : Rule) → slice_get rules number ≡ Some rule → AreNoted ends rule.targets number
+AreAllNoted ends rules = (number : ℕ) (rule : Rule) → slice_get rules number ≡ Some rule
+    → AreNoted ends rule.targets number
 
 -- all that is there at an end of the name is found, where the end has one of these lengths
 abbrev pub HasAll : Ends → Text → List ℕ → List ℕ → Type 0

@@ -38,7 +38,8 @@ HasFiles files names = (file : Text) → held_for files.several.entries file ≡
 
 -- no two names are equal
 abbrev pub AreDistinct : List (Vec ℕ Global) → Type 0
-AreDistinct names = (one other : ℕ) → one < length names → other < length names → name_at names one ≡ name_at names other → one ≡ other
+AreDistinct names = (one other : ℕ) → one < length names → other < length names
+    → name_at names one ≡ name_at names other → one ≡ other
 
 -- the numbers of all names, in byte order of these
 pub record IsByteOrder (names : List (Vec ℕ Global)) (order : List ℕ) : Type 0 where

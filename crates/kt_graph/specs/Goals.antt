@@ -1,5 +1,5 @@
--- What is to be made (GNU make manual, "Arguments to Specify the Goals", "Other Special Variables", on `.DEFAULT_GOAL`; "How `make`
--- Processes a Makefile").
+-- What is to be made (GNU make manual, "Arguments to Specify the Goals", "Other Special Variables", on
+-- `.DEFAULT_GOAL`; "How `make` Processes a Makefile").
 use Rattle.std.specs.Prelude.{List, [], ◌∷◌, map, drop, take, length, ◌-◌, option_to_list, if◌then◌else◌}
 use Rattle.std.specs.List.{prefix_len, suffix_len}
 use Rattle.kt_text.specs.Words.{Text, is_nonempty, is_separator}

@@ -11,7 +11,8 @@ use Rattle.kt_graph.specs.Node.{Instance, Node}
 use Rattle.kt_graph.specs.Views.{instance_at, name_at, nodes_told}
 use Rattle.kt_graph.specs.Whole.{AreApart}
 
--- the groups of nodes behind others: a node that stands with none before it begins one, of all later nodes that stand with it
+-- the groups of nodes behind others: a node that stands with none before it begins one, of all later nodes that stand
+-- with it
 unfoldable pub groups_behind : List Node → List Node → List (List Node)
 groups_behind earlier [] = []
 groups_behind earlier (node ∷ nodes) =
@@ -43,12 +44,15 @@ abbrev pub with_member : List (List Node) → ℕ → Node → List (List Node)
 with_member groups place node = set groups place (get_or groups place [] ++ node ∷ [])
 
 -- the groups are those of these nodes, and each making that has a group has its place
-pub record AreGrouped (instances : List Held) (nodes : List Node) (places : List (Option ℕ)) (groups : List (List Node)) : Type 0 where
+pub record AreGrouped (instances : List Held) (nodes : List Node) (places : List (Option ℕ))
+    (groups : List (List Node)) : Type 0 where
   pub told : groups ≡ groups_behind [] nodes
   pub many : length places ≡ length instances
   pub placed : (making place : ℕ) → making < length instances
-      → (get_or places making None ≡ Some place) ↔ (get_or (makings_of groups) place None ≡ instance_at instances (Some making))
-  pub makings : (making : Option Instance) → list_any (λ node. is_one_making making node.made_with) nodes ≡ list_any (is_one_making making) (makings_of groups)
+      → (get_or places making None ≡ Some place)
+      ↔ (get_or (makings_of groups) place None ≡ instance_at instances (Some making))
+  pub makings : (making : Option Instance) → list_any (λ node. is_one_making making node.made_with) nodes
+      ≡ list_any (is_one_making making) (makings_of groups)
 
 abbrev pub IsGrouping : List Held → List Node → Grouping → Type 0
 IsGrouping instances nodes grouping = AreGrouped instances nodes grouping.places.items (groups_held grouping)
@@ -62,9 +66,11 @@ pub record MayFollow (instances : List Held) (nodes : List Node) (making : Optio
 
 -- the groups of the made nodes of numbers
 abbrev pub IsGroupingOf : List (Vec ℕ Global) → List Held → List Settled → List ℕ → Grouping → Type 0
-IsGroupingOf names instances nodes numbers grouping = IsGrouping instances (made_nodes (nodes_told names instances nodes numbers)) grouping
+IsGroupingOf names instances nodes numbers grouping = IsGrouping instances
+    (made_nodes (nodes_told names instances nodes numbers)) grouping
 
 -- none of these has the name of this number
 abbrev pub IsAfter : List (Vec ℕ Global) → List Held → List Settled → List ℕ → ℕ → Type 0
 IsAfter names instances nodes numbers number =
-    list_any (λ before. bytes_eq before.name (name_at names number)) (made_nodes (nodes_told names instances nodes numbers)) ≡ false
+    list_any (λ before. bytes_eq before.name (name_at names number))
+    (made_nodes (nodes_told names instances nodes numbers)) ≡ false

@@ -59,9 +59,11 @@ leader_name [] = []
 leader_name (node ∷ nodes) = node.name
 
 -- the groups of the nodes of a graph
-pub record AreGroups (rules : List Rule) (known goals : List Text) (nodes : List Node) (groups : List (List Node)) : Type 0 where
+pub record AreGroups (rules : List Rule) (known goals : List Text) (nodes : List Node)
+    (groups : List (List Node)) : Type 0 where
   -- they have made nodes alone, and each of these exactly once
-  pub made : (group : List Node) (node : Node) → Contains groups group → Contains group node → Contains (made_nodes nodes) node
+  pub made : (group : List Node) (node : Node) → Contains groups group → Contains group node
+      → Contains (made_nodes nodes) node
   pub each : (node : Node) → Contains (made_nodes nodes) node → IsInOne groups node
   -- two stand in one group exactly where one making makes both
   pub together : (one other : Node) → Contains (made_nodes nodes) one → Contains (made_nodes nodes) other

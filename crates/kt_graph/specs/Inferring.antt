@@ -12,7 +12,8 @@ use Rattle.kt_graph.specs.Views.{instance_told}
 
 -- the making of a pattern rule with several targets
 abbrev pub making_of : Rule → Chosen → Option Instance
-making_of rule chosen = if nat_lt 1 (length rule.targets) then Some (of_pattern chosen.rule chosen.directory chosen.stem) else None
+making_of rule chosen = if nat_lt 1 (length rule.targets)
+    then Some (of_pattern chosen.rule chosen.directory chosen.stem) else None
 
 -- what a rule gives that was chosen
 pub record Gives (rule : Rule) (chosen : Chosen) (inferred : Inferred) : Type 0 where
@@ -24,7 +25,8 @@ pub record Gives (rule : Rule) (chosen : Chosen) (inferred : Inferred) : Type 0 
 -- what the rule gives that has the chosen number, if there is such a rule
 abbrev pub Infers : List Rule → Chosen → Option Inferred → Type 0
 Infers rules chosen inferred =
-    MatchOption inferred (slice_get rules chosen.rule ≡ None) (λ some. (rule : Rule) × (slice_get rules chosen.rule ≡ Some rule) × Gives rule chosen some)
+    MatchOption inferred (slice_get rules chosen.rule ≡ None) (λ some. (rule : Rule)
+    × (slice_get rules chosen.rule ≡ Some rule) × Gives rule chosen some)
 
 -- the node of a name to which it is given
 abbrev pub inferred_node : Text → List (Rule × Target) → Inferred → Node
@@ -43,4 +45,5 @@ inferred_node name rules inferred = record {
 abbrev pub Tells : Option (Candidate × Rule) → Option Inferred → Type 0
 Tells found inferred =
     MatchOption inferred (found ≡ None) (λ some. (one : Candidate × Rule) × (found ≡ Some one)
-    × ((name : Text) (rules : List (Rule × Target)) → inferred_node name rules some ≡ implicit_node name rules one.0 one.1))
+    × ((name : Text) (rules : List (Rule × Target)) → inferred_node name rules some
+    ≡ implicit_node name rules one.0 one.1))

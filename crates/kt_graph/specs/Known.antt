@@ -1,5 +1,5 @@
--- The names that the search takes for there (GNU make manual, "Implicit Rule Search Algorithm", on files that exist or can be
--- made). kati asks the host for no file: a list tells which there are, and this is kati's own.
+-- The names that the search takes for there (GNU make manual, "Implicit Rule Search Algorithm", on files that exist
+-- or can be made). kati asks the host for no file: a list tells which there are, and this is kati's own.
 use Rattle.std.specs.Prelude.{not, List, [], ◌∷◌, ◌++◌, map, filter, flat_map, if◌then◌else◌}
 use Rattle.bstr.specs.Text.{lines_of, without_terminator}
 use Rattle.kt_text.specs.Words.{Text, is_nonempty}

@@ -1,5 +1,5 @@
--- What makes a name and what it needs (POSIX.1-2024 make, "Target Rules"; GNU make manual, "Multiple Rules for One Target",
--- "Double-Colon Rules", "Using Implicit Rules", "Phony Targets").
+-- What makes a name and what it needs (POSIX.1-2024 make, "Target Rules"; GNU make manual, "Multiple Rules for One
+-- Target", "Double-Colon Rules", "Using Implicit Rules", "Phony Targets").
 use Rattle.std.specs.Prelude.{ℕ, ◌-◌, Bool, true, false, not, nat_eq, nat_lt, List, [], ◌∷◌, ◌++◌, length, map, filter, flat_map, find, take, Option, Some, None, option_map, slice_get, if◌then◌else◌}
 use Rattle.std.specs.List.{list_any, before_last, after_last, last_or, ends_with}
 use Rattle.std.specs.Option.{option_map_or, option_and_then}
@@ -60,10 +60,12 @@ used_rule rules = last_or None (filter has_recipe rules)
 abbrev pub other_rules : List (Rule × Target) → List (Rule × Target)
 other_rules rules = before_last has_recipe rules ++ after_last has_recipe rules
 
--- a name without the first of the suffixes that it ends with; without one there is no stem (GNU make manual, "Automatic Variables")
+-- a name without the first of the suffixes that it ends with; without one there is no stem (GNU make manual,
+-- "Automatic Variables")
 unfoldable pub suffix_stem : List Text → Text → Text
 suffix_stem suffixes name =
-    option_map_or (λ suffix. take (length name - length suffix) name) (find (λ suffix. ends_with nat_eq name suffix) suffixes) []
+    option_map_or (λ suffix. take (length name - length suffix) name) (find
+    (λ suffix. ends_with nat_eq name suffix) suffixes) []
 
 -- the stem in an explicit rule: that of its static pattern, if it has one (GNU make manual, "Static Pattern Rules")
 abbrev pub stem_for : List Text → Rule × Target → Text
@@ -175,7 +177,8 @@ inputs_of node = without_repeats (flat_map (λ part. part.needs.prerequisites) n
 -- the order-only ones without repeats and without these
 unfoldable pub order_only_of : Node → List Text
 order_only_of node =
-    filter (λ name. not (is_among (inputs_of node) name)) (without_repeats (flat_map (λ part. part.needs.order_only) node.parts))
+    filter (λ name. not (is_among (inputs_of node) name)) (without_repeats (flat_map
+    (λ part. part.needs.order_only) node.parts))
 
 abbrev pub all_inputs : Node → List Text
 all_inputs node = inputs_of node ++ order_only_of node

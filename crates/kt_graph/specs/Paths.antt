@@ -23,8 +23,8 @@ abbrev pub ends_in_name : List Text → Bool
 ends_in_name [] = false
 ends_in_name (last ∷ parts) = not (bytes_eq last above_name)
 
--- `..` behind components, the last of them first: it takes the one before it away, unless that is `..`, too; at the front it
--- stays, but not under the root
+-- `..` behind components, the last of them first: it takes the one before it away, unless that is `..`, too; at the
+-- front it stays, but not under the root
 abbrev pub step_up : Bool → List Text → List Text
 step_up true [] = []
 step_up false [] = above_name ∷ []
@@ -39,8 +39,8 @@ with_part rooted parts part =
 unfoldable pub parts_of : Text → List Text
 parts_of name = reverse (fold (with_part (is_rooted name)) [] (slice_split (λ byte. byte == 47) name))
 
--- Canon: the one spelling of a name's file (POSIX.1-2024, "Pathname Resolution", with no look at any file; that `..` takes a name
--- away is kati's own)
+-- Canon: the one spelling of a name's file (POSIX.1-2024, "Pathname Resolution", with no look at any file; that `..`
+-- takes a name away is kati's own)
 unfoldable pub canon_of : Text → Text
 canon_of name = (if is_rooted name then 47 ∷ [] else []) ++ join_with_byte 47 (parts_of name)
 

@@ -1,5 +1,5 @@
--- The names that goals need, and what is wrong with them (POSIX.1-2024 make, "Target Rules"; GNU make manual, "How `make` Processes a
--- Makefile"; what is refused is kati's own).
+-- The names that goals need, and what is wrong with them (POSIX.1-2024 make, "Target Rules"; GNU make manual, "How
+-- `make` Processes a Makefile"; what is refused is kati's own).
 use Rattle.std.specs.Prelude.{◌≡◌, ◌↔◌, Bool, true, false, not, ◌&&◌, List, [], ◌∷◌, bytes_eq, map, find, Option, Some, None}
 use Rattle.std.specs.List.{Contains, list_any}
 use Rattle.std.specs.List.Sorted.{IsStrictlySortedBy}
@@ -30,7 +30,8 @@ Reaches {A} Edge from to = (steps : List A) × Leads Edge from steps to
 abbrev pub HasInput : List Rule → List Text → Text → Text → Type 0
 HasInput rules known name input = Contains (all_inputs (node_of rules known name)) input
 
--- Reach: what the goals are, and what these need; this is the least set that holds the goals and, with a name, its inputs
+-- Reach: what the goals are, and what these need; this is the least set that holds the goals and, with a name, its
+-- inputs
 pub record IsReached (rules : List Rule) (known goals : List Text) (name : Text) : Type 0 where
   pub goal : Text
   pub named : Contains goals goal
@@ -47,7 +48,8 @@ pub record AreOneMaking (rules : List Rule) (known : List Text) (one other : Tex
 -- Group: the reached names that one making makes; a name that no such making makes is a group alone
 pub data IsInGroup (rules : List Rule) (known goals : List Text) (name : Text) : Text → Type 0 where
   itself : IsInGroup rules known goals name name
-  beside : {other : Text} → IsReached rules known goals other → AreOneMaking rules known name other → IsInGroup rules known goals name other
+  beside : {other : Text} → IsReached rules known goals other → AreOneMaking rules known name other
+      → IsInGroup rules known goals name other
 
 -- ---- cycles
 

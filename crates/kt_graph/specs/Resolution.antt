@@ -1,5 +1,5 @@
--- What the spelling of a file is, as a law of `canon_of` (POSIX.1-2024, "Pathname Resolution", with no look at any file; that `..`
--- takes a name away is kati's own).
+-- What the spelling of a file is, as a law of `canon_of` (POSIX.1-2024, "Pathname Resolution", with no look at any
+-- file; that `..` takes a name away is kati's own).
 use Rattle.std.specs.Prelude.{◌≡◌, ◌⊎◌, ◌==◌, ℕ, zero, Bool, true, false, List, [], ◌∷◌, ◌++◌, All, bytes_eq, replicate}
 use Rattle.std.specs.List.{slice_split}
 use Rattle.kt_text.specs.Words.{Text}
@@ -15,7 +15,8 @@ pub record IsName (part : Text) : Type 0 where
   pub filled : is_idle part ≡ false
   pub plain : bytes_eq part above_name ≡ false
 
--- what may go behind other components: one that is empty or dot; a name with the dot-dot behind it; dot-dot directly under the root
+-- what may go behind other components: one that is empty or dot; a name with the dot-dot behind it; dot-dot directly
+-- under the root
 abbrev pub MayGo : Bool → List Text → List Text → Type 0
 MayGo rooted front gone =
     ((part : Text) × (gone ≡ part ∷ []) × (is_idle part ≡ true))

@@ -1,5 +1,5 @@
--- Worked names, choices, nodes and goals, as facts that compute. The rules are those of the GNU make manual's sections on implicit
--- rules, and kati's own where it has some.
+-- Worked names, choices, nodes and goals, as facts that compute. The rules are those of the GNU make manual's
+-- sections on implicit rules, and kati's own where it has some.
 use Rattle.std.specs.Prelude.{◌≡◌, ℕ, true, List, [], ◌∷◌, ◌++◌, Option, Some, None, option_map, codes}
 use Rattle.kt_text.specs.Words.{Text}
 use Rattle.kt_rules.specs.declared.entry.Kind.TheVariants.{SingleColon, TerminalPattern}

@@ -1,5 +1,5 @@
--- The search for a pattern rule that makes a name (GNU make manual, "Implicit Rule Search Algorithm", "Chains of Implicit
--- Rules"). Which rules are numbered are those that `patterns_of` leaves of a makefile.
+-- The search for a pattern rule that makes a name (GNU make manual, "Implicit Rule Search Algorithm", "Chains of
+-- Implicit Rules"). Which rules are numbered are those that `patterns_of` leaves of a makefile.
 use Rattle.std.specs.Prelude.{◌≡◌, ℕ, zero, suc, ◌↔◌, Bool, true, false, not, ◌&&◌, nat_eq, nat_lt, List, [], ◌∷◌, ◌++◌, filter, find, fold, bytes_eq, All, Option, None, is_some, if◌then◌else◌}
 use Rattle.std.specs.List.{Contains, list_all, list_any}
 use Rattle.std.specs.Option.{option_or}
@@ -67,7 +67,8 @@ fitting rules known zero used name = None
 fitting rules known (suc left) used name =
     chosen_of known (fitting rules known left) used (open_candidates rules used name)
 
--- the rule that makes a name, where no chain has begun: its choice is its own, whatever chains it stands in (kati's own)
+-- the rule that makes a name, where no chain has begun: its choice is its own, whatever chains it stands in (kati's
+-- own)
 abbrev pub choice_of : List Rule → List Text → Text → Option Candidate
 choice_of rules known name = fitting rules known chain_limit [] name
 
@@ -92,7 +93,8 @@ asked_for deeper asking used (name ∷ names) =
 
 abbrev pub asked_by : List Text → Choosing → Asking → List ℕ → Candidate → List Asked
 asked_by known deeper asking used candidate =
-    if candidate.is_last then [] else asked_for deeper asking (with_rule candidate.rule used) (unknown_needs known candidate)
+    if candidate.is_last then [] else asked_for deeper asking (with_rule candidate.rule used)
+    (unknown_needs known candidate)
 
 -- for candidates in turn, and for none behind one that is inferred
 abbrev pub asked_among : List Text → Choosing → Asking → List ℕ → List Candidate → List Asked
@@ -109,7 +111,8 @@ asked_inside known deeper asking used candidates =
 unfoldable pub asking : List Rule → List Text → ℕ → Asking
 asking rules known zero used name = (name, used) ∷ []
 asking rules known (suc left) used name =
-    (name, used) ∷ asked_inside known (fitting rules known left) (asking rules known left) used (open_candidates rules used name)
+    (name, used) ∷ asked_inside known (fitting rules known left) (asking rules known left) used
+    (open_candidates rules used name)
 
 -- a question behind others, if it isn't among them
 abbrev pub with_question : List Asked → Asked → List Asked
@@ -127,9 +130,9 @@ pub record Searching : Type 0 where
 
 -- ---- trees
 
--- a finite tree of rules that makes a name behind a chain: its root is a candidate for the name, and its branches are trees
--- for what of its prerequisites isn't known. No path of it has a rule twice, or more rules than are left; a terminal rule
--- has no branch. In which order candidates come doesn't matter here.
+-- a finite tree of rules that makes a name behind a chain: its root is a candidate for the name, and its branches are
+-- trees for what of its prerequisites isn't known. No path of it has a rule twice, or more rules than are left; a
+-- terminal rule has no branch. In which order candidates come doesn't matter here.
 unfoldable pub HasTree : List Rule → List Text → ℕ → List ℕ → Text → Type 0
 HasTree rules known zero used name = ⊥
 HasTree rules known (suc left) used name =

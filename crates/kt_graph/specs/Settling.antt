@@ -36,15 +36,18 @@ pub record IsBegun (goals : List Text) (settling : Settling) : Type 0 where
   pub nodes : settling.nodes.items ≡ []
 
 -- what was reached is needed by goals, and what has a node has the right one
-pub record IsUnderWay (rules : List Rule) (known goals names : List Text) (instances : List Held) (nodes : List Settled) : Type 0 where
+pub record IsUnderWay (rules : List Rule) (known goals names : List Text) (instances : List Held)
+    (nodes : List Settled) : Type 0 where
   pub reached : All (IsReached rules known goals) names
   pub named : All (Contains names) goals
   pub within : length nodes ≤ length names
-  pub settled : (number : ℕ) (name : Text) (node : Settled) → slice_get names number ≡ Some name → slice_get nodes number ≡ Some node
+  pub settled : (number : ℕ) (name : Text) (node : Settled) → slice_get names number ≡ Some name
+      → slice_get nodes number ≡ Some node
       → SaysNode names instances (node_of rules known name) node
 
 -- each name has its node
-pub record IsDone (rules : List Rule) (known goals : List Text) (names : List (Vec ℕ Global)) (instances : List Held) (nodes : List Settled) : Type 0 where
+pub record IsDone (rules : List Rule) (known goals : List Text) (names : List (Vec ℕ Global)) (instances : List Held)
+    (nodes : List Settled) : Type 0 where
   pub reached : All (λ name. IsReached rules known goals name.items) names
   pub named : All (λ goal. Contains (map (λ name. name.items) names) goal) goals
   pub settled : (number : ℕ) (node : Settled) → slice_get nodes number ≡ Some node

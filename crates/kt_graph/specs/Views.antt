@@ -46,12 +46,14 @@ candidate_at name rule candidate = record {
   stem = slice_range name candidate.fit.start candidate.fit.end;
   is_any = candidate.is_any;
   is_last = is_terminal rule.kind;
-  needs = needs_with (take candidate.fit.directory name) (slice_range name candidate.fit.start candidate.fit.end) rule.needs;
+  needs = needs_with (take candidate.fit.directory name)
+      (slice_range name candidate.fit.start candidate.fit.end) rule.needs;
 }
 
 -- a candidate of the rule that has its number
 abbrev pub candidate_told : List Rule → Text → HeldCandidate → Option Candidate
-candidate_told rules name candidate = option_map (λ rule. candidate_at name rule candidate) (slice_get rules candidate.rule)
+candidate_told rules name candidate = option_map
+    (λ rule. candidate_at name rule candidate) (slice_get rules candidate.rule)
 
 abbrev pub candidates_told : List Rule → Text → List HeldCandidate → List Candidate
 candidates_told rules name candidates = filter_map (candidate_told rules name) candidates
@@ -61,7 +63,8 @@ found_told rules name found = option_and_then (candidate_told rules name) found
 
 -- each has a rule, and its places lie in the name
 abbrev pub AreWithin : List Rule → Text → List HeldCandidate → Type 0
-AreWithin rules name candidates = All (λ candidate. (candidate.rule < length rules) × IsWithin name candidate.fit) candidates
+AreWithin rules name candidates = All (λ candidate. (candidate.rule < length rules)
+    × IsWithin name candidate.fit) candidates
 
 -- of two that there may be, the shorter, or the first
 abbrev pub shorter_of : Option HeldCandidate → Option HeldCandidate → Option HeldCandidate
@@ -79,7 +82,8 @@ stays rules candidate = not candidate.is_any || is_last_at rules candidate.rule
 
 abbrev pub held_without_any : List Rule → Bool → List HeldCandidate → List HeldCandidate
 held_without_any rules in_chain candidates =
-    if in_chain || list_any (λ candidate. not candidate.is_any) candidates then filter (stays rules) candidates else candidates
+    if in_chain || list_any (λ candidate. not candidate.is_any) candidates then filter (stays rules) candidates
+    else candidates
 
 abbrev pub held_by_size : ℕ → List HeldCandidate → List HeldCandidate
 held_by_size longest candidates =

@@ -14,7 +14,8 @@ use Rattle.kt_graph.specs.Views.{instance_at}
 -- no two makings are equal
 abbrev pub AreApart : List Held → Type 0
 AreApart instances =
-    (one other : ℕ) → one < length instances → other < length instances → instance_at instances (Some one) ≡ instance_at instances (Some other) → one ≡ other
+    (one other : ℕ) → one < length instances → other < length instances → instance_at instances (Some one)
+    ≡ instance_at instances (Some other) → one ≡ other
 
 -- a node's numbers are those of names and makings, and no two of these are equal
 pub record IsHeld (names : List (Vec ℕ Global)) (instances : List Held) (node : Settled) : Type 0 where
@@ -29,11 +30,13 @@ pub record AreHeld (names : List (Vec ℕ Global)) (instances : List Held) (node
   pub numbers : All (HasNumbers (length names) (length instances)) nodes
 
 -- each name has its node, and the order is that of the names
-pub record IsWhole (names : List (Vec ℕ Global)) (instances : List Held) (nodes : List Settled) (order : List ℕ) : Type 0 where
+pub record IsWhole (names : List (Vec ℕ Global)) (instances : List Held) (nodes : List Settled)
+    (order : List ℕ) : Type 0 where
   pub held : AreHeld names instances nodes
   pub as_many : length nodes ≡ length names
   pub rises : IsByteOrder names order
 
 -- whether a rule makes a name, as nodes tell it
 abbrev pub makes_among : List Node → Text → Bool
-makes_among nodes name = option_map_or (λ node. not (is_leaf node.kind)) (find (λ node. bytes_eq name node.name) nodes) false
+makes_among nodes name = option_map_or
+    (λ node. not (is_leaf node.kind)) (find (λ node. bytes_eq name node.name) nodes) false

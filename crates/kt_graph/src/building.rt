@@ -26,7 +26,9 @@ pub(crate) struct Used<'a, 'r> {
 
 /// The last rule with a recipe, whose recipe is used.
 pub(crate) fn used_rule<'a, 'r>(rules: &'r [TargetRule<'a>]) -> Option<Used<'a, 'r>>
-    ensures { MatchOption result (used_rule (map rule_told rules.now) ≡ None) (λ used. (used_rule (map rule_told rules.now) ≡ Some (rule_told used.rule)) × IsCut (map rule_told rules.now) used) }
+    ensures { MatchOption result (used_rule (map rule_told rules.now) ≡ None)
+        (λ used. (used_rule (map rule_told rules.now) ≡ Some (rule_told used.rule))
+        × IsCut (map rule_told rules.now) used) }
 {
     let mut left = rules;
     while let [earlier @ .., rule] = left {
@@ -48,7 +50,9 @@ pub(crate) fn double_node<'a>(
     suffixes: &[Vec<u8>],
     rules: &[TargetRule<'a>],
 ) -> Result<Named<'a, 'a>, AllocError>
-    ensures { IfOk result (λ named. (name : Text) → named_told name named ≡ double_node (map (λ suffix. suffix.items) suffixes.now) name (map rule_told rules.now)) }
+    ensures { IfOk result (λ named. (name : Text)
+        → named_told name named ≡ double_node (map
+        (λ suffix. suffix.items) suffixes.now) name (map rule_told rules.now)) }
 {
     let mut parts = Vec::with_capacity(alloc, rules.len())?;
     for rule in rules {
@@ -69,7 +73,8 @@ pub(crate) fn explicit_node<'a>(
     used: Used<'a, '_>,
 ) -> Result<Named<'a, 'a>, AllocError>
     ensures { IfOk result (λ named. (name : Text) (rules : List (Rule × HeldTarget)) → IsCut rules used.entry
-        → named_told name named ≡ explicit_node (map (λ suffix. suffix.items) suffixes.now) name rules (rule_told used.entry.rule)) }
+        → named_told name named ≡ explicit_node (map
+        (λ suffix. suffix.items) suffixes.now) name rules (rule_told used.entry.rule)) }
 {
     let rule = used.rule;
     let mut needs = Vec::from_array(alloc, [rule.entry.needs(rule.target)])?;
@@ -92,7 +97,8 @@ pub(crate) fn plain_node<'a>(
     rules: &[TargetRule<'a>],
     is_phony: bool,
 ) -> Result<Named<'a, 'a>, AllocError>
-    ensures { IfOk result (λ named. named_told name.now named ≡ plain_node (map (λ suffix. suffix.items) suffixes.now) name.now (map rule_told rules.now) is_phony) }
+    ensures { IfOk result (λ named. named_told name.now named
+        ≡ plain_node (map (λ suffix. suffix.items) suffixes.now) name.now (map rule_told rules.now) is_phony) }
 {
     let mut needs = Vec::new(alloc);
     add_needs(&mut needs, rules)?;
@@ -114,7 +120,8 @@ pub(crate) fn with_needs<'a: 'n, 'n>(
     first: &'n Needs,
     rules: &[TargetRule<'a>],
 ) -> Result<Vec<&'n Needs>, AllocError>
-    ensures { IfOk result (λ needs. map (λ some. some.now) needs.items ≡ first.now ∷ needs_of_each (map rule_told rules.now)) }
+    ensures { IfOk result (λ needs. map (λ some. some.now) needs.items ≡ first.now
+        ∷ needs_of_each (map rule_told rules.now)) }
 {
     let mut needs = Vec::new(alloc);
     needs.push(first)?;
@@ -127,7 +134,8 @@ fn add_needs<'a: 'n, 'n>(
     needs: &mut Vec<&'n Needs>,
     rules: &[TargetRule<'a>],
 ) -> Result<(), AllocError>
-    ensures { OnOk result (map (λ some. some.now) needs.new.items ≡ map (λ some. some.now) needs.old.items ++ needs_of_each (map rule_told rules.now)) }
+    ensures { OnOk result (map (λ some. some.now) needs.new.items ≡ map (λ some. some.now) needs.old.items
+        ++ needs_of_each (map rule_told rules.now)) }
 {
     for rule in rules {
         needs.push(rule.entry.needs(rule.target))?;
@@ -160,7 +168,9 @@ fn rule_part<'a>(
     rule: TargetRule<'a>,
     needs: Vec<&'a Needs>,
 ) -> Result<NamedPart<'a, 'a>, AllocError>
-    ensures { IfOk result (λ part. part_named part ≡ part_of (map (λ suffix. suffix.items) suffixes.now) (rule_told rule.entry) (put_together (map (λ some. some.now) needs.entry.items))) }
+    ensures { IfOk result (λ part. part_named part
+        ≡ part_of (map (λ suffix. suffix.items) suffixes.now) (rule_told rule.entry) (put_together (map
+        (λ some. some.now) needs.entry.items))) }
 {
     Ok(NamedPart {
         recipe: rule.entry.recipe(),
@@ -225,7 +235,8 @@ fn suffix_stem<'n>(suffixes: &[Vec<u8>], name: &'n [u8]) -> &'n [u8]
 
 // The first of the suffixes that the name ends with.
 fn suffix_of<'s>(suffixes: &'s [Vec<u8>], name: &[u8]) -> Option<&'s [u8]>
-    ensures { option_map (λ suffix. suffix.now) result ≡ find (λ suffix. ends_with nat_eq name.now suffix) (map (λ suffix. suffix.items) suffixes.now) }
+    ensures { option_map (λ suffix. suffix.now) result ≡ find
+        (λ suffix. ends_with nat_eq name.now suffix) (map (λ suffix. suffix.items) suffixes.now) }
 {
     for suffix in suffixes {
         if name.ends_with(suffix.as_slice()) {

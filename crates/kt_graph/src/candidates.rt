@@ -22,7 +22,8 @@ pub(crate) fn candidates_for(
     in_chain: bool,
     name: &[u8],
 ) -> Result<Vec<Candidate>, AllocError>
-    ensures tried { IfOk result (λ candidates. candidates_told patterns.now name.now candidates.items ≡ candidates_for patterns.now in_chain name.now) }
+    ensures tried { IfOk result (λ candidates. candidates_told patterns.now name.now candidates.items
+        ≡ candidates_for patterns.now in_chain name.now) }
     ensures within { IfOk result (λ candidates. AreWithin patterns.now name.now candidates.items) }
 {
     let mut candidates = matching(alloc, patterns, name)?;
@@ -33,7 +34,8 @@ pub(crate) fn candidates_for(
 
 // The candidates for a name, in order of definition.
 fn matching(alloc: Global, patterns: &Patterns, name: &[u8]) -> Result<Vec<Candidate>, AllocError>
-    ensures matching { IfOk result (λ candidates. candidates_told patterns.now name.now candidates.items ≡ matching_from 0 patterns.now name.now) }
+    ensures matching { IfOk result (λ candidates. candidates_told patterns.now name.now candidates.items
+        ≡ matching_from 0 patterns.now name.now) }
     ensures within { IfOk result (λ candidates. AreWithin patterns.now name.now candidates.items) }
 {
     let numbers = patterns.numbers(name)?;
@@ -47,7 +49,8 @@ fn of_numbers(
     numbers: &[usize],
     name: &[u8],
 ) -> Result<Vec<Candidate>, AllocError>
-    ensures matching { IfOk result (λ candidates. candidates_told patterns.now name.now candidates.items ≡ candidates_numbered patterns.now name.now numbers.now) }
+    ensures matching { IfOk result (λ candidates. candidates_told patterns.now name.now candidates.items
+        ≡ candidates_numbered patterns.now name.now numbers.now) }
     ensures within { IfOk result (λ candidates. AreWithin patterns.now name.now candidates.items) }
 {
     let mut candidates = Vec::new(alloc);
@@ -59,7 +62,8 @@ fn of_numbers(
 
 fn candidate_numbered(patterns: &Patterns, number: usize, name: &[u8]) -> Option<Candidate>
     ensures candidate { found_told patterns.now name.now result ≡ candidate_numbered patterns.now name.now number }
-    ensures within { IfSome result (λ candidate. (candidate.rule < length patterns.now) × IsWithin name.now candidate.fit) }
+    ensures within { IfSome result (λ candidate. (candidate.rule < length patterns.now)
+        × IsWithin name.now candidate.fit) }
 {
     let pattern = patterns.get(number)?;
     candidate_of(number, pattern, name)
@@ -77,7 +81,8 @@ fn add(candidates: &mut Vec<Candidate>, candidate: Option<Candidate>) -> Result<
 // A rule as it makes a name: by the target with the shortest stem, and only where no prerequisite
 // gets too long.
 fn candidate_of(number: usize, pattern: &Pattern, name: &[u8]) -> Option<Candidate>
-    ensures candidate { option_map (candidate_at name.now pattern.now) result ≡ candidate_of number pattern.now name.now }
+    ensures candidate { option_map (candidate_at name.now pattern.now) result
+        ≡ candidate_of number pattern.now name.now }
     ensures within { IfSome result (λ candidate. (candidate.rule ≡ number) × IsWithin name.now candidate.fit) }
 {
     let candidate = shortest(number, pattern, name)?;
@@ -90,7 +95,8 @@ fn candidate_of(number: usize, pattern: &Pattern, name: &[u8]) -> Option<Candida
 
 // A rule as it makes a name by the first of its targets with the shortest stem.
 fn shortest(number: usize, pattern: &Pattern, name: &[u8]) -> Option<Candidate>
-    ensures candidate { option_map (candidate_at name.now pattern.now) result ≡ shortest (filter_map (candidate_by number pattern.now name.now) pattern.now.targets) }
+    ensures candidate { option_map (candidate_at name.now pattern.now) result
+        ≡ shortest (filter_map (candidate_by number pattern.now name.now) pattern.now.targets) }
     ensures within { IfSome result (λ candidate. (candidate.rule ≡ number) × IsWithin name.now candidate.fit) }
 {
     let mut best = None;
@@ -103,7 +109,8 @@ fn shortest(number: usize, pattern: &Pattern, name: &[u8]) -> Option<Candidate>
 
 // A rule as it makes a name by a target, if that matches.
 fn candidate_by(rule: usize, target: &Target, name: &[u8]) -> Option<Candidate>
-    ensures candidate { (of : Rule) → option_map (candidate_at name.now of) result ≡ candidate_by rule of name.now target.now }
+    ensures candidate { (of : Rule) → option_map (candidate_at name.now of) result
+        ≡ candidate_by rule of name.now target.now }
     ensures within { IfSome result (λ candidate. (candidate.rule ≡ rule) × IsWithin name.now candidate.fit) }
 {
     let pattern = target.name.as_slice();
@@ -156,7 +163,8 @@ fn stays(patterns: &Patterns, candidate: &Candidate) -> bool
 
 // The shortest stems first, and of equals the first (GNU make manual, "How Patterns Match").
 fn sort_by_size(candidates: &mut Vec<Candidate>) -> Result<(), AllocError>
-    ensures sorted { OnOk result ((longest : ℕ) → All (λ candidate. fit_size candidate.fit ≤ longest) candidates.old.items →
+    ensures sorted { OnOk result ((longest : ℕ)
+        → All (λ candidate. fit_size candidate.fit ≤ longest) candidates.old.items →
         candidates.new.items ≡ held_by_size longest candidates.old.items) }
     ensures same { IsPermutation candidates.old.items candidates.new.items }
 {

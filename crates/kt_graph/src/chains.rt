@@ -58,8 +58,10 @@ impl<'a> Chains<'a> {
     /// left that have no answer.
     pub(crate) fn choice(&self, tried: &mut Tried, name: &[u8]) -> Result<Choice, AllocError>
         requires { IsRightFor self.now.patterns self.now.known.now tried.old 0 }
-        ensures chosen { IfOk result (λ choice. choice ≡ option_map choice_told (choice_of self.now.patterns self.now.known.now name.now)) }
-        ensures leaves { OnOk result (Leaves self.now.patterns self.now.known.now tried.old tried.new 0 (asking self.now.patterns self.now.known.now chain_limit [] name.now)) }
+        ensures chosen { IfOk result (λ choice. choice
+            ≡ option_map choice_told (choice_of self.now.patterns self.now.known.now name.now)) }
+        ensures leaves { OnOk result (Leaves self.now.patterns self.now.known.now tried.old tried.new 0
+            (asking self.now.patterns self.now.known.now chain_limit [] name.now)) }
         ensures kept { Keeps tried.old tried.new }
     {
         match self.ask(tried, CHAIN_LIMIT, name, &[])? {
@@ -79,8 +81,10 @@ impl<'a> Chains<'a> {
     ) -> Result<Option<Candidate>, AllocError>
         requires whole { left + length used.now ≡ chain_limit }
         requires ready { IsRightFor self.now.patterns self.now.known.now tried.old (length used.now) }
-        ensures found { IfOk result (IsFound self.now.patterns name.now (fitting self.now.patterns self.now.known.now left used.now name.now)) }
-        ensures leaves { OnOk result (Leaves self.now.patterns self.now.known.now tried.old tried.new (length used.now) (asking self.now.patterns self.now.known.now left used.now name.now)) }
+        ensures found { IfOk result (IsFound self.now.patterns name.now
+            (fitting self.now.patterns self.now.known.now left used.now name.now)) }
+        ensures leaves { OnOk result (Leaves self.now.patterns self.now.known.now tried.old tried.new
+            (length used.now) (asking self.now.patterns self.now.known.now left used.now name.now)) }
         ensures kept { Keeps tried.old tried.new }
     {
         let question = Question::new(self.alloc, name, used)?;
@@ -105,8 +109,10 @@ impl<'a> Chains<'a> {
     ) -> Result<Option<Candidate>, AllocError>
         requires whole { left + length used.now ≡ chain_limit }
         requires ready { IsRightFor self.now.patterns self.now.known.now tried.old (length used.now + 1) }
-        ensures found { IfOk result (IsFound self.now.patterns name.now (fitting self.now.patterns self.now.known.now left used.now name.now)) }
-        ensures leaves { OnOk result (Leaves self.now.patterns self.now.known.now tried.old tried.new (length used.now + 1) (asked_behind self.now.patterns self.now.known.now left used.now name.now)) }
+        ensures found { IfOk result (IsFound self.now.patterns name.now
+            (fitting self.now.patterns self.now.known.now left used.now name.now)) }
+        ensures leaves { OnOk result (Leaves self.now.patterns self.now.known.now tried.old tried.new
+            (length used.now + 1) (asked_behind self.now.patterns self.now.known.now left used.now name.now)) }
         ensures kept { Keeps tried.old tried.new }
     {
         if left == 0 {
@@ -126,8 +132,13 @@ impl<'a> Chains<'a> {
     ) -> Result<Option<Candidate>, AllocError>
         requires whole { left + 1 + length used.now ≡ chain_limit }
         requires ready { IsRightFor self.now.patterns self.now.known.now tried.old (length used.now + 1) }
-        ensures found { IfOk result (IsFound self.now.patterns name.now (chosen_of self.now.known.now (fitting self.now.patterns self.now.known.now left) used.now (open_candidates self.now.patterns used.now name.now))) }
-        ensures leaves { OnOk result (Leaves self.now.patterns self.now.known.now tried.old tried.new (length used.now + 1) (asked_inside self.now.known.now (fitting self.now.patterns self.now.known.now left) (asking self.now.patterns self.now.known.now left) used.now (open_candidates self.now.patterns used.now name.now))) }
+        ensures found { IfOk result (IsFound self.now.patterns name.now
+            (chosen_of self.now.known.now (fitting self.now.patterns self.now.known.now left) used.now
+            (open_candidates self.now.patterns used.now name.now))) }
+        ensures leaves { OnOk result (Leaves self.now.patterns self.now.known.now tried.old tried.new
+            (length used.now + 1) (asked_inside self.now.known.now (fitting self.now.patterns self.now.known.now left)
+            (asking self.now.patterns self.now.known.now left) used.now
+            (open_candidates self.now.patterns used.now name.now))) }
         ensures kept { Keeps tried.old tried.new }
     {
         let open = self.open(name, used)?;
@@ -139,7 +150,8 @@ impl<'a> Chains<'a> {
 
     // The candidates for a name that don't stand in the chain.
     fn open(&self, name: &[u8], used: &[usize]) -> Result<Vec<Candidate>, AllocError>
-        ensures candidates { IfOk result (λ kept. candidates_told self.now.patterns name.now kept.items ≡ open_candidates self.now.patterns used.now name.now) }
+        ensures candidates { IfOk result (λ kept. candidates_told self.now.patterns name.now kept.items
+            ≡ open_candidates self.now.patterns used.now name.now) }
         ensures within { IfOk result (λ kept. AreWithin self.now.patterns name.now kept.items) }
     {
         let mut open = candidates_for(self.alloc, &self.patterns, !used.is_empty(), name)?;
@@ -154,7 +166,8 @@ impl<'a> Chains<'a> {
         candidates: &[Candidate],
     ) -> Result<Option<Candidate>, AllocError>
         requires { AreWithin self.now.patterns name.now candidates.now }
-        ensures { IfOk result (IsFound self.now.patterns name.now (find (is_met self.now.known.now) (candidates_told self.now.patterns name.now candidates.now))) }
+        ensures { IfOk result (IsFound self.now.patterns name.now
+            (find (is_met self.now.known.now) (candidates_told self.now.patterns name.now candidates.now))) }
     {
         for candidate in candidates {
             if self.is_met(name, candidate)? {
@@ -166,7 +179,8 @@ impl<'a> Chains<'a> {
 
     fn is_met(&self, name: &[u8], candidate: &Candidate) -> Result<bool, AllocError>
         requires { AreWithin self.now.patterns name.now (candidate.now ∷ []) }
-        ensures { IfOk result (λ met. IfSome (candidate_told self.now.patterns name.now candidate.now) (λ told. met ≡ is_met self.now.known.now told)) }
+        ensures { IfOk result (λ met. IfSome (candidate_told self.now.patterns name.now candidate.now)
+            (λ told. met ≡ is_met self.now.known.now told)) }
     {
         let unknown = self.unknown(name, candidate)?;
         Ok(unknown.is_empty())
@@ -185,8 +199,13 @@ impl<'a> Chains<'a> {
         requires whole { left + 1 + length used.now ≡ chain_limit }
         requires within { AreWithin self.now.patterns name.now candidates.now }
         requires ready { IsRightFor self.now.patterns self.now.known.now tried.old (length used.now + 1) }
-        ensures found { IfOk result (IsFound self.now.patterns name.now (find (is_inferred self.now.known.now (fitting self.now.patterns self.now.known.now left) used.now) (candidates_told self.now.patterns name.now candidates.now))) }
-        ensures leaves { OnOk result (Leaves self.now.patterns self.now.known.now tried.old tried.new (length used.now + 1) (asked_among self.now.known.now (fitting self.now.patterns self.now.known.now left) (asking self.now.patterns self.now.known.now left) used.now (candidates_told self.now.patterns name.now candidates.now))) }
+        ensures found { IfOk result (IsFound self.now.patterns name.now
+            (find (is_inferred self.now.known.now (fitting self.now.patterns self.now.known.now left) used.now)
+            (candidates_told self.now.patterns name.now candidates.now))) }
+        ensures leaves { OnOk result (Leaves self.now.patterns self.now.known.now tried.old tried.new
+            (length used.now + 1) (asked_among self.now.known.now (fitting self.now.patterns self.now.known.now left)
+            (asking self.now.patterns self.now.known.now left) used.now
+            (candidates_told self.now.patterns name.now candidates.now))) }
         ensures kept { Keeps tried.old tried.new }
     {
         let mut at = 0;
@@ -212,8 +231,13 @@ impl<'a> Chains<'a> {
         requires whole { left + 1 + length used.now ≡ chain_limit }
         requires within { AreWithin self.now.patterns name.now (candidate ∷ []) }
         requires ready { IsRightFor self.now.patterns self.now.known.now tried.old (length used.now + 1) }
-        ensures inferred { IfOk result (λ yes. IfSome (candidate_told self.now.patterns name.now candidate) (λ told. yes ≡ is_inferred self.now.known.now (fitting self.now.patterns self.now.known.now left) used.now told)) }
-        ensures leaves { OnOk result (IfSome (candidate_told self.now.patterns name.now candidate) (λ told. Leaves self.now.patterns self.now.known.now tried.old tried.new (length used.now + 1) (asked_by self.now.known.now (fitting self.now.patterns self.now.known.now left) (asking self.now.patterns self.now.known.now left) used.now told))) }
+        ensures inferred { IfOk result (λ yes. IfSome (candidate_told self.now.patterns name.now candidate)
+            (λ told. yes ≡ is_inferred self.now.known.now (fitting self.now.patterns self.now.known.now left)
+            used.now told)) }
+        ensures leaves { OnOk result (IfSome (candidate_told self.now.patterns name.now candidate)
+            (λ told. Leaves self.now.patterns self.now.known.now tried.old tried.new (length used.now + 1)
+            (asked_by self.now.known.now (fitting self.now.patterns self.now.known.now left)
+            (asking self.now.patterns self.now.known.now left) used.now told))) }
         ensures kept { Keeps tried.old tried.new }
     {
         if is_last(&self.patterns, &candidate) {
@@ -235,8 +259,12 @@ impl<'a> Chains<'a> {
     ) -> Result<bool, AllocError>
         requires whole { left + length used.now ≡ chain_limit }
         requires ready { IsRightFor self.now.patterns self.now.known.now tried.old (length used.now) }
-        ensures found { IfOk result (λ all. all ≡ list_all (λ name. is_some (fitting self.now.patterns self.now.known.now left used.now name)) (map (λ name. name.items) names.now)) }
-        ensures leaves { OnOk result (Leaves self.now.patterns self.now.known.now tried.old tried.new (length used.now) (asked_for (fitting self.now.patterns self.now.known.now left) (asking self.now.patterns self.now.known.now left) used.now (map (λ name. name.items) names.now))) }
+        ensures found { IfOk result (λ all. all ≡ list_all
+            (λ name. is_some (fitting self.now.patterns self.now.known.now left used.now name)) (map
+            (λ name. name.items) names.now)) }
+        ensures leaves { OnOk result (Leaves self.now.patterns self.now.known.now tried.old tried.new
+            (length used.now) (asked_for (fitting self.now.patterns self.now.known.now left)
+            (asking self.now.patterns self.now.known.now left) used.now (map (λ name. name.items) names.now))) }
         ensures kept { Keeps tried.old tried.new }
     {
         let mut at = 0;
@@ -252,7 +280,8 @@ impl<'a> Chains<'a> {
     // What a candidate needs that isn't known, in order and each once.
     fn unknown(&self, name: &[u8], candidate: &Candidate) -> Result<IndexSet<Vec<u8>>, AllocError>
         requires { AreWithin self.now.patterns name.now (candidate.now ∷ []) }
-        ensures { IfOk result (λ unknown. IfSome (candidate_told self.now.patterns name.now candidate.now) (λ told. map (λ name. name.items) unknown.keys ≡ unknown_needs self.now.known.now told)) }
+        ensures { IfOk result (λ unknown. IfSome (candidate_told self.now.patterns name.now candidate.now)
+            (λ told. map (λ name. name.items) unknown.keys ≡ unknown_needs self.now.known.now told)) }
     {
         match self.patterns.get(candidate.rule) {
             Some(pattern) => self.unknown_with(
@@ -268,7 +297,9 @@ impl<'a> Chains<'a> {
         stemming: Stemming,
         needs: &Needs,
     ) -> Result<IndexSet<Vec<u8>>, AllocError>
-        ensures { IfOk result (λ unknown. map (λ name. name.items) unknown.keys ≡ without_repeats (unknown_of self.now.known.now (all_needs (needs_with stemming.entry.directory.now stemming.entry.stem.now needs.now)))) }
+        ensures { IfOk result (λ unknown. map (λ name. name.items) unknown.keys
+            ≡ without_repeats (unknown_of self.now.known.now
+            (all_needs (needs_with stemming.entry.directory.now stemming.entry.stem.now needs.now)))) }
     {
         let mut unknown = IndexSet::new(self.alloc);
         self.add_unknown(stemming, needs.prerequisites.as_slice(), &mut unknown)?;
@@ -282,7 +313,10 @@ impl<'a> Chains<'a> {
         names: &[Name],
         unknown: &mut IndexSet<Vec<u8>>,
     ) -> Result<(), AllocError>
-        ensures { OnOk result (map (λ name. name.items) unknown.new.keys ≡ fold with_name (map (λ name. name.items) unknown.old.keys) (unknown_of self.now.known.now (needed_names stemming.entry.directory.now stemming.entry.stem.now names.now))) }
+        ensures { OnOk result (map (λ name. name.items) unknown.new.keys
+            ≡ fold with_name (map (λ name. name.items) unknown.old.keys)
+            (unknown_of self.now.known.now
+            (needed_names stemming.entry.directory.now stemming.entry.stem.now names.now))) }
     {
         for name in names {
             let needed = stemming.name(self.alloc, name.as_slice())?;
@@ -296,7 +330,9 @@ impl<'a> Chains<'a> {
         name: Vec<u8>,
         unknown: &mut IndexSet<Vec<u8>>,
     ) -> Result<(), AllocError>
-        ensures { OnOk result (map (λ name. name.items) unknown.new.keys ≡ fold with_name (map (λ name. name.items) unknown.old.keys) (unknown_of self.now.known.now (name.items ∷ []))) }
+        ensures { OnOk result (map (λ name. name.items) unknown.new.keys
+            ≡ fold with_name (map (λ name. name.items) unknown.old.keys)
+            (unknown_of self.now.known.now (name.items ∷ []))) }
     {
         if self.known.contains(name.as_slice()) {
             return Ok(());
@@ -308,7 +344,8 @@ impl<'a> Chains<'a> {
     // A candidate for a name as it is told.
     fn chosen(&self, name: &[u8], candidate: Candidate) -> Result<Chosen, AllocError>
         requires { AreWithin self.now.patterns name.now (candidate ∷ []) }
-        ensures { IfOk result (λ chosen. IfSome (candidate_told self.now.patterns name.now candidate) (λ told. chosen ≡ choice_told told)) }
+        ensures { IfOk result (λ chosen. IfSome (candidate_told self.now.patterns name.now candidate)
+            (λ told. chosen ≡ choice_told told)) }
     {
         let directory = Vec::from_slice(self.alloc, candidate.fit.directory(name))?;
         let stem = Vec::from_slice(self.alloc, candidate.fit.stem(name))?;

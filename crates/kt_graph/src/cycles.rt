@@ -17,7 +17,8 @@ pub(crate) fn first_circular(
     order: &[usize],
 ) -> Result<Option<usize>, AllocError>
     requires { AreWithin edges.now }
-    ensures { IfOk result (λ found. MatchOption found (All (λ vertex. ¬ LeadsBack edges.now vertex) order.now) (IsFirstBack edges.now order.now)) }
+    ensures { IfOk result (λ found. MatchOption found (All
+        (λ vertex. ¬ LeadsBack edges.now vertex) order.now) (IsFirstBack edges.now order.now)) }
 {
     let reversed = edges.reversed()?;
     let mut left = Left::all(alloc, edges.count())?;
@@ -96,7 +97,8 @@ impl Left {
         requires { IsKept arrivals.old.edges.now self.old.held.items arrivals.old.passed.items }
         ensures kept { OnOk result (IsKept arrivals.old.edges.now self.new.held.items arrivals.new.passed.items) }
         ensures same { OnOk result (arrivals.new.edges ≡ arrivals.old.edges) }
-        ensures many { OnOk result (count_held self.new.held.items + length work.new.items ≡ count_held self.old.held.items + length work.old.items) }
+        ensures many { OnOk result (count_held self.new.held.items + length work.new.items
+            ≡ count_held self.old.held.items + length work.old.items) }
     {
         for vertex in vertices {
             self.leave(arrivals, *vertex, work)?;
@@ -114,7 +116,8 @@ impl Left {
         requires { IsKept arrivals.old.edges.now self.old.held.items arrivals.old.passed.items }
         ensures kept { OnOk result (IsKept arrivals.old.edges.now self.new.held.items arrivals.new.passed.items) }
         ensures same { OnOk result (arrivals.new.edges ≡ arrivals.old.edges) }
-        ensures many { OnOk result (count_held self.new.held.items + length work.new.items ≡ count_held self.old.held.items + length work.old.items) }
+        ensures many { OnOk result (count_held self.new.held.items + length work.new.items
+            ≡ count_held self.old.held.items + length work.old.items) }
     {
         if arrivals.is_free(self, vertex) {
             take(&mut self.held, vertex, work)?;
@@ -125,7 +128,8 @@ impl Left {
     // The first of an order that leads back to itself.
     fn first_back(&self, edges: &Edges, order: &[usize]) -> Result<Option<usize>, AllocError>
         requires { HoldsCircular edges.now self.now.held.items }
-        ensures { IfOk result (λ found. MatchOption found (All (λ vertex. ¬ LeadsBack edges.now vertex) order.now) (IsFirstBack edges.now order.now)) }
+        ensures { IfOk result (λ found. MatchOption found (All
+            (λ vertex. ¬ LeadsBack edges.now vertex) order.now) (IsFirstBack edges.now order.now)) }
     {
         for vertex in order {
             if self.is_circular(edges, *vertex)? {
@@ -174,7 +178,8 @@ struct Arrivals<'e> {
 
 impl<'e> Arrivals<'e> {
     fn all(alloc: Global, edges: &'e Edges) -> Result<Arrivals<'e>, AllocError>
-        ensures { IfOk result (λ arrivals. (arrivals.edges ≡ edges.entry) × (arrivals.passed.items ≡ replicate (length edges.now.next.items) 0)) }
+        ensures { IfOk result (λ arrivals. (arrivals.edges ≡ edges.entry)
+            × (arrivals.passed.items ≡ replicate (length edges.now.next.items) 0)) }
     {
         let passed = vec![in alloc; 0usize; edges.count()]?;
         Ok(Arrivals { edges, passed })
@@ -185,7 +190,8 @@ impl<'e> Arrivals<'e> {
         requires { ArePassed self.old.edges.now left.now.held.items self.old.passed.items }
         ensures gone { ArePassed self.old.edges.now left.now.held.items self.new.passed.items }
         ensures same { self.new.edges ≡ self.old.edges }
-        ensures free { result ≡ true → (from : ℕ) → HasNext self.old.edges.now vertex from → holds_in left.now.held.items from ≡ false }
+        ensures free { result ≡ true → (from : ℕ) → HasNext self.old.edges.now vertex from
+            → holds_in left.now.held.items from ≡ false }
     {
         let froms = self.edges.next(vertex);
         let place = first_held(left, froms, self.passed(vertex));

@@ -64,7 +64,8 @@ impl Edges {
     ) -> Result<usize, AllocError>
         requires { IfSome made_with (λ making. names + making < length self.old.next.items) }
         ensures leads { IfOk result (λ from. from ≡ needing names number made_with) }
-        ensures added { OnOk result (rows_of self.new ≡ with_edges (rows_of self.old) (making_edges names number made_with)) }
+        ensures added { OnOk result (rows_of self.new
+            ≡ with_edges (rows_of self.old) (making_edges names number made_with)) }
     {
         match made_with {
             None => Ok(number),

@@ -49,7 +49,8 @@ impl Ends {
     }
 
     fn note_number(&mut self, end: &[u8], number: usize) -> Result<(), AllocError>
-        ensures noted { OnOk result ((other : Text) → numbers_at self.new other ≡ numbers_at self.old other ++ (if bytes_eq other end.now then number ∷ [] else [])) }
+        ensures noted { OnOk result ((other : Text) → numbers_at self.new other ≡ numbers_at self.old other
+            ++ (if bytes_eq other end.now then number ∷ [] else [])) }
         ensures lengths { self.new.lengths ≡ self.old.lengths }
     {
         match self.numbers.get_mut(end) {
@@ -83,7 +84,8 @@ impl Ends {
         length: usize,
         found: &mut Vec<usize>,
     ) -> Result<(), AllocError>
-        ensures { OnOk result ((lengths : List ℕ) → HasAll self.now name.now lengths found.old.items → HasAll self.now name.now (lengths ++ length ∷ []) found.new.items) }
+        ensures { OnOk result ((lengths : List ℕ) → HasAll self.now name.now lengths found.old.items
+            → HasAll self.now name.now (lengths ++ length ∷ []) found.new.items) }
     {
         if length <= name.len() {
             found.extend_from_slice(self.numbers(&name[name.len() - length..]))?;

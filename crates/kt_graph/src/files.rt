@@ -24,7 +24,8 @@ pub(crate) struct Files {
 impl Files {
     /// The files of nodes.
     pub(crate) fn of(alloc: Global, nodes: Nodes<'_>) -> Result<Files, AllocError>
-        ensures reserved { IfOk result (λ files. files.has_always ≡ list_any (λ node. is_reserved node.name) nodes.entry) }
+        ensures reserved { IfOk result
+            (λ files. files.has_always ≡ list_any (λ node. is_reserved node.name) nodes.entry) }
         ensures made { IfOk result (λ files. HasFiles files (made_names nodes.entry)) }
     {
         let mut files = Files {
@@ -40,7 +41,8 @@ impl Files {
 
     fn add(&mut self, node: &Node<'_>) -> Result<(), AllocError>
         ensures reserved { OnOk result (self.new.has_always ≡ (self.old.has_always || is_reserved node.now.name)) }
-        ensures made { OnOk result ((names : List Text) → HasFiles self.old names → HasFiles self.new (names ++ made_names (node.now ∷ []))) }
+        ensures made { OnOk result ((names : List Text) → HasFiles self.old names
+            → HasFiles self.new (names ++ made_names (node.now ∷ []))) }
     {
         let file = canon(self.alloc, node.name())?;
         self.has_always = self.has_always_with(file.as_slice());
@@ -59,7 +61,8 @@ impl Files {
     fn add_file(&mut self, file: Vec<u8>) -> Result<(), AllocError>
         ensures same { OnOk result (self.new.has_always ≡ self.old.has_always) }
         ensures added { OnOk result ((other : Text) → held_for self.new.several.entries other
-            ≡ (if bytes_eq other file.items then Some (is_some (held_for self.old.several.entries file.items)) else held_for self.old.several.entries other)) }
+            ≡ (if bytes_eq other file.items then Some (is_some (held_for self.old.several.entries file.items))
+            else held_for self.old.several.entries other)) }
     {
         let is_known = self.several.contains_key(file.as_slice());
         self.several.insert(file, is_known)?;

@@ -20,7 +20,8 @@ pub(crate) fn grouped<'g>(
     order: &[usize],
 ) -> Result<Vec<Vec<Node<'g>>>, AllocError>
     requires { IsWhole names.now instances.now nodes.now order.now }
-    ensures { IfOk result (λ groups. map (λ group. group.items) groups.items ≡ groups_of (nodes_told names.now instances.now nodes.now order.now)) }
+    ensures { IfOk result (λ groups. map (λ group. group.items) groups.items
+        ≡ groups_of (nodes_told names.now instances.now nodes.now order.now)) }
 {
     let mut grouping = Grouping::none(alloc, instances.len())?;
     for number in order {
@@ -39,7 +40,8 @@ fn put_number<'g>(
 ) -> Result<(), AllocError>
     requires { AreHeld names.now instances.now nodes.now }
     ensures { OnOk result ((before : List ℕ) → IsAfter names.now instances.now nodes.now before number
-        → IsGroupingOf names.now instances.now nodes.now before grouping.old → IsGroupingOf names.now instances.now nodes.now (before ++ number ∷ []) grouping.new) }
+        → IsGroupingOf names.now instances.now nodes.now before grouping.old
+        → IsGroupingOf names.now instances.now nodes.now (before ++ number ∷ []) grouping.new) }
 {
     match nodes.get(number) {
         Some(settled) => {
@@ -61,7 +63,8 @@ struct Grouping<'g> {
 
 impl<'g> Grouping<'g> {
     fn none(alloc: Global, makings: usize) -> Result<Grouping<'g>, AllocError>
-        ensures { IfOk result (λ grouping. (grouping.places.items ≡ replicate makings None) × (groups_held grouping ≡ [])) }
+        ensures { IfOk result (λ grouping. (grouping.places.items ≡ replicate makings None)
+            × (groups_held grouping ≡ [])) }
     {
         let places = vec![in alloc; None; makings]?;
         Ok(Grouping {
@@ -73,7 +76,8 @@ impl<'g> Grouping<'g> {
 
     // Puts a node into its group, if it is made.
     fn put_made(&mut self, making: Option<usize>, node: Node<'g>) -> Result<(), AllocError>
-        ensures { OnOk result ((instances : List Held) (nodes : List Told) → IsGrouping instances nodes self.old → MayFollow instances nodes making node.entry
+        ensures { OnOk result ((instances : List Held) (nodes : List Told) → IsGrouping instances nodes self.old
+            → MayFollow instances nodes making node.entry
             → IsGrouping instances (nodes ++ made_nodes (node.entry ∷ [])) self.new) }
     {
         if node.is_made() {
@@ -84,7 +88,8 @@ impl<'g> Grouping<'g> {
 
     // Puts a node behind those of its making, or into a group of its own.
     fn put(&mut self, making: Option<usize>, node: Node<'g>) -> Result<(), AllocError>
-        ensures { OnOk result ((instances : List Held) (nodes : List Told) → IsGrouping instances nodes self.old → MayFollow instances nodes making node.entry
+        ensures { OnOk result ((instances : List Held) (nodes : List Told) → IsGrouping instances nodes self.old
+            → MayFollow instances nodes making node.entry
             → IsGrouping instances (nodes ++ node.entry ∷ []) self.new) }
     {
         match self.place(making) {
@@ -123,7 +128,8 @@ impl<'g> Grouping<'g> {
     // Notes that the next group is that of a making.
     fn note(&mut self, making: Option<usize>)
         ensures groups { self.new.groups ≡ self.old.groups }
-        ensures places { self.new.places.items ≡ places_with self.old.places.items making (length self.old.groups.items) }
+        ensures places { self.new.places.items
+            ≡ places_with self.old.places.items making (length self.old.groups.items) }
     {
         if let Some(making) = making {
             if let Some(place) = self.places.get_mut(making) {

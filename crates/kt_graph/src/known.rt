@@ -84,7 +84,8 @@ impl Known {
 
     // Adds the targets for which an entry is an explicit rule, and what they need.
     fn add_explicit(&mut self, book: &Book, entry: &Entry) -> Result<(), AllocError>
-        ensures { OnOk result (self.new ≡ fold with_name self.old (flat_map (named_with (suffixes_of book.now) entry.now) entry.now.targets)) }
+        ensures { OnOk result (self.new
+            ≡ fold with_name self.old (flat_map (named_with (suffixes_of book.now) entry.now) entry.now.targets)) }
     {
         for target in entry.targets() {
             if book.is_explicit(TargetRule { entry, target }) {

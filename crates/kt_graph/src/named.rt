@@ -32,7 +32,8 @@ impl<'a, 'n> Named<'a, 'n> {
         part: NamedPart<'a, 'n>,
         making: Option<Instance>,
     ) -> Result<Named<'a, 'n>, AllocError>
-        ensures { IfOk result (λ named. (named.kind ≡ kind) × (named.parts.items ≡ part.entry ∷ []) × (named.making ≡ making)) }
+        ensures { IfOk result (λ named. (named.kind ≡ kind) × (named.parts.items ≡ part.entry ∷ [])
+            × (named.making ≡ making)) }
     {
         let mut parts = Vec::new(alloc);
         parts.push(part)?;

@@ -42,13 +42,15 @@ impl<'n> Stemming<'n> {
     }
 
     fn all_short(self, names: &[Name]) -> bool
-        ensures { result ≡ list_all (λ name. nat_le (length (spelled_out self.entry.directory.now self.entry.stem.now name)) name_limit) names.now }
+        ensures { result ≡ list_all (λ name. nat_le
+            (length (spelled_out self.entry.directory.now self.entry.stem.now name)) name_limit) names.now }
     {
         names.iter().all(|name| self.is_short(name.as_slice()))
     }
 
     fn is_short(self, name: &[u8]) -> bool
-        ensures { result ≡ nat_le (length (spelled_out self.entry.directory.now self.entry.stem.now name.now)) name_limit }
+        ensures { result ≡ nat_le (length (spelled_out self.entry.directory.now self.entry.stem.now name.now))
+            name_limit }
     {
         self.len(name) <= NAME_LIMIT
     }
@@ -56,7 +58,8 @@ impl<'n> Stemming<'n> {
     // How many bytes a prerequisite has, before a leading `./` is removed; where a number can't tell,
     // the greatest one.
     fn len(self, name: &[u8]) -> usize
-        ensures { result ≡ min (length (spelled_out self.entry.directory.now self.entry.stem.now name.now)) (2 ^ 64 - 1) }
+        ensures { result ≡ min (length (spelled_out self.entry.directory.now self.entry.stem.now name.now))
+            (2 ^ 64 - 1) }
     {
         match memchr(b'%', name) {
             None => name.len(),
@@ -83,7 +86,8 @@ impl<'n> Stemming<'n> {
     // A name with the stem in the place of a byte, and the directory before it.
     fn put_at(self, place: usize, alloc: Global, name: &[u8]) -> Result<Vec<u8>, AllocError>
         requires { place < length name.now }
-        ensures { IfOk result (λ text. text.items ≡ self.entry.directory.now ++ (take place name.now ++ (self.entry.stem.now ++ drop (place + 1) name.now))) }
+        ensures { IfOk result (λ text. text.items ≡ self.entry.directory.now
+            ++ (take place name.now ++ (self.entry.stem.now ++ drop (place + 1) name.now))) }
     {
         let mut text = Vec::with_capacity(alloc, self.len(name))?;
         text.extend_from_slice(self.directory)?;
@@ -96,7 +100,8 @@ impl<'n> Stemming<'n> {
     // Prerequisites with the stem put in.
     #[tactic(auto, unfolding(crate::specs::Candidates::needed_names))]
     fn names(self, alloc: Global, names: &[Name]) -> Result<Vec<Name>, AllocError>
-        ensures { IfOk result (λ made. made.items ≡ needed_names self.entry.directory.now self.entry.stem.now names.now) }
+        ensures { IfOk result (λ made. made.items
+            ≡ needed_names self.entry.directory.now self.entry.stem.now names.now) }
     {
         let mut made = Vec::with_capacity(alloc, names.len())?;
         for name in names {

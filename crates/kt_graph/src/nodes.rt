@@ -144,7 +144,8 @@ impl<'a> Graph<'a> {
         &'g self,
         goals: &'g [Name],
     ) -> Result<Option<Trouble<'g>>, AllocError>
-        ensures { IfOk result (λ trouble. (rules : List Rule) (known : List Text) → IsGraph rules known goals.now self.now
+        ensures { IfOk result (λ trouble. (rules : List Rule) (known : List Text)
+            → IsGraph rules known goals.now self.now
             → ComesFirst rules known goals.now (option_map trouble_told trouble)) }
     {
         if let Some(goal) = self.unmade_goal(goals) {
@@ -174,8 +175,10 @@ impl<'a> Graph<'a> {
 
     // The first name in byte order that needs itself.
     fn circular(&self) -> Result<Option<&[u8]>, AllocError>
-        ensures { IfOk result (λ found. (rules : List Rule) (known goals : List Text) → IsGraph rules known goals self.now
-            → MatchOption found ((name : Text) → ¬ IsCyclic rules known goals name) (λ name. IsFirst (IsCyclic rules known goals) name.now)) }
+        ensures { IfOk result (λ found. (rules : List Rule) (known goals : List Text)
+            → IsGraph rules known goals self.now
+            → MatchOption found ((name : Text) → ¬ IsCyclic rules known goals name)
+            (λ name. IsFirst (IsCyclic rules known goals) name.now)) }
     {
         let edges = Edges::of(self.alloc, self.nodes.as_slice(), self.instances.len())?;
         match first_circular(self.alloc, &edges, self.order.as_slice())? {
@@ -186,7 +189,8 @@ impl<'a> Graph<'a> {
 
     // What is wrong with the files that names stand for.
     fn path_trouble(&self) -> Result<Option<Trouble<'_>>, AllocError>
-        ensures { IfOk result (λ trouble. (rules : List Rule) (known goals : List Text) → IsGraph rules known goals self.now
+        ensures { IfOk result (λ trouble. (rules : List Rule) (known goals : List Text)
+            → IsGraph rules known goals self.now
             → IsFileTrouble rules known goals (option_map trouble_told trouble)) }
     {
         let files = Files::of(self.alloc, self.nodes())?;
@@ -247,7 +251,8 @@ fn first_node<'g>(
 ) -> Option<(Node<'g>, &'g [usize])>
     requires { AreHeld names.now instances.now nodes.now }
     ensures { MatchOption result (nodes_told names.now instances.now nodes.now numbers.now ≡ [])
-        (λ cut. nodes_told names.now instances.now nodes.now numbers.now ≡ cut.0 ∷ nodes_told names.now instances.now nodes.now cut.1.now) }
+        (λ cut. nodes_told names.now instances.now nodes.now numbers.now ≡ cut.0
+        ∷ nodes_told names.now instances.now nodes.now cut.1.now) }
 {
     let mut left = numbers;
     while let [number, after @ ..] = left {

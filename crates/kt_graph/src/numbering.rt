@@ -93,7 +93,8 @@ impl Numbers {
         parts: Vec<NamedPart<'a, '_>>,
     ) -> Result<Vec<Part<'a>>, AllocError>
         ensures say { IfOk result (λ numbered. SayParts self.new (map part_named parts.entry.items) numbered.items) }
-        ensures reached { OnOk result (self.new ≡ fold with_name self.old (flat_map (λ part. all_needs (part_named part).needs) parts.entry.items)) }
+        ensures reached { OnOk result (self.new
+            ≡ fold with_name self.old (flat_map (λ part. all_needs (part_named part).needs) parts.entry.items)) }
     {
         let mut numbered = Vec::with_capacity(self.alloc, parts.len())?;
         for part in parts {
@@ -122,7 +123,8 @@ impl Numbers {
     // What several rules need, put together.
     fn needs(&mut self, rules: &[&Needs]) -> Result<Numbered, AllocError>
         ensures says { IfOk result (SaysNeeds self.new (put_together (map (λ needs. needs.now) rules.now))) }
-        ensures reached { OnOk result (self.new ≡ fold with_name self.old (all_needs (put_together (map (λ needs. needs.now) rules.now)))) }
+        ensures reached { OnOk result (self.new
+            ≡ fold with_name self.old (all_needs (put_together (map (λ needs. needs.now) rules.now)))) }
     {
         let prerequisites = self.prerequisites(rules)?;
         let order_only = self.order_only(rules)?;
@@ -133,8 +135,10 @@ impl Numbers {
     }
 
     fn prerequisites(&mut self, rules: &[&Needs]) -> Result<Vec<usize>, AllocError>
-        ensures say { IfOk result (λ numbers. StandFor self.new (flat_map (λ needs. needs.now.prerequisites) rules.now) numbers.items) }
-        ensures reached { OnOk result (self.new ≡ fold with_name self.old (flat_map (λ needs. needs.now.prerequisites) rules.now)) }
+        ensures say { IfOk result (λ numbers. StandFor self.new (flat_map
+            (λ needs. needs.now.prerequisites) rules.now) numbers.items) }
+        ensures reached { OnOk result (self.new
+            ≡ fold with_name self.old (flat_map (λ needs. needs.now.prerequisites) rules.now)) }
     {
         let mut numbers = Vec::new(self.alloc);
         for needs in rules {
@@ -144,8 +148,10 @@ impl Numbers {
     }
 
     fn order_only(&mut self, rules: &[&Needs]) -> Result<Vec<usize>, AllocError>
-        ensures say { IfOk result (λ numbers. StandFor self.new (flat_map (λ needs. needs.now.order_only) rules.now) numbers.items) }
-        ensures reached { OnOk result (self.new ≡ fold with_name self.old (flat_map (λ needs. needs.now.order_only) rules.now)) }
+        ensures say { IfOk result (λ numbers. StandFor self.new (flat_map
+            (λ needs. needs.now.order_only) rules.now) numbers.items) }
+        ensures reached { OnOk result (self.new
+            ≡ fold with_name self.old (flat_map (λ needs. needs.now.order_only) rules.now)) }
     {
         let mut numbers = Vec::new(self.alloc);
         for needs in rules {
@@ -156,7 +162,8 @@ impl Numbers {
 
     // Puts the numbers of names behind others.
     fn add_names(&mut self, numbers: &mut Vec<usize>, names: &[Name]) -> Result<(), AllocError>
-        ensures say { OnOk result ((earlier : List Text) → StandFor self.old earlier numbers.old.items → StandFor self.new (earlier ++ names.now) numbers.new.items) }
+        ensures say { OnOk result ((earlier : List Text) → StandFor self.old earlier numbers.old.items
+            → StandFor self.new (earlier ++ names.now) numbers.new.items) }
         ensures reached { OnOk result (self.new ≡ fold with_name self.old names.now) }
     {
         for name in names {

@@ -25,7 +25,8 @@ pub(crate) fn canon(alloc: Global, name: &[u8]) -> Result<Vec<u8>, AllocError>
 
 // The pieces between the slashes.
 fn pieces(alloc: Global, name: &[u8]) -> Result<Vec<&[u8]>, AllocError>
-    ensures { IfOk result (λ pieces. map (λ piece. piece.now) pieces.items ≡ slice_split (λ byte. byte == 47) name.now) }
+    ensures { IfOk result (λ pieces. map (λ piece. piece.now) pieces.items ≡ slice_split
+        (λ byte. byte == 47) name.now) }
 {
     name.split(|byte| *byte == b'/').collect(alloc)
 }
@@ -45,7 +46,8 @@ fn is_rooted(name: &[u8]) -> bool
 
 // Goes on from components by one more.
 fn add_part<'n>(rooted: bool, parts: &mut Vec<&'n [u8]>, part: &'n [u8]) -> Result<(), AllocError>
-    ensures { OnOk result (reverse (map (λ part. part.now) parts.new.items) ≡ with_part rooted (reverse (map (λ part. part.now) parts.old.items)) part.now) }
+    ensures { OnOk result (reverse (map (λ part. part.now) parts.new.items)
+        ≡ with_part rooted (reverse (map (λ part. part.now) parts.old.items)) part.now) }
 {
     match part {
         [] | [b'.'] => {}
@@ -58,7 +60,8 @@ fn add_part<'n>(rooted: bool, parts: &mut Vec<&'n [u8]>, part: &'n [u8]) -> Resu
 // `..` takes the component before it away. At the front it stays, but not under the root.
 fn step_up<'n>(rooted: bool, parts: &mut Vec<&'n [u8]>, above: &'n [u8]) -> Result<(), AllocError>
     requires { above.now ≡ above_name }
-    ensures { OnOk result (reverse (map (λ part. part.now) parts.new.items) ≡ step_up rooted (reverse (map (λ part. part.now) parts.old.items))) }
+    ensures { OnOk result (reverse (map (λ part. part.now) parts.new.items)
+        ≡ step_up rooted (reverse (map (λ part. part.now) parts.old.items))) }
 {
     if ends_in_name(parts.as_slice()) {
         let _ = parts.pop();
@@ -82,7 +85,8 @@ fn ends_in_name(parts: &[&[u8]]) -> bool
 
 // The name that is spelled by components.
 fn spelled(alloc: Global, rooted: bool, parts: &[&[u8]]) -> Result<Vec<u8>, AllocError>
-    ensures { IfOk result (λ name. name.items ≡ (if rooted then 47 ∷ [] else []) ++ join_with_byte 47 (map (λ part. part.now) parts.now)) }
+    ensures { IfOk result (λ name. name.items ≡ (if rooted then 47 ∷ [] else [])
+        ++ join_with_byte 47 (map (λ part. part.now) parts.now)) }
 {
     let mut name = Vec::new(alloc);
     if rooted {

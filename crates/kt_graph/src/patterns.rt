@@ -53,7 +53,8 @@ impl<'a> Patterns<'a> {
     /// The numbers of rules among which are all that make a name, in order: of those with a target
     /// that ends as the name does.
     pub(crate) fn numbers(&self, name: &[u8]) -> Result<Vec<usize>, AllocError>
-        ensures { IfOk result (λ numbers. candidates_numbered self.now name.now numbers.items ≡ matching_from 0 self.now name.now) }
+        ensures { IfOk result (λ numbers. candidates_numbered self.now name.now numbers.items
+            ≡ matching_from 0 self.now name.now) }
     {
         let mut numbers = self.ends.found(name)?;
         numbers.sort()?;

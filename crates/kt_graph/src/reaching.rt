@@ -22,7 +22,8 @@ pub fn graph<'a>(
     goals: &[Name],
 ) -> Result<Graph<'a>, GraphFault>
     ensures graph { IfOk result (IsSoundGraph book.now known.now goals.now) }
-    ensures inputs { IfOk result (λ nodes. (files : Text) → known.now ≡ known_names book.now files → HasMadeInputs known.now nodes) }
+    ensures inputs { IfOk result (λ nodes. (files : Text) → known.now ≡ known_names book.now files
+        → HasMadeInputs known.now nodes) }
     ensures fault { IfErr result (TellsFirst book.now known.now goals.now) }
 {
     let graph = Graph::reached(alloc, book, known, goals)?;

@@ -41,7 +41,8 @@ impl<'a> Model for Search<'a> {
       asked = map asked_told search.tried.questions.keys;
     } };
 
-    ghost invariant = { λ search. IsRight search.chains.patterns search.chains.known.now search.tried.questions.keys search.tried.answers.items 0 };
+    ghost invariant = { λ search. IsRight search.chains.patterns search.chains.known.now search.tried.questions.keys
+        search.tried.answers.items 0 };
 }
 
 impl<'a> Search<'a> {
@@ -49,7 +50,11 @@ impl<'a> Search<'a> {
 
     /// A search that was asked nothing yet.
     pub fn new(alloc: Global, book: &'a Book, known: &'a Known) -> Result<Search<'a>, AllocError>
-        ensures { IfOk result (λ search. search ≡ record { rules = patterns_of book.now; known = known.now; asked = [] }) }
+        ensures { IfOk result (λ search. search ≡ record {
+          rules = patterns_of book.now;
+          known = known.now;
+          asked = [];
+        }) }
     {
         let patterns = Patterns::of(alloc, book.patterns()?)?;
         Ok(Search {
@@ -64,9 +69,11 @@ impl<'a> Search<'a> {
     /// find a rule by the same search; a chain has at most 8 rules, each once. Where memory is refused,
     /// the search is as it was.
     pub fn choose(&mut self, name: &[u8]) -> Result<Choice, AllocError>
-        ensures chosen { IfOk result (λ choice. choice ≡ option_map choice_told (choice_of self.old.rules self.old.known name.now)) }
+        ensures chosen { IfOk result (λ choice. choice
+            ≡ option_map choice_told (choice_of self.old.rules self.old.known name.now)) }
         ensures trees { IfOk result (IsFoundByTrees self.old.rules self.old.known name.now) }
-        ensures asked { OnOk result (self.new ≡ record self.old { asked = asked_after self.old.rules self.old.known self.old.asked name.now }) }
+        ensures asked { OnOk result (self.new
+            ≡ record self.old { asked = asked_after self.old.rules self.old.known self.old.asked name.now }) }
         ensures refused { OnErr result (self.new ≡ self.old) }
     {
         let count = self.tried.count();

@@ -44,7 +44,8 @@ impl<'a> Settled<'a> {
         parts: Vec<Part<'a>>,
         made_with: Option<usize>,
     ) -> Result<Settled<'a>, AllocError>
-        ensures held { IfOk result (λ node. (node.kind ≡ kind) × (node.parts ≡ parts.entry) × (node.made_with ≡ made_with)) }
+        ensures held { IfOk result (λ node. (node.kind ≡ kind) × (node.parts ≡ parts.entry)
+            × (node.made_with ≡ made_with)) }
         ensures inputs { IfOk result (λ node. node.inputs.keys ≡ input_numbers parts.entry.items) }
         ensures order_only { IfOk result (λ node. node.order_only.keys ≡ order_only_numbers parts.entry.items) }
     {
@@ -77,7 +78,9 @@ fn order_only(
     parts: &[Part],
     inputs: &IndexSet<usize>,
 ) -> Result<IndexSet<usize>, AllocError>
-    ensures { IfOk result (λ others. others.keys ≡ fold with_number [] (numbers_without inputs.now.keys (flat_map (λ part. part.needs.order_only.items) parts.now))) }
+    ensures { IfOk result (λ others. others.keys
+        ≡ fold with_number [] (numbers_without inputs.now.keys (flat_map
+        (λ part. part.needs.order_only.items) parts.now))) }
 {
     let mut others = IndexSet::new(alloc);
     for part in parts {

@@ -52,7 +52,8 @@ impl<'a> Settling<'a> {
         known: &'a Known,
     ) -> Result<Settling<'a>, AllocError>
         ensures over { IfOk result IsOver }
-        ensures begun { IfOk result (λ settling. (settling.book ≡ book.entry) × (settling.known ≡ known.entry) × (settling.numbers ≡ []) × (settling.nodes.items ≡ []) × (settling.instances.keys ≡ [])) }
+        ensures begun { IfOk result (λ settling. (settling.book ≡ book.entry) × (settling.known ≡ known.entry)
+            × (settling.numbers ≡ []) × (settling.nodes.items ≡ []) × (settling.instances.keys ≡ [])) }
     {
         Ok(Settling {
             alloc,
@@ -75,7 +76,8 @@ impl<'a> Settling<'a> {
     /// Settles each name that was reached, and those that are reached by it.
     pub(crate) fn settle_all(&mut self) -> Result<(), AllocError>
         requires { IsOver self.old }
-        ensures { OnOk result ((goals : List Text) → IsBegun goals self.old → IsSettled self.old.book.now self.old.known.now goals self.new) }
+        ensures { OnOk result ((goals : List Text) → IsBegun goals self.old
+            → IsSettled self.old.book.now self.old.known.now goals self.new) }
     {
         while let Some(name) = self.next_name()? {
             let node = self.settle(name.as_slice())?;
@@ -86,7 +88,8 @@ impl<'a> Settling<'a> {
 
     // The first name that has no node yet.
     fn next_name(&self) -> Result<Option<Vec<u8>>, AllocError>
-        ensures next { IfOk result (λ name. option_map (λ some. some.items) name ≡ slice_get self.now.numbers (length self.now.nodes.items)) }
+        ensures next { IfOk result (λ name. option_map (λ some. some.items) name
+            ≡ slice_get self.now.numbers (length self.now.nodes.items)) }
         ensures small { length self.now.numbers < 2 ^ 63 }
     {
         let _count = self.numbers.len();
@@ -97,8 +100,10 @@ impl<'a> Settling<'a> {
     #[tactic(auto, unfolding(crate::specs::Node::node_of))]
     fn settle(&mut self, name: &[u8]) -> Result<Settled<'a>, AllocError>
         requires { IsOver self.old }
-        ensures says { IfOk result (SaysNode self.new.numbers self.new.instances.keys (node_of self.old.book.now self.old.known.now name.now)) }
-        ensures grown { OnOk result (Grows self.old (needed_by (node_of self.old.book.now self.old.known.now name.now)) self.new) }
+        ensures says { IfOk result (SaysNode self.new.numbers self.new.instances.keys
+            (node_of self.old.book.now self.old.known.now name.now)) }
+        ensures grown { OnOk result (Grows self.old
+            (needed_by (node_of self.old.book.now self.old.known.now name.now)) self.new) }
     {
         let rules = self.rules(name)?;
         self.settle_by(name, rules.as_slice())
@@ -111,8 +116,10 @@ impl<'a> Settling<'a> {
         rules: &[TargetRule<'a>],
     ) -> Result<Settled<'a>, AllocError>
         requires { IsOver self.old }
-        ensures says { IfOk result (SaysNode self.new.numbers self.new.instances.keys (node_with self.old.book.now self.old.known.now name.now (map rule_told rules.now))) }
-        ensures grown { OnOk result (Grows self.old (needed_by (node_with self.old.book.now self.old.known.now name.now (map rule_told rules.now))) self.new) }
+        ensures says { IfOk result (SaysNode self.new.numbers self.new.instances.keys
+            (node_with self.old.book.now self.old.known.now name.now (map rule_told rules.now))) }
+        ensures grown { OnOk result (Grows self.old
+            (needed_by (node_with self.old.book.now self.old.known.now name.now (map rule_told rules.now))) self.new) }
     {
         if has_double(rules) {
             return self.double_node(rules);
@@ -124,8 +131,12 @@ impl<'a> Settling<'a> {
     }
 
     fn double_node(&mut self, rules: &[TargetRule<'a>]) -> Result<Settled<'a>, AllocError>
-        ensures says { IfOk result (λ node. (name : Text) → SaysNode self.new.numbers self.new.instances.keys (double_node (suffixes_of self.old.book.now) name (map rule_told rules.now)) node) }
-        ensures grown { OnOk result ((name : Text) → Grows self.old (needed_by (double_node (suffixes_of self.old.book.now) name (map rule_told rules.now))) self.new) }
+        ensures says { IfOk result (λ node. (name : Text)
+            → SaysNode self.new.numbers self.new.instances.keys
+            (double_node (suffixes_of self.old.book.now) name (map rule_told rules.now)) node) }
+        ensures grown { OnOk result ((name : Text)
+            → Grows self.old (needed_by (double_node (suffixes_of self.old.book.now) name (map rule_told rules.now)))
+            self.new) }
     {
         let named = double_node(self.alloc, self.book.suffixes(), rules)?;
         self.hold(named)
@@ -133,9 +144,11 @@ impl<'a> Settling<'a> {
 
     fn explicit_node(&mut self, used: Used<'a, '_>) -> Result<Settled<'a>, AllocError>
         ensures says { IfOk result (λ node. (name : Text) (rules : List (Rule × HeldTarget)) → IsCut rules used.entry
-            → SaysNode self.new.numbers self.new.instances.keys (explicit_node (suffixes_of self.old.book.now) name rules (rule_told used.entry.rule)) node) }
+            → SaysNode self.new.numbers self.new.instances.keys (explicit_node (suffixes_of self.old.book.now) name
+            rules (rule_told used.entry.rule)) node) }
         ensures grown { OnOk result ((name : Text) (rules : List (Rule × HeldTarget)) → IsCut rules used.entry
-            → Grows self.old (needed_by (explicit_node (suffixes_of self.old.book.now) name rules (rule_told used.entry.rule))) self.new) }
+            → Grows self.old (needed_by (explicit_node (suffixes_of self.old.book.now) name rules
+            (rule_told used.entry.rule))) self.new) }
     {
         let named = explicit_node(self.alloc, self.book.suffixes(), used)?;
         self.hold(named)
@@ -159,8 +172,12 @@ impl<'a> Settling<'a> {
         rules: &[TargetRule<'a>],
     ) -> Result<Settled<'a>, AllocError>
         requires { IsOver self.old }
-        ensures says { IfOk result (SaysNode self.new.numbers self.new.instances.keys (node_by self.old.book.now name.now (map rule_told rules.now) None (searched self.old.book.now self.old.known.now name.now))) }
-        ensures grown { OnOk result (Grows self.old (needed_by (node_by self.old.book.now name.now (map rule_told rules.now) None (searched self.old.book.now self.old.known.now name.now))) self.new) }
+        ensures says { IfOk result (SaysNode self.new.numbers self.new.instances.keys
+            (node_by self.old.book.now name.now (map rule_told rules.now) None
+            (searched self.old.book.now self.old.known.now name.now))) }
+        ensures grown { OnOk result (Grows self.old
+            (needed_by (node_by self.old.book.now name.now (map rule_told rules.now) None
+            (searched self.old.book.now self.old.known.now name.now))) self.new) }
     {
         match self.inferred(name)? {
             Some(inferred) => self.implicit_node(inferred, rules),
@@ -173,8 +190,12 @@ impl<'a> Settling<'a> {
         name: &[u8],
         rules: &[TargetRule<'a>],
     ) -> Result<Settled<'a>, AllocError>
-        ensures says { IfOk result (SaysNode self.new.numbers self.new.instances.keys (plain_node (suffixes_of self.old.book.now) name.now (map rule_told rules.now) (is_phony self.old.book.now name.now))) }
-        ensures grown { OnOk result (Grows self.old (needed_by (plain_node (suffixes_of self.old.book.now) name.now (map rule_told rules.now) (is_phony self.old.book.now name.now))) self.new) }
+        ensures says { IfOk result (SaysNode self.new.numbers self.new.instances.keys
+            (plain_node (suffixes_of self.old.book.now) name.now (map rule_told rules.now)
+            (is_phony self.old.book.now name.now))) }
+        ensures grown { OnOk result (Grows self.old
+            (needed_by (plain_node (suffixes_of self.old.book.now) name.now (map rule_told rules.now)
+            (is_phony self.old.book.now name.now))) self.new) }
     {
         let is_phony = self.book.is_phony(name);
         let named = plain_node(self.alloc, self.book.suffixes(), name, rules, is_phony)?;
@@ -187,8 +208,11 @@ impl<'a> Settling<'a> {
         inferred: Inferred<'a>,
         rules: &[TargetRule<'a>],
     ) -> Result<Settled<'a>, AllocError>
-        ensures says { IfOk result (λ node. (name : Text) → SaysNode self.new.numbers self.new.instances.keys (inferred_node name (map rule_told rules.now) inferred.entry) node) }
-        ensures grown { OnOk result ((name : Text) → Grows self.old (needed_by (inferred_node name (map rule_told rules.now) inferred.entry)) self.new) }
+        ensures says { IfOk result (λ node. (name : Text)
+            → SaysNode self.new.numbers self.new.instances.keys
+            (inferred_node name (map rule_told rules.now) inferred.entry) node) }
+        ensures grown { OnOk result ((name : Text)
+            → Grows self.old (needed_by (inferred_node name (map rule_told rules.now) inferred.entry)) self.new) }
     {
         let Inferred {
             recipe,
@@ -233,8 +257,10 @@ impl<'a> Settling<'a> {
 
     // A node with numbers. What it needs is reached from then on.
     fn hold(&mut self, named: Named<'a, '_>) -> Result<Settled<'a>, AllocError>
-        ensures says { IfOk result (λ node. (name : Text) → SaysNode self.new.numbers self.new.instances.keys (named_told name named.entry) node) }
-        ensures grown { OnOk result ((name : Text) → Grows self.old (needed_by (named_told name named.entry)) self.new) }
+        ensures says { IfOk result (λ node. (name : Text)
+            → SaysNode self.new.numbers self.new.instances.keys (named_told name named.entry) node) }
+        ensures grown { OnOk result ((name : Text)
+            → Grows self.old (needed_by (named_told name named.entry)) self.new) }
     {
         let Named {
             kind,
@@ -249,7 +275,8 @@ impl<'a> Settling<'a> {
     // The number of a making, if there is one.
     fn making(&mut self, making: Option<Instance>) -> Result<Option<usize>, AllocError>
         ensures making { IfOk result (IsMaking self.new.instances.keys (option_map instance_told making)) }
-        ensures kept { OnOk result (take (length self.old.instances.keys) self.new.instances.keys ≡ self.old.instances.keys) }
+        ensures kept { OnOk result (take (length self.old.instances.keys) self.new.instances.keys
+            ≡ self.old.instances.keys) }
         ensures others { OnOk result (self.new ≡ record self.old { instances = self.new.instances }) }
     {
         match making {

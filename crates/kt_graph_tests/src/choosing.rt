@@ -252,8 +252,8 @@ fn asks_of_search(rt: &impl Abort, mut search: Search) {
     asks_twice(rt, &mut search);
 }
 
-/// A search that was refused memory is as it was, and answers the same when it is asked again. This passes whether a call
-/// is refused or not.
+/// A search that was refused memory is as it was, and answers the same when it is asked again. This passes whether a
+/// call is refused or not.
 #[test]
 fn asks_again_after_a_refusal(rt: HostRuntime) {
     let _refused = asks_of_chain(&rt, rt.alloc());

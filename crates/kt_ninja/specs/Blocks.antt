@@ -5,7 +5,8 @@ use Rattle.kt_ninja.specs.Written.{appended, GrowsByFront}
 use Rattle.kt_ninja.specs.declared.block.Block.{Block}
 
 -- where no write failed: what the sink took since, and what waits now, are what waited before and the text
-pub record Moves (taken : Option (List ℕ)) (waiting : List ℕ) (taken' : Option (List ℕ)) (waiting' text : List ℕ) : Type 0 where
+pub record Moves (taken : Option (List ℕ)) (waiting : List ℕ) (taken' : Option (List ℕ))
+    (waiting' text : List ℕ) : Type 0 where
   pub front : List ℕ
   pub cut : waiting ++ text ≡ front ++ waiting'
   pub grown : taken' ≡ appended taken front
@@ -26,9 +27,11 @@ Counts true false old new = ⊥
 Counts true true old new = new ≡ old
 
 -- the text was put behind what waited in the block, on its way to the same sink
-pub record Passes {S : Type 0} (written : S → Option (List ℕ)) (failures : S → ℕ) (old new : Block S) (text : List ℕ) : Type 0 where
+pub record Passes {S : Type 0} (written : S → Option (List ℕ)) (failures : S
+    → ℕ) (old new : Block S) (text : List ℕ) : Type 0 where
   pub same : new.sink.ghost_name ≡ old.sink.ghost_name
-  pub puts : PutsBy old.failed new.failed (written old.sink.now) old.waiting.items (written new.sink.now) new.waiting.items text
+  pub puts : PutsBy old.failed new.failed (written old.sink.now) old.waiting.items (written new.sink.now)
+      new.waiting.items text
   pub counts : Counts old.failed new.failed (failures old.sink.now) (failures new.sink.now)
 
 -- the block was handed over this often, each time when 4,096 bytes waited in it and more came: what waits now is the
@@ -40,7 +43,8 @@ pub record HandsOver {S : Type 0} (old new : Block S) (text : List ℕ) : Type 0
   pub none : times ≡ 0 → new.sink.now ≡ old.sink.now
 
 -- both
-pub record Puts {S : Type 0} (written : S → Option (List ℕ)) (failures : S → ℕ) (old new : Block S) (text : List ℕ) : Type 0 where
+pub record Puts {S : Type 0} (written : S → Option (List ℕ)) (failures : S
+    → ℕ) (old new : Block S) (text : List ℕ) : Type 0 where
   pub passes : Passes written failures old new text
   pub hands : HandsOver old new text
 
@@ -49,6 +53,7 @@ abbrev pub PrintsBy : Bool → Option (List ℕ) → Option (List ℕ) → List 
 PrintsBy false taken taken' text = taken' ≡ appended taken text
 PrintsBy true taken taken' text = GrowsByFront taken taken' text
 
-pub record Prints {S : Type 0} (written : S → Option (List ℕ)) (failures : S → ℕ) (old new : S) (failed : Bool) (text : List ℕ) : Type 0 where
+pub record Prints {S : Type 0} (written : S → Option (List ℕ)) (failures : S
+    → ℕ) (old new : S) (failed : Bool) (text : List ℕ) : Type 0 where
   pub prints : PrintsBy failed (written old) (written new) text
   pub counts : Counts false failed (failures old) (failures new)

@@ -60,7 +60,8 @@ plan_same a b =
     (pointwise_decides statement_same a.statements b.statements) (names_same a.defaults b.defaults)
     (plan_of a b) (λ e. ap (λ p. p.statements) e) (λ e. ap (λ p. p.defaults) e)
 
-of_same : {K : Type 0} (E : K → K → Bool) (a b : K) (r : Bool) → ((x y : K) → Decides (E x y) (x ≡ y)) → r ≡ E a b → Decides r (a ≡ b)
+of_same : {K : Type 0} (E : K → K → Bool) (a b : K) (r : Bool) → ((x y : K) → Decides (E x y) (x ≡ y)) → r ≡ E a b
+    → Decides r (a ≡ b)
 of_same E a b r decides is = subst (λ (t : Bool). Decides t (a ≡ b)) (sym is) (decides a b)
 
 -- as answers

@@ -43,7 +43,8 @@ name_in (word ∷ next ∷ words) = None
 -- the keywords, which no variable is named
 abbrev pub is_keyword : Text → Bool
 is_keyword name =
-    is_among (codes "rule" ∷ codes "build" ∷ codes "default" ∷ codes "include" ∷ codes "subninja" ∷ codes "pool" ∷ []) name
+    is_among (codes "rule" ∷ codes "build" ∷ codes "default" ∷ codes "include" ∷ codes "subninja"
+    ∷ codes "pool" ∷ []) name
 
 -- `key = value`
 pub record Binding : Type 0 where
@@ -58,7 +59,8 @@ bound_to value key = if is_keyword key then None else Some (record { key = key; 
 unfoldable pub binding_of : Pieces → Option Binding
 binding_of ps =
     if list_any (is_plain 61) ps
-    then option_and_then (bound_to (without_lead (after_first (is_plain 61) ps))) (name_in (words_of (before_first (is_plain 61) ps)))
+    then option_and_then (bound_to (without_lead (after_first (is_plain 61) ps)))
+    (name_in (words_of (before_first (is_plain 61) ps)))
     else None
 
 -- what a build line names behind its rule: explicit, implicit and order-only inputs
@@ -78,22 +80,29 @@ abbrev pub begins_with_at : Pieces → Bool
 begins_with_at [] = false
 begins_with_at (p ∷ ps) = is_plain 64 p
 
--- what stands behind the rule's name, cut at its bars: `| implicit`, `|| order`, or both in this order. Two bars side by
--- side have nothing between them.
+-- what stands behind the rule's name, cut at its bars: `| implicit`, `|| order`, or both in this order. Two bars side
+-- by side have nothing between them.
 abbrev pub inputs_of : List Pieces → List Pieces → Option Inputs
 inputs_of explicit [] = Some (record { explicit = explicit; implicit = []; order_only = [] })
 inputs_of explicit (implicit ∷ []) =
-    if begins_with_at implicit then None else Some (record { explicit = explicit; implicit = words_of implicit; order_only = [] })
+    if begins_with_at implicit then None
+    else Some (record { explicit = explicit; implicit = words_of implicit; order_only = [] })
 inputs_of explicit ([] ∷ order ∷ []) = Some (record { explicit = explicit; implicit = []; order_only = words_of order })
 inputs_of explicit ((p ∷ ps) ∷ [] ∷ order ∷ []) =
-    if is_plain 64 p then None else Some (record { explicit = explicit; implicit = words_of (p ∷ ps); order_only = words_of order })
+    if is_plain 64 p then None else Some (record {
+      explicit = explicit;
+      implicit = words_of (p ∷ ps);
+      order_only = words_of order;
+    })
 inputs_of explicit _ = None
 
 -- a build line of these outputs, by the words before its first bar and the parts behind it
 abbrev pub build_with : List Pieces → List Pieces → List Pieces → Option Build
 build_with outs [] parts = None
 build_with outs (rule_word ∷ explicit) parts =
-    option_and_then (λ name. option_map (λ inputs. record { outs = outs; rule_name = name; inputs = inputs }) (inputs_of explicit parts)) (name_bytes rule_word)
+    option_and_then (λ name. option_map
+    (λ inputs. record { outs = outs; rule_name = name; inputs = inputs }) (inputs_of explicit parts))
+    (name_bytes rule_word)
 
 -- the same by all parts between its bars
 abbrev pub build_behind : List Pieces → List Pieces → Option Build
@@ -106,7 +115,8 @@ paths_of ps = if list_any (is_plain 124) ps || is_empty (words_of ps) then None 
 
 -- a build line by what stands between its colons, of which there is one
 abbrev pub build_cut : List Pieces → Option Build
-build_cut (outs ∷ rest ∷ []) = option_and_then (λ paths. build_behind paths (slice_split (is_plain 124) rest)) (paths_of outs)
+build_cut (outs ∷ rest ∷ []) = option_and_then
+    (λ paths. build_behind paths (slice_split (is_plain 124) rest)) (paths_of outs)
 build_cut _ = None
 
 -- what stands behind `build`
@@ -131,7 +141,10 @@ pub data Form : Type 0 where
 -- a line that begins with a keyword and a space is of that keyword's form alone
 unfoldable pub form_of : Text → Option Form
 form_of text =
-    if starts_with nat_eq text (codes "rule ") then option_and_then (λ ps. option_map rule_form (rule_of ps)) (pieces (drop 5 text))
-    else (if starts_with nat_eq text (codes "build ") then option_and_then (λ ps. option_map build_form (build_of ps)) (pieces (drop 6 text))
-    else (if starts_with nat_eq text (codes "default ") then option_and_then (λ ps. option_map default_form (defaults_of ps)) (pieces (drop 8 text))
+    if starts_with nat_eq text (codes "rule ")
+    then option_and_then (λ ps. option_map rule_form (rule_of ps)) (pieces (drop 5 text))
+    else (if starts_with nat_eq text (codes "build ")
+    then option_and_then (λ ps. option_map build_form (build_of ps)) (pieces (drop 6 text))
+    else (if starts_with nat_eq text (codes "default ")
+    then option_and_then (λ ps. option_map default_form (defaults_of ps)) (pieces (drop 8 text))
     else option_and_then (λ ps. option_map binding_form (binding_of ps)) (pieces text)))

@@ -21,7 +21,8 @@ with_byte b (l ∷ ls) = record { bytes = b ∷ l.bytes; ended = l.ended } ∷ l
 -- the text cut after each newline
 unfoldable pub file_lines : Text → List FileLine
 file_lines [] = []
-file_lines (b ∷ bs) = if b == 10 then record { bytes = []; ended = true } ∷ file_lines bs else with_byte b (file_lines bs)
+file_lines (b ∷ bs) = if b == 10 then record { bytes = []; ended = true } ∷ file_lines bs
+    else with_byte b (file_lines bs)
 
 -- whether the text ends in a dollar that no other dollar escapes; by whether such a dollar stands before the text
 unfoldable pub ends_in_dollar : Bool → Text → Bool
@@ -71,8 +72,12 @@ joined_from number begun [] = left_over begun
 joined_from number begun (l ∷ ls) =
     let joined = joined_text begun l.bytes in
     if goes_on l joined
-    then joined_from (number + 1) (Some (record { first = first_number number begun; front = take (length joined - 1) joined })) ls
-    else record { number = first_number number begun; text = joined; ended = l.ended } ∷ joined_from (number + 1) None ls
+    then joined_from (number + 1) (Some (record {
+      first = first_number number begun;
+      front = take (length joined - 1) joined;
+    })) ls
+    else record { number = first_number number begun; text = joined; ended = l.ended }
+    ∷ joined_from (number + 1) None ls
 
 -- the joined lines of a text, numbered from 1 by their first file line
 unfoldable pub joined_lines : Text → List Line

@@ -25,7 +25,8 @@ text_with begun line = begun.text.items ++ added_text begun.going_on line.bytes.
 -- the line was joined: where it goes on, without its last dollar
 pub record Joins (old : OpenLine) (line : CutLine) (new : OpenLine) : Type 0 where
   pub going_on : new.going_on ≡ goes_on (file_line line) (text_with old line)
-  pub kept : new.text.items ≡ (if new.going_on then take (length (text_with old line) - 1) (text_with old line) else text_with old line)
+  pub kept : new.text.items ≡ (if new.going_on then take (length (text_with old line) - 1) (text_with old line)
+      else text_with old line)
   pub same_number : new.number ≡ old.number
   pub blank : new.blank ≡ is_blank new.text.items
   pub plain : new.going_on ≡ true → is_comment new.text.items ≡ false

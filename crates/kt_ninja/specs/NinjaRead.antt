@@ -35,7 +35,11 @@ pub record Cut : Type 0 where
 abbrev pub cut_with : Line → Cut → Cut
 cut_with line cut =
     if begins_part line.text
-    then record { before = []; parts = record { number = line.number; head = Some line; body = cut.before } ∷ cut.parts }
+    then record {
+      before = [];
+      parts = record { number = line.number; head = Some line; body = cut.before }
+          ∷ cut.parts;
+    }
     else record { before = line ∷ cut.before; parts = cut.parts }
 
 -- lines cut before each that begins a part
@@ -45,7 +49,8 @@ cut_lines (l ∷ ls) = cut_with l (cut_lines ls)
 
 -- all parts: the first begins with the first line, whatever that is
 abbrev pub all_parts : Cut → List Part
-all_parts cut = if is_empty cut.before then cut.parts else record { number = 1; head = None; body = cut.before } ∷ cut.parts
+all_parts cut = if is_empty cut.before then cut.parts
+    else record { number = 1; head = None; body = cut.before } ∷ cut.parts
 
 -- no CR, no NUL
 abbrev pub is_file_byte : ℕ → Bool
@@ -62,7 +67,8 @@ block_from closed (l ∷ ls) =
     if is_comment l.text then block_from closed ls
     else (if is_blank l.text then block_from true ls
     else (if closed then None
-    else option_and_then (λ b. option_map (λ bs. b ∷ bs) (block_from false ls)) (option_and_then binding_of (pieces l.text))))
+    else option_and_then (λ b. option_map
+    (λ bs. b ∷ bs) (block_from false ls)) (option_and_then binding_of (pieces l.text))))
 
 -- the bindings of a block
 abbrev pub block_of : List Line → Option (List Binding)
@@ -101,7 +107,8 @@ bind state b = record state { file = put_in state.file b.key (expanded (value_in
 -- the command of a rule's block: its one binding, not empty, which doesn't refer to itself
 abbrev pub rule_command : List Binding → Option Pieces
 rule_command (b ∷ []) =
-    if bytes_eq b.key (codes "command") && (not (is_empty b.value) && not (refers_to (bytes_eq (codes "command")) b.value))
+    if bytes_eq b.key (codes "command")
+    && (not (is_empty b.value) && not (refers_to (bytes_eq (codes "command")) b.value))
     then Some b.value else None
 rule_command _ = None
 
@@ -152,7 +159,13 @@ stated_with value_of making b =
     option_and_then (λ outs.
     option_and_then (λ inputs.
     option_and_then (λ implicit.
-    option_map (λ order_only. record { outs = outs; making = making; inputs = inputs; implicit = implicit; order_only = order_only })
+    option_map (λ order_only. record {
+      outs = outs;
+      making = making;
+      inputs = inputs;
+      implicit = implicit;
+      order_only = order_only;
+    })
     (paths_in value_of b.inputs.order_only))
     (paths_in value_of b.inputs.implicit))
     (paths_in value_of b.inputs.explicit))
@@ -174,7 +187,8 @@ read_build state b bindings =
 -- more default targets, each an output of a statement above
 abbrev pub add_defaults : State → List Text → Option State
 add_defaults state names =
-    if list_all (is_among (outs_of state.stated)) names then Some (record state { defaults = state.defaults ++ names }) else None
+    if list_all (is_among (outs_of state.stated)) names
+    then Some (record state { defaults = state.defaults ++ names }) else None
 
 unfoldable pub read_default : State → List Pieces → Option State
 read_default state paths = option_and_then (add_defaults state) (paths_in (value_in state.file) paths)
@@ -218,7 +232,13 @@ made_of file s (by_rule command block) = Command (expanded (command_value s.inpu
 
 unfoldable pub statement_of : Scope → Stated → Statement
 statement_of file s =
-    record { outs = s.outs; made = made_of file s s.making; inputs = s.inputs; implicit = s.implicit; order_only = s.order_only }
+    record {
+      outs = s.outs;
+      made = made_of file s s.making;
+      inputs = s.inputs;
+      implicit = s.implicit;
+      order_only = s.order_only;
+    }
 
 -- what was read as a plan
 unfoldable pub plan_of : State → Plan

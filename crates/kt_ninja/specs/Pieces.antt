@@ -22,8 +22,8 @@ is_long_name_byte b = is_short_name_byte b || b == 46
 abbrev pub is_escapable : ℕ → Bool
 is_escapable b = b == 36 || (b == 32 || b == 58)
 
--- where in a text the next byte stands: outside of all escapes, right behind a dollar, or in a variable's name, of which
--- these bytes stand before it
+-- where in a text the next byte stands: outside of all escapes, right behind a dollar, or in a variable's name, of
+-- which these bytes stand before it
 pub data Where : Type 0 where
   outside : Where
   behind_dollar : Where
@@ -38,7 +38,8 @@ pub record Step : Type 0 where
 -- a byte outside of all escapes, behind these pieces
 abbrev pub outer_step : List Piece → ℕ → Step
 outer_step before b =
-    if b == 36 then record { done = before; next = behind_dollar } else record { done = before ++ Plain b ∷ []; next = outside }
+    if b == 36 then record { done = before; next = behind_dollar }
+    else record { done = before ++ Plain b ∷ []; next = outside }
 
 -- the byte behind a dollar; none where it escapes nothing
 abbrev pub dollar_step : ℕ → Option Step
@@ -72,7 +73,8 @@ last_pieces (in_braces name) = None
 -- the pieces of a text that goes on from there
 unfoldable pub pieces_from : Where → Text → Option (List Piece)
 pieces_from place [] = last_pieces place
-pieces_from place (b ∷ bs) = option_and_then (λ s. option_map (λ later. s.done ++ later) (pieces_from s.next bs)) (step place b)
+pieces_from place (b ∷ bs) = option_and_then
+    (λ s. option_map (λ later. s.done ++ later) (pieces_from s.next bs)) (step place b)
 
 -- the pieces of a text, if each of its dollars begins an escape or a variable
 unfoldable pub pieces : Text → Option (List Piece)

@@ -29,7 +29,8 @@ line_binding text = option_and_then binding_of (pieces text)
 -- what a line of a block adds, and whether it closes the block, whatever comes behind it
 abbrev pub Adds : Bool → List Binding → Line → Bool → List Binding → Type 0
 Adds closed old line now new =
-    (rest : List Line) → option_map (λ more. old ++ more) (block_from closed (line ∷ rest)) ≡ option_map (λ more. new ++ more) (block_from now rest)
+    (rest : List Line) → option_map (λ more. old ++ more) (block_from closed (line ∷ rest)) ≡ option_map
+    (λ more. new ++ more) (block_from now rest)
 
 -- no block goes on with the line, or memory was refused
 abbrev pub Stops : Bool → Line → Fault → Type 0
@@ -38,10 +39,12 @@ Stops closed line Memory = Unit {0}
 
 -- what stands behind `rule`, `build` and `default`, and a binding, with the block below it
 abbrev pub rule_line : State → List Binding → Text → Option State
-rule_line state bindings text = option_and_then (λ name. read_rule state name bindings) (option_and_then rule_of (pieces text))
+rule_line state bindings text = option_and_then
+    (λ name. read_rule state name bindings) (option_and_then rule_of (pieces text))
 
 abbrev pub build_line : State → List Binding → Text → Option State
-build_line state bindings text = option_and_then (λ build. read_build state build bindings) (option_and_then build_of (pieces text))
+build_line state bindings text = option_and_then
+    (λ build. read_build state build bindings) (option_and_then build_of (pieces text))
 
 abbrev pub default_line : State → List Binding → Text → Option State
 default_line state bindings text =

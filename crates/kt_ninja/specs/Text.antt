@@ -46,7 +46,8 @@ number_text n = if n == 0 then codes "0" else map (λ d. 48 + d) (digits_of 10 n
 
 -- the two lines of the rule that runs the command
 abbrev pub rule_text : ℕ → Made → List ℕ
-rule_text number (Command c) = concat (codes "rule r" ∷ number_text number ∷ codes "\n command = " ∷ command_text c ∷ codes "\n" ∷ [])
+rule_text number (Command c) = concat (codes "rule r" ∷ number_text number ∷ codes "\n command = " ∷ command_text c
+    ∷ codes "\n" ∷ [])
 rule_text number Phony = []
 
 -- the name of the rule

@@ -60,7 +60,11 @@ binding_told b = record { key = b.key; value = b.value }
 
 -- the inputs that were read
 abbrev pub inputs_told : ReadInputs → Inputs
-inputs_told i = record { explicit = told i.explicit.items; implicit = told i.implicit.items; order_only = told i.order_only.items }
+inputs_told i = record {
+  explicit = told i.explicit.items;
+  implicit = told i.implicit.items;
+  order_only = told i.order_only.items;
+}
 
 -- the build line that was read
 abbrev pub build_told : ReadBuild → Build

@@ -61,12 +61,14 @@ pub data Trouble : Type 0 where
 -- of a statement: its first name that can't be written, or its command
 abbrev pub trouble_of_statement : ℕ → Statement → Option Trouble
 trouble_of_statement number s =
-    option_or (option_map bad_name (find (λ n. not (is_name n)) (names_of s))) (if is_made s.made then None else Some (bad_command number))
+    option_or (option_map bad_name (find (λ n. not (is_name n)) (names_of s))) (if is_made s.made then None
+    else Some (bad_command number))
 
 -- of statements in order, the first of which has this number
 abbrev pub trouble_of_statements : ℕ → List Statement → Option Trouble
 trouble_of_statements number [] = None
-trouble_of_statements number (s ∷ ss) = option_or (trouble_of_statement number s) (trouble_of_statements (number + 1) ss)
+trouble_of_statements number (s ∷ ss) = option_or (trouble_of_statement number s)
+    (trouble_of_statements (number + 1) ss)
 
 -- the first name of a list that is among those before it, or among these
 abbrev pub repeated_after : List (List ℕ) → List (List ℕ) → Option (List ℕ)

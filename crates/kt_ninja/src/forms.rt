@@ -109,7 +109,8 @@ fn name_bytes(alloc: Global, pieces: &[Piece]) -> Result<Vec<u8>, Fault>
 
 // The name that one word is.
 fn name_in(alloc: Global, words: &[&[Piece]]) -> Result<Vec<u8>, Fault>
-    ensures { MatchResult result (λ name. name_in (told words.now) ≡ Some name.items) (Refuses (name_in (told words.now))) }
+    ensures { MatchResult result (λ name. name_in (told words.now)
+        ≡ Some name.items) (Refuses (name_in (told words.now))) }
 {
     let Some((word, later)) = words.split_first() else {
         return Err(Fault::NoReading);
@@ -172,7 +173,8 @@ fn key(alloc: Global, pieces: &[Piece]) -> Result<Vec<u8>, Fault>
 
 /// The binding of a key to what stands behind the first `=`.
 pub(crate) fn binding_of(alloc: Global, mut pieces: Vec<Piece>) -> Result<Binding, Fault>
-    ensures { MatchResult result (λ binding. binding_of pieces.items ≡ Some (binding_told binding)) (Refuses (binding_of pieces.items)) }
+    ensures { MatchResult result (λ binding. binding_of pieces.items
+        ≡ Some (binding_told binding)) (Refuses (binding_of pieces.items)) }
 {
     let place = plain_place(b'=', pieces.as_slice());
     if place == pieces.len() {
@@ -206,7 +208,8 @@ pub(crate) struct Build<'p> {
 
 // Paths without a bar, at least one.
 fn paths(alloc: Global, pieces: &[Piece]) -> Result<Vec<&[Piece]>, Fault>
-    ensures { MatchResult result (λ paths. paths_of pieces.now ≡ Some (told paths.items)) (Refuses (paths_of pieces.now)) }
+    ensures { MatchResult result (λ paths. paths_of pieces.now
+        ≡ Some (told paths.items)) (Refuses (paths_of pieces.now)) }
 {
     let words = words(alloc, pieces)?;
     if words.is_empty() || has_plain(b'|', pieces) {
@@ -226,7 +229,8 @@ fn begins_with_at(pieces: &[Piece]) -> bool
 
 // The two parts, if there are two.
 fn two<'p>(parts: &[&'p [Piece]]) -> Option<(&'p [Piece], &'p [Piece])>
-    ensures { MatchOption result (two_of (told parts.now) ≡ None) (λ both. told parts.now ≡ both.0.now ∷ both.1.now ∷ []) }
+    ensures { MatchOption result (two_of (told parts.now) ≡ None)
+        (λ both. told parts.now ≡ both.0.now ∷ both.1.now ∷ []) }
 {
     let Some((first, later)) = parts.split_first() else {
         return None;
@@ -243,7 +247,8 @@ fn two<'p>(parts: &[&'p [Piece]]) -> Option<(&'p [Piece], &'p [Piece])>
 
 // What stands behind two bars, by what stands between them, which is nothing, and behind them.
 fn behind_two_bars<'p>(parts: &[&'p [Piece]]) -> Result<&'p [Piece], Fault>
-    ensures { MatchResult result (λ order. two_bars (told parts.now) ≡ Some order.now) (Refuses (two_bars (told parts.now))) }
+    ensures { MatchResult result (λ order. two_bars (told parts.now)
+        ≡ Some order.now) (Refuses (two_bars (told parts.now))) }
 {
     let Some((between, order)) = two(parts) else {
         return Err(Fault::NoReading);
@@ -257,7 +262,8 @@ fn behind_two_bars<'p>(parts: &[&'p [Piece]]) -> Result<&'p [Piece], Fault>
 
 // What stands behind one bar and behind two, by the parts between the bars.
 fn behind_bars<'p>(bars: &[&'p [Piece]]) -> Result<(&'p [Piece], &'p [Piece]), Fault>
-    ensures { MatchResult result (λ cut. bars_cut (told bars.now) ≡ Some (cut.0.now, cut.1.now)) (Refuses (bars_cut (told bars.now))) }
+    ensures { MatchResult result (λ cut. bars_cut (told bars.now)
+        ≡ Some (cut.0.now, cut.1.now)) (Refuses (bars_cut (told bars.now))) }
 {
     let Some((implicit, later)) = bars.split_first() else {
         return Ok((&[], &[]));
@@ -280,7 +286,8 @@ fn inputs_of<'p>(
     explicit: &[&'p [Piece]],
     bars: &[&'p [Piece]],
 ) -> Result<Inputs<'p>, Fault>
-    ensures { MatchResult result (λ inputs. inputs_of (told explicit.now) (told bars.now) ≡ Some (inputs_told inputs)) (Refuses (inputs_of (told explicit.now) (told bars.now))) }
+    ensures { MatchResult result (λ inputs. inputs_of (told explicit.now) (told bars.now)
+        ≡ Some (inputs_told inputs)) (Refuses (inputs_of (told explicit.now) (told bars.now))) }
 {
     let (implicit, order_only) = behind_bars(bars)?;
     Ok(Inputs {
@@ -297,7 +304,8 @@ fn build_with<'p>(
     front: &[&'p [Piece]],
     bars: &[&'p [Piece]],
 ) -> Result<Build<'p>, Fault>
-    ensures { MatchResult result (λ build. build_with (told outs.entry.items) (told front.now) (told bars.now) ≡ Some (build_told build)) (Refuses (build_with (told outs.entry.items) (told front.now) (told bars.now))) }
+    ensures { MatchResult result (λ build. build_with (told outs.entry.items) (told front.now) (told bars.now)
+        ≡ Some (build_told build)) (Refuses (build_with (told outs.entry.items) (told front.now) (told bars.now))) }
 {
     let Some((rule, explicit)) = front.split_first() else {
         return Err(Fault::NoReading);
@@ -313,7 +321,9 @@ fn build_behind<'p>(
     outs: Vec<&'p [Piece]>,
     rest: &'p [Piece],
 ) -> Result<Build<'p>, Fault>
-    ensures { MatchResult result (λ build. build_behind (told outs.entry.items) (slice_split (is_plain 124) rest.now) ≡ Some (build_told build)) (Refuses (build_behind (told outs.entry.items) (slice_split (is_plain 124) rest.now))) }
+    ensures { MatchResult result (λ build. build_behind (told outs.entry.items) (slice_split (is_plain 124) rest.now)
+        ≡ Some (build_told build)) (Refuses
+        (build_behind (told outs.entry.items) (slice_split (is_plain 124) rest.now))) }
 {
     let bars = parts(alloc, b'|', rest)?;
     let Some((front, behind)) = bars.as_slice().split_first() else {
@@ -325,7 +335,8 @@ fn build_behind<'p>(
 
 /// What stands behind `build`.
 pub(crate) fn build_of(alloc: Global, pieces: &[Piece]) -> Result<Build<'_>, Fault>
-    ensures { MatchResult result (λ build. build_of pieces.now ≡ Some (build_told build)) (Refuses (build_of pieces.now)) }
+    ensures { MatchResult result (λ build. build_of pieces.now
+        ≡ Some (build_told build)) (Refuses (build_of pieces.now)) }
 {
     let sides = parts(alloc, b':', pieces)?;
     let Some((outs, rest)) = two(sides.as_slice()) else {
@@ -337,7 +348,8 @@ pub(crate) fn build_of(alloc: Global, pieces: &[Piece]) -> Result<Build<'_>, Fau
 
 /// What stands behind `default`.
 pub(crate) fn defaults_of(alloc: Global, pieces: &[Piece]) -> Result<Vec<&[Piece]>, Fault>
-    ensures { MatchResult result (λ paths. defaults_of pieces.now ≡ Some (told paths.items)) (Refuses (defaults_of pieces.now)) }
+    ensures { MatchResult result (λ paths. defaults_of pieces.now
+        ≡ Some (told paths.items)) (Refuses (defaults_of pieces.now)) }
 {
     if has_plain(b':', pieces) {
         return Err(Fault::NoReading);

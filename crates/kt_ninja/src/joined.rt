@@ -145,7 +145,8 @@ fn added(going_on: bool, bytes: &[u8]) -> &[u8]
 
 // Whether a line that begins blank or not goes on behind these bytes.
 fn goes_on(line: &FileLine, blank: bool, bytes: &[u8]) -> bool
-    ensures { result ≡ line.now.ended && (ends_in_dollar false line.now.bytes.now && not (blank && is_comment bytes.now)) }
+    ensures { result ≡ line.now.ended && (ends_in_dollar false line.now.bytes.now
+        && not (blank && is_comment bytes.now)) }
 {
     line.ended && ends_in_dollar(line.bytes) && !(blank && is_comment(bytes))
 }

@@ -21,7 +21,13 @@ impl Model for MemSink {
 
     ghost Value = { Memory };
 
-    ghost view = { λ s. record { bytes = s.bytes.items; room = s.room; step = s.step; failures = s.failures; calls = s.calls } };
+    ghost view = { λ s. record {
+      bytes = s.bytes.items;
+      room = s.room;
+      step = s.step;
+      failures = s.failures;
+      calls = s.calls;
+    } };
 
     ghost invariant = { λ s. (vec_len s.bytes ≤ s.room) × (s.room ≤ vec_capacity s.bytes) };
 }
@@ -82,7 +88,8 @@ impl Sink for MemSink {
         ensures some { 0 < taken_of self.old piece.now → (result ≡ Ok (taken_of self.old piece.now))
             × (self.new ≡ called self.old (take (taken_of self.old piece.now) piece.now) self.old.failures) }
         ensures empty { piece.now ≡ [] → (result ≡ Ok 0) × (self.new ≡ called self.old [] self.old.failures) }
-        ensures none { taken_of self.old piece.now ≡ 0 → 0 < length piece.now → self.new ≡ called self.old [] (one_more self.old.failures) }
+        ensures none { taken_of self.old piece.now ≡ 0 → 0 < length piece.now
+            → self.new ≡ called self.old [] (one_more self.old.failures) }
         ensures idle { self.old.step ≡ 0 → result ≡ Ok 0 }
         ensures full { taken_of self.old piece.now ≡ 0 → 0 < length piece.now → 0 < self.old.step → IsErr result }
     {

@@ -126,7 +126,8 @@ fn escape(alloc: Global, text: &[u8]) -> Result<Cut<'_>, Fault>
 
 // What begins with this byte.
 fn first_piece(alloc: Global, byte: u8, after: &[u8]) -> Result<Cut<'_>, Fault>
-    ensures { MatchResult result (λ cut. CutsOff outside (byte ∷ after.now) cut × (length cut.after.now ≤ length after.now)) (Refuses (pieces_from outside (byte ∷ after.now))) }
+    ensures { MatchResult result (λ cut. CutsOff outside (byte ∷ after.now) cut
+        × (length cut.after.now ≤ length after.now)) (Refuses (pieces_from outside (byte ∷ after.now))) }
 {
     if byte == b'$' {
         escape(alloc, after)

@@ -62,7 +62,8 @@ fn no_bindings(block: &[Binding]) -> bool
 
 // The binding that a line is.
 fn line_binding(alloc: Global, text: &[u8]) -> Result<Binding, Fault>
-    ensures { MatchResult result (λ binding. line_binding text.now ≡ Some (binding_told binding)) (Refuses (line_binding text.now)) }
+    ensures { MatchResult result (λ binding. line_binding text.now
+        ≡ Some (binding_told binding)) (Refuses (line_binding text.now)) }
 {
     let pieces = pieces(alloc, text)?;
     binding_of(alloc, pieces)
@@ -75,7 +76,8 @@ fn add_line(
     bindings: &mut Vec<Binding>,
     line: &Line,
 ) -> Result<bool, Fault>
-    ensures { MatchResult result (λ now. Adds closed (map binding_told bindings.old.items) line.now now (map binding_told bindings.new.items)) (Stops closed line.now) }
+    ensures { MatchResult result (λ now. Adds closed (map binding_told bindings.old.items) line.now now
+        (map binding_told bindings.new.items)) (Stops closed line.now) }
 {
     let text = line.text.as_slice();
     if is_comment(text) {
@@ -93,7 +95,8 @@ fn add_line(
 
 // The bindings of a block.
 fn block(alloc: Global, body: &[Line]) -> Result<Vec<Binding>, Fault>
-    ensures { MatchResult result (λ block. block_of body.now ≡ Some (map binding_told block.items)) (Refuses (block_of body.now)) }
+    ensures { MatchResult result (λ block. block_of body.now
+        ≡ Some (map binding_told block.items)) (Refuses (block_of body.now)) }
 {
     let mut bindings = Vec::new(alloc);
     let mut closed = false;
@@ -110,7 +113,8 @@ fn read_rule_line(
     block: Vec<Binding>,
     text: &[u8],
 ) -> Result<State, Fault>
-    ensures { MatchResult result (λ next. rule_line state (map binding_told block.items) text.now ≡ Some next) (Refuses (rule_line state (map binding_told block.items) text.now)) }
+    ensures { MatchResult result (λ next. rule_line state (map binding_told block.items) text.now
+        ≡ Some next) (Refuses (rule_line state (map binding_told block.items) text.now)) }
 {
     let pieces = pieces(alloc, text)?;
     let name = rule_name(alloc, pieces.as_slice())?;
@@ -124,7 +128,8 @@ fn read_build_line(
     block: &[Binding],
     text: &[u8],
 ) -> Result<State, Fault>
-    ensures { MatchResult result (λ next. build_line state (map binding_told block.now) text.now ≡ Some next) (Refuses (build_line state (map binding_told block.now) text.now)) }
+    ensures { MatchResult result (λ next. build_line state (map binding_told block.now) text.now
+        ≡ Some next) (Refuses (build_line state (map binding_told block.now) text.now)) }
 {
     let pieces = pieces(alloc, text)?;
     let build = build_of(alloc, pieces.as_slice())?;
@@ -138,7 +143,8 @@ fn read_default_line(
     block: &[Binding],
     text: &[u8],
 ) -> Result<State, Fault>
-    ensures { MatchResult result (λ next. default_line state (map binding_told block.now) text.now ≡ Some next) (Refuses (default_line state (map binding_told block.now) text.now)) }
+    ensures { MatchResult result (λ next. default_line state (map binding_told block.now) text.now
+        ≡ Some next) (Refuses (default_line state (map binding_told block.now) text.now)) }
 {
     if !no_bindings(block) {
         return Err(Fault::NoReading);
@@ -155,7 +161,8 @@ fn read_margin_line(
     block: &[Binding],
     text: &[u8],
 ) -> Result<State, Fault>
-    ensures { MatchResult result (λ next. margin_line state (map binding_told block.now) text.now ≡ Some next) (Refuses (margin_line state (map binding_told block.now) text.now)) }
+    ensures { MatchResult result (λ next. margin_line state (map binding_told block.now) text.now
+        ≡ Some next) (Refuses (margin_line state (map binding_told block.now) text.now)) }
 {
     if !no_bindings(block) {
         return Err(Fault::NoReading);
@@ -167,7 +174,8 @@ fn read_margin_line(
 // What stands behind the keyword, if the text begins with it.
 #[tactic(auto, using(crate::proofs::Stripping::stripped))]
 fn behind<'t>(keyword: &[u8], text: &'t [u8]) -> Option<&'t [u8]>
-    ensures { MatchOption result (starts_with nat_eq text.now keyword.now ≡ false) (λ rest. (starts_with nat_eq text.now keyword.now ≡ true) × (rest.now ≡ drop (length keyword.now) text.now)) }
+    ensures { MatchOption result (starts_with nat_eq text.now keyword.now ≡ false)
+        (λ rest. (starts_with nat_eq text.now keyword.now ≡ true) × (rest.now ≡ drop (length keyword.now) text.now)) }
 {
     text.strip_prefix(keyword)
 }
@@ -175,7 +183,8 @@ fn behind<'t>(keyword: &[u8], text: &'t [u8]) -> Option<&'t [u8]>
 // A line at the margin, with the block below it.
 #[tactic(auto, unfolding(crate::specs::Forms::form_of))]
 fn read_text(alloc: Global, state: State, block: Vec<Binding>, text: &[u8]) -> Result<State, Fault>
-    ensures { MatchResult result (λ next. read_text state (map binding_told block.items) text.now ≡ Some next) (Refuses (read_text state (map binding_told block.items) text.now)) }
+    ensures { MatchResult result (λ next. read_text state (map binding_told block.items) text.now
+        ≡ Some next) (Refuses (read_text state (map binding_told block.items) text.now)) }
 {
     if let Some(rest) = behind(b"rule ", text) {
         return read_rule_line(alloc, state, block, rest);
@@ -192,7 +201,8 @@ fn read_text(alloc: Global, state: State, block: Vec<Binding>, text: &[u8]) -> R
 // The lines before the first that begins a part.
 #[tactic(auto, unfolding(crate::specs::NinjaRead::read_part))]
 fn read_before(alloc: Global, body: &[Line]) -> Result<(), Fault>
-    ensures { MatchResult result (λ _. read_part nothing_read (part_before body.now) ≡ Some nothing_read) (Refuses (read_part nothing_read (part_before body.now))) }
+    ensures { MatchResult result (λ _. read_part nothing_read (part_before body.now)
+        ≡ Some nothing_read) (Refuses (read_part nothing_read (part_before body.now))) }
 {
     if !all_sound(body) {
         return Err(Fault::NoReading);
@@ -208,7 +218,8 @@ fn read_before(alloc: Global, body: &[Line]) -> Result<(), Fault>
 // A part of the file: the line that begins it, and the lines up to the next such line.
 #[tactic(auto, unfolding(crate::specs::NinjaRead::read_part))]
 fn read_part(alloc: Global, state: State, head: &Line, body: &[Line]) -> Result<State, Fault>
-    ensures { MatchResult result (λ next. read_part state (part_of head.now body.now) ≡ Some next) (Refuses (read_part state (part_of head.now body.now))) }
+    ensures { MatchResult result (λ next. read_part state (part_of head.now body.now)
+        ≡ Some next) (Refuses (read_part state (part_of head.now body.now))) }
 {
     if !is_sound(head) || !all_sound(body) {
         return Err(Fault::NoReading);
@@ -237,7 +248,8 @@ fn fault_at(number: u64, fault: Fault) -> ReadFault
 // The parts of the file, where no line stands before the first.
 fn read_parts(alloc: Global, parts: &[Line]) -> Result<State, ReadFault>
     requires { (cut_lines parts.now).before ≡ [] }
-    ensures { MatchResult result (λ state. read_parts nothing_read (cut_lines parts.now).parts ≡ Ok state) (Misreads (read_parts nothing_read (cut_lines parts.now).parts)) }
+    ensures { MatchResult result (λ state. read_parts nothing_read (cut_lines parts.now).parts
+        ≡ Ok state) (Misreads (read_parts nothing_read (cut_lines parts.now).parts)) }
 {
     let mut state = State::new(alloc);
     let mut rest = parts;
@@ -254,7 +266,8 @@ fn read_parts(alloc: Global, parts: &[Line]) -> Result<State, ReadFault>
 
 // All lines of the file.
 fn read_lines(alloc: Global, lines: &[Line]) -> Result<State, ReadFault>
-    ensures { MatchResult result (λ state. read_parts nothing_read (all_parts (cut_lines lines.now)) ≡ Ok state) (Misreads (read_parts nothing_read (all_parts (cut_lines lines.now)))) }
+    ensures { MatchResult result (λ state. read_parts nothing_read (all_parts (cut_lines lines.now))
+        ≡ Ok state) (Misreads (read_parts nothing_read (all_parts (cut_lines lines.now)))) }
 {
     let (before, parts) = lines.split_at(body_length(lines));
     if let Err(fault) = read_before(alloc, before) {
@@ -282,7 +295,8 @@ fn read(alloc: Global, text: &[u8]) -> Result<Plan, ReadFault>
 /// What a plan is printed as is read as that plan.
 pub fn read_plan(alloc: Global, text: &[u8]) -> Result<Plan, ReadFault>
     ensures read { MatchResult result (λ plan. ninja_read text.now ≡ Ok plan) (Misreads (ninja_read text.now)) }
-    ensures printed { (plan : PlanRead) → IsWritable plan → text.now ≡ plan_text plan → MatchResult result (λ again. again ≡ plan) (λ fault. fault ≡ MemoryRefused) }
+    ensures printed { (plan : PlanRead) → IsWritable plan → text.now ≡ plan_text plan
+        → MatchResult result (λ again. again ≡ plan) (λ fault. fault ≡ MemoryRefused) }
 {
     read(alloc, text)
 }

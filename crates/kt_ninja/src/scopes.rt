@@ -46,7 +46,8 @@ pub(crate) fn expanded(
     pieces: &[Piece],
     scopes: Scopes,
 ) -> Result<Vec<u8>, AllocError>
-    ensures { IfOk result (λ text. text.items ≡ expanded (value_within scopes.entry.block.now scopes.entry.file.now) pieces.now) }
+    ensures { IfOk result (λ text. text.items
+        ≡ expanded (value_within scopes.entry.block.now scopes.entry.file.now) pieces.now) }
 {
     let mut text = Vec::new(alloc);
     for piece in pieces {
@@ -57,7 +58,8 @@ pub(crate) fn expanded(
 
 // Adds what a piece stands for.
 fn add_piece(text: &mut Vec<u8>, piece: &Piece, scopes: Scopes) -> Result<(), AllocError>
-    ensures { OnOk result (text.new.items ≡ text.old.items ++ piece_text (value_within scopes.entry.block.now scopes.entry.file.now) piece.now) }
+    ensures { OnOk result (text.new.items ≡ text.old.items
+        ++ piece_text (value_within scopes.entry.block.now scopes.entry.file.now) piece.now) }
 {
     match piece {
         Piece::Plain(byte) | Piece::Escaped(byte) => Ok(text.push(*byte)?),
@@ -146,7 +148,9 @@ pub(crate) struct CommandScopes<'a> {
 impl<'a> CommandScopes<'a> {
     #[tactic(auto, unfolding(crate::specs::Scopes::command_value))]
     fn add_value(&self, text: &mut Vec<u8>, name: &[u8]) -> Result<(), AllocError>
-        ensures { OnOk result (text.new.items ≡ text.old.items ++ command_value self.now.inputs.now self.now.outs.now self.now.scopes.block.now self.now.scopes.file.now name.now) }
+        ensures { OnOk result (text.new.items ≡ text.old.items
+            ++ command_value self.now.inputs.now self.now.outs.now self.now.scopes.block.now
+            self.now.scopes.file.now name.now) }
     {
         if name == b"in".as_slice() {
             add_shell_words(text, b' ', self.inputs)
@@ -161,7 +165,9 @@ impl<'a> CommandScopes<'a> {
 
     // Adds what a piece of the command stands for.
     fn add_piece(&self, text: &mut Vec<u8>, piece: &Piece) -> Result<(), AllocError>
-        ensures { OnOk result (text.new.items ≡ text.old.items ++ piece_text (command_value self.now.inputs.now self.now.outs.now self.now.scopes.block.now self.now.scopes.file.now) piece.now) }
+        ensures { OnOk result (text.new.items ≡ text.old.items
+            ++ piece_text (command_value self.now.inputs.now self.now.outs.now self.now.scopes.block.now
+            self.now.scopes.file.now) piece.now) }
     {
         match piece {
             Piece::Plain(byte) | Piece::Escaped(byte) => Ok(text.push(*byte)?),
@@ -177,7 +183,9 @@ pub(crate) fn command_line(
     command: &[Piece],
     scopes: CommandScopes,
 ) -> Result<Vec<u8>, AllocError>
-    ensures { IfOk result (λ text. text.items ≡ expanded (command_value scopes.entry.inputs.now scopes.entry.outs.now scopes.entry.scopes.block.now scopes.entry.scopes.file.now) command.now) }
+    ensures { IfOk result (λ text. text.items
+        ≡ expanded (command_value scopes.entry.inputs.now scopes.entry.outs.now scopes.entry.scopes.block.now
+        scopes.entry.scopes.file.now) command.now) }
 {
     let mut text = Vec::new(alloc);
     for piece in command {

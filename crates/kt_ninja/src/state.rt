@@ -47,7 +47,13 @@ impl Model for Stated {
 
     ghost use Rattle.kt_ninja.specs.Holding.{making_as};
 
-    ghost view = { λ s. record { outs = s.outs; making = making_as s.block s.making; inputs = s.inputs; implicit = s.implicit; order_only = s.order_only } };
+    ghost view = { λ s. record {
+      outs = s.outs;
+      making = making_as s.block s.making;
+      inputs = s.inputs;
+      implicit = s.implicit;
+      order_only = s.order_only;
+    } };
 }
 
 /// The variables of the file, the commands of its rules, its statements with their outputs, and the default targets.
@@ -67,7 +73,12 @@ impl Model for State {
 
     ghost Value = { ReadState };
 
-    ghost view = { λ s. record { file = s.file; rules = s.rules; stated = s.stated.items; defaults = s.defaults.items } };
+    ghost view = { λ s. record {
+      file = s.file;
+      rules = s.rules;
+      stated = s.stated.items;
+      defaults = s.defaults.items;
+    } };
 
     ghost invariant = { λ s. s.outs ≡ outs_of s.stated.items };
 }
@@ -89,7 +100,8 @@ fn refers_to_command(pieces: &[Piece]) -> bool
 
 // The command of a rule's block: its one binding.
 fn rule_command(block: Vec<Binding>) -> Result<Shared<Piece>, Fault>
-    ensures { MatchResult result (λ command. rule_command (map binding_told block.items) ≡ Some command) (Refuses (rule_command (map binding_told block.items))) }
+    ensures { MatchResult result (λ command. rule_command (map binding_told block.items)
+        ≡ Some command) (Refuses (rule_command (map binding_told block.items))) }
 {
     let mut block = block;
     let Some(binding) = block.pop() else {
@@ -134,7 +146,8 @@ fn add_to_block(
     block: &mut Scope,
     binding: &Binding,
 ) -> Result<(), Fault>
-    ensures { MatchResult result (λ _. block_with file.now block.old (binding_told binding.now) ≡ Some block.new) (Refuses (block_with file.now block.old (binding_told binding.now))) }
+    ensures { MatchResult result (λ _. block_with file.now block.old (binding_told binding.now)
+        ≡ Some block.new) (Refuses (block_with file.now block.old (binding_told binding.now))) }
 {
     let key = binding.key.as_slice();
     let value = binding.value.as_slice();
@@ -149,7 +162,8 @@ fn add_to_block(
 
 // The scope of a statement's block.
 fn block_scope(alloc: Global, file: &Scope, bindings: &[Binding]) -> Result<Scope, Fault>
-    ensures { MatchResult result (λ block. block_scope file.now [] (map binding_told bindings.now) ≡ Some block) (Refuses (block_scope file.now [] (map binding_told bindings.now))) }
+    ensures { MatchResult result (λ block. block_scope file.now [] (map binding_told bindings.now)
+        ≡ Some block) (Refuses (block_scope file.now [] (map binding_told bindings.now))) }
 {
     let mut block = Table::new(alloc);
     for binding in bindings {
@@ -160,7 +174,9 @@ fn block_scope(alloc: Global, file: &Scope, bindings: &[Binding]) -> Result<Scop
 
 // The value of a path, which isn't empty.
 fn path(alloc: Global, pieces: &[Piece], scopes: Scopes) -> Result<Name, Fault>
-    ensures { MatchResult result (λ name. path_in (value_within scopes.entry.block.now scopes.entry.file.now) pieces.now ≡ Some name) (Refuses (path_in (value_within scopes.entry.block.now scopes.entry.file.now) pieces.now)) }
+    ensures { MatchResult result (λ name. path_in (value_within scopes.entry.block.now scopes.entry.file.now)
+        pieces.now ≡ Some name) (Refuses
+        (path_in (value_within scopes.entry.block.now scopes.entry.file.now) pieces.now)) }
 {
     let name = expanded(alloc, pieces, scopes)?;
     if name.is_empty() {
@@ -171,7 +187,9 @@ fn path(alloc: Global, pieces: &[Piece], scopes: Scopes) -> Result<Name, Fault>
 
 // Paths, none of which is empty.
 fn paths(alloc: Global, paths: &[&[Piece]], scopes: Scopes) -> Result<Sequence<Name>, Fault>
-    ensures { MatchResult result (λ names. paths_in (value_within scopes.entry.block.now scopes.entry.file.now) (told paths.now) ≡ Some names) (Refuses (paths_in (value_within scopes.entry.block.now scopes.entry.file.now) (told paths.now))) }
+    ensures { MatchResult result (λ names. paths_in (value_within scopes.entry.block.now scopes.entry.file.now)
+        (told paths.now) ≡ Some names)
+        (Refuses (paths_in (value_within scopes.entry.block.now scopes.entry.file.now) (told paths.now))) }
 {
     let mut names = Vec::new(alloc);
     for pieces in paths {
@@ -182,7 +200,8 @@ fn paths(alloc: Global, paths: &[&[Piece]], scopes: Scopes) -> Result<Sequence<N
 
 // Paths by the variables of the file alone.
 fn paths_of_file(alloc: Global, targets: &[&[Piece]], file: &Scope) -> Result<Sequence<Name>, Fault>
-    ensures { MatchResult result (λ names. paths_in (value_in file.now) (told targets.now) ≡ Some names) (Refuses (paths_in (value_in file.now) (told targets.now))) }
+    ensures { MatchResult result (λ names. paths_in (value_in file.now) (told targets.now)
+        ≡ Some names) (Refuses (paths_in (value_in file.now) (told targets.now))) }
 {
     let none = Table::new(alloc);
     paths(alloc, targets, Scopes { block: &none, file })
@@ -196,7 +215,9 @@ fn with_paths(
     block: Scope,
     file: &Scope,
 ) -> Result<Stated, Fault>
-    ensures { MatchResult result (λ s. stated_with (value_within block file.now) (making_as block making) (build_told build.now) ≡ Some s) (Refuses (stated_with (value_within block file.now) (making_as block making) (build_told build.now))) }
+    ensures { MatchResult result (λ s. stated_with (value_within block file.now) (making_as block making)
+        (build_told build.now) ≡ Some s)
+        (Refuses (stated_with (value_within block file.now) (making_as block making) (build_told build.now))) }
 {
     let scopes = Scopes {
         block: &block,
@@ -218,7 +239,9 @@ fn with_paths(
 
 // What makes the outputs of a statement, by the variables that the file leaves.
 fn made(alloc: Global, making: Making, scopes: CommandScopes) -> Result<Made, AllocError>
-    ensures { IfOk result (λ made. made ≡ made_as scopes.entry.inputs.now scopes.entry.outs.now scopes.entry.scopes.block.now scopes.entry.scopes.file.now making) }
+    ensures { IfOk result (λ made. made
+        ≡ made_as scopes.entry.inputs.now scopes.entry.outs.now scopes.entry.scopes.block.now
+        scopes.entry.scopes.file.now making) }
 {
     match making {
         Making::ByNothing => Ok(Made::Phony),
@@ -264,7 +287,8 @@ impl Stated {
 
 // Adds outputs, each of which is new.
 fn add_outs(alloc: Global, names: &mut Names, outs: &[Name]) -> Result<(), Fault>
-    ensures { MatchResult result (λ _. (are_new names.old outs.now ≡ true) × (names.new ≡ names.old ++ outs.now)) (Fails (are_new names.old outs.now)) }
+    ensures { MatchResult result (λ _. (are_new names.old outs.now ≡ true)
+        × (names.new ≡ names.old ++ outs.now)) (Fails (are_new names.old outs.now)) }
 {
     for out in outs {
         let name = Vec::from_slice(alloc, out.as_slice())?;
@@ -316,7 +340,8 @@ impl State {
     /// A rule with its block.
     #[tactic(auto, unfolding(crate::specs::NinjaRead::read_rule))]
     pub(crate) fn read_rule(mut self, name: Vec<u8>, block: Vec<Binding>) -> Result<State, Fault>
-        ensures { MatchResult result (λ state. read_rule self name.items (map binding_told block.items) ≡ Some state) (Refuses (read_rule self name.items (map binding_told block.items))) }
+        ensures { MatchResult result (λ state. read_rule self name.items (map binding_told block.items)
+            ≡ Some state) (Refuses (read_rule self name.items (map binding_told block.items))) }
     {
         if is_phony(name.as_slice()) || self.rules.has(name.as_slice()) {
             return Err(Fault::NoReading);
@@ -328,7 +353,8 @@ impl State {
 
     #[tactic(auto, unfolding(crate::specs::NinjaRead::making_of))]
     fn making(&self, rule: &[u8], block: &Scope) -> Result<Making, Fault>
-        ensures { MatchResult result (λ making. making_of self.now rule.now block.now ≡ Some (making_as block.now making)) (Refuses (making_of self.now rule.now block.now)) }
+        ensures { MatchResult result (λ making. making_of self.now rule.now block.now
+            ≡ Some (making_as block.now making)) (Refuses (making_of self.now rule.now block.now)) }
     {
         if is_phony(rule) {
             return Ok(Making::ByNothing);
@@ -347,14 +373,17 @@ impl State {
 
     // The scope of a block.
     fn block(&self, bindings: &[Binding]) -> Result<Scope, Fault>
-        ensures { MatchResult result (λ block. block_scope self.now.file [] (map binding_told bindings.now) ≡ Some block) (Refuses (block_scope self.now.file [] (map binding_told bindings.now))) }
+        ensures { MatchResult result (λ block. block_scope self.now.file [] (map binding_told bindings.now)
+            ≡ Some block) (Refuses (block_scope self.now.file [] (map binding_told bindings.now))) }
     {
         block_scope(self.alloc, &self.file, bindings)
     }
 
     // A statement of a build line.
     fn statement(&self, build: &Build, making: Making, block: Scope) -> Result<Stated, Fault>
-        ensures { MatchResult result (λ s. stated_with (value_within block self.now.file) (making_as block making) (build_told build.now) ≡ Some s) (Refuses (stated_with (value_within block self.now.file) (making_as block making) (build_told build.now))) }
+        ensures { MatchResult result (λ s. stated_with (value_within block self.now.file) (making_as block making)
+            (build_told build.now) ≡ Some s)
+            (Refuses (stated_with (value_within block self.now.file) (making_as block making) (build_told build.now))) }
     {
         with_paths(self.alloc, build, making, block, &self.file)
     }
@@ -362,7 +391,8 @@ impl State {
     /// A build line with its block.
     #[tactic(auto, unfolding(crate::specs::NinjaRead::read_build))]
     pub(crate) fn read_build(self, build: &Build, block: &[Binding]) -> Result<State, Fault>
-        ensures { MatchResult result (λ state. read_build self (build_told build.now) (map binding_told block.now) ≡ Some state) (Refuses (read_build self (build_told build.now) (map binding_told block.now))) }
+        ensures { MatchResult result (λ state. read_build self (build_told build.now) (map binding_told block.now)
+            ≡ Some state) (Refuses (read_build self (build_told build.now) (map binding_told block.now))) }
     {
         let block = self.block(block)?;
         let making = self.making(build.rule.as_slice(), &block)?;
@@ -372,7 +402,8 @@ impl State {
 
     // One more statement, if its outputs are new.
     fn with_statement(self, statement: Stated) -> Result<State, Fault>
-        ensures { MatchResult result (λ state. add_statement self statement ≡ Some state) (Refuses (add_statement self statement)) }
+        ensures { MatchResult result (λ state. add_statement self statement
+            ≡ Some state) (Refuses (add_statement self statement)) }
     {
         let State {
             alloc,
@@ -396,7 +427,8 @@ impl State {
 
     // The names of default targets.
     fn targets(&self, targets: &[&[Piece]]) -> Result<Sequence<Name>, Fault>
-        ensures { MatchResult result (λ names. paths_in (value_in self.now.file) (told targets.now) ≡ Some names) (Refuses (paths_in (value_in self.now.file) (told targets.now))) }
+        ensures { MatchResult result (λ names. paths_in (value_in self.now.file) (told targets.now)
+            ≡ Some names) (Refuses (paths_in (value_in self.now.file) (told targets.now))) }
     {
         paths_of_file(self.alloc, targets, &self.file)
     }
@@ -404,7 +436,8 @@ impl State {
     /// Default targets.
     #[tactic(auto, unfolding(crate::specs::NinjaRead::read_default))]
     pub(crate) fn read_default(self, targets: &[&[Piece]]) -> Result<State, Fault>
-        ensures { MatchResult result (λ state. read_default self (told targets.now) ≡ Some state) (Refuses (read_default self (told targets.now))) }
+        ensures { MatchResult result (λ state. read_default self (told targets.now)
+            ≡ Some state) (Refuses (read_default self (told targets.now))) }
     {
         let names = self.targets(targets)?;
         self.with_defaults(names)
@@ -412,7 +445,8 @@ impl State {
 
     // More default targets, each an output of a statement above.
     fn with_defaults(mut self, names: Sequence<Name>) -> Result<State, Fault>
-        ensures { MatchResult result (λ state. add_defaults self names ≡ Some state) (Refuses (add_defaults self names)) }
+        ensures { MatchResult result (λ state. add_defaults self names
+            ≡ Some state) (Refuses (add_defaults self names)) }
     {
         if !all_among(&self.outs, names.as_slice()) {
             return Err(Fault::NoReading);

@@ -12,12 +12,15 @@ use Rattle.kt_recipe.specs.declared.subjects.Subject.{Subject}
 use Rattle.kt_recipe.specs.declared.subjects.Subject.TheVariants.{Target, First, Each, Every, OrderOnly, Stem, Member}
 use Rattle.kt_recipe.specs.Forms.{text_of}
 
--- the marks `@ < ^ ? + | * %` and what each asks for; no file is looked at, so all prerequisites count as newer (kati's own)
+-- the marks `@ < ^ ? + | * %` and what each asks for; no file is looked at, so all prerequisites count as newer
+-- (kati's own)
 abbrev pub marks : List (ℕ × Subject)
 marks =
-    (64, Target) ∷ (60, First) ∷ (94, Each) ∷ (63, Each) ∷ (43, Every) ∷ (124, OrderOnly) ∷ (42, Stem) ∷ (37, Member) ∷ []
+    (64, Target) ∷ (60, First) ∷ (94, Each) ∷ (63, Each) ∷ (43, Every) ∷ (124, OrderOnly) ∷ (42, Stem)
+    ∷ (37, Member) ∷ []
 
--- whether a `D` or `F` may stand behind the mark; behind `|` none may [Automatic Variables], nor behind `%` (kati's own)
+-- whether a `D` or `F` may stand behind the mark; behind `|` none may [Automatic Variables], nor behind `%` (kati's
+-- own)
 abbrev pub has_parts : Subject → Bool
 has_parts Target = true
 has_parts First = true
@@ -32,8 +35,8 @@ abbrev pub endings : Bool → List (Text × Form)
 endings true = ([], Whole) ∷ (codes "D", Directory) ∷ (codes "F", File) ∷ []
 endings false = ([], Whole) ∷ []
 
--- the names that a rule tells of a target; an empty stem is no name, and a name that is needed otherwise is not order-only [Types of
--- Prerequisites]
+-- the names that a rule tells of a target; an empty stem is no name, and a name that is needed otherwise is not
+-- order-only [Types of Prerequisites]
 unfoldable pub names_of : Text → Text → Needs → Subject → List Text
 names_of target stem needs Target = target ∷ []
 names_of target stem needs First = take 1 needs.prerequisites
@@ -44,11 +47,14 @@ names_of target stem needs OrderOnly =
 names_of target stem needs Stem = filter is_nonempty (stem ∷ [])
 names_of target stem needs Member = []
 
--- those that a part of a node tells, which has the lists of its own rule alone [Double-Colon Rules]; nothing is told of a part that
--- the node doesn't have
+-- those that a part of a node tells, which has the lists of its own rule alone [Double-Colon Rules]; nothing is told
+-- of a part that the node doesn't have
 abbrev pub needs_in : Node → ℕ → Needs
 needs_in node part =
-    record { prerequisites = part_needed (slice_get node.parts part); order_only = part_order_only (slice_get node.parts part) }
+    record {
+      prerequisites = part_needed (slice_get node.parts part);
+      order_only = part_order_only (slice_get node.parts part);
+    }
 
 abbrev pub names_in : Node → ℕ → Subject → List Text
 names_in node part subject = names_of node.name (part_stem (slice_get node.parts part)) (needs_in node part) subject

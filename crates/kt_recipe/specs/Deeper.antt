@@ -13,4 +13,5 @@ IsTooDeep (ends said fault) = fault.number ≡ 8
 -- a command that isn't too deep with so many levels is the same with one more
 abbrev pub StaysOneDeeper : Table → Node → List Text → Type 0
 StaysOneDeeper table node said =
-    (limit : ℕ) → (IsTooDeep (shell_of table limit node said) → ⊥) → shell_of table (suc limit) node said ≡ shell_of table limit node said
+    (limit : ℕ) → (IsTooDeep (shell_of table limit node said) → ⊥) → shell_of table (suc limit) node said
+    ≡ shell_of table limit node said

@@ -1,10 +1,11 @@
--- The lines of a recipe and their pieces (GNU make manual, "Recipe Execution", "Defining Canned Recipes", "Errors in Recipes").
+-- The lines of a recipe and their pieces (GNU make manual, "Recipe Execution", "Defining Canned Recipes", "Errors in
+-- Recipes").
 use Rattle.std.specs.Prelude.{ℕ, Bool, ◌==◌, ◌||◌, List, take, drop}
 use Rattle.std.specs.List.{list_any, prefix_len, slice_split}
 use Rattle.kt_text.specs.Words.{Text, is_blank}
 
--- a byte of the run that may stand before a command: a blank, `@`, `-` or `+` ["Recipe Echoing"; "Errors in Recipes"; "How the
--- MAKE Variable Works"]
+-- a byte of the run that may stand before a command: a blank, `@`, `-` or `+` ["Recipe Echoing"; "Errors in Recipes";
+-- "How the MAKE Variable Works"]
 unfoldable pub is_prefix : ℕ → Bool
 is_prefix byte = is_blank byte || (byte == 64 || (byte == 45 || byte == 43))
 

@@ -2,7 +2,8 @@
 use Rattle.std.specs.Prelude.{ℕ, ◌==◌, [], ◌∷◌, ◌++◌, flat_map, Option, Some, None, option_map, if◌then◌else◌}
 use Rattle.kt_text.specs.Words.{Text}
 
--- a byte between single quotes: a single quote can't stand there, so it ends them, stands behind a backslash, and begins new ones
+-- a byte between single quotes: a single quote can't stand there, so it ends them, stands behind a backslash, and
+-- begins new ones
 abbrev pub quoted_byte : ℕ → Text
 quoted_byte byte = if byte == 39 then 39 ∷ 92 ∷ 39 ∷ 39 ∷ [] else byte ∷ []
 
@@ -17,8 +18,9 @@ pub data Standing : Type 0 where
   inside : Standing
 
 -- what a shell reads a word as that is written with quotes alone: between single quotes each byte stands for itself
--- ["Single-Quotes"], and so does one behind a backslash, but for a newline, which goes with it ["Escape Character (Backslash)"].
--- A word with anything else outside quotes has no reading here, nor has one whose quotes are open at its end.
+-- ["Single-Quotes"], and so does one behind a backslash, but for a newline, which goes with it ["Escape Character
+-- (Backslash)"]. A word with anything else outside quotes has no reading here, nor has one whose quotes are open at
+-- its end.
 unfoldable pub read_quotes : Standing → Text → Option Text
 read_quotes outside [] = Some []
 read_quotes outside (byte ∷ text) =

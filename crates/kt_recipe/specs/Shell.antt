@@ -1,5 +1,6 @@
--- The command of a node: the pieces of its recipes, each for a shell of its own (GNU make manual, "Recipe Execution", "Choosing the
--- Shell", "Errors in Recipes", "Defining Canned Recipes"; how they are joined to one command is kati's own).
+-- The command of a node: the pieces of its recipes, each for a shell of its own (GNU make manual, "Recipe Execution",
+-- "Choosing the Shell", "Errors in Recipes", "Defining Canned Recipes"; how they are joined to one command is kati's
+-- own).
 use Rattle.std.specs.Prelude.{ℕ, Bool, true, false, ◌||◌, List, [], ◌∷◌, ◌++◌, length, Option, Some, None, unwrap_or, slice_get, codes, if◌then◌else◌}
 use Rattle.std.specs.List.{range_with_len}
 use Rattle.kt_text.specs.Words.{Text, is_nonempty}
@@ -20,8 +21,9 @@ use Rattle.kt_recipe.specs.Quoting.{quoted}
 
 -- ---- a command and its pieces
 
--- a piece as an argument of the shell ["Choosing the Shell"]; where a failure is passed over the list that does so stands in braces,
--- so that it is one command to those round it (POSIX.1-2024 Shell Command Language, "Grouping Commands", "OR Lists")
+-- a piece as an argument of the shell ["Choosing the Shell"]; where a failure is passed over the list that does so
+-- stands in braces, so that it is one command to those round it (POSIX.1-2024 Shell Command Language, "Grouping
+-- Commands", "OR Lists")
 abbrev pub shell_call : Text → Text → Text
 shell_call shell piece = shell ++ (32 ∷ quoted piece)
 
@@ -29,7 +31,8 @@ unfoldable pub wrapped : Bool → Text → Text → Text
 wrapped true shell piece = codes "{ " ++ (shell_call shell piece ++ codes " || :; }")
 wrapped false shell piece = shell_call shell piece
 
--- one more behind the command so far, run where all before it succeeded (POSIX.1-2024 Shell Command Language, "AND Lists")
+-- one more behind the command so far, run where all before it succeeded (POSIX.1-2024 Shell Command Language, "AND
+-- Lists")
 abbrev pub joined : Option Text → Text → Text
 joined None call = call
 joined (Some command) call = command ++ (codes " && " ++ call)
@@ -69,7 +72,8 @@ shell_text = codes "$(SHELL) $(.SHELLFLAGS)"
 unfoldable pub put_piece : Setting → Bool → Text → List Text → Option Text → Progress
 put_piece at marked piece said command =
     if is_nonempty (after_run piece)
-    then on_text (expansion at said shell_text) (λ heard shell. goes_on heard (Some (joined command (wrapped (marked || is_marked piece) shell (after_run piece)))))
+    then on_text (expansion at said shell_text)
+    (λ heard shell. goes_on heard (Some (joined command (wrapped (marked || is_marked piece) shell (after_run piece)))))
     else goes_on said command
 
 unfoldable pub put_pieces : Setting → Bool → List Text → List Text → Option Text → Progress
@@ -80,7 +84,8 @@ put_pieces at marked (piece ∷ pieces) said command =
 -- a line: its run is taken before it is expanded as a whole, and a `-` there marks all its pieces
 unfoldable pub put_line : Setting → Text → List Text → Option Text → Progress
 put_line at line said command =
-    on_text (expansion at said (after_run line)) (λ heard text. put_pieces at (is_marked line) (pieces_of text) heard command)
+    on_text (expansion at said (after_run line))
+    (λ heard text. put_pieces at (is_marked line) (pieces_of text) heard command)
 
 abbrev pub setting_of : Table → Store → ℕ → Place → Setting
 setting_of table automatic limit place =
@@ -89,7 +94,8 @@ setting_of table automatic limit place =
 unfoldable pub put_lines : Table → Store → ℕ → List RecipeLine → List Text → Option Text → Progress
 put_lines table automatic limit [] said command = goes_on said command
 put_lines table automatic limit (line ∷ lines) said command =
-    and_then (put_line (setting_of table automatic limit line.place) line.text said command) (put_lines table automatic limit lines)
+    and_then (put_line (setting_of table automatic limit line.place) line.text said command)
+    (put_lines table automatic limit lines)
 
 -- a part of a node, with the automatic macros of that part
 unfoldable pub put_part : Table → ℕ → Node → ℕ → List Text → Option Text → Progress

@@ -28,8 +28,8 @@ abbrev pub said_of : Progress → List Text
 said_of (goes_on said command) = said
 said_of (ends said fault) = said
 
--- the messages and the fault that are told are those of this end; where memory is wanted the messages are a beginning of its messages;
--- no device is there to fail
+-- the messages and the fault that are told are those of this end; where memory is wanted the messages are a beginning
+-- of its messages; no device is there to fail
 abbrev pub Stops : Stop → List Text → Progress → Type 0
 Stops (stops.Fault fault) said progress = progress ≡ ends said fault
 Stops (stops.Device name) said progress = ⊥

@@ -151,7 +151,8 @@ fn without<'g>(
     others: &IndexSet<&'g [u8]>,
 ) -> Result<Vec<&'g [u8]>, AllocError>
     ensures { IfOk result (λ left. map (λ name. name.now) left.items
-        ≡ filter (λ name. not (is_among (map (λ other. other.now) others.now.keys) name)) (map (λ name. name.now) names.now)) }
+        ≡ filter (λ name. not (is_among (map (λ other. other.now) others.now.keys) name)) (map
+        (λ name. name.now) names.now)) }
 {
     let mut left = Vec::new(alloc);
     for name in names {
@@ -166,7 +167,8 @@ fn put_other<'g>(
     name: &'g [u8],
 ) -> Result<(), AllocError>
     ensures { OnOk result (map (λ name. name.now) left.new.items
-        ≡ map (λ name. name.now) left.old.items ++ filter (λ name. not (is_among (map (λ other. other.now) others.now.keys) name)) (name.now ∷ [])) }
+        ≡ map (λ name. name.now) left.old.items ++ filter
+        (λ name. not (is_among (map (λ other. other.now) others.now.keys) name)) (name.now ∷ [])) }
 {
     if !is_among(others, name) {
         left.push(name)?;

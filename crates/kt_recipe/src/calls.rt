@@ -15,7 +15,8 @@ pub(crate) fn put_call(
     shell: &[u8],
     piece: &[u8],
 ) -> Result<(), AllocError>
-    ensures { OnOk result (command_in command.new.items ≡ Some (joined (command_in command.old.items) (wrapped marked shell.now piece.now))) }
+    ensures { OnOk result (command_in command.new.items
+        ≡ Some (joined (command_in command.old.items) (wrapped marked shell.now piece.now))) }
 {
     put_joint(command)?;
     put_wrapped(command, marked, shell, piece)

@@ -31,7 +31,8 @@ pub fn command(
     limit: u64,
 ) -> Result<Option<Vec<u8>>, Stop>
     ensures appends { IsFront messages.old.items messages.new.items }
-    ensures ends { Tells (option_map (λ text. text.items)) result messages.new.items (shell_of macros.now limit node.now messages.old.items) }
+    ensures ends { Tells (option_map (λ text. text.items)) result messages.new.items
+        (shell_of macros.now limit node.now messages.old.items) }
 {
     let mut command = Vec::new(alloc);
     put_parts(alloc, macros, node, limit, &mut command, messages)?;
@@ -60,7 +61,8 @@ fn put_parts(
 ) -> Result<(), Stop>
     ensures appends { IsFront messages.old.items messages.new.items }
     ensures ends { Tells (λ _. command_in command.new.items) result messages.new.items
-        (put_parts macros.now limit node.now (range_with_len 0 (length node.now.parts)) messages.old.items (command_in command.old.items)) }
+        (put_parts macros.now limit node.now (range_with_len 0 (length node.now.parts)) messages.old.items
+        (command_in command.old.items)) }
 {
     for part in 0..node.parts() {
         let shell = Shell {
@@ -91,7 +93,8 @@ impl<'a, 'g> Shell<'a, 'g> {
     fn put_part(&self, command: &mut Vec<u8>, messages: &mut Vec<Sequence<u8>>) -> Result<(), Stop>
         ensures appends { IsFront messages.old.items messages.new.items }
         ensures ends { Tells (λ _. command_in command.new.items) result messages.new.items
-            (put_part self.now.macros.now self.now.limit self.now.node.now self.now.part messages.old.items (command_in command.old.items)) }
+            (put_part self.now.macros.now self.now.limit self.now.node.now self.now.part messages.old.items
+            (command_in command.old.items)) }
     {
         match self.node.recipe(self.part) {
             Some(lines) => self.put_lines(lines, command, messages),
@@ -108,7 +111,8 @@ impl<'a, 'g> Shell<'a, 'g> {
     ) -> Result<(), Stop>
         ensures appends { IsFront messages.old.items messages.new.items }
         ensures ends { Tells (λ _. command_in command.new.items) result messages.new.items
-            (put_lines self.now.macros.now (automatic_in self.now.node.now self.now.part) self.now.limit lines.now messages.old.items (command_in command.old.items)) }
+            (put_lines self.now.macros.now (automatic_in self.now.node.now self.now.part) self.now.limit lines.now
+            messages.old.items (command_in command.old.items)) }
     {
         for line in lines {
             self.put_line(line, command, messages)?;
@@ -126,7 +130,8 @@ impl<'a, 'g> Shell<'a, 'g> {
     ) -> Result<(), Stop>
         ensures appends { IsFront messages.old.items messages.new.items }
         ensures ends { Tells (λ _. command_in command.new.items) result messages.new.items
-            (put_line (setting_at self.now line.now.place) line.now.text messages.old.items (command_in command.old.items)) }
+            (put_line (setting_at self.now line.now.place) line.now.text messages.old.items
+            (command_in command.old.items)) }
     {
         let line_text = line.text.as_slice();
         let text = self.expand(&line.place, after_run(line_text), messages)?;
@@ -145,7 +150,8 @@ impl<'a, 'g> Shell<'a, 'g> {
     ) -> Result<(), Stop>
         ensures appends { IsFront messages.old.items messages.new.items }
         ensures ends { Tells (λ _. command_in command.new.items) result messages.new.items
-            (put_pieces (setting_at self.now place.now) marked (pieces_of text.now) messages.old.items (command_in command.old.items)) }
+            (put_pieces (setting_at self.now place.now) marked (pieces_of text.now) messages.old.items
+            (command_in command.old.items)) }
     {
         let pieces = pieces(self.alloc, text)?;
         self.put_pieces(place, marked, pieces.as_slice(), command, messages)
@@ -162,7 +168,8 @@ impl<'a, 'g> Shell<'a, 'g> {
     ) -> Result<(), Stop>
         ensures appends { IsFront messages.old.items messages.new.items }
         ensures ends { Tells (λ _. command_in command.new.items) result messages.new.items
-            (put_pieces (setting_at self.now place.now) marked (map (λ piece. piece.now) pieces.now) messages.old.items (command_in command.old.items)) }
+            (put_pieces (setting_at self.now place.now) marked (map
+            (λ piece. piece.now) pieces.now) messages.old.items (command_in command.old.items)) }
     {
         for piece in pieces {
             self.put_piece(place, marked, *piece, command, messages)?;
@@ -182,7 +189,8 @@ impl<'a, 'g> Shell<'a, 'g> {
     ) -> Result<(), Stop>
         ensures appends { IsFront messages.old.items messages.new.items }
         ensures ends { Tells (λ _. command_in command.new.items) result messages.new.items
-            (put_piece (setting_at self.now place.now) marked piece.now messages.old.items (command_in command.old.items)) }
+            (put_piece (setting_at self.now place.now) marked piece.now messages.old.items
+            (command_in command.old.items)) }
     {
         let text = after_run(piece);
         if text.is_empty() {
@@ -201,7 +209,8 @@ impl<'a, 'g> Shell<'a, 'g> {
         messages: &mut Vec<Sequence<u8>>,
     ) -> Result<Vec<u8>, Stop>
         ensures appends { IsFront messages.old.items messages.new.items }
-        ensures ends { Ends result messages.new.items (expansion (setting_at self.now place.now) messages.old.items text.now) }
+        ensures ends { Ends result messages.new.items
+            (expansion (setting_at self.now place.now) messages.old.items text.now) }
     {
         let automatic = auto_of(self.node, self.part);
         let place = Some(place.share()?);

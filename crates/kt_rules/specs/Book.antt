@@ -1,4 +1,5 @@
--- The rules of a makefile as a list, and what is asked of it (POSIX.1-2024 make, "Target Rules"; GNU make manual, "Rules").
+-- The rules of a makefile as a list, and what is asked of it (POSIX.1-2024 make, "Target Rules"; GNU make manual,
+-- "Rules").
 use Rattle.std.specs.Prelude.{◌≡◌, Bool, true, false, not, ◌&&◌, ◌||◌, ◌==◌, List, [], ◌∷◌, ◌++◌, map, filter, find, flat_map, filter_map, codes, bytes_eq, Option, Some, None, option_map, is_some, is_none, Result, Ok, Err, if◌then◌else◌}
 use Rattle.std.specs.List.{AllPairs, list_any}
 use Rattle.std.specs.Cmp.Lexicographic.{pointwise}
@@ -77,8 +78,8 @@ abbrev pub begins_with_dot : Text → Bool
 begins_with_dot [] = false
 begins_with_dot (byte ∷ name) = byte == 46
 
--- whether a name may be the default goal: it doesn't begin with a dot, or it holds a slash (GNU make manual, "How `make`
--- Processes a Makefile")
+-- whether a name may be the default goal: it doesn't begin with a dot, or it holds a slash (GNU make manual, "How
+-- `make` Processes a Makefile")
 abbrev pub may_be_goal : Text → Bool
 may_be_goal name = not (begins_with_dot name) || list_any (λ byte. byte == 47) name
 
@@ -110,7 +111,8 @@ differ_in_colons rule earlier = xor (is_double earlier.0.kind) (is_double rule.k
 
 -- the first target that has rules with the other number of colons (GNU make manual, "Double-Colon Rules")
 abbrev pub both_colons_in : List Rule → Rule → Option Target
-both_colons_in rules rule = find (λ target. list_any (differ_in_colons rule) (rules_of rules target.name)) (made_targets rule)
+both_colons_in rules rule = find (λ target. list_any (differ_in_colons rule) (rules_of rules target.name))
+    (made_targets rule)
 
 -- whether one of two rules of a target is a group's
 abbrev pub is_beside_group : Rule → Rule × Target → Bool
@@ -118,7 +120,8 @@ is_beside_group rule earlier = is_group rule.kind || is_group earlier.0.kind
 
 -- the first target that gets a second recipe, where one of the two is a group's (kati's own)
 abbrev pub beside_group_in : List Rule → Rule → Option Target
-beside_group_in rules rule = find (λ target. list_any (is_beside_group rule) (recipes_of rules target.name)) (made_targets rule)
+beside_group_in rules rule = find (λ target. list_any (is_beside_group rule) (recipes_of rules target.name))
+    (made_targets rule)
 
 abbrev pub two_recipes_in : List Rule → Rule → Option Target
 two_recipes_in rules rule = if is_some rule.recipe then beside_group_in rules rule else None
@@ -144,17 +147,20 @@ AreApart earlier later =
 abbrev pub GroupsStandAlone : List Rule → Type 0
 GroupsStandAlone rules = AllPairs AreApart rules
 
--- the targets of which a rule with one colon has the later recipe; an earlier rule with a recipe has one colon too, else
--- this one is refused (GNU make manual, "Multiple Rules for One Target")
+-- the targets of which a rule with one colon has the later recipe; an earlier rule with a recipe has one colon too,
+-- else this one is refused (GNU make manual, "Multiple Rules for One Target")
 abbrev pub targets_with_recipe : List Rule → Rule → List Target
-targets_with_recipe rules rule = filter (λ target. list_any (λ earlier. true) (recipes_of rules target.name)) (made_targets rule)
+targets_with_recipe rules rule = filter
+    (λ target. list_any (λ earlier. true) (recipes_of rules target.name)) (made_targets rule)
 
 abbrev pub overridden_targets : List Rule → Rule → List Target
-overridden_targets rules rule = if is_single rule.kind && is_some rule.recipe then targets_with_recipe rules rule else []
+overridden_targets rules rule = if is_single rule.kind && is_some rule.recipe
+    then targets_with_recipe rules rule else []
 
 -- the message on one of them; its form is kati's own
 abbrev pub override_message : Place → Target → Text
-override_message place target = place_text place ++ (codes ": warning: overriding recipe for target '" ++ (target.name ++ 39 ∷ []))
+override_message place target = place_text place ++ (codes ": warning: overriding recipe for target '"
+    ++ (target.name ++ 39 ∷ []))
 
 abbrev pub override_messages : List Rule → Rule → List Text
 override_messages rules rule = map (override_message rule.place) (overridden_targets rules rule)
@@ -172,12 +178,13 @@ names_eq = pointwise bytes_eq
 abbrev pub target_names : Rule → List Text
 target_names rule = map (λ target. target.name) rule.targets
 
--- whether two pattern rules have the same targets and the same prerequisites, order and repeats counting (GNU make manual,
--- "Canceling Implicit Rules")
+-- whether two pattern rules have the same targets and the same prerequisites, order and repeats counting (GNU make
+-- manual, "Canceling Implicit Rules")
 abbrev pub repeats : Rule → Rule → Bool
 repeats earlier later =
     names_eq (target_names earlier) (target_names later)
-    && (names_eq earlier.needs.prerequisites later.needs.prerequisites && names_eq earlier.needs.order_only later.needs.order_only)
+    && (names_eq earlier.needs.prerequisites later.needs.prerequisites
+    && names_eq earlier.needs.order_only later.needs.order_only)
 
 -- the pattern rule that a suffix rule is, of these patterns
 abbrev pub pattern_rule : Rule → Text × Text → Rule
@@ -205,6 +212,7 @@ unrepeated [] = []
 unrepeated (rule ∷ rules) =
     if is_some rule.recipe && not (list_any (repeats rule) rules) then rule ∷ unrepeated rules else unrepeated rules
 
--- the pattern rules of a list of rules, suffix rules in their places, as the search takes them (GNU make manual, "Pattern Rules")
+-- the pattern rules of a list of rules, suffix rules in their places, as the search takes them (GNU make manual,
+-- "Pattern Rules")
 unfoldable pub patterns_of : List Rule → List Rule
 patterns_of rules = unrepeated (flat_map (patterns_in (suffixes_of rules)) rules)

@@ -1,5 +1,5 @@
--- Worked books, as facts that compute. The rules are those of the GNU make manual's sections on rules, and of kati's own
--- rules where it has some.
+-- Worked books, as facts that compute. The rules are those of the GNU make manual's sections on rules, and of kati's
+-- own rules where it has some.
 use Rattle.std.specs.Prelude.{◌≡◌, ℕ, Bool, true, false, List, [], ◌∷◌, ◌++◌, Some, None, codes}
 use Rattle.kt_text.specs.Words.{Text}
 use Rattle.kt_rules.specs.declared.entry.Kind.{Kind}

@@ -1,5 +1,5 @@
--- What the cuts of a rule line find, as facts about the parts of a text (POSIX.1-2024 make, "Target Rules"). That a backslash
--- quotes only the byte directly behind it is kati's own.
+-- What the cuts of a rule line find, as facts about the parts of a text (POSIX.1-2024 make, "Target Rules"). That a
+-- backslash quotes only the byte directly behind it is kati's own.
 use Rattle.std.specs.Prelude.{◌≡◌, ℕ, Bool, true, false, ◌==◌, ◌&&◌, List, [], ◌∷◌, ◌++◌, flat_map, Option, Some, None}
 use Rattle.std.specs.List.{list_all}
 use Rattle.kt_text.specs.Words.{Text}

@@ -19,8 +19,8 @@ use Rattle.kt_rules.specs.Refusals.{Refusal, Fault, faults_at}
 use Rattle.kt_rules.specs.Names.{without_dots}
 use Rattle.kt_rules.specs.RuleLine.{Head, head_of, line_of, line_refusal}
 
--- how the targets are made, the targets, what those need that no static pattern gives anything, the recipe and the place
--- of the rule line
+-- how the targets are made, the targets, what those need that no static pattern gives anything, the recipe and the
+-- place of the rule line
 pub record Rule : Type 0 where
   pub kind : Kind
   pub targets : List Target
@@ -58,7 +58,8 @@ kind_of Grouped has_percent = Group
 abbrev pub no_needs : Needs
 no_needs = record { prerequisites = []; order_only = [] }
 
--- names with the stem in place of the first percent sign of each, and then without leading `./` (GNU make manual, "Static Pattern Rules")
+-- names with the stem in place of the first percent sign of each, and then without leading `./` (GNU make manual,
+-- "Static Pattern Rules")
 unfoldable pub stemmed_names : Text → List Text → List Text
 stemmed_names stem names = map (λ name. without_dots (with_stem name stem)) names
 
@@ -75,7 +76,8 @@ stemmed needs stem = record {
 -- what a static pattern, if there is one, gives to a target that it matches
 unfoldable pub stemmed_of : Option Text → Needs → Text → Option Stemmed
 stemmed_of pattern needs target =
-    option_and_then (λ text. option_map (λ place. stemmed needs (slice_range target place.0 place.1)) (stem_span text target)) pattern
+    option_and_then (λ text. option_map
+    (λ place. stemmed needs (slice_range target place.0 place.1)) (stem_span text target)) pattern
 
 -- a target of a line
 abbrev pub target_of : Option Text → Needs → Text → Target

@@ -1,5 +1,5 @@
--- The names of a rule line: how they are cut, quoted and spelled, and which are refused (POSIX.1-2024 make, "Target Rules";
--- GNU make manual, "Using Wildcard Characters in File Names" on quoting).
+-- The names of a rule line: how they are cut, quoted and spelled, and which are refused (POSIX.1-2024 make, "Target
+-- Rules"; GNU make manual, "Using Wildcard Characters in File Names" on quoting).
 use Rattle.std.specs.Prelude.{ℕ, suc, ◌+◌, ◌-◌, Bool, true, false, not, ◌==◌, ◌&&◌, ◌||◌, nat_eq, List, [], ◌∷◌, ◌++◌, length, take, drop, filter, fold, codes, slice_index, if◌then◌else◌}
 use Rattle.std.specs.List.{list_any, onto_first, prefix_len, suffix_len, starts_with, ends_with}
 use Rattle.std.specs.Cmp.Lexicographic.{pointwise}
@@ -108,7 +108,8 @@ is_refused_name name =
 -- a special target that is accepted and does nothing (GNU make manual, "Special Built-in Target Names")
 unfoldable pub is_without_effect : Text → Bool
 is_without_effect name =
-    is_among (codes ".POSIX" ∷ codes ".PRECIOUS" ∷ codes ".SECONDARY" ∷ codes ".INTERMEDIATE" ∷ codes ".SILENT" ∷ codes ".DELETE_ON_ERROR" ∷ codes ".NOTPARALLEL" ∷ []) name
+    is_among (codes ".POSIX" ∷ codes ".PRECIOUS" ∷ codes ".SECONDARY" ∷ codes ".INTERMEDIATE" ∷ codes ".SILENT"
+    ∷ codes ".DELETE_ON_ERROR" ∷ codes ".NOTPARALLEL" ∷ []) name
 
 -- a special target, which acts by its name (GNU make manual, "Special Built-in Target Names")
 unfoldable pub is_special : Text → Bool
@@ -121,4 +122,5 @@ wait_name = codes ".WAIT"
 -- a special target that kati doesn't take (GNU make manual, "Special Built-in Target Names"; "Parallel Disable")
 unfoldable pub is_refused_target : Text → Bool
 is_refused_target name =
-    is_among (codes ".SECONDEXPANSION" ∷ codes ".ONESHELL" ∷ codes ".DEFAULT" ∷ codes ".IGNORE" ∷ wait_name ∷ codes ".EXPORT_ALL_VARIABLES" ∷ []) name
+    is_among (codes ".SECONDEXPANSION" ∷ codes ".ONESHELL" ∷ codes ".DEFAULT" ∷ codes ".IGNORE" ∷ wait_name
+    ∷ codes ".EXPORT_ALL_VARIABLES" ∷ []) name

@@ -16,7 +16,13 @@ use Rattle.kt_rules.specs.Book.{is_made, target_rules, target_names, names_eq, p
 -- a suffix rule with what it makes and needs as a pattern rule
 abbrev pub form_told : Rule → SuffixForm → Rule
 form_told rule form =
-    record { kind = Pattern; targets = form.targets.items; needs = form.needs; recipe = rule.recipe; place = rule.place }
+    record {
+      kind = Pattern;
+      targets = form.targets.items;
+      needs = form.needs;
+      recipe = rule.recipe;
+      place = rule.place;
+    }
 
 -- an entry, or what a suffix rule makes and needs in its place
 abbrev pub pattern_told : Rule → Option SuffixForm → Rule
@@ -61,7 +67,8 @@ pub record IsKeyOf (rule : Rule) (key : PatternKey) : Type 0 where
 abbrev pub has_repeated : Rule → PatternKey → Bool
 has_repeated rule key =
     names_eq (target_names rule) (held key.targets.items)
-    && (names_eq rule.needs.prerequisites (held key.prerequisites.items) && names_eq rule.needs.order_only (held key.order_only.items))
+    && (names_eq rule.needs.prerequisites (held key.prerequisites.items)
+    && names_eq rule.needs.order_only (held key.order_only.items))
 
 -- whether a rule is in a set of pattern rules
 abbrev pub has_pattern : PatternSet → Rule → Bool

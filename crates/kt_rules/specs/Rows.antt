@@ -1,5 +1,5 @@
--- Worked values of the definitions, as facts that compute. The lines are those of the GNU make manual's sections on rules,
--- and of kati's own rules where it has some.
+-- Worked values of the definitions, as facts that compute. The lines are those of the GNU make manual's sections on
+-- rules, and of kati's own rules where it has some.
 use Rattle.std.specs.Prelude.{◌≡◌, List, [], ◌∷◌, ◌++◌, Some, None, Ok, Err, codes}
 use Rattle.kt_text.specs.Words.{Text}
 use Rattle.kt_rules.specs.declared.head.Separator.{Separator}

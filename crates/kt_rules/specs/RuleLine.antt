@@ -54,7 +54,12 @@ with_pattern separator targets part needs (Some word) =
 
 -- what stands behind the separator: one more unquoted colon divides off a static pattern
 abbrev pub head_behind : Separator → Text → Text → Option (Text × Text) → Result Head Refusal
-head_behind separator targets needs None = Ok (record { separator = separator; targets = targets; pattern = None; needs = needs })
+head_behind separator targets needs None = Ok (record {
+  separator = separator;
+  targets = targets;
+  pattern = None;
+  needs = needs;
+})
 head_behind separator targets rest (Some cut) =
     if is_some (colon_cut cut.1) then Err missing_separator
     else with_pattern separator targets cut.0 cut.1 (pattern_word (written_words cut.0))
@@ -115,7 +120,8 @@ line_of head = record {
 
 -- the prerequisites that are tested: those of a line that has a target with effect
 unfoldable pub tested_needs : Line → List Text
-tested_needs line = if list_all is_without_effect line.targets then [] else line.needs.prerequisites ++ line.needs.order_only
+tested_needs line = if list_all is_without_effect line.targets then [] else line.needs.prerequisites
+    ++ line.needs.order_only
 
 -- a text that there may be, as a list
 abbrev pub option_list : Option Text → List Text

@@ -68,7 +68,8 @@ spot_at entry target = record { entry = entry; target = target }
 
 -- the spot of a target, where the rule makes it and it has the name
 abbrev pub target_spots : Rule → Target → Spot → Text → List Spot
-target_spots rule target spot name = if is_made rule target then (if bytes_eq name target.name then spot ∷ [] else []) else []
+target_spots rule target spot name = if is_made rule target then (if bytes_eq name target.name then spot ∷ []
+    else []) else []
 
 -- the spots that a rule at a place has for a name, of its targets from a number on
 unfoldable pub spots_from : Rule → ℕ → ℕ → List Target → Text → List Spot
@@ -102,7 +103,8 @@ GotSpots rule place old new = (name : Text) → spots_at new name ≡ spots_at o
 -- the same of an index of those rules that have a recipe
 abbrev pub GotRecipes : Rule → ℕ → Index → Index → Type 0
 GotRecipes rule place old new =
-    (name : Text) → spots_at new name ≡ spots_at old name ++ (if is_some rule.recipe then spots_for rule place name else [])
+    (name : Text) → spots_at new name ≡ spots_at old name ++ (if is_some rule.recipe
+    then spots_for rule place name else [])
 
 -- the test gives the same at each of them
 abbrev pub AreAlike : {A : Type 0} → (A → Bool) → List A → Type 0

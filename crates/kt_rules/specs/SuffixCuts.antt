@@ -12,7 +12,8 @@ use Rattle.kt_rules.specs.Suffixes.{is_bare}
 
 -- whether a name that is cut at a place is this beginning and a suffix
 abbrev pub is_cut_behind : List Text → Text → Text → ℕ → Bool
-is_cut_behind suffixes name front place = pointwise nat_eq (take place name) front && is_among suffixes (drop place name)
+is_cut_behind suffixes name front place = pointwise nat_eq (take place name) front
+    && is_among suffixes (drop place name)
 
 -- the place at which it is so cut
 unfoldable pub cut_behind : List Text → Text → Text → Option ℕ
@@ -26,7 +27,8 @@ goes_on suffixes name front =
 -- the first place at which a name is cut into one of some beginnings and a suffix
 unfoldable pub first_cut : List Text → List Text → Text → Option ℕ
 first_cut suffixes fronts name =
-    find (λ place. is_among fronts (take place name) && is_among suffixes (drop place name)) (range_with_len 0 (length name))
+    find (λ place. is_among fronts (take place name)
+    && is_among suffixes (drop place name)) (range_with_len 0 (length name))
 
 -- the less of two places, of which either may be absent
 abbrev pub earlier : Option ℕ → Option ℕ → Option ℕ

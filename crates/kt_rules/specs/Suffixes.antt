@@ -18,7 +18,8 @@ all_needs needs = needs.prerequisites ++ needs.order_only
 -- what a rule's special target of a name needs, where the rule has that target
 abbrev pub special_needs : Text → Rule → Option (List Text)
 special_needs special rule =
-    option_map (λ target. all_needs (needs_for rule target)) (find (λ target. bytes_eq target.name special) rule.targets)
+    option_map (λ target. all_needs (needs_for rule target)) (find
+    (λ target. bytes_eq target.name special) rule.targets)
 
 -- the suffixes that are known at the start (kati's own)
 unfoldable pub start_suffixes : List Text

@@ -128,7 +128,8 @@ fn with_stem(alloc: Global, pattern: &[u8], stem: &[u8]) -> Result<Vec<u8>, Allo
 #[tactic(auto, using(kt_text::proofs::MatchLemmas::match_facts))]
 fn percent_cut(pattern: &[u8]) -> Option<(&[u8], &[u8])>
     ensures { MatchOption result (has_percent pattern.now ≡ false)
-        (λ cut. (has_percent pattern.now ≡ true) × (cut.0.now ≡ pattern_front pattern.now) × (cut.1.now ≡ pattern_back pattern.now)) }
+        (λ cut. (has_percent pattern.now ≡ true) × (cut.0.now ≡ pattern_front pattern.now)
+        × (cut.1.now ≡ pattern_back pattern.now)) }
 {
     let percent = memchr(b'%', pattern)?;
     Some((&pattern[..percent], &pattern[percent + 1..]))

@@ -21,10 +21,10 @@ use std::alloc::{AllocError, Global};
 /// one. A line without targets is an entry without targets. POSIX.1-2024 make, "Target Rules"; GNU
 /// make manual, "Rule Syntax".
 ///
-/// Refused are a line without `:` or with too many, with targets of which only some are patterns,
-/// or with a static pattern and a target that is a pattern itself (5); names that kati doesn't take (20, 22); a bad static pattern, or a target that it doesn't
-/// match (21); and a group of special targets or patterns, by two colons or with a static pattern
-/// (35).
+/// Refused are a line without `:` or with too many, with targets of which only some are patterns, or with a static
+/// pattern and a target that is a pattern itself (5); names that kati doesn't take (20, 22); a bad static pattern, or
+/// a target that it doesn't match (21); and a group of special targets or patterns, by two colons or with a static
+/// pattern (35).
 pub fn read_rule(
     alloc: Global,
     text: &[u8],

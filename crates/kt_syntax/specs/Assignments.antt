@@ -1,13 +1,13 @@
--- What an assignment is, as a relation between a line and the places of its parts (POSIX.1-2024 make, "Macros"; GNU make
--- manual, "Setting Variables"): a name, then blanks, then an operator. The line is given by its text and by its mask up to
--- the comment.
+-- What an assignment is, as a relation between a line and the places of its parts (POSIX.1-2024 make, "Macros"; GNU
+-- make manual, "Setting Variables"): a name, then blanks, then an operator. The line is given by its text and by its
+-- mask up to the comment.
 use Rattle.std.specs.Prelude.{◌≡◌, ℕ, ◌+◌, ◌<◌, ◌≤◌, Bool, true, false, not, ◌==◌, ◌&&◌, List, length, drop, slice_index, Some, MatchOption}
 use Rattle.kt_text.specs.Words.{Text, is_blank}
 use Rattle.kt_syntax.specs.Mask.{mask_of}
 use Rattle.kt_syntax.specs.Kinds.{Parts, assignment_parts, ends_name, operator_of}
 
--- whether a name goes on with a byte, of which its symbol and the text from it on are given: it is neither a blank nor a
--- colon, and outside references no operator begins there
+-- whether a name goes on with a byte, of which its symbol and the text from it on are given: it is neither a blank
+-- nor a colon, and outside references no operator begins there
 abbrev pub is_of_name : ℕ → Text → Bool
 is_of_name symbol text = not (ends_name symbol text) && not (symbol == 58)
 
@@ -41,4 +41,5 @@ pub record IsOnlyAssignment (text : Text) (mask : List ℕ) (begin : ℕ) (parts
 abbrev pub AssignmentLaw : Type 0
 AssignmentLaw =
     (text : Text) (mask : List ℕ) (begin : ℕ) → begin ≤ length mask
-    → MatchOption (assignment_parts text mask begin) ((parts : Parts) → ¬ IsAssignment text mask begin parts) (IsOnlyAssignment text mask begin)
+    → MatchOption (assignment_parts text mask begin) ((parts : Parts)
+    → ¬ IsAssignment text mask begin parts) (IsOnlyAssignment text mask begin)

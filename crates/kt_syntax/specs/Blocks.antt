@@ -11,8 +11,8 @@ use Rattle.kt_syntax.specs.Parts.{missing_end, parts_of}
 use Rattle.kt_syntax.specs.Steps.{steps_from}
 
 -- items in the order of the text. A define has its body up to the line at `body_end`. Of a conditional with its first
--- branch and the others one branch is read; what follows an `else` after the plain `else` is a branch that never is, and
--- that `else` a fault, met after the branch that was read
+-- branch and the others one branch is read; what follows an `else` after the plain `else` is a branch that never is,
+-- and that `else` a fault, met after the branch that was read
 mutual
   pub data Items : Type 0 where
     none : Items
@@ -31,7 +31,8 @@ pub record Level : Type 0 where
   pub items : Items
   pub others : Branches
 
--- what is left of the innermost of the open blocks, and of those round it; a block that the text doesn't end ends with it
+-- what is left of the innermost of the open blocks, and of those round it; a block that the text doesn't end ends
+-- with it
 abbrev pub innermost : List Level → Level
 innermost [] = record { items = none; others = no_branch }
 innermost (level ∷ levels) = level
@@ -42,11 +43,13 @@ outer (level ∷ levels) = levels
 
 -- one more item in the innermost block
 abbrev pub with_item : (Items → Items) → List Level → List Level
-with_item item levels = record { items = item (innermost levels).items; others = (innermost levels).others } ∷ outer levels
+with_item item levels = record { items = item (innermost levels).items; others = (innermost levels).others }
+    ∷ outer levels
 
 -- one more branch: its items are those that are left, and its block begins before it
 abbrev pub with_branch : (Items → Branches → Branches) → List Level → List Level
-with_branch more levels = record { items = none; others = more (innermost levels).items (innermost levels).others } ∷ outer levels
+with_branch more levels = record { items = none; others = more (innermost levels).items (innermost levels).others }
+    ∷ outer levels
 
 -- the blocks from a line on, by its step and by the blocks after it
 abbrev pub levels_with : ℕ → Step → List Level → List Level

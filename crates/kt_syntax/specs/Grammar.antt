@@ -1,6 +1,6 @@
--- The grammar of blocks (GNU make manual, "Syntax of Conditionals" and "Defining Multi-Line Variables"; faults are kati's own):
--- whether the lines from a place on begin with those of a tree, and what follows these is as a rest must be. With it goes
--- the missing end that was found so far: that of the innermost block which the text doesn't end.
+-- The grammar of blocks (GNU make manual, "Syntax of Conditionals" and "Defining Multi-Line Variables"; faults are
+-- kati's own): whether the lines from a place on begin with those of a tree, and what follows these is as a rest must
+-- be. With it goes the missing end that was found so far: that of the innermost block which the text doesn't end.
 use Rattle.std.specs.Prelude.{◌≡◌, ℕ, zero, suc, ◌+◌, Bool, true, false, not, List, [], ◌∷◌, Option, Some, None, MatchOption}
 use Rattle.kt_syntax.specs.declared.part.Missing.{Missing}
 use Rattle.kt_syntax.specs.declared.part.Missing.TheVariants as missing
@@ -44,14 +44,16 @@ depth_after Endef zero = None
 depth_after Endef (suc depth) = Some depth
 depth_after role depth = Some depth
 
--- the next lines are the body of the define whose first line has a number, up to the place `end` of its `endef`, unless the
--- text ends first; so many defines are open in the body, where they nest and nothing else counts
+-- the next lines are the body of the define whose first line has a number, up to the place `end` of its `endef`,
+-- unless the text ends first; so many defines are open in the body, where they nest and nothing else counts
 unfoldable pub TakesBody : (number depth end : ℕ) → Option Missing → ℕ → List Head → Rests → Type 0
 TakesBody number depth end found place [] Rest = (end ≡ place) × Rest (or_missing found (missing.Endef number)) place []
 TakesBody number depth end found place (head ∷ heads) Rest =
-    MatchOption (depth_after head.role depth) ((end ≡ place) × Rest found (place + 1) heads) (λ deeper. TakesBody number deeper end found (place + 1) heads Rest)
+    MatchOption (depth_after head.role depth) ((end ≡ place) × Rest found (place + 1) heads)
+    (λ deeper. TakesBody number deeper end found (place + 1) heads Rest)
 
--- the lines are those of items, inside a conditional or not, and of branches, after a plain `else` or not; then comes a rest
+-- the lines are those of items, inside a conditional or not, and of branches, after a plain `else` or not; then comes
+-- a rest
 unfoldable mutual
   pub TakesItems : Bool → Items → Option Missing → ℕ → List Head → Rests → Type 0
   TakesItems inside none found place heads Rest = Rest found place heads
@@ -63,19 +65,24 @@ unfoldable mutual
       (at ≡ place) × Takes Define heads (λ number body. TakesBody number 0 end found (place + 1) body (λ all after more.
       TakesItems inside next all after more Rest))
   TakesItems inside (conditional at first others next) found place heads Rest =
-      (at ≡ place) × Takes Conditional heads (λ number branches. TakesItems true first found (place + 1) branches (λ some begin further.
-      TakesBranches false others some begin further (λ more_missing end ending. TakesEndif number more_missing end ending (λ all after more.
+      (at ≡ place) × Takes Conditional heads (λ number branches. TakesItems true first found (place + 1) branches
+      (λ some begin further.
+      TakesBranches false others some begin further
+      (λ more_missing end ending. TakesEndif number more_missing end ending (λ all after more.
       TakesItems inside next all after more Rest))))
 
   pub TakesBranches : Bool → Branches → Option Missing → ℕ → List Head → Rests → Type 0
   TakesBranches plain no_branch found place heads Rest = Rest found place heads
   TakesBranches plain (branch at condition items others) found place heads Rest =
-      (at ≡ place) × (plain ≡ false) × Takes (Else condition) heads (λ number more. TakesItems true items found (place + 1) more (λ all begin further.
+      (at ≡ place) × (plain ≡ false) × Takes (Else condition) heads
+      (λ number more. TakesItems true items found (place + 1) more (λ all begin further.
       TakesBranches (not condition) others all begin further Rest))
   TakesBranches plain (late at items others) found place heads Rest =
       (at ≡ place) × (plain ≡ true) × ((condition : Bool) × Takes (Else condition) heads (λ number more.
-      TakesItems true items found (place + 1) more (λ all begin further. TakesBranches true others all begin further Rest)))
+      TakesItems true items found (place + 1) more
+      (λ all begin further. TakesBranches true others all begin further Rest)))
 
 -- a tree and a missing end are those of lines with these roles and numbers
 abbrev pub IsTreeOf : Items → Option Missing → List Head → Type 0
-IsTreeOf items missing_one heads = TakesItems false items None 0 heads (λ all end more. (more ≡ []) × (all ≡ missing_one))
+IsTreeOf items missing_one heads = TakesItems false items None 0 heads (λ all end more. (more ≡ [])
+    × (all ≡ missing_one))

@@ -1,6 +1,6 @@
--- The parts of a rule line (POSIX.1-2024 make, "Target Rules") and target-specific macros, which are refused (GNU make
--- manual, "Target-specific Variable Values"). The head is that of the line's text, in which continuations are condensed; the
--- recipe is cut from the line as it stands in the file.
+-- The parts of a rule line (POSIX.1-2024 make, "Target Rules") and target-specific macros, which are refused (GNU
+-- make manual, "Target-specific Variable Values"). The head is that of the line's text, in which continuations are
+-- condensed; the recipe is cut from the line as it stands in the file.
 use Rattle.std.specs.Prelude.{ℕ, zero, suc, ◌+◌, Bool, false, not, ◌==◌, ◌&&◌, ◌||◌, nat_eq, nat_lt, List, [], ◌∷◌, length, take, drop, codes, Option, Some, None, option_map, Result, Ok, Err, is_some, if◌then◌else◌}
 use Rattle.std.specs.List.{starts_with, position_or_len, slice_range}
 use Rattle.std.specs.Str.{bytes_eq}
@@ -37,11 +37,13 @@ after_colon mask place = if starts_with nat_eq (drop (place + 1) mask) (58 ∷ [
 -- the words that may stand before a target-specific macro (GNU make manual, "Target-specific Variable Values"; which of
 -- them count is kati's own)
 unfoldable pub is_modifier : Text → Bool
-is_modifier word = bytes_eq word (codes "override") || (bytes_eq word (codes "export") || bytes_eq word (codes "private"))
+is_modifier word = bytes_eq word (codes "override")
+    || (bytes_eq word (codes "export") || bytes_eq word (codes "private"))
 
 -- the place after a word, if it is such a word and a blank comes after it
 abbrev pub modifier_at : Text → List ℕ → ℕ → ℕ → Option ℕ
-modifier_at text mask begin end = if is_modifier (slice_range text begin end) && nat_lt end (length mask) then Some end else None
+modifier_at text mask begin end = if is_modifier (slice_range text begin end) && nat_lt end (length mask)
+    then Some end else None
 
 -- the place after such a word, if one comes next
 unfoldable pub after_modifier : Text → List ℕ → ℕ → Option ℕ
@@ -54,13 +56,15 @@ found_or from further (Some end) = further end
 -- the place after all such words, of which there are at most as many as is said
 unfoldable pub after_modifiers : ℕ → Text → List ℕ → ℕ → ℕ
 after_modifiers zero text mask from = from
-after_modifiers (suc most) text mask from = found_or from (λ end. after_modifiers most text mask end) (after_modifier text mask from)
+after_modifiers (suc most) text mask from = found_or from
+    (λ end. after_modifiers most text mask end) (after_modifier text mask from)
 
 -- whether what follows so many bytes of a head is of assignment form, with such words before it or not
 abbrev pub assigns_after : Text → List ℕ → Option ℕ → Bool
 assigns_after text mask None = false
 assigns_after text mask (Some colon) =
-    is_some (assignment_parts text mask (past_blanks (after_modifiers (length mask) text mask (after_colon mask colon)) mask))
+    is_some (assignment_parts text mask
+    (past_blanks (after_modifiers (length mask) text mask (after_colon mask colon)) mask))
 
 -- whether the head, of which this is the mask, assigns a target-specific macro
 unfoldable pub is_target_specific : Text → List ℕ → Bool
@@ -72,7 +76,8 @@ head_text text = if head_end text == comment_place text then text else take (hea
 
 -- the recipe behind the first semicolon, without the blanks at its begin
 unfoldable pub first_recipe : Text → Option Text
-first_recipe line = if head_end line == comment_place line then None else Some (drop (past_blanks (head_end line + 1) (mask_of line)) line)
+first_recipe line = if head_end line == comment_place line then None
+    else Some (drop (past_blanks (head_end line + 1) (mask_of line)) line)
 
 -- the parts of a rule line with this text, or none where it assigns a target-specific macro
 unfoldable pub rule_texts : Text → Text → Option RuleTexts

@@ -1,6 +1,6 @@
--- The kinds of lines (POSIX.1-2024 make, "Makefile Syntax"; GNU make manual, "What Makefiles Contain" and "Splitting Long
--- Lines"): what a line says is what its text says once its continuations are condensed. The order of the tests is kati's
--- own.
+-- The kinds of lines (POSIX.1-2024 make, "Makefile Syntax"; GNU make manual, "What Makefiles Contain" and "Splitting
+-- Long Lines"): what a line says is what its text says once its continuations are condensed. The order of the tests
+-- is kati's own.
 use Rattle.std.specs.Prelude.{ℕ, suc, ◌+◌, Bool, false, not, ◌==◌, ◌&&◌, ◌||◌, nat_eq, List, [], ◌∷◌, length, take, drop, codes, Option, Some, None, is_some, if◌then◌else◌}
 use Rattle.std.specs.List.{starts_with, prefix_len, slice_range}
 use Rattle.std.specs.Str.{bytes_eq}
@@ -33,7 +33,8 @@ kind_told told.Rule = rule
 -- own; GNU make manual, "What Makefiles Contain")
 unfoldable pub before_comment : Bool → List ℕ → ℕ
 before_comment odd [] = 0
-before_comment odd (symbol ∷ mask) = if symbol == 35 && not odd then 0 else suc (before_comment (goes_odd odd symbol) mask)
+before_comment odd (symbol ∷ mask) = if symbol == 35 && not odd then 0
+    else suc (before_comment (goes_odd odd symbol) mask)
 
 -- where the comment of a line begins, or the line's end
 abbrev pub comment_place : Text → ℕ
@@ -47,8 +48,8 @@ past_blanks from mask = from + prefix_len is_blank (drop from mask)
 abbrev pub past_word : ℕ → List ℕ → ℕ
 past_word from mask = from + prefix_len (λ symbol. not (is_blank symbol)) (drop from mask)
 
--- the operator that a text begins with, and its length (POSIX.1-2024 make, "Macros"; GNU make manual, "Setting Variables"
--- and, of `+=`, "Appending More Text to Variables")
+-- the operator that a text begins with, and its length (POSIX.1-2024 make, "Macros"; GNU make manual, "Setting
+-- Variables" and, of `+=`, "Appending More Text to Variables")
 unfoldable pub operator_of : Text → Option (Operator × ℕ)
 operator_of text =
     if starts_with nat_eq text (codes "=") then Some (Deferred, 1)
@@ -63,8 +64,8 @@ operator_of text =
 abbrev pub ends_name : ℕ → Text → Bool
 ends_name symbol text = is_blank symbol || (not (symbol == inside) && is_some (operator_of text))
 
--- where the name of an assignment ends; a colon that starts no operator ends the test. The mask and the text begin at the
--- place that is given
+-- where the name of an assignment ends; a colon that starts no operator ends the test. The mask and the text begin at
+-- the place that is given
 unfoldable pub name_end : ℕ → List ℕ → Text → Option ℕ
 name_end place [] text = Some place
 name_end place (symbol ∷ mask) text =
@@ -80,12 +81,17 @@ pub record Parts : Type 0 where
 -- the parts, where an operator of this length stands at a place
 abbrev pub parts_at : Text → ℕ → ℕ → Option (Operator × ℕ) → Option Parts
 parts_at text name place None = None
-parts_at text name place (Some found) = Some (record { name = name; operator = found.0; value = past_blanks (place + found.1) (mask_of text) })
+parts_at text name place (Some found) = Some (record {
+  name = name;
+  operator = found.0;
+  value = past_blanks (place + found.1) (mask_of text);
+})
 
 -- the same, where a name ends at a place
 abbrev pub parts_after : Text → List ℕ → Option ℕ → Option Parts
 parts_after text mask None = None
-parts_after text mask (Some name) = parts_at text name (past_blanks name mask) (operator_of (drop (past_blanks name mask) text))
+parts_after text mask (Some name) = parts_at text name (past_blanks name mask)
+    (operator_of (drop (past_blanks name mask) text))
 
 -- the parts of an assignment whose name begins at a place of a line, within the mask
 unfoldable pub assignment_parts : Text → List ℕ → ℕ → Option Parts
@@ -132,12 +138,14 @@ kind_by_word None word rest = if is_refused_word word then refused word else rul
 -- the kind of a line that isn't blank and is no assignment; its first word begins at a place
 unfoldable pub worded : Bool → Text → List ℕ → ℕ → Kind
 worded tab text mask begin =
-    kind_by_word (directive_of tab (slice_range text begin (past_word begin mask))) (slice_range text begin (past_word begin mask))
+    kind_by_word (directive_of tab (slice_range text begin (past_word begin mask)))
+    (slice_range text begin (past_word begin mask))
     (drop (past_blanks (past_word begin mask) (mask_of text)) text)
 
 abbrev pub kind_by_parts : Bool → Text → List ℕ → ℕ → Option Parts → Kind
 kind_by_parts tab text mask begin None = worded tab text mask begin
-kind_by_parts tab text mask begin (Some parts) = assignment (slice_range text begin parts.name) parts.operator (drop parts.value text)
+kind_by_parts tab text mask begin (Some parts) = assignment (slice_range text begin parts.name) parts.operator
+    (drop parts.value text)
 
 -- the kind of a line, by the mask of what stands before its comment and the place after its leading blanks
 unfoldable pub kind_within : Bool → Text → List ℕ → ℕ → Kind
@@ -147,7 +155,8 @@ kind_within tab text mask begin =
 -- the kind of a line whose continuations are condensed
 unfoldable pub kind_of : Text → Bool → Kind
 kind_of text tab =
-    kind_within tab text (take (comment_place text) (mask_of text)) (past_blanks 0 (take (comment_place text) (mask_of text)))
+    kind_within tab text (take (comment_place text) (mask_of text))
+    (past_blanks 0 (take (comment_place text) (mask_of text)))
 
 -- the kind of a line as it stands in the file
 abbrev pub line_kind : Text → Bool → Kind

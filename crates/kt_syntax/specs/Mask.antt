@@ -1,5 +1,5 @@
--- A line byte by byte: what is outside references (POSIX.1-2024 make, "Macros"), with each continuation that it still has
--- as blanks (kati's own).
+-- A line byte by byte: what is outside references (POSIX.1-2024 make, "Macros"), with each continuation that it still
+-- has as blanks (kati's own).
 use Rattle.std.specs.Prelude.{ℕ, zero, suc, Bool, false, not, ◌==◌, ◌&&◌, nat_eq, List, [], ◌∷◌, Option, None, Some, if◌then◌else◌}
 use Rattle.std.specs.List.{starts_with}
 use Rattle.kt_text.specs.Words.{Text}
@@ -22,7 +22,8 @@ goes_odd odd byte = byte == 92 && not odd
 unfoldable pub more_masked : Bool → ℕ → Text → ℕ
 more_masked odd byte text =
     if byte == 36 then (behind_dollar kept text).1
-    else (if goes_odd odd byte then (if starts_with nat_eq text (10 ∷ []) then 1 else (if starts_with nat_eq text (13 ∷ 10 ∷ []) then 2 else 0)) else 0)
+    else (if goes_odd odd byte then (if starts_with nat_eq text (10 ∷ []) then 1
+    else (if starts_with nat_eq text (13 ∷ 10 ∷ []) then 2 else 0)) else 0)
 
 -- what stands for the byte, and for those that it takes with it
 abbrev pub mask_byte : ℕ → ℕ → ℕ

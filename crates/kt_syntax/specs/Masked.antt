@@ -1,13 +1,14 @@
--- What the mask of a line is, as a relation between the line, its terms and the mask (POSIX.1-2024 make, "Macros"; GNU make
--- manual, "Splitting Long Lines"): each byte is inside a reference, or of a continuation, or stands for itself.
+-- What the mask of a line is, as a relation between the line, its terms and the mask (POSIX.1-2024 make, "Macros";
+-- GNU make manual, "Splitting Long Lines"): each byte is inside a reference, or of a continuation, or stands for
+-- itself.
 use Rattle.std.specs.Prelude.{◌≡◌, ℕ, ◌+◌, ◌<◌, ◌≤◌, Bool, true, false, List, [], ◌∷◌, ◌++◌, length, take, drop, slice_index}
 use Rattle.kt_text.specs.Words.{Text}
 use Rattle.kt_text.specs.Lines.{is_continued_text}
 use Rattle.kt_syntax.specs.Terms.{Piece, literal, dollar, reference, unclosed, kept, unit_length, IsTerm}
 use Rattle.kt_syntax.specs.Mask.{inside, mask_of}
 
--- a place of a line is one of a continuation: this begins at a backslash at which an odd number of them ends, and ends with
--- the newline
+-- a place of a line is one of a continuation: this begins at a backslash at which an odd number of them ends, and
+-- ends with the newline
 pub record IsContinued (line : Text) (place : ℕ) : Type 0 where
   pub start : ℕ
   pub odd : is_continued_text (take (start + 1) line) ≡ true

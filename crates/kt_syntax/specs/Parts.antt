@@ -12,7 +12,8 @@ use Rattle.kt_syntax.specs.declared.role.Head.{Head}
 use Rattle.kt_syntax.specs.declared.role.Role.{Role}
 use Rattle.kt_syntax.specs.declared.role.Role.TheVariants as role
 
--- the blocks that are open at a line: a define, in whose body nothing else is a block, and conditionals, innermost first
+-- the blocks that are open at a line: a define, in whose body nothing else is a block, and conditionals, innermost
+-- first
 pub record Open : Type 0 where
   pub define : Option OpenDefine
   pub conditionals : List OpenConditional
@@ -44,7 +45,8 @@ define_after number depth line = Some (record { number = number; depth = depth }
 -- an `else`: stray outside conditionals, late after the plain `else` of the innermost one, else a further branch
 abbrev pub else_part : List OpenConditional → Bool → Part
 else_part [] condition = part.Stray stray.Else
-else_part (innermost ∷ outer) condition = if innermost.plain_else then part.Stray stray.LateElse else part.Branch condition
+else_part (innermost ∷ outer) condition = if innermost.plain_else then part.Stray stray.LateElse
+    else part.Branch condition
 
 -- the open conditionals after it
 abbrev pub after_else : List OpenConditional → Bool → List OpenConditional
@@ -74,10 +76,19 @@ after open_blocks head = after_line open_blocks.define open_blocks.conditionals 
     after_line (Some define) conditionals line number =
         record { define = define_after define.number define.depth line; conditionals = conditionals }
     after_line None conditionals role.Ordinary number = record { define = None; conditionals = conditionals }
-    after_line None conditionals role.Define number = record { define = Some (record { number = number; depth = 0 }); conditionals = conditionals }
+    after_line None conditionals role.Define number = record {
+      define = Some (record { number = number; depth = 0 });
+      conditionals = conditionals;
+    }
     after_line None conditionals role.Endef number = record { define = None; conditionals = conditionals }
-    after_line None conditionals role.Conditional number = record { define = None; conditionals = record { number = number; plain_else = false } ∷ conditionals }
-    after_line None conditionals (role.Else condition) number = record { define = None; conditionals = after_else conditionals condition }
+    after_line None conditionals role.Conditional number = record {
+      define = None;
+      conditionals = record { number = number; plain_else = false } ∷ conditionals;
+    }
+    after_line None conditionals (role.Else condition) number = record {
+      define = None;
+      conditionals = after_else conditionals condition;
+    }
     after_line None [] role.Endif number = record { define = None; conditionals = [] }
     after_line None (innermost ∷ outer) role.Endif number = record { define = None; conditionals = outer }
 

@@ -1,5 +1,5 @@
--- Reading blocks line by line: what is left to be read from a place on, where the branch that the place is in was chosen.
--- Kati's own.
+-- Reading blocks line by line: what is left to be read from a place on, where the branch that the place is in was
+-- chosen. Kati's own.
 use Rattle.std.specs.Prelude.{◌≡◌, ◌<◌, ◌≤◌, ℕ, ◌+◌, List, [], ◌∷◌, drop, length, Some, slice_get}
 use Rattle.kt_syntax.specs.declared.part.Stray.TheVariants as stray
 use Rattle.kt_syntax.specs.declared.step.Step.{Step}
@@ -14,7 +14,8 @@ append (fault kind place next) others = fault kind place (append next others)
 append (definition place end next) others = definition place end (append next others)
 append (conditional place first branches next) others = conditional place first branches (append next others)
 
--- what is met after the branch that was chosen: the first late `else`, if there is one, and what follows the conditional
+-- what is met after the branch that was chosen: the first late `else`, if there is one, and what follows the
+-- conditional
 abbrev pub after_branches : Branches → Items → Items
 after_branches no_branch next = next
 after_branches (branch place condition items others) next = after_branches others next
@@ -35,7 +36,8 @@ AreTried steps no_branch next after = next ≡ after
 AreTried steps (late place items others) next after = next ≡ after
 AreTried steps (branch place condition items others) next after =
     (place ≡ next) × (left_at steps (place + 1) ≡ append items (left_at steps after))
-    × ((further : ℕ) × (slice_get steps place ≡ Some (step.Branch condition further after)) × AreTried steps others further after)
+    × ((further : ℕ) × (slice_get steps place ≡ Some (step.Branch condition further after))
+    × AreTried steps others further after)
 
 -- a conditional is left at a place: its first branch comes next, and its other branches are tried from `next` on
 pub record IsConditional (steps : List Step) (place next after : ℕ) : Type 0 where

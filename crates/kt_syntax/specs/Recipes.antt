@@ -52,7 +52,8 @@ newline_after after = []
 -- what a physical line becomes between two joints
 unfoldable pub recipe_line : Joint → Joint → Text → Text
 recipe_line before after line =
-    let text = ended after (begun before (content after line)) in space_before before after text ++ (text ++ newline_after after)
+    let text = ended after (begun before (content after line)) in space_before before after text
+    ++ (text ++ newline_after after)
 
 -- what physical lines become, with their masks, of which the last has no newline
 unfoldable pub recipe_lines : Joint → List ℕ → List Text → Text

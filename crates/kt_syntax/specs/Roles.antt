@@ -1,5 +1,5 @@
--- What lines are to the blocks round them (GNU make manual, "Syntax of Conditionals" and "Defining Multi-Line Variables"),
--- by their kinds alone.
+-- What lines are to the blocks round them (GNU make manual, "Syntax of Conditionals" and "Defining Multi-Line
+-- Variables"), by their kinds alone.
 use Rattle.std.specs.Prelude.{ℕ, Bool, true, false, ◌&&◌, ◌||◌, ◌==◌, List, [], ◌∷◌, length, take, map, Option, Some, None, leb, if◌then◌else◌}
 use Rattle.std.specs.List.{slice_range}
 use Rattle.kt_text.specs.declared.line.Line.{Line}
@@ -12,8 +12,8 @@ use Rattle.kt_text.specs.Words.{Text}
 use Rattle.kt_syntax.specs.Mask.{mask_of}
 use Rattle.kt_syntax.specs.Kinds.{Kind, blank, assignment, directive, refused, rule, block_word, comment_place, line_kind, past_blanks, past_word}
 
--- whether a line begins with a blank, with a backslash, which may be that of a continuation, or with a letter that words of
--- blocks begin with
+-- whether a line begins with a blank, with a backslash, which may be that of a continuation, or with a letter that
+-- words of blocks begin with
 abbrev pub may_open : Text → Bool
 may_open [] = false
 may_open (byte ∷ text) = byte == 32 || byte == 9 || byte == 92 || byte == 100 || byte == 101 || byte == 105
@@ -21,7 +21,8 @@ may_open (byte ∷ text) = byte == 32 || byte == 9 || byte == 92 || byte == 100 
 -- the first word of a line, before its comment
 unfoldable pub line_word : Text → Text
 line_word text =
-    let mask = take (comment_place text) (mask_of text) in slice_range text (past_blanks 0 mask) (past_word (past_blanks 0 mask) mask)
+    let mask = take (comment_place text) (mask_of text)
+    in slice_range text (past_blanks 0 mask) (past_word (past_blanks 0 mask) mask)
 
 -- the first word of a text that begins with no blank, before its comment
 unfoldable pub first_word : Text → Text
@@ -69,7 +70,8 @@ role_of rule = Ordinary
 -- the bytes of a line, which are none where its place isn't one of the text
 abbrev pub line_text : Text → Line → Text
 line_text text line =
-    if leb line.span.start line.span.end && leb line.span.end (length text) then slice_range text line.span.start line.span.end
+    if leb line.span.start line.span.end && leb line.span.end (length text)
+    then slice_range text line.span.start line.span.end
     else []
 
 -- a line's role and number

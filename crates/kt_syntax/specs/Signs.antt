@@ -1,5 +1,5 @@
--- Where the comment of a line begins and where the colon of a head stands, as relations on the line's mask (GNU make manual,
--- "What Makefiles Contain" and "Rule Syntax"; what backslashes do is kati's own).
+-- Where the comment of a line begins and where the colon of a head stands, as relations on the line's mask (GNU make
+-- manual, "What Makefiles Contain" and "Rule Syntax"; what backslashes do is kati's own).
 use Rattle.std.specs.Prelude.{◌≡◌, ◌≢◌, ℕ, suc, ◌<◌, ◌≤◌, false, List, length, take, slice_index, MatchOption}
 use Rattle.kt_text.specs.Lines.{is_continued_text}
 use Rattle.kt_syntax.specs.Kinds.{before_comment}

@@ -1,4 +1,5 @@
--- The steps of reading blocks line by line: where a conditional and its branches go on, and where a body ends. Kati's own.
+-- The steps of reading blocks line by line: where a conditional and its branches go on, and where a body ends. Kati's
+-- own.
 use Rattle.std.specs.Prelude.{ℕ, ◌+◌, List, [], ◌∷◌, drop}
 use Rattle.kt_syntax.specs.declared.part.Part.{Part}
 use Rattle.kt_syntax.specs.declared.part.Part.TheVariants as part
@@ -37,21 +38,44 @@ step_of ahead (part.Branch condition) = step.Branch condition (exits_of ahead).n
 step_of ahead part.Endif = step.Endif
 step_of ahead (part.Stray fault) = step.Stray fault
 
--- what is known at the place of a line, with the line itself: a further branch is where the branch before it goes on, and
--- a late `else` or an `endif` where each branch goes on
+-- what is known at the place of a line, with the line itself: a further branch is where the branch before it goes on,
+-- and a late `else` or an `endif` where each branch goes on
 unfoldable pub places_after : Ahead → Part → ℕ → Ahead
 places_after ahead part.Line place = record { end = ahead.end; body_end = place; conditionals = ahead.conditionals }
 places_after ahead part.Body place = ahead
 places_after ahead part.Define place = record { end = ahead.end; body_end = place; conditionals = ahead.conditionals }
 places_after ahead part.Endef place = record { end = ahead.end; body_end = place; conditionals = ahead.conditionals }
-places_after ahead part.Conditional place = record { end = ahead.end; body_end = place; conditionals = drop 1 ahead.conditionals }
+places_after ahead part.Conditional place = record {
+  end = ahead.end;
+  body_end = place;
+  conditionals = drop 1 ahead.conditionals;
+}
 places_after ahead (part.Branch condition) place =
-    record { end = ahead.end; body_end = place; conditionals = record { next = place; after = (exits_of ahead).after } ∷ drop 1 ahead.conditionals }
+    record {
+      end = ahead.end;
+      body_end = place;
+      conditionals = record { next = place; after = (exits_of ahead).after }
+          ∷ drop 1 ahead.conditionals;
+    }
 places_after ahead (part.Stray stray.LateElse) place =
-    record { end = ahead.end; body_end = place; conditionals = record { next = place; after = place } ∷ drop 1 ahead.conditionals }
+    record {
+      end = ahead.end;
+      body_end = place;
+      conditionals = record { next = place; after = place }
+          ∷ drop 1 ahead.conditionals;
+    }
 places_after ahead part.Endif place =
-    record { end = ahead.end; body_end = place; conditionals = record { next = place; after = place } ∷ ahead.conditionals }
-places_after ahead (part.Stray fault) place = record { end = ahead.end; body_end = place; conditionals = ahead.conditionals }
+    record {
+      end = ahead.end;
+      body_end = place;
+      conditionals = record { next = place; after = place }
+          ∷ ahead.conditionals;
+    }
+places_after ahead (part.Stray fault) place = record {
+  end = ahead.end;
+  body_end = place;
+  conditionals = ahead.conditionals;
+}
 
 -- what is known at a place, by the parts of the lines from there on
 unfoldable pub ahead_of : ℕ → List Part → Ahead

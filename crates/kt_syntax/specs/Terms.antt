@@ -26,8 +26,8 @@ piece_of (Err fault) = unclosed
 unfoldable pub count_of : ℕ → Text → ℕ
 count_of byte text = count_by (λ b. b == byte) text
 
--- no front of the text has more closing than opening marks, and the whole has as many of both (kati's own: only marks of
--- the reference's own kind count)
+-- no front of the text has more closing than opening marks, and the whole has as many of both (kati's own: only marks
+-- of the reference's own kind count)
 pub record IsBalanced (opener closer : ℕ) (text : Text) : Type 0 where
   pub fronts : (n : ℕ) → count_of closer (take n text) ≤ count_of opener (take n text)
   pub even : count_of closer text ≡ count_of opener text
@@ -42,8 +42,8 @@ pub data Continuations : Type 0 where
   kept : Continuations
   dropped : Continuations
 
--- how many bytes stand for one at the begin of a text: a continuation, in which one carriage return may stand before the
--- newline, counts as one blank (kati's own)
+-- how many bytes stand for one at the begin of a text: a continuation, in which one carriage return may stand before
+-- the newline, counts as one blank (kati's own)
 abbrev pub unit_length : Continuations → Text → ℕ
 unit_length dropped text = 1
 unit_length kept text =
@@ -65,23 +65,28 @@ pub record IsSingle (continuations : Continuations) (body rest : Text) : Type 0 
   pub unit : length body ≡ unit_length continuations (body ++ rest)
   pub plain : list_all (λ byte. not (is_special byte)) (take 1 body) ≡ true
 
--- how a term is spelled before the rest of a text: a literal is a maximal run without dollar, and the one without bytes is
--- a dollar at the end (kati's own)
+-- how a term is spelled before the rest of a text: a literal is a maximal run without dollar, and the one without
+-- bytes is a dollar at the end (kati's own)
 abbrev pub IsTerm : Continuations → Piece → Text → Text → Type 0
 IsTerm continuations (literal []) spelled rest = (spelled ≡ 36 ∷ []) × (rest ≡ [])
-IsTerm continuations (literal (byte ∷ bytes)) spelled rest = (spelled ≡ byte ∷ bytes) × (count_of 36 spelled ≡ 0) × EndsRun rest
+IsTerm continuations (literal (byte ∷ bytes)) spelled rest = (spelled ≡ byte ∷ bytes)
+    × (count_of 36 spelled ≡ 0) × EndsRun rest
 IsTerm continuations dollar spelled rest = spelled ≡ 36 ∷ 36 ∷ []
 IsTerm continuations (reference Byte body) spelled rest = (spelled ≡ 36 ∷ body) × IsSingle continuations body rest
-IsTerm continuations (reference Parentheses body) spelled rest = (spelled ≡ 36 ∷ 40 ∷ (body ++ 41 ∷ [])) × IsBalanced 40 41 body
-IsTerm continuations (reference Braces body) spelled rest = (spelled ≡ 36 ∷ 123 ∷ (body ++ 125 ∷ [])) × IsBalanced 123 125 body
+IsTerm continuations (reference Parentheses body) spelled rest = (spelled ≡ 36 ∷ 40 ∷ (body ++ 41 ∷ []))
+    × IsBalanced 40 41 body
+IsTerm continuations (reference Braces body) spelled rest = (spelled ≡ 36 ∷ 123 ∷ (body ++ 125 ∷ []))
+    × IsBalanced 123 125 body
 IsTerm continuations unclosed spelled rest =
-    (rest ≡ []) × ((tail : Text) × (((spelled ≡ 36 ∷ 40 ∷ tail) × IsUnclosed 40 41 tail) ⊎ ((spelled ≡ 36 ∷ 123 ∷ tail) × IsUnclosed 123 125 tail)))
+    (rest ≡ []) × ((tail : Text) × (((spelled ≡ 36 ∷ 40 ∷ tail) × IsUnclosed 40 41 tail)
+    ⊎ ((spelled ≡ 36 ∷ 123 ∷ tail) × IsUnclosed 123 125 tail)))
 
 -- the text is the spellings of these terms put together
 abbrev pub IsSplittingIn : Continuations → Text → List Piece → Type 0
 IsSplittingIn continuations text [] = text ≡ []
 IsSplittingIn continuations text (piece ∷ pieces) =
-    (spelled : Text) × (rest : Text) × (text ≡ spelled ++ rest) × IsTerm continuations piece spelled rest × IsSplittingIn continuations rest pieces
+    (spelled : Text) × (rest : Text) × (text ≡ spelled ++ rest) × IsTerm continuations piece spelled rest
+    × IsSplittingIn continuations rest pieces
 
 -- the same for a text without continuations
 abbrev pub IsSplitting : Text → List Piece → Type 0
@@ -89,7 +94,8 @@ IsSplitting text pieces = IsSplittingIn dropped text pieces
 
 -- each text has exactly one splitting, which `terms_of` computes
 abbrev pub OneSplitting : (Text → List Piece) → Type 0
-OneSplitting terms_of = (text : Text) → IsSplitting text (terms_of text) × ((pieces : List Piece) → IsSplitting text pieces → pieces ≡ terms_of text)
+OneSplitting terms_of = (text : Text) → IsSplitting text (terms_of text)
+    × ((pieces : List Piece) → IsSplitting text pieces → pieces ≡ terms_of text)
 
 -- where the mark stands that closes the text, counted from a place on and with so many open
 unfoldable pub closing : ℕ → ℕ → ℕ → ℕ → Text → Option ℕ
@@ -106,7 +112,10 @@ referred mark text (Some place) = (reference mark (take place text), place + 2)
 
 -- the one-byte reference, and how many bytes it takes
 abbrev pub single : Continuations → Text → Piece × ℕ
-single continuations text = (reference Byte (take (unit_length continuations text) text), unit_length continuations text)
+single continuations text = (
+  reference Byte (take (unit_length continuations text) text),
+  unit_length continuations text,
+)
 
 -- the term behind a dollar, and how many bytes it takes there
 unfoldable pub behind_dollar : Continuations → Text → Piece × ℕ
@@ -129,7 +138,8 @@ first_term continuations byte text = if byte == 36 then behind_dollar continuati
 unfoldable pub terms_after : Continuations → ℕ → Text → List Piece
 terms_after continuations skip [] = []
 terms_after continuations (suc skip) (byte ∷ text) = terms_after continuations skip text
-terms_after continuations zero (byte ∷ text) = (first_term continuations byte text).0 ∷ terms_after continuations (first_term continuations byte text).1 text
+terms_after continuations zero (byte ∷ text) = (first_term continuations byte text).0
+    ∷ terms_after continuations (first_term continuations byte text).1 text
 
 -- the terms of a text, from left to right
 unfoldable pub terms_of : Text → List Piece

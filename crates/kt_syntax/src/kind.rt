@@ -46,8 +46,10 @@ pub(crate) struct Parts {
 pub(crate) fn assignment(text: &[u8], begin: usize, end: usize) -> Option<Parts>
     requires order { begin ≤ end }
     requires within { end ≤ length text.now }
-    ensures value { option_map (λ parts. record { name = parts.name; operator = parts.operator; value = parts.value }) result ≡ assignment_parts text.now (take end (mask_of text.now)) begin }
-    ensures bounds { IfSome result (λ parts. (begin ≤ parts.name) × (parts.name ≤ length text.now) × (parts.value ≤ length text.now)) }
+    ensures value { option_map (λ parts. record { name = parts.name; operator = parts.operator; value = parts.value })
+        result ≡ assignment_parts text.now (take end (mask_of text.now)) begin }
+    ensures bounds { IfSome result (λ parts. (begin ≤ parts.name) × (parts.name ≤ length text.now)
+        × (parts.value ≤ length text.now)) }
 {
     let name = name_end(text, begin, end)?;
     let place = past_blanks(text, name, end);

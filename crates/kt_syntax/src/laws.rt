@@ -14,7 +14,8 @@ ghost use Rattle.kt_syntax.specs.Signs.{SignLaw};
 /// the steps of their blocks stand for, and the end that is missing there.
 pub fn blocks_are_a_tree()
     ensures some { (heads : List Head) → IsTreeOf (tree_of (blocks_of heads).steps) (blocks_of heads).missing heads }
-    ensures one { (heads : List Head) (items : Items) (missing : Option Missing) → IsTreeOf items missing heads → (items ≡ tree_of (blocks_of heads).steps) × (missing ≡ (blocks_of heads).missing) }
+    ensures one { (heads : List Head) (items : Items) (missing : Option Missing) → IsTreeOf items missing heads
+        → (items ≡ tree_of (blocks_of heads).steps) × (missing ≡ (blocks_of heads).missing) }
 {}
 
 /// Worked values of blocks.

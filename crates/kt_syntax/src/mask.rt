@@ -96,7 +96,8 @@ impl<'a> Iterator for Mask<'a> {
 // What stands for the first byte, and how many more bytes are masked by the same.
 #[inline(always)]
 fn first_symbol(skip: usize, symbol: &Symbol, odd: bool, byte: u8, text: &[u8]) -> (Symbol, usize)
-    ensures { mask_from skip symbol.now odd (byte ∷ text.now) ≡ result.0 ∷ mask_from result.1 result.0 (goes_odd odd byte) text.now }
+    ensures { mask_from skip symbol.now odd (byte ∷ text.now) ≡ result.0
+        ∷ mask_from result.1 result.0 (goes_odd odd byte) text.now }
 {
     if skip > 0 {
         return (symbol.again(), skip - 1);

@@ -22,7 +22,8 @@ use std::collections::VecDeque;
 pub fn blocks(alloc: Global, text: &[u8], lines: &[Line]) -> Result<Blocks, AllocError>
     requires { AreInOrder (length text.now) lines.now }
     ensures flat { IfOk result (λ blocks. blocks ≡ blocks_of (heads_of text.now lines.now)) }
-    ensures tree { IfOk result (λ blocks. IsTreeOf (tree_of blocks.steps) blocks.missing (heads_of text.now lines.now)) }
+    ensures tree { IfOk result (λ blocks. IsTreeOf (tree_of blocks.steps) blocks.missing
+        (heads_of text.now lines.now)) }
     ensures lines { IfOk result (λ blocks. length blocks.steps ≡ length lines.now) }
     ensures whole { IfOk result (λ blocks. left_at blocks.steps 0 ≡ tree_of blocks.steps) }
 {

@@ -141,7 +141,8 @@ impl Scan {
     fn branch(&mut self, condition: bool) -> Result<Part, AllocError>
         requires { self.old.define ≡ None }
         ensures part { IfOk result (λ part. part ≡ else_part self.old.conditionals condition) }
-        ensures scan { IfOk result (λ _. self.new ≡ record self.old { conditionals = after_else self.old.conditionals condition }) }
+        ensures scan { IfOk result (λ _. self.new
+            ≡ record self.old { conditionals = after_else self.old.conditionals condition }) }
     {
         let Some(innermost) = self.conditionals.pop_front() else {
             return Ok(Part::Stray(Stray::Else));

@@ -62,7 +62,11 @@ impl Model for Places {
 
     ghost Value = { Ahead };
 
-    ghost view = { λ places. record { end = places.end; body_end = places.body_end; conditionals = places.conditionals.items } };
+    ghost view = { λ places. record {
+      end = places.end;
+      body_end = places.body_end;
+      conditionals = places.conditionals.items;
+    } };
 }
 
 impl Places {
@@ -130,7 +134,10 @@ impl Places {
     }
 
     fn enter(&mut self, next: usize, after: usize) -> Result<(), AllocError>
-        ensures { IfOk result (λ _. self.new ≡ record self.old { conditionals = record { next = next; after = after } ∷ self.old.conditionals }) }
+        ensures { IfOk result (λ _. self.new ≡ record self.old {
+          conditionals = record { next = next; after = after }
+              ∷ self.old.conditionals;
+        }) }
     {
         self.conditionals.push_front(Exits { next, after })?;
         Ok(())

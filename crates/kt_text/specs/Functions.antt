@@ -35,9 +35,11 @@ Answers result expected = MatchResult result (λ text. expected ≡ Some text.it
 abbrev pub occurs : Text → Text → Bool
 occurs needle text = is_nonempty (matches text needle 0)
 
--- `subst` [Functions for String Substitution and Analysis]: each match of `from`, none overlapping, from the left, is replaced; an empty one matches once, at the end
+-- `subst` [Functions for String Substitution and Analysis]: each match of `from`, none overlapping, from the left, is
+-- replaced; an empty one matches once, at the end
 unfoldable pub subst_of : Text → Text → Text → Text
-subst_of from to text = if is_nonempty from then replaced_at text (length from) to 0 (matches text from 0) else text ++ to
+subst_of from to text = if is_nonempty from then replaced_at text (length from) to 0 (matches text from 0)
+    else text ++ to
 
 -- `findstring` [Functions for String Substitution and Analysis]
 unfoldable pub findstring_of : Text → Text → Text
@@ -61,7 +63,8 @@ abbrev pub replaced_between : Text → Text → Option (ℕ × ℕ) → Text
 replaced_between replacement word None = word
 replaced_between replacement word (Some place) = with_stem replacement (slice_range word place.0 place.1)
 
--- one word under `patsubst` [Functions for String Substitution and Analysis]: a pattern without percent sign matches the equal word, and the replacement then stands as it is
+-- one word under `patsubst` [Functions for String Substitution and Analysis]: a pattern without percent sign matches
+-- the equal word, and the replacement then stands as it is
 unfoldable pub patsubst_word : Text → Text → Text → Text
 patsubst_word pattern replacement word =
     if has_percent pattern then replaced_between replacement word (stem_span pattern word)
@@ -85,7 +88,8 @@ matches_some patterns word = list_any (λ pattern. matches_word pattern word) pa
 -- whether one of the patterns does, of which those without percent sign stand in a set
 abbrev pub matches_held : List (Bor Text) → List (Bor Text) → Text → Bool
 matches_held literals wildcards word =
-    list_any (λ literal. bytes_eq word literal.now) literals || list_any (λ pattern. is_some (stem_span pattern.now word)) wildcards
+    list_any (λ literal. bytes_eq word literal.now) literals || list_any
+    (λ pattern. is_some (stem_span pattern.now word)) wildcards
 
 -- `filter`, which refuses `\%` [Functions for String Substitution and Analysis]
 unfoldable pub filter_of : Text → Text → Option Text
@@ -113,7 +117,8 @@ is_number digits = nat_le 1 (length digits) && (nat_le (length digits) 18 && lis
 
 -- the number that a text is, with blanks round it (kati's own bounds)
 unfoldable pub number_of : Text → Option ℕ
-number_of text = let digits = trimmed_end (trimmed_start text) in if is_number digits then Some (digits_value 10 digits) else None
+number_of text = let digits = trimmed_end (trimmed_start text) in if is_number digits
+    then Some (digits_value 10 digits) else None
 
 -- a number from 1 on
 abbrev pub place_of : Text → Option ℕ
@@ -127,10 +132,12 @@ word_at texts i = unwrap_or (slice_get texts i) []
 unfoldable pub word_of : Text → Text → Option Text
 word_of at text = option_and_then (λ place. Some (word_at (words_of text) (place - 1))) (place_of at)
 
--- `wordlist`, from the first place, 1 or more, through the second; none where the first is greater [Functions for String Substitution and Analysis]
+-- `wordlist`, from the first place, 1 or more, through the second; none where the first is greater [Functions for
+-- String Substitution and Analysis]
 unfoldable pub wordlist_of : Text → Text → Text → Option Text
 wordlist_of first last text =
-    option_and_then (λ start. option_and_then (λ end. Some (list_text (slice_range (words_of text) (start - 1) end))) (number_of last)) (place_of first)
+    option_and_then (λ start. option_and_then
+    (λ end. Some (list_text (slice_range (words_of text) (start - 1) end))) (number_of last)) (place_of first)
 
 -- `words`: their number in decimal [Functions for String Substitution and Analysis]
 unfoldable pub words_count_of : Text → Text

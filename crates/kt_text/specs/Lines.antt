@@ -59,7 +59,8 @@ pub record AreInOrder (size : ℕ) (lines : List Line) : Type 0 where
 -- the number of the physical line of the first NUL, if there is one (kati's own)
 unfoldable pub nul_line : Text → Option ℕ
 nul_line text =
-    if list_any (λ byte. byte == 0) text then Some (count_by (λ byte. byte == 10) (before_first (λ byte. byte == 0) text) + 1)
+    if list_any (λ byte. byte == 0) text
+    then Some (count_by (λ byte. byte == 10) (before_first (λ byte. byte == 0) text) + 1)
     else None
 
 -- a text cut after each newline; the last piece has none, and may be empty
@@ -86,7 +87,8 @@ trimmed_line false true line = trimmed_end (before_backslash line)
 trimmed_line true true line = trimmed_end (trimmed_start (before_backslash line))
 trimmed_line true false line = trimmed_start (without_terminator line)
 
--- the space of the continuation before it, where that isn't one with the continuation after it, only blanks between them
+-- the space of the continuation before it, where that isn't one with the continuation after it, only blanks between
+-- them
 abbrev pub space_before : Bool → Bool → Text → Text
 space_before false continues text = []
 space_before true false text = 32 ∷ []
@@ -116,8 +118,8 @@ condensed_group [] = []
 condensed_group (line ∷ []) = condensed_line false false line
 condensed_group (line ∷ next ∷ lines) = condensed_line false true line ++ condensed_rest (next ∷ lines)
 
--- a text with its continuations condensed (GNU make manual, "Splitting Long Lines"); carriage returns before newlines go.
--- A continuation at the end of the text is one too: an empty piece follows it (kati's own)
+-- a text with its continuations condensed (GNU make manual, "Splitting Long Lines"); carriage returns before newlines
+-- go. A continuation at the end of the text is one too: an empty piece follows it (kati's own)
 unfoldable pub condensed_of : Text → Text
 condensed_of text = flat_map condensed_group (groups (pieces_of text))
 

@@ -1,4 +1,5 @@
--- The words of a text (GNU make manual, "Functions for String Substitution and Analysis": words separated by whitespace).
+-- The words of a text (GNU make manual, "Functions for String Substitution and Analysis": words separated by
+-- whitespace).
 use Rattle.std.specs.Prelude.{ℕ, Bool, true, false, ◌||◌, ◌==◌, List, [], ◌∷◌, ◌++◌, filter, drop, take, length, ◌-◌}
 use Rattle.std.specs.List.{slice_split, join_with_byte, prefix_len, suffix_len}
 

@@ -102,7 +102,11 @@ impl Begin {
     }
 
     fn ended(self, end: usize) -> Line
-        ensures { result ≡ record { span = record { start = self.start; end = end }; number = self.number; tab = self.tab } }
+        ensures { result ≡ record {
+          span = record { start = self.start; end = end };
+          number = self.number;
+          tab = self.tab;
+        } }
     {
         Line {
             span: self.start..end,

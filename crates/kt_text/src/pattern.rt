@@ -27,7 +27,8 @@ pub fn match_pattern(pattern: &[u8], word: &[u8]) -> Option<Range<usize>>
 // The place of what stands between the front and the back of a word.
 fn stem_place(front: &[u8], back: &[u8], word: &[u8]) -> Option<Range<usize>>
     ensures { MatchOption result (is_between front.now back.now word.now ≡ false)
-        (λ stem. (is_between front.now back.now word.now ≡ true) × (stem.start ≡ length front.now) × (stem.end ≡ length word.now - length back.now) × (stem.start ≤ stem.end)) }
+        (λ stem. (is_between front.now back.now word.now ≡ true) × (stem.start ≡ length front.now)
+        × (stem.end ≡ length word.now - length back.now) × (stem.start ≤ stem.end)) }
 {
     if is_between(front, back, word) {
         Some(front.len()..word.len() - back.len())
@@ -40,7 +41,8 @@ fn stem_place(front: &[u8], back: &[u8], word: &[u8]) -> Option<Range<usize>>
 #[tactic(auto, using(crate::proofs::MatchLemmas::match_facts))]
 pub(crate) fn cut_pattern(pattern: &[u8]) -> Option<(&[u8], &[u8])>
     ensures { MatchOption result (has_percent pattern.now ≡ false)
-        (λ parts. (has_percent pattern.now ≡ true) × (parts.0.now ≡ pattern_front pattern.now) × (parts.1.now ≡ pattern_back pattern.now)) }
+        (λ parts. (has_percent pattern.now ≡ true) × (parts.0.now ≡ pattern_front pattern.now)
+        × (parts.1.now ≡ pattern_back pattern.now)) }
 {
     let percent = memchr(b'%', pattern)?;
     Some((&pattern[..percent], &pattern[percent + 1..]))

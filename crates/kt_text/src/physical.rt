@@ -14,7 +14,8 @@ pub(crate) fn first_line(text: &[u8]) -> (&[u8], &[u8])
     ensures cut { lines_of text.now ≡ result.0.now ∷ lines_of result.1.now }
     ensures whole { length result.0.now + length result.1.now ≡ length text.now }
     ensures some { 0 < length result.0.now }
-    ensures pieces { pieces_of text.now ≡ result.0.now ∷ (if is_ended result.0.now then pieces_of result.1.now else []) }
+    ensures pieces { pieces_of text.now ≡ result.0.now ∷ (if is_ended result.0.now
+        then pieces_of result.1.now else []) }
     ensures last { is_ended result.0.now ≡ false → length result.1.now ≡ 0 }
 {
     text.split_at(line_size(text))

@@ -85,7 +85,8 @@ fn first_explicit<'a>(
     skips_bare: bool,
 ) -> Option<(TargetRule<'a>, &'a [Spot])>
     ensures { MatchOption result (explicit_left skips_bare slots.now spots.now ≡ [])
-        (λ cut. explicit_left skips_bare slots.now spots.now ≡ rule_told cut.0 ∷ explicit_left skips_bare slots.now cut.1.now) }
+        (λ cut. explicit_left skips_bare slots.now spots.now ≡ rule_told cut.0
+        ∷ explicit_left skips_bare slots.now cut.1.now) }
 {
     let mut left = spots;
     while let [spot, after @ ..] = left {

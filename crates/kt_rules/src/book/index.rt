@@ -42,7 +42,8 @@ impl Index {
 
     /// Puts a spot behind those of a name.
     pub(crate) fn note(&mut self, name: &[u8], spot: Spot) -> Result<(), AllocError>
-        ensures noted { OnOk result ((other : Text) → spots_at self.new other ≡ spots_at self.old other ++ (if bytes_eq other name.now then spot ∷ [] else [])) }
+        ensures noted { OnOk result ((other : Text) → spots_at self.new other ≡ spots_at self.old other
+            ++ (if bytes_eq other name.now then spot ∷ [] else [])) }
         ensures refused { OnErr result ((other : Text) → spots_at self.new other ≡ spots_at self.old other) }
     {
         match self.spots.get_mut(name) {

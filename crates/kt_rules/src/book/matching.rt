@@ -80,7 +80,8 @@ fn add_suffix_rule<'a>(
     rule: TargetRule<'a>,
     patterns: &mut Vec<Pattern<'a>>,
 ) -> Result<(), AllocError>
-    ensures { OnOk result (patterns.new.items ≡ patterns.old.items ++ suffix_rules_at suffixes.now rule.entry.entry.now rule.entry.target.now) }
+    ensures { OnOk result (patterns.new.items ≡ patterns.old.items
+        ++ suffix_rules_at suffixes.now rule.entry.entry.now rule.entry.target.now) }
 {
     if !(is_made(rule.entry, rule.target) && is_bare(rule)) {
         return Ok(());
@@ -100,7 +101,8 @@ fn named_form(
     suffixes: &NameSet,
     name: &[u8],
 ) -> Result<Option<SuffixForm>, AllocError>
-    ensures { IfOk result (λ form. (rule : Rule) → option_map (form_told rule) form ≡ option_map (pattern_rule rule) (suffix_patterns suffixes.now name.now)) }
+    ensures { IfOk result (λ form. (rule : Rule) → option_map (form_told rule) form
+        ≡ option_map (pattern_rule rule) (suffix_patterns suffixes.now name.now)) }
 {
     if suffixes.contains(name) {
         return Ok(Some(suffix_form(alloc, b"", name)?));
@@ -113,7 +115,8 @@ fn named_form(
 
 // The form of a suffix rule for targets with one suffix that need a name with another.
 fn suffix_form(alloc: Global, made: &[u8], needed: &[u8]) -> Result<SuffixForm, AllocError>
-    ensures { IfOk result (λ form. (rule : Rule) → form_told rule form ≡ pattern_rule rule (percent ++ made.now, percent ++ needed.now)) }
+    ensures { IfOk result (λ form. (rule : Rule)
+        → form_told rule form ≡ pattern_rule rule (percent ++ made.now, percent ++ needed.now)) }
 {
     let target = Target {
         name: Sequence::from(with_percent(alloc, made)?),
@@ -162,8 +165,10 @@ fn sort_in<'a>(
     kept: &mut Vec<Pattern<'a>>,
     behind: &mut PatternSet,
 ) -> Result<(), AllocError>
-    ensures kept { OnOk result (kept.new.items ≡ kept.old.items ++ (if stays_before behind.old pattern.entry then pattern.entry ∷ [] else [])) }
-    ensures behind { OnOk result ((rule : Rule) → has_pattern behind.new rule ≡ (repeats rule pattern.entry || has_pattern behind.old rule)) }
+    ensures kept { OnOk result (kept.new.items ≡ kept.old.items ++ (if stays_before behind.old pattern.entry
+        then pattern.entry ∷ [] else [])) }
+    ensures behind { OnOk result ((rule : Rule)
+        → has_pattern behind.new rule ≡ (repeats rule pattern.entry || has_pattern behind.old rule)) }
 {
     let is_last = behind.insert(&pattern)?;
     if is_last && pattern.recipe().is_some() {

@@ -89,7 +89,8 @@ fn note_target(
     target: &Target,
     spot: Spot,
 ) -> Result<(), AllocError>
-    ensures noted { OnOk result ((name : Text) → spots_at index.new name ≡ spots_at index.old name ++ target_spots entry.now target.now spot name) }
+    ensures noted { OnOk result ((name : Text) → spots_at index.new name ≡ spots_at index.old name
+        ++ target_spots entry.now target.now spot name) }
     ensures refused { OnErr result ((name : Text) → spots_at index.new name ≡ spots_at index.old name) }
 {
     if !is_made(entry, target) {

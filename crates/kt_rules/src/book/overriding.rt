@@ -22,7 +22,8 @@ impl Book {
     }
 
     fn second_recipes(&self, entry: &Entry) -> Result<Warnings, AllocError>
-        ensures { IfOk result (λ warnings. warnings ≡ map (override_message entry.now.place) (targets_with_recipe self.now entry.now)) }
+        ensures { IfOk result (λ warnings. warnings
+            ≡ map (override_message entry.now.place) (targets_with_recipe self.now entry.now)) }
     {
         let mut warnings = Vec::new(self.alloc);
         for target in entry.targets() {
@@ -39,7 +40,8 @@ impl Book {
         warnings: &mut Vec<Sequence<u8>>,
     ) -> Result<(), AllocError>
         ensures { OnOk result (warnings.new.items ≡ warnings.old.items
-            ++ (if is_made entry.now target.now && list_any (λ earlier. true) (recipes_of self.now target.now.name) then override_message entry.now.place target.now ∷ [] else [])) }
+            ++ (if is_made entry.now target.now && list_any (λ earlier. true) (recipes_of self.now target.now.name)
+            then override_message entry.now.place target.now ∷ [] else [])) }
     {
         if is_made(entry, target) && self.has_recipe(target.name.as_slice()) {
             warnings.push(override_message(self.alloc, entry.place(), target)?)?;

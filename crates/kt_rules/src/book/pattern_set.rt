@@ -37,7 +37,8 @@ impl PatternSet {
     /// Adds a pattern rule, and tells whether it repeats none of the others.
     pub(crate) fn insert(&mut self, pattern: &Pattern) -> Result<bool, AllocError>
         ensures told { IfOk result (λ is_new. is_new ≡ not (has_pattern self.old pattern.now)) }
-        ensures added { OnOk result ((rule : Rule) → has_pattern self.new rule ≡ (repeats rule pattern.now || has_pattern self.old rule)) }
+        ensures added { OnOk result ((rule : Rule)
+            → has_pattern self.new rule ≡ (repeats rule pattern.now || has_pattern self.old rule)) }
     {
         let key = key_of(self.alloc, pattern)?;
         let is_new = self.keys.insert(key)?;

@@ -65,14 +65,16 @@ impl Book {
 
     // Whether the entry makes the target, and it has rules with the other number of colons.
     fn differs(&self, entry: &Entry, target: &Target) -> bool
-        ensures { result ≡ (is_made entry.now target.now && list_any (differ_in_colons entry.now) (rules_of self.now target.now.name)) }
+        ensures { result ≡ (is_made entry.now target.now
+            && list_any (differ_in_colons entry.now) (rules_of self.now target.now.name)) }
     {
         is_made(entry, target) && self.has_other_colons(entry, target.name.as_slice())
     }
 
     // Whether the entry makes the target, and it has a recipe, one of the two a group's.
     fn is_beside_group(&self, entry: &Entry, target: &Target) -> bool
-        ensures { result ≡ (is_made entry.now target.now && list_any (is_beside_group entry.now) (recipes_of self.now target.now.name)) }
+        ensures { result ≡ (is_made entry.now target.now
+            && list_any (is_beside_group entry.now) (recipes_of self.now target.now.name)) }
     {
         is_made(entry, target) && self.has_group(entry, target.name.as_slice())
     }

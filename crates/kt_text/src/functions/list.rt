@@ -135,7 +135,8 @@ pub fn join(alloc: Global, first: &[u8], second: &[u8]) -> Result<Vec<u8>, TextF
 // The next word, or an empty text.
 #[tactic(auto, using(crate::proofs::ListLemmas::pair_steps))]
 fn next_or_empty<'a>(words: &mut Words<'a>) -> &'a [u8]
-    ensures { (first : Text) (firsts : List Text) → joined_pairs (first ∷ firsts) words.old ≡ (first ++ result.now) ∷ joined_pairs firsts words.new }
+    ensures { (first : Text) (firsts : List Text) → joined_pairs (first ∷ firsts) words.old ≡ (first ++ result.now)
+        ∷ joined_pairs firsts words.new }
 {
     match words.next() {
         Some(word) => word,

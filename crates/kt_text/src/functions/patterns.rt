@@ -21,7 +21,9 @@ pub(crate) struct Patterns<'a> {
 
 impl<'a> Patterns<'a> {
     pub(crate) fn new(alloc: Global, text: &'a [u8]) -> Result<Patterns<'a>, AllocError>
-        ensures { IfOk result (λ patterns. (word : Bor Text) → matches_held patterns.literals.keys patterns.wildcards.items word.now ≡ matches_some (words_of text.now) word.now) }
+        ensures { IfOk result (λ patterns. (word : Bor Text)
+            → matches_held patterns.literals.keys patterns.wildcards.items word.now
+            ≡ matches_some (words_of text.now) word.now) }
     {
         let mut literals = HashSet::new(alloc);
         let mut wildcards = Vec::new(alloc);

@@ -55,7 +55,8 @@ impl<'a> Model for SortKey<'a> {
 
     ghost view = { λ key. key.word.now };
 
-    ghost invariant = { λ key. (key.front ≡ front_number 8 key.word.now) × (IsHead key.head key.word.now × All (λ byte. byte < 256) key.word.now) };
+    ghost invariant = { λ key. (key.front ≡ front_number 8 key.word.now)
+        × (IsHead key.head key.word.now × All (λ byte. byte < 256) key.word.now) };
 }
 
 impl<'a> SortKey<'a> {

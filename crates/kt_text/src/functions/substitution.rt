@@ -62,7 +62,8 @@ fn add_replaced(
     replacement: &[u8],
     word: &[u8],
 ) -> Result<(), AllocError>
-    ensures { OnOk result (list.new.items ≡ put_word list.old.items (patsubst_word pattern.now replacement.now word.now)) }
+    ensures { OnOk result (list.new.items
+        ≡ put_word list.old.items (patsubst_word pattern.now replacement.now word.now)) }
 {
     if !has_percent(pattern) {
         return add_word(list, if pattern == word { replacement } else { word });
