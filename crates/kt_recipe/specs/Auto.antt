@@ -12,7 +12,8 @@ use Rattle.kt_recipe.specs.declared.subjects.Subject.{Subject}
 use Rattle.kt_recipe.specs.declared.subjects.Subject.TheVariants.{Target, First, Each, Every, OrderOnly, Stem, Member}
 use Rattle.kt_recipe.specs.Forms.{text_of}
 
--- the marks `@ < ^ ? + | * %` and what each asks for; no file is looked at, so all prerequisites count as newer
+-- the marks `@ < ^ + | * %` and the question mark, and what each asks for; no file is looked at, so all prerequisites
+-- count as newer
 -- (kati's own)
 abbrev pub marks : List (ℕ × Subject)
 marks =
