@@ -10,3 +10,4 @@ pub mod AskedLemmas
 pub mod ExactLemmas
 pub mod SoundLemmas
 pub mod OnceLemmas
+pub mod SingleLemmas

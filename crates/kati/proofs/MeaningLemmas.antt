@@ -20,8 +20,8 @@ use Rattle.kati.specs.Headline.{ReadBlames}
 use Rattle.kati.specs.Makefile.{Read}
 use Rattle.kati.specs.Meaning.{EndsAs, Meaning, MeansGoals, meaning_of}
 use Rattle.kati.specs.Planned.{plan_course}
-use Rattle.kati.specs.Stops.{IsStopOf}
-use Rattle.kati.specs.Views.{outcome_of}
+use Rattle.kati.specs.inner.Stops.{IsStopOf}
+use Rattle.kati.specs.inner.Views.{outcome_of}
 
 abbrev pub meant : List Text → List Text → Result Plan Fault → Meaning
 meant said asked result = record { messages = said; result = result; asked = asked }

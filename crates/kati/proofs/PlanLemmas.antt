@@ -41,8 +41,8 @@ use Rattle.kt_ninja.specs.Plan as plans
 use Rattle.kt_ninja.specs.Writable.{IsWritable, HasWritableTexts, Trouble, no_output, bad_name, bad_command, repeated, not_an_output, is_empty, is_made, is_name, trouble_of_statements}
 use Rattle.kt_recipe.specs.Shell.{Progress, goes_on, ends}
 use Rattle.kati.specs.Planned.{Planning, planned, at_fault, after_command, always_build, always_built, command_for, has_implicit, outs_of, plan_groups, plan_of, statement_of, text_fault, unwritable_in, with_always_built}
-use Rattle.kati.specs.Stops.{IsFaultOf}
-use Rattle.kati.specs.Views.{is_text_trouble}
+use Rattle.kati.specs.inner.Stops.{IsFaultOf}
+use Rattle.kati.specs.inner.Views.{is_text_trouble}
 use Rattle.std.proofs.lemmas.Option.{none-some, same_Some}
 
 abbrev pub order : Text → Text → Ordering

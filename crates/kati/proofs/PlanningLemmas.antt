@@ -15,7 +15,7 @@ use Rattle.kt_graph.specs.Node.{Node}
 use Rattle.kt_ninja.specs.declared.plan.Statement.{Statement}
 use Rattle.kt_recipe.specs.Shell.{Progress, goes_on, ends}
 use Rattle.kati.specs.Planned.{Planning, planned, at_fault, after_command, command_for, plan_groups, statement_of}
-use Rattle.kati.specs.Views.{Plans}
+use Rattle.kati.specs.inner.Views.{Plans}
 use Rattle.kati.proofs.PlanLemmas.{statements_in, is_planned}
 
 abbrev pub said_in : Planning → List Text

@@ -24,7 +24,7 @@ use Rattle.kati.specs.Makefile.{Read, makefile_read}
 use Rattle.kati.specs.Meaning.{EndsAs, Meaning, Means, MeansGoals, MeansListed, MeansRead, meaning_of}
 use Rattle.kati.specs.Planned.{Planning, planned, at_fault, course_of_plan, plan_course, plan_groups, plan_of, plan_unless, text_fault, unwritable_in, written}
 use Rattle.kati.specs.ReadBack.{PlansReadBack}
-use Rattle.kati.specs.Views.{is_text_trouble}
+use Rattle.kati.specs.inner.Views.{is_text_trouble}
 use Rattle.kati.proofs.PlanLemmas.{can_be_written, outs_told, text_troubles}
 
 abbrev pub plan_in : Result Plan Fault → Plan → Plan

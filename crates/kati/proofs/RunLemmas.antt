@@ -9,7 +9,7 @@ use Rattle.kati.specs.declared.faults.RunFault.{RunFault}
 use Rattle.kati.specs.declared.faults.RunFault.TheVariants as faults
 use Rattle.kati.specs.declared.status.Status.{Status}
 use Rattle.kati.specs.Checked.{HasStatus, names_with_check}
-use Rattle.kati.specs.Delivered.{Delivers}
+use Rattle.kati.specs.inner.Delivered.{Delivers}
 use Rattle.kati.specs.Headline.{IsKept, Leaves}
 use Rattle.kati.specs.Meaning.{Meaning, Means}
 use Rattle.kati.specs.Messages.{err_text, out_text}

@@ -1,10 +1,8 @@
 pub mod Course
-pub mod Stops
 pub mod Listing
 pub mod Makefile
 pub mod Chosen
 pub mod Planned
-pub mod Views
 pub mod Meaning
 pub mod Asked
 pub mod Messages
@@ -12,9 +10,9 @@ pub mod Checked
 pub mod Exits
 pub mod Told
 pub mod Headline
-pub mod Delivered
 pub mod Limits
 pub mod ReadBack
 pub mod Exact
 pub mod Sound
 pub mod Once
+pub mod inner

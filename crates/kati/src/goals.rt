@@ -5,7 +5,7 @@ ghost use Rattle.kt_eval.specs.Step.{Ends};
 ghost use Rattle.kt_graph.specs.Goals.{default_goals};
 ghost use Rattle.kati.specs.Chosen.{chosen_goals, default_goal_text, goals_or_none};
 ghost use Rattle.kati.specs.Course.{Computes};
-ghost use Rattle.kati.specs.Views.{read_of};
+ghost use Rattle.kati.specs.inner.Views.{read_of};
 
 use crate::reading::Makefile;
 use crate::words::stop_on;

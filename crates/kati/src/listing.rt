@@ -6,7 +6,7 @@ ghost use Rattle.kt_eval.specs.Step.{Blames};
 ghost use Rattle.kati.specs.Asked.{names_of};
 ghost use Rattle.kati.specs.Course.{Computes, Follows};
 ghost use Rattle.kati.specs.Listing.{list_in, listed, nul_fault};
-ghost use Rattle.kati.specs.Stops.{IsFaultOf};
+ghost use Rattle.kati.specs.inner.Stops.{IsFaultOf};
 
 use crate::words::stop_on;
 use kati_args::Word;

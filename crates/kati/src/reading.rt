@@ -7,7 +7,7 @@ ghost use Rattle.kt_eval.specs.Step.{Blames};
 ghost use Rattle.kati.specs.Asked.{names_of};
 ghost use Rattle.kati.specs.Course.{Follows};
 ghost use Rattle.kati.specs.Makefile.{command_line_table, course_of_reading, makefile_names, makefile_read, with_macro};
-ghost use Rattle.kati.specs.Views.{read_of};
+ghost use Rattle.kati.specs.inner.Views.{read_of};
 
 use kati_args::{Args, Macro as Definition, Word};
 use kt_eval::{Files, Flavour, Machine, Macro, Macros, Origin, Reading, Stop};

@@ -3,7 +3,7 @@ ghost use Rattle.std.specs.Prelude.{◌≡◌, ◌≤◌, ◌++◌, codes, IfOk,
 ghost use Rattle.kt_list.specs.Counters.{Rises};
 ghost use Rattle.kt_eval.specs.Faults.{fault_line};
 ghost use Rattle.kt_ninja.specs.Writable.{IsWritable};
-ghost use Rattle.kati.specs.Delivered.{Delivers, DeliverBlames, Writes};
+ghost use Rattle.kati.specs.inner.Delivered.{Delivers, DeliverBlames, Writes};
 ghost use Rattle.kati.specs.Headline.{Blames, Leaves};
 ghost use Rattle.kati.specs.Messages.{fault_text, messages_text};
 

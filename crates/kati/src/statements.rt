@@ -1,5 +1,5 @@
 //! The statements of groups.
-ghost use Rattle.std.specs.Prelude.{◌≡◌, ◌&&◌, ◌++◌, Bool, filter, flat_map, fold, is_some, map, not, option_map, IfOk, OnOk, if◌then◌else◌};
+ghost use Rattle.std.specs.Prelude.{◌≡◌, ◌&&◌, ◌++◌, ◌∷◌, [], Bool, filter, flat_map, fold, is_some, map, not, option_map, IfOk, IfSome, OnOk, if◌then◌else◌};
 ghost use Rattle.std.specs.List.{list_any};
 ghost use Rattle.kt_rules.specs.Book.{is_phony};
 ghost use Rattle.kt_rules.specs.Names.{is_among, with_name, without_repeats};
@@ -31,6 +31,7 @@ pub(crate) fn statement_of(
     statement_with(alloc, group, made_by(command), implicit)
 }
 
+#[tactic(auto, using(crate::proofs::SingleLemmas::own_inputs, crate::proofs::SingleLemmas::own_order_only))]
 fn statement_with(
     alloc: Global,
     group: &[Node],
@@ -45,6 +46,9 @@ fn statement_with(
       order_only = joined_order_only group.now;
     }) }
 {
+    if let Some(node) = single(group) {
+        return own_statement(alloc, node, made, implicit);
+    }
     let outs = outs_of(alloc, group)?;
     let inputs = joined_inputs(alloc, group)?;
     let order_only = joined_order_only(alloc, group, &inputs)?;
@@ -52,6 +56,42 @@ fn statement_with(
         outs: Sequence::from(outs),
         made,
         inputs: Sequence::from(in_order(alloc, inputs)?),
+        implicit: Sequence::from(implicit),
+        order_only: Sequence::from(order_only),
+    })
+}
+
+// The one name of a group that has no other.
+fn single<'g, 'n>(group: &'g [Node<'n>]) -> Option<&'g Node<'n>>
+    ensures { IfSome result (λ node. group.now ≡ node.now ∷ []) }
+{
+    let (node, others) = group.split_first()?;
+    if others.is_empty() { Some(node) } else { None }
+}
+
+// The statement of one name alone, whose inputs each stand once as they are.
+fn own_statement(
+    alloc: Global,
+    node: &Node,
+    made: Made,
+    implicit: Vec<Name>,
+) -> Result<Statement, AllocError>
+    ensures { IfOk result (λ statement. statement ≡ record {
+      outs = outs_of (node.now ∷ []);
+      made = made;
+      inputs = inputs_of node.now;
+      implicit = implicit.items;
+      order_only = order_only_of node.now;
+    }) }
+{
+    let mut outs = Vec::with_capacity(alloc, 1)?;
+    outs.push(copied(alloc, node.name())?)?;
+    let inputs = copies(alloc, node.inputs())?;
+    let order_only = copies(alloc, node.order_only())?;
+    Ok(Statement {
+        outs: Sequence::from(outs),
+        made,
+        inputs: Sequence::from(inputs),
         implicit: Sequence::from(implicit),
         order_only: Sequence::from(order_only),
     })
@@ -101,6 +141,16 @@ fn copied(alloc: Global, name: &[u8]) -> Result<Name, AllocError>
     ensures { IfOk result (λ copy. copy ≡ name.now) }
 {
     Ok(Sequence::from(Vec::from_slice(alloc, name)?))
+}
+
+fn copies(alloc: Global, names: Inputs) -> Result<Vec<Name>, AllocError>
+    ensures { IfOk result (λ list. list.items ≡ names.entry) }
+{
+    let mut list = Vec::new(alloc);
+    for name in names {
+        list.push(copied(alloc, name)?)?;
+    }
+    Ok(list)
 }
 
 fn outs_of(alloc: Global, group: &[Node]) -> Result<Vec<Name>, AllocError>

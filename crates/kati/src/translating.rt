@@ -10,8 +10,8 @@ ghost use Rattle.kati.specs.Headline.{ReadBlames, Translates};
 ghost use Rattle.kati.specs.Course.{Comes, ComesTo, Course, Follows};
 ghost use Rattle.kati.specs.Makefile.{Read, makefile_read};
 ghost use Rattle.kati.specs.Meaning.{EndsAs, MeansGoals, MeansListed, MeansRead, Means};
-ghost use Rattle.kati.specs.Stops.{IsStopOf};
-ghost use Rattle.kati.specs.Views.{outcome_of, read_of};
+ghost use Rattle.kati.specs.inner.Stops.{IsStopOf};
+ghost use Rattle.kati.specs.inner.Views.{outcome_of, read_of};
 
 use crate::faults::RunFault;
 use crate::goals::chosen_goals;

@@ -2,7 +2,7 @@
 ghost use Rattle.std.specs.Prelude.{◌++◌};
 ghost use Rattle.kt_eval.specs.Faults.{number_of, wording};
 ghost use Rattle.kt_eval.specs.Step.{fault_at};
-ghost use Rattle.kati.specs.Stops.{IsFaultOf};
+ghost use Rattle.kati.specs.inner.Stops.{IsFaultOf};
 
 use kt_eval::{Fault, FaultKind, Stop};
 use kt_rules::Place;

@@ -1,7 +1,7 @@
 -- Messages and names so far, where something is refused: they are a beginning of those of the step that it stands in.
 use Rattle.std.proofs.Common.{◌≡◌, ℕ, suc, ◌+◌, ◌<◌, ◌==◌, ◌||◌, Bool, true, cond, false, List, [], ◌∷◌, ◌++◌, length, map, drop, get_or, drop-cons, Some, codes, refl, sym, ap, subst, ◌∙◌, arith, Bor}
 use Rattle.std.specs.List.{slice_get}
-use Rattle.kt_text.specs.Words.{Text, words_of}
+use Rattle.kt_text.specs.Words.{Text, words_of, stripped}
 use Rattle.kt_syntax.specs.Blocks.{Items, Branches, definition, conditional, no_branch, branch, late, tree_of}
 use Rattle.kt_syntax.specs.Kinds.{Kind, line_kind}
 use Rattle.kt_syntax.specs.declared.step.Step.{Step as Found}
@@ -13,7 +13,6 @@ use Rattle.kt_eval.specs.Files.{Store}
 use Rattle.kt_eval.specs.State.{World, bind, unbind}
 use Rattle.kt_eval.specs.declared.state.Frame.TheVariants.{Loop}
 use Rattle.kt_eval.specs.Step.{Step, Outcome, Gave, Stopped, trail, GoesOn, Fails, then_do, world_of}
-use Rattle.kt_eval.specs.Calls.{stripped}
 use Rattle.kt_eval.specs.Conditions.{Compared}
 use Rattle.kt_eval.specs.Conditionals.{are_equal}
 use Rattle.kt_eval.specs.Expansion.{expanded, each_argument, apply_or, apply_and, apply_eval, apply_foreach, each_word}

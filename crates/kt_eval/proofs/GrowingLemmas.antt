@@ -4,7 +4,7 @@ use Rattle.std.proofs.Common.{◌≡◌, ℕ, zero, suc, ◌≤◌, ◌+◌, ◌
 use Rattle.std.specs.List.{list_any}
 use Rattle.std.specs.Str.{is_utf8}
 use Rattle.std.proofs.lemmas.List.{take-append-le}
-use Rattle.kt_text.specs.Words.{Text, words_of}
+use Rattle.kt_text.specs.Words.{Text, words_of, stripped}
 use Rattle.kt_text.specs.Functions.{patsubst_of}
 use Rattle.kt_text.specs.Lines.{nul_line}
 use Rattle.kt_syntax.specs.declared.form.Directive.{Directive}
@@ -38,7 +38,7 @@ use Rattle.kt_eval.specs.Files.{Store}
 use Rattle.kt_eval.specs.Fronts.{IsFront}
 use Rattle.kt_eval.specs.State.{World, lookup, bind, unbind, say, set_rule}
 use Rattle.kt_eval.specs.Step.{Step, Outcome, Gave, Stopped, then_do, stop, world_of}
-use Rattle.kt_eval.specs.Calls.{Asked, calls, refuses, refers, asked_by, Naming, plainly, substituting, naming_of, arity, text_result, text_function_name, stripped, is_function_name}
+use Rattle.kt_eval.specs.Calls.{Asked, calls, refuses, refers, asked_by, Naming, plainly, substituting, naming_of, arity, text_result, text_function_name, is_function_name}
 use Rattle.kt_eval.specs.Conditions.{Compared, compared_of, trimmed}
 use Rattle.kt_eval.specs.Expansion.{Evaluator, too_deep, flavoured, value_of, each_argument, accepted, apply_text, apply_if, apply_or, apply_and, each_word, apply_foreach, called, call_by_name, apply_call, apply_value, apply_eval, apply_error, apply_warning, apply_info, apply_other, apply, body_of, value_named, referred, term_of, each_term, expanded}
 use Rattle.kt_eval.specs.Assignments.{assign, is_bad_name, assign_named, assign_line, define}

@@ -1,8 +1,8 @@
 -- What a reference asks for (GNU make manual, "Basics of Variable References", "Substitution References" and
 -- "Function Call Syntax").
 use Rattle.std.specs.Prelude.{ℕ, zero, suc, ◌+◌, ◌-◌, Bool, true, false, ◌==◌, ◌&&◌, ◌||◌, List, [], ◌∷◌, ◌++◌, length, take, drop, Option, Some, None, codes, bytes_eq, is_some, if◌then◌else◌}
-use Rattle.std.specs.List.{prefix_len, suffix_len, position_or_len, before_first, after_first, list_any}
-use Rattle.kt_text.specs.Words.{Text, is_separator}
+use Rattle.std.specs.List.{position_or_len, before_first, after_first, list_any}
+use Rattle.kt_text.specs.Words.{Text, is_separator, stripped_start}
 use Rattle.kt_text.specs.Match.{has_percent}
 use Rattle.kt_text.specs.Functions.{subst_of, patsubst_of, strip_of, findstring_of, filter_of, filter_out_of, sort_of, word_of, wordlist_of, words_count_of, firstword_of, lastword_of, dir_of, notdir_of, suffix_of, basename_of, addsuffix_of, addprefix_of, join_of}
 use Rattle.kt_syntax.specs.declared.term.Mark.{Mark}
@@ -150,18 +150,6 @@ text_result Addsuffix (suffix ∷ names ∷ []) = Some (addsuffix_of suffix name
 text_result Addprefix (prefix ∷ names ∷ []) = Some (addprefix_of prefix names)
 text_result Join (first ∷ second ∷ []) = Some (join_of first second)
 text_result other arguments = None
-
--- without the separators at its begin
-abbrev pub stripped_start : Text → Text
-stripped_start text = drop (prefix_len is_separator text) text
-
--- without those at its end
-abbrev pub stripped_end : Text → Text
-stripped_end text = take (length text - suffix_len is_separator text) text
-
--- without those at either end
-abbrev pub stripped : Text → Text
-stripped text = stripped_end (stripped_start text)
 
 -- the marks of a reference
 abbrev pub opener : Mark → ℕ

@@ -12,9 +12,9 @@ pub mod Conditionals
 pub mod Including
 pub mod Rules
 pub mod Reading
-pub mod Views
 pub mod Faults
 pub mod Levels
 pub mod Growing
 pub mod Machines
 pub mod Rows
+pub mod inner

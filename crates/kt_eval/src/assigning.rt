@@ -1,7 +1,7 @@
 //! What an assignment does, by its operator and what stands there.
 ghost use Rattle.std.specs.Prelude.{◌≡◌, IfOk, option_map};
 ghost use Rattle.kt_eval.specs.Table.{appending, assigning, assigning_again, assigning_new, doubled};
-ghost use Rattle.kt_eval.specs.Views.{assigning_told};
+ghost use Rattle.kt_eval.specs.inner.Views.{assigning_told};
 
 use crate::macros::{Flavour, Macro, Origin};
 use kt_list::Shared;

@@ -5,9 +5,9 @@ ghost use Rattle.kt_text.specs.Words.{is_separator};
 ghost use Rattle.kt_syntax.specs.Comments.{plain_of};
 ghost use Rattle.kt_syntax.specs.Kinds.{kind_told};
 ghost use Rattle.kt_eval.specs.Assignments.{assign, assign_line, assign_named, define, is_bad_name};
-ghost use Rattle.kt_eval.specs.Levels.{evaluator};
-ghost use Rattle.kt_eval.specs.Step.{AreKnown, Blames, Gives, store_of, Keeps};
-ghost use Rattle.kt_eval.specs.Views.{assigning_told};
+ghost use Rattle.kt_eval.specs.inner.Doing.{Does};
+ghost use Rattle.kt_eval.specs.Step.{Keeps};
+ghost use Rattle.kt_eval.specs.inner.Views.{assigning_told};
 
 use crate::assigning::{Assigning, doubled};
 use crate::compared::trimmed;
@@ -18,6 +18,7 @@ use crate::macros::Flavour;
 use crate::scope::Scope;
 use crate::stop::Stop;
 use kt_syntax::{Form, Operator, plain};
+use kt_text::is_separator;
 
 fn is_bad_name(name: &[u8]) -> bool
     ensures { result ≡ is_bad_name name.now }
@@ -31,13 +32,6 @@ fn has_separator(name: &[u8]) -> bool
     name.iter().any(|byte| is_separator(*byte))
 }
 
-#[tactic(auto, unfolding(kt_text::specs::Words::is_separator))]
-fn is_separator(byte: u8) -> bool
-    ensures { result ≡ is_separator byte }
-{
-    matches!(byte, b' ' | b'\t' | b'\n')
-}
-
 impl<'a, M: Scope, F: Files> Evaluation<'a, M, F> {
     #[cycle(evaluate)]
     #[tactic(auto, unfolding(crate::specs::Assignments::assign))]
@@ -49,22 +43,23 @@ impl<'a, M: Scope, F: Files> Evaluation<'a, M, F> {
         does: Assigning,
     ) -> Result<(), Stop>
         requires { M.writable ≡ true }
-        ensures gives { AreKnown self.old.known → Gives (λ u. u) result self.new.world (assign (evaluator M.writable (store_of self.old.known) below)
-            name.items text.now (assigning_told does) self.old.world) }
-        ensures kept { Keeps self.old self.new }
-        ensures blames { Blames result self.old.failed self.new.failed self.new.world.asked }
+        ensures { Does (λ u. u) M.writable below
+            (λ e. assign e name.items text.now (assigning_told does)) result self.old self.new }
     {
         match does {
             Assigning::Keeps => Ok(()),
-            Assigning::Defers(front) => Ok(self.set_macro(name, Flavour::Deferred, front, text)?),
+            Assigning::Defers(front) => {
+                let text = Vec::from_slice(self.alloc, text)?;
+                Ok(self.set_macro(name, Flavour::Deferred, front, text)?)
+            }
             Assigning::Expands(front) => {
                 let x = self.expand_here(below, text)?;
-                Ok(self.set_macro(name, Flavour::Immediate, front, &x)?)
+                Ok(self.set_macro(name, Flavour::Immediate, front, x)?)
             }
             Assigning::Escapes => {
                 let x = self.expand_here(below, text)?;
                 let x = doubled(self.alloc, &x)?;
-                Ok(self.set_macro(name, Flavour::Deferred, None, &x)?)
+                Ok(self.set_macro(name, Flavour::Deferred, None, x)?)
             }
         }
     }
@@ -79,11 +74,8 @@ impl<'a, M: Scope, F: Files> Evaluation<'a, M, F> {
         name: Vec<u8>,
     ) -> Result<(), Stop>
         requires { M.writable ≡ true }
-        ensures gives { AreKnown self.old.known → Gives (λ u. u) result self.new.world
-            (assign_named (evaluator M.writable (store_of self.old.known) below) operator text.now name.items
-            self.old.world) }
-        ensures kept { Keeps self.old self.new }
-        ensures blames { Blames result self.old.failed self.new.failed self.new.world.asked }
+        ensures { Does (λ u. u) M.writable below
+            (λ e. assign_named e operator text.now name.items) result self.old self.new }
     {
         if is_bad_name(&name) {
             return Err(Stop::Fault(self.fault(FaultKind::BadMacroName, b"")?));
@@ -103,10 +95,8 @@ impl<'a, M: Scope, F: Files> Evaluation<'a, M, F> {
         text: &[u8],
     ) -> Result<(), Stop>
         requires { M.writable ≡ true }
-        ensures gives { AreKnown self.old.known → Gives (λ u. u) result self.new.world (assign_line (evaluator M.writable (store_of self.old.known) below)
-            name.now operator text.now self.old.world) }
-        ensures kept { Keeps self.old self.new }
-        ensures blames { Blames result self.old.failed self.new.failed self.new.world.asked }
+        ensures { Does (λ u. u) M.writable below
+            (λ e. assign_line e name.now operator text.now) result self.old self.new }
     {
         if operator == Operator::Shell {
             return Err(Stop::Fault(self.fault(FaultKind::RefusedForm, b"!=")?));
@@ -126,10 +116,8 @@ impl<'a, M: Scope, F: Files> Evaluation<'a, M, F> {
         body: &[u8],
     ) -> Result<(), Stop>
         requires { M.writable ≡ true }
-        ensures gives { AreKnown self.old.known → Gives (λ u. u) result self.new.world (define (evaluator M.writable (store_of self.old.known) below)
-            rest.now (kind_told form.entry) body.now self.old.world) }
-        ensures kept { Keeps self.old self.new }
-        ensures blames { Blames result self.old.failed self.new.failed self.new.world.asked }
+        ensures { Does (λ u. u) M.writable below
+            (λ e. define e rest.now (kind_told form.entry) body.now) result self.old self.new }
     {
         match form {
             Form::Assignment(name, operator, _) => {

@@ -1,14 +1,15 @@
 //! What references ask for.
 ghost use Rattle.std.specs.Prelude.{◌≡◌, ◌≤◌, ◌+◌, ◌-◌, ◌==◌, ◌∷◌, [], IfOk, OnOk, ◌++◌, length, map, not, option_map, drop, take, Some, position, MatchOption, true, false, ◌<◌, ◌^◌};
-ghost use Rattle.std.specs.List.{after_first, before_first, list_any, position_or_len, prefix_len, suffix_len};
+ghost use Rattle.std.specs.List.{after_first, before_first, list_any, position_or_len};
 ghost use Rattle.std.specs.Str.{bytes_eq};
 ghost use Rattle.kt_text.specs.Words.{is_separator};
 ghost use Rattle.kt_text.specs.Match.{has_percent};
-ghost use Rattle.kt_eval.specs.Calls.{arguments_of, arity, asked_by, asked_of, byte_name, closer, commas, cuts, function_of, is_function_name, is_refused_function, may_cut, name_function, naming_of, nested, one_less, opener, other_function, string_function, stripped, stripped_end, stripped_start, text_function_name};
-ghost use Rattle.kt_eval.specs.Views.{asked_told, naming_told};
+ghost use Rattle.kt_eval.specs.Calls.{arguments_of, arity, asked_by, asked_of, byte_name, closer, commas, cuts, function_of, is_function_name, is_refused_function, may_cut, name_function, naming_of, nested, one_less, opener, other_function, string_function, text_function_name};
+ghost use Rattle.kt_eval.specs.inner.Views.{asked_told, naming_told};
 
 use crate::function::{Function, TextFunction};
 use kt_syntax::Mark;
+use kt_text::{is_separator, stripped_start};
 use memchr::memchr;
 use std::alloc::{AllocError, Global};
 
@@ -77,13 +78,6 @@ fn first_separator(text: &[u8]) -> Option<usize>
     ensures { result ≡ position is_separator text.now }
 {
     text.iter().position(|byte| is_separator(*byte))
-}
-
-#[tactic(auto, unfolding(kt_text::specs::Words::is_separator))]
-fn is_separator(byte: u8) -> bool
-    ensures { result ≡ is_separator byte }
-{
-    matches!(byte, b' ' | b'\t' | b'\n')
 }
 
 // The arguments, cut at commas outside nested marks of the reference's own kind.
@@ -174,42 +168,6 @@ fn closer(mark: Mark) -> u8
         Mark::Braces => b'}',
         Mark::Parentheses | Mark::Byte => b')',
     }
-}
-
-// A text without the separators at its ends.
-pub(crate) fn stripped(text: &[u8]) -> &[u8]
-    ensures { result.now ≡ stripped text.now }
-{
-    stripped_end(stripped_start(text))
-}
-
-fn stripped_start(text: &[u8]) -> &[u8]
-    ensures { result.now ≡ stripped_start text.now }
-{
-    &text[leading(text)..]
-}
-
-fn stripped_end(text: &[u8]) -> &[u8]
-    ensures { result.now ≡ stripped_end text.now }
-{
-    &text[..text.len() - trailing(text)]
-}
-
-fn leading(text: &[u8]) -> usize
-    ensures value { result ≡ prefix_len is_separator text.now }
-    ensures bound { result ≤ length text.now }
-{
-    text.iter().take_while(|byte| is_separator(**byte)).count()
-}
-
-fn trailing(text: &[u8]) -> usize
-    ensures value { result ≡ suffix_len is_separator text.now }
-    ensures bound { result ≤ length text.now }
-{
-    text.iter()
-        .rev()
-        .take_while(|byte| is_separator(**byte))
-        .count()
 }
 
 // What an expanded body names.

@@ -1,10 +1,12 @@
 //! The two texts of a condition.
 ghost use Rattle.std.specs.Prelude.{◌≡◌, ◌<◌, ◌≤◌, ◌==◌, ◌||◌, length, option_map, IfSome, not, position};
-ghost use Rattle.std.specs.List.{prefix_len, suffix_len};
-ghost use Rattle.kt_text.specs.Words.{is_blank, trimmed_end, trimmed_start};
+ghost use Rattle.std.specs.List.{prefix_len};
+ghost use Rattle.kt_text.specs.Words.{is_blank};
 ghost use Rattle.kt_eval.specs.Conditionals.{text_after_word, word_before_blank};
 ghost use Rattle.kt_eval.specs.Conditions.{bare_place, compared_of, in_parentheses, in_quotes, quoted, quoted_by, second_in, trimmed};
-ghost use Rattle.kt_eval.specs.Views.{compared_told};
+ghost use Rattle.kt_eval.specs.inner.Views.{compared_told};
+
+use kt_text::{is_blank, trim_end, trim_start};
 
 /// Two texts that are compared.
 #[derive(Clone, Copy)]
@@ -71,7 +73,7 @@ fn in_quotes(text: &[u8]) -> Option<Compared<'_>>
     ensures { option_map compared_told result ≡ in_quotes text.now }
 {
     let (first, rest) = quoted(text)?;
-    let (second, _) = quoted(trimmed_start(rest))?;
+    let (second, _) = quoted(trim_start(rest))?;
     Some(Compared { first, second })
 }
 
@@ -110,43 +112,7 @@ fn quote_place(quote: u8, text: &[u8]) -> Option<usize>
 pub(crate) fn trimmed(text: &[u8]) -> &[u8]
     ensures { result.now ≡ trimmed text.now }
 {
-    trimmed_end(trimmed_start(text))
-}
-
-fn trimmed_start(text: &[u8]) -> &[u8]
-    ensures { result.now ≡ trimmed_start text.now }
-{
-    &text[leading(text)..]
-}
-
-fn trimmed_end(text: &[u8]) -> &[u8]
-    ensures { result.now ≡ trimmed_end text.now }
-{
-    &text[..text.len() - trailing(text)]
-}
-
-fn leading(text: &[u8]) -> usize
-    ensures value { result ≡ prefix_len is_blank text.now }
-    ensures bound { result ≤ length text.now }
-{
-    text.iter().take_while(|byte| is_blank(**byte)).count()
-}
-
-fn trailing(text: &[u8]) -> usize
-    ensures value { result ≡ suffix_len is_blank text.now }
-    ensures bound { result ≤ length text.now }
-{
-    text.iter()
-        .rev()
-        .take_while(|byte| is_blank(**byte))
-        .count()
-}
-
-#[tactic(auto, unfolding(kt_text::specs::Words::is_blank))]
-fn is_blank(byte: u8) -> bool
-    ensures { result ≡ is_blank byte }
-{
-    matches!(byte, b' ' | b'\t')
+    trim_end(trim_start(text))
 }
 
 fn word_length(text: &[u8]) -> usize
@@ -167,5 +133,5 @@ pub(crate) fn word_before_blank(text: &[u8]) -> &[u8]
 pub(crate) fn text_after_word(text: &[u8]) -> &[u8]
     ensures { result.now ≡ text_after_word text.now }
 {
-    trimmed_start(&text[word_length(text)..])
+    trim_start(&text[word_length(text)..])
 }

@@ -3,10 +3,10 @@ ghost use Rattle.std.specs.Prelude.{◌≡◌, option_map, bytes_eq, true};
 ghost use Rattle.kt_text.specs.Words.{is_nonempty, words_of};
 ghost use Rattle.kt_syntax.specs.Kinds.{kind_told};
 ghost use Rattle.kt_eval.specs.Conditionals.{are_equal, bad_conditional, else_holds, holds, is_defined, is_set, line_holds, text_holds, worded_holds};
-ghost use Rattle.kt_eval.specs.Levels.{evaluator};
 ghost use Rattle.kt_eval.specs.State.{lookup, raw_value};
-ghost use Rattle.kt_eval.specs.Step.{AreKnown, Blames, Gives, store_of, Keeps};
-ghost use Rattle.kt_eval.specs.Views.{compared_told};
+ghost use Rattle.kt_eval.specs.inner.Doing.{Does};
+ghost use Rattle.kt_eval.specs.Step.{Blames, Gives};
+ghost use Rattle.kt_eval.specs.inner.Views.{compared_told};
 
 use crate::compared::{Compared, compared_texts, text_after_word, word_before_blank};
 use crate::evaluation::Evaluation;
@@ -48,10 +48,7 @@ impl<'a, M: Scope, F: Files> Evaluation<'a, M, F> {
     #[tactic(auto, using(crate::proofs::FrontLemmas::is_set_longer, crate::proofs::FrontLemmas::is_set_same), unfolding(crate::specs::Conditionals::is_defined))]
     pub(crate) fn is_defined(&mut self, below: u64, text: &[u8]) -> Result<bool, Stop>
         requires { M.writable ≡ true }
-        ensures gives { AreKnown self.old.known → Gives (λ b. b) result self.new.world (is_defined (evaluator M.writable (store_of self.old.known) below)
-            text.now self.old.world) }
-        ensures kept { Keeps self.old self.new }
-        ensures blames { Blames result self.old.failed self.new.failed self.new.world.asked }
+        ensures { Does (λ b. b) M.writable below (λ e. is_defined e text.now) result self.old self.new }
     {
         let x = self.expand_here(below, text)?;
         self.is_set(&x)
@@ -65,10 +62,8 @@ impl<'a, M: Scope, F: Files> Evaluation<'a, M, F> {
         compared: Option<Compared<'_>>,
     ) -> Result<bool, Stop>
         requires { M.writable ≡ true }
-        ensures gives { AreKnown self.old.known → Gives (λ b. b) result self.new.world (are_equal (evaluator M.writable (store_of self.old.known) below)
-            (option_map compared_told compared.entry) self.old.world) }
-        ensures kept { Keeps self.old self.new }
-        ensures blames { Blames result self.old.failed self.new.failed self.new.world.asked }
+        ensures { Does (λ b. b) M.writable below
+            (λ e. are_equal e (option_map compared_told compared.entry)) result self.old self.new }
     {
         let Some(compared) = compared else {
             return self.bad_conditional();
@@ -82,10 +77,7 @@ impl<'a, M: Scope, F: Files> Evaluation<'a, M, F> {
     #[tactic(auto, unfolding(crate::specs::Conditionals::holds))]
     pub(crate) fn holds(&mut self, below: u64, word: Directive, text: &[u8]) -> Result<bool, Stop>
         requires { M.writable ≡ true }
-        ensures gives { AreKnown self.old.known → Gives (λ b. b) result self.new.world (holds (evaluator M.writable (store_of self.old.known) below) word
-            text.now self.old.world) }
-        ensures kept { Keeps self.old self.new }
-        ensures blames { Blames result self.old.failed self.new.failed self.new.world.asked }
+        ensures { Does (λ b. b) M.writable below (λ e. holds e word text.now) result self.old self.new }
     {
         match word {
             Directive::Ifdef => self.is_defined(below, text),
@@ -105,11 +97,8 @@ impl<'a, M: Scope, F: Files> Evaluation<'a, M, F> {
         text: &[u8],
     ) -> Result<bool, Stop>
         requires { M.writable ≡ true }
-        ensures gives { AreKnown self.old.known → Gives (λ b. b) result self.new.world
-            (worded_holds (evaluator M.writable (store_of self.old.known) below) (kind_told form.entry) text.now
-            self.old.world) }
-        ensures kept { Keeps self.old self.new }
-        ensures blames { Blames result self.old.failed self.new.failed self.new.world.asked }
+        ensures { Does (λ b. b) M.writable below
+            (λ e. worded_holds e (kind_told form.entry) text.now) result self.old self.new }
     {
         match form {
             Form::Directive(word, _) => self.holds(below, word, text),
@@ -121,10 +110,7 @@ impl<'a, M: Scope, F: Files> Evaluation<'a, M, F> {
     #[tactic(auto, unfolding(crate::specs::Conditionals::text_holds))]
     pub(crate) fn text_holds(&mut self, below: u64, text: &[u8]) -> Result<bool, Stop>
         requires { M.writable ≡ true }
-        ensures gives { AreKnown self.old.known → Gives (λ b. b) result self.new.world (text_holds (evaluator M.writable (store_of self.old.known) below)
-            text.now self.old.world) }
-        ensures kept { Keeps self.old self.new }
-        ensures blames { Blames result self.old.failed self.new.failed self.new.world.asked }
+        ensures { Does (λ b. b) M.writable below (λ e. text_holds e text.now) result self.old self.new }
     {
         self.worded_holds(
             below,
@@ -143,10 +129,7 @@ impl<'a, M: Scope, F: Files> Evaluation<'a, M, F> {
         rest: &[u8],
     ) -> Result<bool, Stop>
         requires { M.writable ≡ true }
-        ensures gives { AreKnown self.old.known → Gives (λ b. b) result self.new.world (else_holds (evaluator M.writable (store_of self.old.known) below)
-            condition rest.now self.old.world) }
-        ensures kept { Keeps self.old self.new }
-        ensures blames { Blames result self.old.failed self.new.failed self.new.world.asked }
+        ensures { Does (λ b. b) M.writable below (λ e. else_holds e condition rest.now) result self.old self.new }
     {
         if !condition {
             return Ok(true);
@@ -164,10 +147,8 @@ impl<'a, M: Scope, F: Files> Evaluation<'a, M, F> {
         form: Form<'_>,
     ) -> Result<bool, Stop>
         requires { M.writable ≡ true }
-        ensures gives { AreKnown self.old.known → Gives (λ b. b) result self.new.world (line_holds (evaluator M.writable (store_of self.old.known) below)
-            condition (kind_told form.entry) self.old.world) }
-        ensures kept { Keeps self.old self.new }
-        ensures blames { Blames result self.old.failed self.new.failed self.new.world.asked }
+        ensures { Does (λ b. b) M.writable below
+            (λ e. line_holds e condition (kind_told form.entry)) result self.old self.new }
     {
         match form {
             Form::Directive(Directive::Else, rest) => self.else_holds(below, condition, rest),

@@ -4,13 +4,14 @@ ghost use Rattle.std.specs.List.{list_any};
 ghost use Rattle.kt_text.specs.Words.{words_of};
 ghost use Rattle.kt_syntax.specs.Terms.{piece_of, terms_of};
 ghost use Rattle.kt_eval.specs.State.{lookup};
-ghost use Rattle.kt_eval.specs.Step.{AreKnown, Blames, Gives, store_of, Keeps};
-ghost use Rattle.kt_eval.specs.Calls.{naming_of, text_result};
-ghost use Rattle.kt_eval.specs.Views.{asked_told};
-ghost use Rattle.kt_eval.specs.Expansion.{accepted, apply, apply_and, apply_call, apply_error, apply_eval, apply_foreach, apply_if, apply_info, apply_or, apply_text, apply_value, apply_warning, body_of, call_by_name, called, each_argument, each_word, expanded, referred, term_of, value_named, value_of};
+ghost use Rattle.kt_eval.specs.inner.Doing.{Does};
+ghost use Rattle.kt_eval.specs.Step.{AreKnown, Blames, Gives, Keeps, store_of};
 ghost use Rattle.kt_eval.specs.Levels.{evaluator};
+ghost use Rattle.kt_eval.specs.Calls.{naming_of, text_result};
+ghost use Rattle.kt_eval.specs.inner.Views.{asked_told};
+ghost use Rattle.kt_eval.specs.Expansion.{accepted, apply, apply_and, apply_call, apply_error, apply_eval, apply_foreach, apply_if, apply_info, apply_or, apply_text, apply_value, apply_warning, call_by_name, called, each_argument, each_word, expanded, referred, term_of, value_named, value_of};
 
-use crate::calls::{Asked, Naming, asked_by, is_function_name, name_in, stripped};
+use crate::calls::{Asked, Naming, asked_by, is_function_name, name_in};
 use crate::evaluation::Evaluation;
 use crate::files::Files;
 use crate::function::{Function, TextFunction};
@@ -23,7 +24,7 @@ use crate::text_functions::text_result;
 use kt_list::{Sequence, Shared};
 use kt_syntax::{Term, Unterminated, terms};
 use kt_text::functions::patsubst;
-use kt_text::{TextFault, words};
+use kt_text::{TextFault, stripped, words};
 
 fn has_dollar(text: &[u8]) -> bool
     ensures { result ≡ list_any (λ byte. byte == 36) text.now }
@@ -36,10 +37,7 @@ impl<'a, M: Scope, F: Files> Evaluation<'a, M, F> {
     #[cycle(evaluate)]
     #[tactic(auto, using(crate::proofs::LevelLemmas::evaluator_above), unfolding(crate::specs::Levels::evaluator, crate::specs::Levels::none_left, crate::specs::Levels::above))]
     pub(crate) fn expand(&mut self, levels: u64, text: &[u8]) -> Result<Vec<u8>, Stop>
-        ensures gives { AreKnown self.old.known → Gives (λ v. v.items) result self.new.world
-            ((evaluator M.writable (store_of self.old.known) levels).expand text.now self.old.world) }
-        ensures kept { Keeps self.old self.new }
-        ensures blames { Blames result self.old.failed self.new.failed self.new.world.asked }
+        ensures { Does (λ v. v.items) M.writable levels (λ e. e.expand text.now) result self.old self.new }
     {
         if levels == 0 {
             return Err(Stop::Fault(self.fault(FaultKind::NestingTooDeep, b"")?));
@@ -49,18 +47,19 @@ impl<'a, M: Scope, F: Files> Evaluation<'a, M, F> {
 
     // Expands a text at the level where it stands.
     #[cycle(evaluate)]
-    #[tactic(auto, using(crate::proofs::FrontLemmas::each_term_longer, crate::proofs::FrontLemmas::each_term_same), unfolding(crate::specs::Expansion::each_term, crate::specs::Expansion::expanded))]
+    #[tactic(auto, using(crate::proofs::FrontLemmas::each_term_longer, crate::proofs::FrontLemmas::each_term_same), unfolding(crate::specs::Expansion::each_term, crate::specs::Expansion::expanded, crate::specs::Expansion::term_of))]
     pub(crate) fn expand_here(&mut self, below: u64, text: &[u8]) -> Result<Vec<u8>, Stop>
-        ensures gives { AreKnown self.old.known → Gives (λ v. v.items) result self.new.world
-            (expanded (evaluator M.writable (store_of self.old.known) below) text.now self.old.world) }
-        ensures kept { Keeps self.old self.new }
-        ensures blames { Blames result self.old.failed self.new.failed self.new.world.asked }
+        ensures { Does (λ v. v.items) M.writable below (λ e. expanded e text.now) result self.old self.new }
     {
         let mut out = Vec::new(self.alloc);
         let mut rest = terms(text);
         'terms: while let Some(term) = rest.next() {
-            let x = self.expand_term(below, term)?;
-            out.extend_from_slice(&x)?;
+            if let Ok(Term::Lit(bytes)) = term {
+                out.extend_from_slice(bytes)?;
+            } else {
+                let x = self.expand_term(below, term)?;
+                out.extend_from_slice(&x)?;
+            }
         }
         Ok(out)
     }
@@ -72,10 +71,7 @@ impl<'a, M: Scope, F: Files> Evaluation<'a, M, F> {
         below: u64,
         term: Result<Term<'_>, Unterminated>,
     ) -> Result<Vec<u8>, Stop>
-        ensures gives { AreKnown self.old.known → Gives (λ v. v.items) result self.new.world
-            (term_of (evaluator M.writable (store_of self.old.known) below) (piece_of term.entry) self.old.world) }
-        ensures kept { Keeps self.old self.new }
-        ensures blames { Blames result self.old.failed self.new.failed self.new.world.asked }
+        ensures { Does (λ v. v.items) M.writable below (λ e. term_of e (piece_of term.entry)) result self.old self.new }
     {
         match term {
             Ok(Term::Lit(bytes)) => Ok(Vec::from_slice(self.alloc, bytes)?),
@@ -91,12 +87,10 @@ impl<'a, M: Scope, F: Files> Evaluation<'a, M, F> {
     }
 
     #[cycle(evaluate)]
-    #[tactic(auto, using(crate::proofs::FrontLemmas::value_named_longer, crate::proofs::FrontLemmas::value_named_same), unfolding(crate::specs::Expansion::referred))]
+    #[tactic(auto, using(crate::proofs::FrontLemmas::value_named_longer, crate::proofs::FrontLemmas::value_named_same), unfolding(crate::specs::Expansion::referred, crate::specs::Expansion::body_of))]
     pub(crate) fn refer(&mut self, below: u64, asked: Asked<'_>) -> Result<Vec<u8>, Stop>
-        ensures gives { AreKnown self.old.known → Gives (λ v. v.items) result self.new.world
-            (referred (evaluator M.writable (store_of self.old.known) below) (asked_told asked.entry) self.old.world) }
-        ensures kept { Keeps self.old self.new }
-        ensures blames { Blames result self.old.failed self.new.failed self.new.world.asked }
+        ensures { Does (λ v. v.items) M.writable below
+            (λ e. referred e (asked_told asked.entry)) result self.old self.new }
     {
         match asked {
             Asked::Calls(function, arguments) => self.apply(below, function, &arguments),
@@ -104,34 +98,20 @@ impl<'a, M: Scope, F: Files> Evaluation<'a, M, F> {
                 Err(Stop::Fault(self.fault(FaultKind::RefusedFunction, name)?))
             }
             Asked::Refers(body) => {
-                let name = self.body_of(below, body)?;
+                if !has_dollar(body) {
+                    return self.value_named(below, body);
+                }
+                let name = self.expand(below, body)?;
                 self.value_named(below, &name)
             }
         }
     }
 
-    // A body that holds a dollar is expanded.
-    #[cycle(evaluate)]
-    #[tactic(auto, unfolding(crate::specs::Expansion::body_of))]
-    pub(crate) fn body_of(&mut self, below: u64, body: &[u8]) -> Result<Vec<u8>, Stop>
-        ensures gives { AreKnown self.old.known → Gives (λ v. v.items) result self.new.world
-            (body_of (evaluator M.writable (store_of self.old.known) below) body.now self.old.world) }
-        ensures kept { Keeps self.old self.new }
-        ensures blames { Blames result self.old.failed self.new.failed self.new.world.asked }
-    {
-        if has_dollar(body) {
-            return self.expand(below, body);
-        }
-        Ok(Vec::from_slice(self.alloc, body)?)
-    }
-
     #[cycle(evaluate)]
     #[tactic(auto, using(crate::proofs::FrontLemmas::value_named_longer, crate::proofs::FrontLemmas::value_named_same, crate::proofs::FrontLemmas::accepted_longer, crate::proofs::FrontLemmas::accepted_same), unfolding(crate::specs::Expansion::value_named))]
     pub(crate) fn value_named(&mut self, below: u64, body: &[u8]) -> Result<Vec<u8>, Stop>
-        ensures gives { AreKnown self.old.known → Gives (λ v. v.items) result self.new.world
-            (value_named (evaluator M.writable (store_of self.old.known) below) (naming_of body.now) self.old.world) }
-        ensures kept { Keeps self.old self.new }
-        ensures blames { Blames result self.old.failed self.new.failed self.new.world.asked }
+        ensures { Does (λ v. v.items) M.writable below
+            (λ e. value_named e (naming_of body.now)) result self.old self.new }
     {
         match name_in(self.alloc, body)? {
             Naming::Plainly(name) => self.value_of(below, name),
@@ -146,11 +126,8 @@ impl<'a, M: Scope, F: Files> Evaluation<'a, M, F> {
     #[cycle(evaluate)]
     #[tactic(auto, using(crate::proofs::FrontLemmas::value_of_longer, crate::proofs::FrontLemmas::value_of_same), unfolding(crate::specs::Expansion::value_of))]
     pub(crate) fn value_of(&mut self, below: u64, name: &[u8]) -> Result<Vec<u8>, Stop>
-        ensures gives { AreKnown self.old.known → Gives (λ v. v.items) result self.new.world
-            (value_of (evaluator M.writable (store_of self.old.known) below) (lookup name.now self.old.world)
-            self.old.world) }
-        ensures kept { Keeps self.old self.new }
-        ensures blames { Blames result self.old.failed self.new.failed self.new.world.asked }
+        ensures { Does (λ v. v.items) M.writable below
+            (λ e. value_of e (lookup name.now self.old.world)) result self.old self.new }
     {
         let Some(found) = self.lookup(name)? else {
             return Ok(Vec::new(self.alloc));
@@ -161,6 +138,7 @@ impl<'a, M: Scope, F: Files> Evaluation<'a, M, F> {
         }
     }
 
+    // A function by its name. Its clauses are the parts of `Does`: arms without a name close only by themselves.
     #[cycle(evaluate)]
     #[tactic(auto, unfolding(crate::specs::Expansion::apply))]
     pub(crate) fn apply(
@@ -169,8 +147,9 @@ impl<'a, M: Scope, F: Files> Evaluation<'a, M, F> {
         function: Function,
         arguments: &[&[u8]],
     ) -> Result<Vec<u8>, Stop>
-        ensures gives { AreKnown self.old.known → Gives (λ v. v.items) result self.new.world (apply (evaluator M.writable (store_of self.old.known) below)
-            function (map (λ a. a.now) arguments.now) self.old.world) }
+        ensures gives { AreKnown self.old.known → Gives (λ v. v.items) result self.new.world
+            (apply (evaluator M.writable (store_of self.old.known) below) function (map (λ a. a.now) arguments.now)
+            self.old.world) }
         ensures kept { Keeps self.old self.new }
         ensures blames { Blames result self.old.failed self.new.failed self.new.world.asked }
     {
@@ -222,11 +201,8 @@ impl<'a, M: Scope, F: Files> Evaluation<'a, M, F> {
         function: TextFunction,
         texts: &[&[u8]],
     ) -> Result<Vec<u8>, Stop>
-        ensures gives { AreKnown self.old.known → Gives (λ v. v.items) result self.new.world
-            (apply_text (evaluator M.writable (store_of self.old.known) below) function (map
-            (λ a. a.now) texts.now) self.old.world) }
-        ensures kept { Keeps self.old self.new }
-        ensures blames { Blames result self.old.failed self.new.failed self.new.world.asked }
+        ensures { Does (λ v. v.items) M.writable below
+            (λ e. apply_text e function (map (λ a. a.now) texts.now)) result self.old self.new }
     {
         if texts.len() != function.arity() {
             return self.bad_argument(function.name());
@@ -245,11 +221,8 @@ impl<'a, M: Scope, F: Files> Evaluation<'a, M, F> {
         first: Vec<Shared<u8>>,
         texts: &[&[u8]],
     ) -> Result<Vec<Shared<u8>>, Stop>
-        ensures gives { AreKnown self.old.known → Gives (λ v. v.items) result self.new.world
-            (each_argument (evaluator M.writable (store_of self.old.known) below) first.items (map
-            (λ a. a.now) texts.now) self.old.world) }
-        ensures kept { Keeps self.old self.new }
-        ensures blames { Blames result self.old.failed self.new.failed self.new.world.asked }
+        ensures { Does (λ v. v.items) M.writable below
+            (λ e. each_argument e first.items (map (λ a. a.now) texts.now)) result self.old self.new }
     {
         let mut out = first;
         let mut place = 0;
@@ -270,11 +243,8 @@ impl<'a, M: Scope, F: Files> Evaluation<'a, M, F> {
         chosen: &[u8],
         other: Option<&[u8]>,
     ) -> Result<Vec<u8>, Stop>
-        ensures gives { AreKnown self.old.known → Gives (λ v. v.items) result self.new.world
-            (apply_if (evaluator M.writable (store_of self.old.known) below) condition.now chosen.now (option_map
-            (λ t. t.now) other.entry) self.old.world) }
-        ensures kept { Keeps self.old self.new }
-        ensures blames { Blames result self.old.failed self.new.failed self.new.world.asked }
+        ensures { Does (λ v. v.items) M.writable below
+            (λ e. apply_if e condition.now chosen.now (option_map (λ t. t.now) other.entry)) result self.old self.new }
     {
         let x = self.expand(below, stripped(condition))?;
         if !x.is_empty() {
@@ -289,11 +259,8 @@ impl<'a, M: Scope, F: Files> Evaluation<'a, M, F> {
     #[cycle(evaluate)]
     #[tactic(auto, using(crate::proofs::FrontLemmas::apply_or_longer, crate::proofs::FrontLemmas::apply_or_same), unfolding(crate::specs::Expansion::apply_or))]
     pub(crate) fn apply_or(&mut self, below: u64, texts: &[&[u8]]) -> Result<Vec<u8>, Stop>
-        ensures gives { AreKnown self.old.known → Gives (λ v. v.items) result self.new.world
-            (apply_or (evaluator M.writable (store_of self.old.known) below) (map
-            (λ a. a.now) texts.now) self.old.world) }
-        ensures kept { Keeps self.old self.new }
-        ensures blames { Blames result self.old.failed self.new.failed self.new.world.asked }
+        ensures { Does (λ v. v.items) M.writable below
+            (λ e. apply_or e (map (λ a. a.now) texts.now)) result self.old self.new }
     {
         let mut place = 0;
         'arguments: while place < texts.len() {
@@ -309,11 +276,8 @@ impl<'a, M: Scope, F: Files> Evaluation<'a, M, F> {
     #[cycle(evaluate)]
     #[tactic(auto, using(crate::proofs::FrontLemmas::apply_and_longer, crate::proofs::FrontLemmas::apply_and_same), unfolding(crate::specs::Expansion::apply_and))]
     pub(crate) fn apply_and(&mut self, below: u64, texts: &[&[u8]]) -> Result<Vec<u8>, Stop>
-        ensures gives { AreKnown self.old.known → Gives (λ v. v.items) result self.new.world
-            (apply_and (evaluator M.writable (store_of self.old.known) below) (map
-            (λ a. a.now) texts.now) self.old.world) }
-        ensures kept { Keeps self.old self.new }
-        ensures blames { Blames result self.old.failed self.new.failed self.new.world.asked }
+        ensures { Does (λ v. v.items) M.writable below
+            (λ e. apply_and e (map (λ a. a.now) texts.now)) result self.old self.new }
     {
         let mut place = 0;
         'arguments: while place < texts.len() {
@@ -335,11 +299,8 @@ impl<'a, M: Scope, F: Files> Evaluation<'a, M, F> {
         list: &[u8],
         body: &[u8],
     ) -> Result<Vec<u8>, Stop>
-        ensures gives { AreKnown self.old.known → Gives (λ v. v.items) result self.new.world
-            (apply_foreach (evaluator M.writable (store_of self.old.known) below) variable.now list.now body.now
-            self.old.world) }
-        ensures kept { Keeps self.old self.new }
-        ensures blames { Blames result self.old.failed self.new.failed self.new.world.asked }
+        ensures { Does (λ v. v.items) M.writable below
+            (λ e. apply_foreach e variable.now list.now body.now) result self.old self.new }
     {
         let expanded = self.expand(below, variable)?;
         let list = self.expand(below, list)?;
@@ -357,11 +318,8 @@ impl<'a, M: Scope, F: Files> Evaluation<'a, M, F> {
         list: &[u8],
         body: &[u8],
     ) -> Result<Vec<u8>, Stop>
-        ensures gives { AreKnown self.old.known → Gives (λ v. v.items) result self.new.world
-            (each_word (evaluator M.writable (store_of self.old.known) below) name.now body.now [] []
-            (words_of list.now) self.old.world) }
-        ensures kept { Keeps self.old self.new }
-        ensures blames { Blames result self.old.failed self.new.failed self.new.world.asked }
+        ensures { Does (λ v. v.items) M.writable below
+            (λ e. each_word e name.now body.now [] [] (words_of list.now)) result self.old self.new }
     {
         let mut out = Vec::new(self.alloc);
         let mut separator: &[u8] = b"";
@@ -381,11 +339,8 @@ impl<'a, M: Scope, F: Files> Evaluation<'a, M, F> {
     #[cycle(evaluate)]
     #[tactic(auto, using(crate::proofs::FrontLemmas::call_by_name_longer, crate::proofs::FrontLemmas::call_by_name_same), unfolding(crate::specs::Expansion::apply_call))]
     pub(crate) fn apply_call(&mut self, below: u64, texts: &[&[u8]]) -> Result<Vec<u8>, Stop>
-        ensures gives { AreKnown self.old.known → Gives (λ v. v.items) result self.new.world
-            (apply_call (evaluator M.writable (store_of self.old.known) below) (map
-            (λ a. a.now) texts.now) self.old.world) }
-        ensures kept { Keeps self.old self.new }
-        ensures blames { Blames result self.old.failed self.new.failed self.new.world.asked }
+        ensures { Does (λ v. v.items) M.writable below
+            (λ e. apply_call e (map (λ a. a.now) texts.now)) result self.old self.new }
     {
         let Some((text, others)) = texts.split_first() else {
             return Ok(Vec::new(self.alloc));
@@ -402,11 +357,8 @@ impl<'a, M: Scope, F: Files> Evaluation<'a, M, F> {
         name: &[u8],
         texts: &[&[u8]],
     ) -> Result<Vec<u8>, Stop>
-        ensures gives { AreKnown self.old.known → Gives (λ v. v.items) result self.new.world
-            (call_by_name (evaluator M.writable (store_of self.old.known) below) name.now (map
-            (λ a. a.now) texts.now) self.old.world) }
-        ensures kept { Keeps self.old self.new }
-        ensures blames { Blames result self.old.failed self.new.failed self.new.world.asked }
+        ensures { Does (λ v. v.items) M.writable below
+            (λ e. call_by_name e name.now (map (λ a. a.now) texts.now)) result self.old self.new }
     {
         if is_function_name(name) {
             return Err(Stop::Fault(self.fault(FaultKind::RefusedFunction, name)?));
@@ -426,10 +378,8 @@ impl<'a, M: Scope, F: Files> Evaluation<'a, M, F> {
         name: &[u8],
         arguments: Vec<Shared<u8>>,
     ) -> Result<Vec<u8>, Stop>
-        ensures gives { AreKnown self.old.known → Gives (λ v. v.items) result self.new.world
-            (called (evaluator M.writable (store_of self.old.known) below) name.now arguments.items self.old.world) }
-        ensures kept { Keeps self.old self.new }
-        ensures blames { Blames result self.old.failed self.new.failed self.new.world.asked }
+        ensures { Does (λ v. v.items) M.writable below
+            (λ e. called e name.now arguments.items) result self.old self.new }
     {
         self.bind(Frame::Call(Sequence::from(arguments)))?;
         let x = self.value_of(below, name)?;
@@ -440,10 +390,7 @@ impl<'a, M: Scope, F: Files> Evaluation<'a, M, F> {
     #[cycle(evaluate)]
     #[tactic(auto, unfolding(crate::specs::Expansion::apply_value))]
     pub(crate) fn apply_value(&mut self, below: u64, text: &[u8]) -> Result<Vec<u8>, Stop>
-        ensures gives { AreKnown self.old.known → Gives (λ v. v.items) result self.new.world
-            (apply_value (evaluator M.writable (store_of self.old.known) below) text.now self.old.world) }
-        ensures kept { Keeps self.old self.new }
-        ensures blames { Blames result self.old.failed self.new.failed self.new.world.asked }
+        ensures { Does (λ v. v.items) M.writable below (λ e. apply_value e text.now) result self.old self.new }
     {
         let name = self.expand(below, text)?;
         match self.lookup(&name)? {
@@ -455,10 +402,7 @@ impl<'a, M: Scope, F: Files> Evaluation<'a, M, F> {
     #[cycle(evaluate)]
     #[tactic(auto, using(crate::proofs::FrontLemmas::eval_longer, crate::proofs::FrontLemmas::eval_same, crate::proofs::LevelLemmas::evaluator_reads), unfolding(crate::specs::Expansion::apply_eval))]
     pub(crate) fn apply_eval(&mut self, below: u64, text: &[u8]) -> Result<Vec<u8>, Stop>
-        ensures gives { AreKnown self.old.known → Gives (λ v. v.items) result self.new.world
-            (apply_eval (evaluator M.writable (store_of self.old.known) below) text.now self.old.world) }
-        ensures kept { Keeps self.old self.new }
-        ensures blames { Blames result self.old.failed self.new.failed self.new.world.asked }
+        ensures { Does (λ v. v.items) M.writable below (λ e. apply_eval e text.now) result self.old self.new }
     {
         if !self.is_writable() {
             return Err(Stop::Fault(self.fault(FaultKind::EvalInRecipe, b"")?));
@@ -471,10 +415,7 @@ impl<'a, M: Scope, F: Files> Evaluation<'a, M, F> {
     #[cycle(evaluate)]
     #[tactic(auto, unfolding(crate::specs::Expansion::apply_error))]
     pub(crate) fn apply_error(&mut self, below: u64, text: &[u8]) -> Result<Vec<u8>, Stop>
-        ensures gives { AreKnown self.old.known → Gives (λ v. v.items) result self.new.world
-            (apply_error (evaluator M.writable (store_of self.old.known) below) text.now self.old.world) }
-        ensures kept { Keeps self.old self.new }
-        ensures blames { Blames result self.old.failed self.new.failed self.new.world.asked }
+        ensures { Does (λ v. v.items) M.writable below (λ e. apply_error e text.now) result self.old self.new }
     {
         let x = self.expand(below, text)?;
         Err(Stop::Fault(self.fault(FaultKind::ErrorCalled, &x)?))
@@ -483,10 +424,7 @@ impl<'a, M: Scope, F: Files> Evaluation<'a, M, F> {
     #[cycle(evaluate)]
     #[tactic(auto, unfolding(crate::specs::Expansion::apply_warning))]
     pub(crate) fn apply_warning(&mut self, below: u64, text: &[u8]) -> Result<Vec<u8>, Stop>
-        ensures gives { AreKnown self.old.known → Gives (λ v. v.items) result self.new.world
-            (apply_warning (evaluator M.writable (store_of self.old.known) below) text.now self.old.world) }
-        ensures kept { Keeps self.old self.new }
-        ensures blames { Blames result self.old.failed self.new.failed self.new.world.asked }
+        ensures { Does (λ v. v.items) M.writable below (λ e. apply_warning e text.now) result self.old self.new }
     {
         let x = self.expand(below, text)?;
         self.warn(&x)?;
@@ -496,10 +434,7 @@ impl<'a, M: Scope, F: Files> Evaluation<'a, M, F> {
     #[cycle(evaluate)]
     #[tactic(auto, unfolding(crate::specs::Expansion::apply_info))]
     pub(crate) fn apply_info(&mut self, below: u64, text: &[u8]) -> Result<Vec<u8>, Stop>
-        ensures gives { AreKnown self.old.known → Gives (λ v. v.items) result self.new.world
-            (apply_info (evaluator M.writable (store_of self.old.known) below) text.now self.old.world) }
-        ensures kept { Keeps self.old self.new }
-        ensures blames { Blames result self.old.failed self.new.failed self.new.world.asked }
+        ensures { Does (λ v. v.items) M.writable below (λ e. apply_info e text.now) result self.old self.new }
     {
         let x = self.expand(below, text)?;
         self.say(x)?;
@@ -511,10 +446,7 @@ impl<'a, M: Scope, F: Files> Evaluation<'a, M, F> {
     #[tactic(auto, using(crate::proofs::LevelLemmas::evaluator_above), unfolding(crate::specs::Levels::evaluator, crate::specs::Levels::none_left, crate::specs::Levels::above))]
     pub(crate) fn eval(&mut self, levels: u64, text: &[u8]) -> Result<(), Stop>
         requires { M.writable ≡ true }
-        ensures gives { AreKnown self.old.known → Gives (λ u. u) result self.new.world ((evaluator M.writable (store_of self.old.known) levels).eval
-            text.now self.old.world) }
-        ensures kept { Keeps self.old self.new }
-        ensures blames { Blames result self.old.failed self.new.failed self.new.world.asked }
+        ensures { Does (λ u. u) M.writable levels (λ e. e.eval text.now) result self.old self.new }
     {
         if levels == 0 {
             return Err(Stop::Fault(self.fault(FaultKind::NestingTooDeep, b"")?));

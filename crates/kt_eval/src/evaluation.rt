@@ -168,7 +168,7 @@ impl<'a, M: Scope, F: Files> Evaluation<'a, M, F> {
     ghost use Rattle.kt_eval.specs.State.{move_to, set_macro, set_rule};
     ghost use Rattle.kt_eval.specs.Step.{AreKnown, Blames, Gives, store_of, Keeps};
     ghost use Rattle.kt_eval.specs.Table.{assigning, find, set_by_makefile};
-    ghost use Rattle.kt_eval.specs.Views.{assigning_told, front_told, raw_told};
+    ghost use Rattle.kt_eval.specs.inner.Views.{assigning_told, front_told, raw_told};
 
     // Moves to a line of a source; all lines of an `eval` are where it stands.
     #[tactic(auto, unfolding(crate::specs::Reading::at_number))]
@@ -235,12 +235,12 @@ impl<'a, M: Scope, F: Files> Evaluation<'a, M, F> {
         name: Vec<u8>,
         flavour: Flavour,
         front: Option<Shared<u8>>,
-        text: &[u8],
+        text: Vec<u8>,
     ) -> Result<(), AllocError>
         requires { M.writable ≡ true }
         ensures done { OnOk result (self.new
             ≡ record self.old {
-              world = set_macro name.items (set_by_makefile flavour (front_told front ++ text.now))
+              world = set_macro name.items (set_by_makefile flavour (front_told front ++ text.items))
                   self.old.world;
             }) }
         ensures kept { Keeps self.old self.new }
@@ -249,9 +249,9 @@ impl<'a, M: Scope, F: Files> Evaluation<'a, M, F> {
         ensures asked { self.new.world.asked ≡ self.old.world.asked }
     {
         match front {
-            Some(front) => self.macros.append(name, flavour, front, text),
+            Some(front) => self.macros.append(name, flavour, front, &text),
             None => {
-                let value = Shared::from_vec(Vec::from_slice(self.alloc, text)?)?;
+                let value = Shared::from_vec(text)?;
                 self.macros.put(name, Macro::of_makefile(flavour, value))
             }
         }

@@ -4,9 +4,10 @@ ghost use Rattle.std.specs.Str.{is_utf8};
 ghost use Rattle.std.specs.List.{list_any};
 ghost use Rattle.kt_text.specs.Words.{words_of};
 ghost use Rattle.kt_eval.specs.Including.{each_include, include_line, include_named, is_pattern};
-ghost use Rattle.kt_eval.specs.Levels.{evaluator};
 ghost use Rattle.kt_eval.specs.Reading.{included, read_file, read_first, read_included};
-ghost use Rattle.kt_eval.specs.Step.{AreKnown, Blames, Gives, store_of, Keeps};
+ghost use Rattle.kt_eval.specs.inner.Doing.{Does};
+ghost use Rattle.kt_eval.specs.Levels.{evaluator};
+ghost use Rattle.kt_eval.specs.Step.{AreKnown, Blames, Gives, Keeps, store_of};
 
 use crate::evaluation::Evaluation;
 use crate::files::Files;
@@ -61,10 +62,7 @@ impl<'a, M: Scope, F: Files> Evaluation<'a, M, F> {
         text: &[u8],
     ) -> Result<(), Stop>
         requires { M.writable ≡ true }
-        ensures gives { AreKnown self.old.known → Gives (λ u. u) result self.new.world
-            (include_line (evaluator M.writable (store_of self.old.known) below) optional text.now self.old.world) }
-        ensures kept { Keeps self.old self.new }
-        ensures blames { Blames result self.old.failed self.new.failed self.new.world.asked }
+        ensures { Does (λ u. u) M.writable below (λ e. include_line e optional text.now) result self.old self.new }
     {
         let x = self.expand_here(below, text)?;
         self.each_include(below, optional, &x)
@@ -79,11 +77,8 @@ impl<'a, M: Scope, F: Files> Evaluation<'a, M, F> {
         names: &[u8],
     ) -> Result<(), Stop>
         requires { M.writable ≡ true }
-        ensures gives { AreKnown self.old.known → Gives (λ u. u) result self.new.world
-            (each_include (evaluator M.writable (store_of self.old.known) below) optional (words_of names.now)
-            self.old.world) }
-        ensures kept { Keeps self.old self.new }
-        ensures blames { Blames result self.old.failed self.new.failed self.new.world.asked }
+        ensures { Does (λ u. u) M.writable below
+            (λ e. each_include e optional (words_of names.now)) result self.old self.new }
     {
         let mut rest = words(names);
         'names: while let Some(name) = rest.next() {
@@ -101,10 +96,7 @@ impl<'a, M: Scope, F: Files> Evaluation<'a, M, F> {
         name: &[u8],
     ) -> Result<(), Stop>
         requires { M.writable ≡ true }
-        ensures gives { AreKnown self.old.known → Gives (λ u. u) result self.new.world
-            (include_named (evaluator M.writable (store_of self.old.known) below) optional name.now self.old.world) }
-        ensures kept { Keeps self.old self.new }
-        ensures blames { Blames result self.old.failed self.new.failed self.new.world.asked }
+        ensures { Does (λ u. u) M.writable below (λ e. include_named e optional name.now) result self.old self.new }
     {
         let Some(text) = as_text(name) else {
             return Err(Stop::Fault(self.fault(FaultKind::IncludeNameNotUtf8, b"")?));
@@ -120,10 +112,7 @@ impl<'a, M: Scope, F: Files> Evaluation<'a, M, F> {
     #[tactic(auto, using(crate::proofs::LevelLemmas::evaluator_above), unfolding(crate::specs::Levels::evaluator, crate::specs::Levels::none_left, crate::specs::Levels::above))]
     pub(crate) fn include(&mut self, levels: u64, optional: bool, name: &str) -> Result<(), Stop>
         requires { M.writable ≡ true }
-        ensures gives { AreKnown self.old.known → Gives (λ u. u) result self.new.world ((evaluator M.writable (store_of self.old.known) levels).include
-            optional name.now self.old.world) }
-        ensures kept { Keeps self.old self.new }
-        ensures blames { Blames result self.old.failed self.new.failed self.new.world.asked }
+        ensures { Does (λ u. u) M.writable levels (λ e. e.include optional name.now) result self.old self.new }
     {
         if levels == 0 {
             return Err(Stop::Fault(self.fault(FaultKind::NestingTooDeep, b"")?));
@@ -135,11 +124,8 @@ impl<'a, M: Scope, F: Files> Evaluation<'a, M, F> {
     #[tactic(auto, using(crate::proofs::FrontLemmas::read_included_longer, crate::proofs::FrontLemmas::read_included_same), unfolding(crate::specs::Reading::included))]
     pub(crate) fn included(&mut self, below: u64, optional: bool, name: &str) -> Result<(), Stop>
         requires { M.writable ≡ true }
-        ensures gives { AreKnown self.old.known → Gives (λ u. u) result self.new.world
-            (included (store_of self.old.known) (evaluator M.writable (store_of self.old.known) below) optional
-            name.now self.old.world) }
-        ensures kept { Keeps self.old self.new }
-        ensures blames { Blames result self.old.failed self.new.failed self.new.world.asked }
+        ensures { Does (λ u. u) M.writable below
+            (λ e. included (store_of self.old.known) e optional name.now) result self.old self.new }
     {
         let found = self.read_bytes(name)?;
         self.read_included(below, optional, name, found)
@@ -156,11 +142,8 @@ impl<'a, M: Scope, F: Files> Evaluation<'a, M, F> {
         found: Option<Vec<u8>>,
     ) -> Result<(), Stop>
         requires { M.writable ≡ true }
-        ensures gives { AreKnown self.old.known → Gives (λ u. u) result self.new.world
-            (read_included (evaluator M.writable (store_of self.old.known) below) optional name.now (option_map
-            (λ v. v.items) found) self.old.world) }
-        ensures kept { Keeps self.old self.new }
-        ensures blames { Blames result self.old.failed self.new.failed self.new.world.asked }
+        ensures { Does (λ u. u) M.writable below
+            (λ e. read_included e optional name.now (option_map (λ v. v.items) found)) result self.old self.new }
     {
         match found {
             None => {
@@ -182,10 +165,7 @@ impl<'a, M: Scope, F: Files> Evaluation<'a, M, F> {
     #[tactic(auto, using(crate::proofs::FrontLemmas::read_text_longer, crate::proofs::FrontLemmas::read_text_same), unfolding(crate::specs::Reading::read_file))]
     pub(crate) fn read_file(&mut self, below: u64, name: &str, text: &[u8]) -> Result<(), Stop>
         requires { M.writable ≡ true }
-        ensures gives { AreKnown self.old.known → Gives (λ u. u) result self.new.world (read_file (evaluator M.writable (store_of self.old.known) below)
-            name.now text.now self.old.world) }
-        ensures kept { Keeps self.old self.new }
-        ensures blames { Blames result self.old.failed self.new.failed self.new.world.asked }
+        ensures { Does (λ u. u) M.writable below (λ e. read_file e name.now text.now) result self.old self.new }
     {
         if LARGEST < text.len() {
             return Err(Stop::Fault(self.fault(FaultKind::FileTooLarge, name.as_bytes())?));
@@ -199,8 +179,8 @@ impl<'a, M: Scope, F: Files> Evaluation<'a, M, F> {
     pub(crate) fn read_first(&mut self, limit: u64, names: &[&str]) -> Result<(), Stop>
         requires { M.writable ≡ true }
         ensures gives { AreKnown self.old.known → Gives (λ u. u) result self.new.world
-            (read_first (store_of self.old.known) (evaluator M.writable (store_of self.old.known) limit) (map
-            (λ name. name.now) names.now) self.old.world) }
+            (read_first (store_of self.old.known) (evaluator M.writable (store_of self.old.known) limit)
+            (map (λ name. name.now) names.now) self.old.world) }
         ensures kept { Keeps self.old self.new }
         ensures blames { Blames result self.old.failed self.new.failed self.new.world.asked }
     {

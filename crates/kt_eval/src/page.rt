@@ -8,7 +8,7 @@ ghost use Rattle.kt_syntax.specs.Roles.{line_text};
 ghost use Rattle.kt_text.specs.Lines.{AreInOrder, logical_lines_of};
 ghost use Rattle.kt_eval.specs.Assignments.{body_text};
 ghost use Rattle.kt_eval.specs.Reading.{line_at, sheet_of};
-ghost use Rattle.kt_eval.specs.Views.{raw_told};
+ghost use Rattle.kt_eval.specs.inner.Views.{raw_told};
 
 use kt_list::Shared;
 use kt_syntax::{Blocks, Missing, Step, blocks};

@@ -12,8 +12,9 @@ ghost use Rattle.kt_eval.specs.Assignments.{assign_line};
 ghost use Rattle.kt_eval.specs.Rules.{rule_line, rule_of_parts};
 ghost use Rattle.kt_syntax.specs.Comments.{plain_of};
 ghost use Rattle.kt_syntax.specs.Recipes.{recipe_of};
+ghost use Rattle.kt_eval.specs.inner.Doing.{Does};
 ghost use Rattle.kt_eval.specs.Step.{AreKnown, Blames, Gives, GivesOn, Stopped, store_of, Keeps};
-ghost use Rattle.kt_eval.specs.Views.{raw_told};
+ghost use Rattle.kt_eval.specs.inner.Views.{raw_told};
 
 use crate::evaluation::Evaluation;
 use crate::fault::Fault;
@@ -69,10 +70,7 @@ impl<'a, M: Scope, F: Files> Evaluation<'a, M, F> {
     #[tactic(auto, unfolding(crate::specs::Reading::read_held))]
     pub(crate) fn read_held(&mut self, below: u64, text: &[u8]) -> Result<(), Stop>
         requires { M.writable ≡ true }
-        ensures gives { AreKnown self.old.known → Gives (λ u. u) result self.new.world (read_held (evaluator M.writable (store_of self.old.known) below)
-            text.now self.old.world) }
-        ensures kept { Keeps self.old self.new }
-        ensures blames { Blames result self.old.failed self.new.failed self.new.world.asked }
+        ensures { Does (λ u. u) M.writable below (λ e. read_held e text.now) result self.old self.new }
     {
         let outer = self.take_rule();
         self.read_text(below, &Source::Held, text)?;
@@ -84,10 +82,7 @@ impl<'a, M: Scope, F: Files> Evaluation<'a, M, F> {
     #[tactic(auto, using(crate::proofs::FrontLemmas::read_sheet_longer, crate::proofs::FrontLemmas::read_sheet_same, crate::proofs::FrontLemmas::read_without_nul_longer, crate::proofs::FrontLemmas::read_without_nul_same), unfolding(crate::specs::Reading::read_text))]
     pub(crate) fn read_text(&mut self, below: u64, source: &Source, text: &[u8]) -> Result<(), Stop>
         requires { M.writable ≡ true }
-        ensures gives { AreKnown self.old.known → Gives (λ u. u) result self.new.world (read_text (evaluator M.writable (store_of self.old.known) below)
-            source.now text.now self.old.world) }
-        ensures kept { Keeps self.old self.new }
-        ensures blames { Blames result self.old.failed self.new.failed self.new.world.asked }
+        ensures { Does (λ u. u) M.writable below (λ e. read_text e source.now text.now) result self.old self.new }
     {
         match logical_lines(self.alloc, text) {
             Ok(lines) => {
@@ -106,10 +101,7 @@ impl<'a, M: Scope, F: Files> Evaluation<'a, M, F> {
     #[tactic(auto, using(crate::proofs::FrontLemmas::close_rule_longer, crate::proofs::FrontLemmas::close_rule_same, crate::proofs::FrontLemmas::read_end_longer, crate::proofs::FrontLemmas::read_end_same), unfolding(crate::specs::Reading::read_sheet))]
     pub(crate) fn read_page(&mut self, below: u64, page: &Page<'_>) -> Result<(), Stop>
         requires { M.writable ≡ true }
-        ensures gives { AreKnown self.old.known → Gives (λ u. u) result self.new.world (read_sheet (evaluator M.writable (store_of self.old.known) below)
-            page.now self.old.world) }
-        ensures kept { Keeps self.old self.new }
-        ensures blames { Blames result self.old.failed self.new.failed self.new.world.asked }
+        ensures { Does (λ u. u) M.writable below (λ e. read_sheet e page.now) result self.old self.new }
     {
         self.read_items(below, page)?;
         self.close_rule()?;
@@ -120,10 +112,8 @@ impl<'a, M: Scope, F: Files> Evaluation<'a, M, F> {
     #[tactic(auto, unfolding(crate::specs::Reading::read_items))]
     pub(crate) fn read_items(&mut self, below: u64, page: &Page<'_>) -> Result<(), Stop>
         requires { M.writable ≡ true }
-        ensures gives { AreKnown self.old.known → Gives (λ u. u) result self.new.world (read_items (evaluator M.writable (store_of self.old.known) below)
-            page.now (tree_of page.now.blocks.steps) self.old.world) }
-        ensures kept { Keeps self.old self.new }
-        ensures blames { Blames result self.old.failed self.new.failed self.new.world.asked }
+        ensures { Does (λ u. u) M.writable below
+            (λ e. read_items e page.now (tree_of page.now.blocks.steps)) result self.old self.new }
     {
         let mut place = page.first();
         'lines: while let Some(step) = page.step(place) {
@@ -224,11 +214,8 @@ impl<'a, M: Scope, F: Files> Evaluation<'a, M, F> {
         condition: bool,
     ) -> Result<bool, Stop>
         requires { M.writable ≡ true }
-        ensures gives { AreKnown self.old.known → Gives (λ b. b) result self.new.world
-            (branch_holds (evaluator M.writable (store_of self.old.known) below) page.now place condition
-            self.old.world) }
-        ensures kept { Keeps self.old self.new }
-        ensures blames { Blames result self.old.failed self.new.failed self.new.world.asked }
+        ensures { Does (λ b. b) M.writable below
+            (λ e. branch_holds e page.now place condition) result self.old self.new }
     {
         let line = self.at_line(page, place)?;
         let text = joined(self.alloc, line.text)?;
@@ -239,10 +226,7 @@ impl<'a, M: Scope, F: Files> Evaluation<'a, M, F> {
     #[tactic(auto, using(crate::proofs::FrontLemmas::read_kind_longer, crate::proofs::FrontLemmas::read_kind_same), unfolding(crate::specs::Reading::read_line))]
     pub(crate) fn read_line(&mut self, below: u64, line: RawLine<'_>) -> Result<(), Stop>
         requires { M.writable ≡ true }
-        ensures gives { AreKnown self.old.known → Gives (λ u. u) result self.new.world (read_line (evaluator M.writable (store_of self.old.known) below)
-            (raw_told line.entry) self.old.world) }
-        ensures kept { Keeps self.old self.new }
-        ensures blames { Blames result self.old.failed self.new.failed self.new.world.asked }
+        ensures { Does (λ u. u) M.writable below (λ e. read_line e (raw_told line.entry)) result self.old self.new }
     {
         if line.tab {
             return self.read_tab(below, line.text);
@@ -261,10 +245,7 @@ impl<'a, M: Scope, F: Files> Evaluation<'a, M, F> {
     #[tactic(auto, unfolding(crate::specs::Reading::read_tab))]
     pub(crate) fn read_tab(&mut self, below: u64, text: &[u8]) -> Result<(), Stop>
         requires { M.writable ≡ true }
-        ensures gives { AreKnown self.old.known → Gives (λ u. u) result self.new.world (read_tab (evaluator M.writable (store_of self.old.known) below)
-            text.now self.old.world) }
-        ensures kept { Keeps self.old self.new }
-        ensures blames { Blames result self.old.failed self.new.failed self.new.world.asked }
+        ensures { Does (λ u. u) M.writable below (λ e. read_tab e text.now) result self.old self.new }
     {
         match self.take_rule() {
             None => self.read_bare_tab(below, text),
@@ -277,11 +258,8 @@ impl<'a, M: Scope, F: Files> Evaluation<'a, M, F> {
     #[tactic(auto, using(crate::proofs::FrontLemmas::read_bare_tab_longer, crate::proofs::FrontLemmas::read_bare_tab_same))]
     pub(crate) fn read_bare_tab(&mut self, below: u64, line: &[u8]) -> Result<(), Stop>
         requires { M.writable ≡ true }
-        ensures gives { AreKnown self.old.known → Gives (λ u. u) result self.new.world
-            (read_bare_tab (evaluator M.writable (store_of self.old.known) below) (line_kind line.now true)
-            self.old.world) }
-        ensures kept { Keeps self.old self.new }
-        ensures blames { Blames result self.old.failed self.new.failed self.new.world.asked }
+        ensures { Does (λ u. u) M.writable below
+            (λ e. read_bare_tab e (line_kind line.now true)) result self.old self.new }
     {
         let text = joined(self.alloc, line)?;
         self.read_bare_form(below, classify(text.as_slice(), true))
@@ -291,11 +269,8 @@ impl<'a, M: Scope, F: Files> Evaluation<'a, M, F> {
     #[tactic(auto, unfolding(crate::specs::Reading::read_bare_tab))]
     pub(crate) fn read_bare_form(&mut self, below: u64, form: Form<'_>) -> Result<(), Stop>
         requires { M.writable ≡ true }
-        ensures gives { AreKnown self.old.known → Gives (λ u. u) result self.new.world
-            (read_bare_tab (evaluator M.writable (store_of self.old.known) below) (kind_told form.entry)
-            self.old.world) }
-        ensures kept { Keeps self.old self.new }
-        ensures blames { Blames result self.old.failed self.new.failed self.new.world.asked }
+        ensures { Does (λ u. u) M.writable below
+            (λ e. read_bare_tab e (kind_told form.entry)) result self.old self.new }
     {
         match form {
             Form::Blank => Ok(()),
@@ -316,10 +291,8 @@ impl<'a, M: Scope, F: Files> Evaluation<'a, M, F> {
         value: &[u8],
     ) -> Result<(), Stop>
         requires { M.writable ≡ true }
-        ensures gives { AreKnown self.old.known → Gives (λ u. u) result self.new.world (assign_line (evaluator M.writable (store_of self.old.known) below)
-            (plain_of name.now) operator (plain_of value.now) self.old.world) }
-        ensures kept { Keeps self.old self.new }
-        ensures blames { Blames result self.old.failed self.new.failed self.new.world.asked }
+        ensures { Does (λ u. u) M.writable below
+            (λ e. assign_line e (plain_of name.now) operator (plain_of value.now)) result self.old self.new }
     {
         let name = plain(self.alloc, name)?;
         let value = plain(self.alloc, value)?;
@@ -338,10 +311,8 @@ impl<'a, M: Scope, F: Files> Evaluation<'a, M, F> {
     ) -> Result<(), Stop>
         requires writable { M.writable ≡ true }
         requires text { text.now ≡ condensed_of line.now }
-        ensures gives { AreKnown self.old.known → Gives (λ u. u) result self.new.world (read_kind (evaluator M.writable (store_of self.old.known) below)
-            line.now (kind_told form.entry) self.old.world) }
-        ensures kept { Keeps self.old self.new }
-        ensures blames { Blames result self.old.failed self.new.failed self.new.world.asked }
+        ensures { Does (λ u. u) M.writable below
+            (λ e. read_kind e line.now (kind_told form.entry)) result self.old self.new }
     {
         match form {
             Form::Blank => Ok(()),
@@ -371,10 +342,7 @@ impl<'a, M: Scope, F: Files> Evaluation<'a, M, F> {
         rest: &[u8],
     ) -> Result<(), Stop>
         requires { M.writable ≡ true }
-        ensures gives { AreKnown self.old.known → Gives (λ u. u) result self.new.world
-            (read_include (evaluator M.writable (store_of self.old.known) below) optional rest.now self.old.world) }
-        ensures kept { Keeps self.old self.new }
-        ensures blames { Blames result self.old.failed self.new.failed self.new.world.asked }
+        ensures { Does (λ u. u) M.writable below (λ e. read_include e optional rest.now) result self.old self.new }
     {
         self.close_rule()?;
         let text = plain(self.alloc, rest)?;
@@ -386,10 +354,8 @@ impl<'a, M: Scope, F: Files> Evaluation<'a, M, F> {
     #[tactic(auto, using(crate::proofs::FrontLemmas::read_define_longer, crate::proofs::FrontLemmas::read_define_same))]
     pub(crate) fn read_define(&mut self, below: u64, line: &[u8], body: &[u8]) -> Result<(), Stop>
         requires { M.writable ≡ true }
-        ensures gives { AreKnown self.old.known → Gives (λ u. u) result self.new.world (read_define (evaluator M.writable (store_of self.old.known) below)
-            (line_kind line.now false) body.now self.old.world) }
-        ensures kept { Keeps self.old self.new }
-        ensures blames { Blames result self.old.failed self.new.failed self.new.world.asked }
+        ensures { Does (λ u. u) M.writable below
+            (λ e. read_define e (line_kind line.now false) body.now) result self.old self.new }
     {
         let text = joined(self.alloc, line)?;
         self.read_define_form(below, classify(text.as_slice(), false), body)
@@ -404,10 +370,8 @@ impl<'a, M: Scope, F: Files> Evaluation<'a, M, F> {
         body: &[u8],
     ) -> Result<(), Stop>
         requires { M.writable ≡ true }
-        ensures gives { AreKnown self.old.known → Gives (λ u. u) result self.new.world (read_define (evaluator M.writable (store_of self.old.known) below)
-            (kind_told form.entry) body.now self.old.world) }
-        ensures kept { Keeps self.old self.new }
-        ensures blames { Blames result self.old.failed self.new.failed self.new.world.asked }
+        ensures { Does (λ u. u) M.writable below
+            (λ e. read_define e (kind_told form.entry) body.now) result self.old self.new }
     {
         match form {
             Form::Directive(Directive::Define, rest) => {
@@ -423,10 +387,7 @@ impl<'a, M: Scope, F: Files> Evaluation<'a, M, F> {
     pub(crate) fn rule_line(&mut self, below: u64, line: &[u8], text: &[u8]) -> Result<(), Stop>
         requires writable { M.writable ≡ true }
         requires text { text.now ≡ condensed_of line.now }
-        ensures gives { AreKnown self.old.known → Gives (λ u. u) result self.new.world (rule_line (evaluator M.writable (store_of self.old.known) below)
-            line.now self.old.world) }
-        ensures kept { Keeps self.old self.new }
-        ensures blames { Blames result self.old.failed self.new.failed self.new.world.asked }
+        ensures { Does (λ u. u) M.writable below (λ e. rule_line e line.now) result self.old self.new }
     {
         match rule_parts(line, text) {
             Err(TargetSpecific) => Err(Stop::Fault(self.fault(
@@ -447,11 +408,11 @@ impl<'a, M: Scope, F: Files> Evaluation<'a, M, F> {
         recipe: Option<&[u8]>,
     ) -> Result<(), Stop>
         requires { M.writable ≡ true }
-        ensures gives { AreKnown self.old.known → Gives (λ u. u) result self.new.world
-            (rule_of_parts (evaluator M.writable (store_of self.old.known) below)
-            (Some (record { head = head.now; recipe = option_map (λ text. text.now) recipe.entry })) self.old.world) }
-        ensures kept { Keeps self.old self.new }
-        ensures blames { Blames result self.old.failed self.new.failed self.new.world.asked }
+        ensures { Does (λ u. u) M.writable below
+            (λ e. rule_of_parts e (Some (record {
+              head = head.now;
+              recipe = option_map (λ text. text.now) recipe.entry;
+            }))) result self.old self.new }
     {
         let recipe = recipe_of(self.alloc, recipe)?;
         let head = plain(self.alloc, head)?;

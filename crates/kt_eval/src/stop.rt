@@ -1,6 +1,6 @@
 //! Why a makefile isn't read to its end.
 ghost use Rattle.std.specs.Prelude.{◌≡◌};
-ghost use Rattle.kt_eval.specs.Views.{rule_stop};
+ghost use Rattle.kt_eval.specs.inner.Views.{rule_stop};
 ghost use Rattle.kt_eval.specs.declared.stop.Stop.TheVariants.{Memory};
 
 use crate::fault::Fault;

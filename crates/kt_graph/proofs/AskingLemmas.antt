@@ -8,7 +8,7 @@ use Rattle.std.proofs.lemmas.List.Elements.{Contains-append_cases}
 use Rattle.kt_text.specs.Words.{Text}
 use Rattle.kt_rules.specs.Entry.{Rule}
 use Rattle.kt_graph.specs.Candidates.{Candidate}
-use Rattle.kt_graph.specs.Chaining.{asked_behind}
+use Rattle.kt_graph.specs.inner.Chaining.{asked_behind}
 use Rattle.kt_graph.specs.Search.{Asked, Asking, Choosing, asked_among, asked_by, asked_for, asked_inside, asking, fitting, is_inferred, is_met, open_candidates, unknown_needs, with_rule}
 use Rattle.kt_graph.proofs.Membership.{first_or_rest, none_in_empty}
 

@@ -13,7 +13,7 @@ use Rattle.kt_rules.specs.Book.{has_recipe}
 use Rattle.kt_graph.specs.declared.named.Named.{Named}
 use Rattle.kt_graph.specs.declared.named.NamedPart.{NamedPart}
 use Rattle.kt_graph.specs.declared.node.NodeKind.TheVariants.{Explicit}
-use Rattle.kt_graph.specs.Named.{named_told, needs_of_each, part_named, put_together}
+use Rattle.kt_graph.specs.inner.Named.{named_told, needs_of_each, part_named, put_together}
 use Rattle.kt_graph.specs.Node.{bare_part, explicit_node, group_of, joined_needs, kind_without, needs_behind, other_rules, part_of, plain_node, suffix_stem}
 use Rattle.kt_graph.specs.Views.{instance_told}
 

@@ -11,7 +11,7 @@ use Rattle.kt_rules.specs.Entry.{Rule}
 use Rattle.kt_graph.specs.declared.candidate.Candidate.{Candidate as HeldCandidate}
 use Rattle.kt_graph.specs.declared.question.Question.{Question}
 use Rattle.kt_graph.specs.declared.tried.Tried.{Tried}
-use Rattle.kt_graph.specs.Chaining.{IsFound, IsFront, IsRight, IsRightFor, Keeps, Leaves, StandsLast, StoodBefore, asked_behind, expected_for, left_for}
+use Rattle.kt_graph.specs.inner.Chaining.{IsFound, IsFront, IsRight, IsRightFor, Keeps, Leaves, StandsLast, StoodBefore, asked_behind, expected_for, left_for}
 use Rattle.kt_graph.specs.Search.{Asked, asked_eq, asking, chain_limit, fitting, with_question}
 use Rattle.kt_graph.specs.Views.{asked_told}
 use Rattle.kt_graph.proofs.AskingLemmas.{asking_is, behind_deep}

@@ -6,7 +6,7 @@ use Rattle.std.proofs.lemmas.List.{drop_more, get_or-replicate, get_or-set_same,
 use Rattle.std.proofs.lemmas.List.Elements.{Contains-push, Contains-push_cases, Contains-append_left}
 use Rattle.kt_graph.specs.declared.edges.Edges.{Edges}
 use Rattle.kt_graph.specs.Reach.{Leads, Reaches}
-use Rattle.kt_graph.specs.Edges.{AreReversed, ArePassed, HasNext, HoldsCircular, IsDoneWith, IsFirstBack, IsKept, LeadsBack, LeadsOn, Searches, Visits, holds_in, next_of, rows_of}
+use Rattle.kt_graph.specs.inner.Edges.{AreReversed, ArePassed, HasNext, HoldsCircular, IsDoneWith, IsFirstBack, IsKept, LeadsBack, LeadsOn, Searches, Visits, holds_in, next_of, rows_of}
 use Rattle.kt_graph.proofs.MemberLemmas.{Contains-none}
 use Rattle.kt_graph.proofs.MarkLemmas.{taken_others}
 

@@ -11,10 +11,10 @@ use Rattle.kt_rules.specs.Entry.{Rule}
 use Rattle.kt_graph.specs.declared.edges.Edges.{Edges}
 use Rattle.kt_graph.specs.declared.node.Instance.{Instance as Held}
 use Rattle.kt_graph.specs.declared.settled.Settled.{Settled}
-use Rattle.kt_graph.specs.Edges.{AreEdgesOf, IsFirstBack, LeadsBack}
+use Rattle.kt_graph.specs.inner.Edges.{AreEdgesOf, IsFirstBack, LeadsBack}
 use Rattle.kt_graph.specs.Reach.{IsCyclic, IsFirst, IsGraph}
 use Rattle.kt_graph.specs.Views.{name_at, names_at, nodes_told}
-use Rattle.kt_graph.specs.Whole.{IsWhole}
+use Rattle.kt_graph.specs.inner.Whole.{IsWhole}
 use Rattle.kt_graph.proofs.MemberLemmas.{Contains-here, Contains-map}
 use Rattle.kt_graph.proofs.TroubleLemmas.{in_cut, none_below}
 use Rattle.kt_graph.proofs.WholeLemmas.{cyclic_back, is_cyclic, reached_number}

@@ -8,7 +8,7 @@ use Rattle.std.proofs.lemmas.List.Sums.{fold-append}
 use Rattle.std.proofs.lemmas.Option.{none-some, same_Some, slice_get_within}
 use Rattle.kt_graph.specs.declared.edges.Edges.{Edges}
 use Rattle.kt_graph.specs.declared.settled.Settled.{Settled}
-use Rattle.kt_graph.specs.Edges.{AreEdgesOf, AreMadeBelow, AreNeededBelow, AreReversed, AreWithin, HasNext, IsEdge, IsEdgeOf, LeadsTo, bare_rows, edges_from, edges_to, making_edges, needed_by, needing, node_edges, nodes_edges, rows_of, turned_from, with_edge, with_edges}
+use Rattle.kt_graph.specs.inner.Edges.{AreEdgesOf, AreMadeBelow, AreNeededBelow, AreReversed, AreWithin, HasNext, IsEdge, IsEdgeOf, LeadsTo, bare_rows, edges_from, edges_to, making_edges, needed_by, needing, node_edges, nodes_edges, rows_of, turned_from, with_edge, with_edges}
 use Rattle.kt_graph.proofs.MemberLemmas.{Contains-here, Contains-there, Contains-none, Contains-cases, Contains-map, Contains-from_map, Contains-slice_get}
 
 -- ---- one edge

@@ -22,7 +22,7 @@ use Rattle.kt_rules.specs.Entry.{Rule}
 use Rattle.kt_graph.specs.declared.ends.Ends.{Ends}
 use Rattle.kt_graph.specs.declared.candidate.Candidate.{Candidate as HeldCandidate}
 use Rattle.kt_graph.specs.Candidates.{Candidate, candidate_by, candidate_of, candidate_with, fit_of, has_slash, matched_part, matching_from, shortest, stem_of, unless_long}
-use Rattle.kt_graph.specs.Ends.{AreAllNoted, AreNoted, HasAll, IsNoted, candidate_numbered, candidates_numbered, numbers_at}
+use Rattle.kt_graph.specs.inner.Ends.{AreAllNoted, AreNoted, HasAll, IsNoted, candidate_numbered, candidates_numbered, numbers_at}
 use Rattle.kt_graph.specs.Views.{AreWithin, IsWithin, candidate_at, candidate_told, candidates_told, found_told}
 use Rattle.kt_graph.proofs.CandidateLemmas.{matching_at, matching_none, rule_at, told_at}
 use Rattle.kt_graph.proofs.MemberLemmas.{Contains-cases, Contains-none}

@@ -8,7 +8,7 @@ use Rattle.std.proofs.lemmas.List.{append-nil, append_assoc, length-append}
 use Rattle.std.proofs.lemmas.List.Elements.{filter-append}
 use Rattle.std.proofs.lemmas.Slice.Eq.{bytes_eq-Decides}
 use Rattle.kt_text.specs.Words.{Text}
-use Rattle.kt_graph.specs.Files.{count_of, held_for, is_repeated, made_names, several_in}
+use Rattle.kt_graph.specs.inner.Files.{count_of, held_for, is_repeated, made_names, several_in}
 use Rattle.kt_graph.specs.Groups.{made_nodes}
 use Rattle.kt_graph.specs.Node.{Node, is_leaf}
 use Rattle.kt_graph.specs.Paths.{canon_of}

@@ -15,14 +15,14 @@ use Rattle.kt_text.specs.Words.{Text}
 use Rattle.kt_rules.specs.Entry.{Rule}
 use Rattle.kt_graph.specs.declared.node.Instance.{Instance as Held}
 use Rattle.kt_graph.specs.declared.settled.Settled.{Settled}
-use Rattle.kt_graph.specs.Edges.{needed_by}
-use Rattle.kt_graph.specs.Files.{AreDistinct}
+use Rattle.kt_graph.specs.inner.Edges.{needed_by}
+use Rattle.kt_graph.specs.inner.Files.{AreDistinct}
 use Rattle.kt_graph.specs.Node.{Node, all_inputs, inputs_of, node_of}
-use Rattle.kt_graph.specs.Numbering.{AreBelow, HasNumbers}
+use Rattle.kt_graph.specs.inner.Numbering.{AreBelow, HasNumbers}
 use Rattle.kt_graph.specs.Reach.{HasInput, IsGraph, IsReached, Leads}
 use Rattle.kt_graph.specs.Views.{instance_told, name_at, names_at, node_at, node_told, nodes_told}
-use Rattle.kt_graph.specs.Settling.{IsDone}
-use Rattle.kt_graph.specs.Whole.{AreApart, IsWhole}
+use Rattle.kt_graph.specs.inner.Settling.{IsDone}
+use Rattle.kt_graph.specs.inner.Whole.{AreApart, IsWhole}
 use Rattle.kt_graph.proofs.MemberLemmas.{Contains-from_map, Contains-map, Contains-slice_get, slice_get-Contains}
 use Rattle.kt_graph.proofs.NodeLemmas.{inputs_are, others_are}
 use Rattle.kt_graph.proofs.TroubleLemmas.{any_nowhere}

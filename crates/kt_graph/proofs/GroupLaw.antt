@@ -18,7 +18,7 @@ use Rattle.std.proofs.lemmas.Option.{none-some, same_Some}
 use Rattle.std.proofs.lemmas.Slice.Eq.{bytes_eq-Decides}
 use Rattle.kt_text.specs.Words.{Text}
 use Rattle.kt_rules.specs.Entry.{Rule}
-use Rattle.kt_graph.specs.Grouping.{groups_behind}
+use Rattle.kt_graph.specs.inner.Grouping.{groups_behind}
 use Rattle.kt_graph.specs.Groups.{AreGroups, HasBoth, IsInOne, are_together, groups_among, is_leading, is_one_making, leader_name, made_nodes}
 use Rattle.kt_graph.specs.Node.{Instance, Node, is_leaf, node_of}
 use Rattle.kt_graph.specs.Reach.{AreOneMaking, IsGraph, IsInGroup, IsReached, beside, itself}

@@ -9,7 +9,7 @@ use Rattle.std.proofs.lemmas.List.Elements.{filter-append}
 use Rattle.std.proofs.lemmas.Option.{none-some}
 use Rattle.std.proofs.lemmas.Slice.Eq.{bytes_eq-Decides}
 use Rattle.kt_text.specs.Words.{Text}
-use Rattle.kt_graph.specs.Grouping.{groups_behind, making_of, makings_of, with_member}
+use Rattle.kt_graph.specs.inner.Grouping.{groups_behind, making_of, makings_of, with_member}
 use Rattle.kt_graph.specs.Groups.{are_together, instance_eq, is_one_making}
 use Rattle.kt_graph.specs.Node.{Instance, Node, of_group, of_pattern}
 

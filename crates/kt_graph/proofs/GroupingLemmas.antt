@@ -18,12 +18,12 @@ use Rattle.kt_text.specs.Words.{Text}
 use Rattle.kt_graph.specs.declared.grouping.Grouping.{Grouping}
 use Rattle.kt_graph.specs.declared.node.Instance.{Instance as Held}
 use Rattle.kt_graph.specs.declared.settled.Settled.{Settled}
-use Rattle.kt_graph.specs.Grouping.{AreGrouped, IsAfter, IsGrouping, IsGroupingOf, MayFollow, groups_behind, groups_held, making_of, makings_of, place_of, places_with, with_member}
+use Rattle.kt_graph.specs.inner.Grouping.{AreGrouped, IsAfter, IsGrouping, IsGroupingOf, MayFollow, groups_behind, groups_held, making_of, makings_of, place_of, places_with, with_member}
 use Rattle.kt_graph.specs.Groups.{groups_of, is_one_making, made_nodes}
 use Rattle.kt_graph.specs.Node.{Instance, Node, is_leaf}
-use Rattle.kt_graph.specs.Numbering.{HasNumbers}
+use Rattle.kt_graph.specs.inner.Numbering.{HasNumbers}
 use Rattle.kt_graph.specs.Views.{instance_at, name_at, names_at, node_at, node_told, nodes_told}
-use Rattle.kt_graph.specs.Whole.{AreHeld, IsWhole}
+use Rattle.kt_graph.specs.inner.Whole.{AreHeld, IsWhole}
 use Rattle.kt_graph.proofs.GroupLemmas.{alone_behind, any_together, at_end, behind_more, grown, kept_at, last_at, makings_kept, no_making, none_grown, one_grown, one_same, some_making}
 use Rattle.kt_graph.proofs.MemberLemmas.{Contains-here, Contains-map, Contains-slice_get}
 use Rattle.kt_graph.proofs.GroupLaw.{begun_in_turn}

@@ -8,7 +8,7 @@ use Rattle.kt_rules.specs.Entry.{Rule}
 use Rattle.kt_graph.specs.declared.choice.Chosen.{Chosen}
 use Rattle.kt_graph.specs.declared.inferring.Inferred.{Inferred}
 use Rattle.kt_graph.specs.Candidates.{Candidate, needs_with}
-use Rattle.kt_graph.specs.Inferring.{Gives, Infers, Tells, inferred_node, making_of}
+use Rattle.kt_graph.specs.inner.Inferring.{Gives, Infers, Tells, inferred_node, making_of}
 use Rattle.kt_graph.specs.Node.{chosen_rule, implicit_node, joined_needs, needs_behind, searched}
 use Rattle.kt_graph.specs.Search.{choice_of}
 use Rattle.kt_graph.specs.Views.{choice_told, instance_told}

@@ -5,7 +5,7 @@ use Rattle.std.proofs.lemmas.Bool.{cases_eq, cases_lt, false≢true}
 use Rattle.std.proofs.lemmas.List.{get_or-set_same, get_or-set_other, get_or_past, set_past, length_push, take_more}
 use Rattle.std.proofs.lemmas.List.Elements.{Contains-push, Contains-push_cases, Contains-append_left}
 use Rattle.std.proofs.lemmas.List.Sums.{sum_by-set}
-use Rattle.kt_graph.specs.Edges.{Visits, count_held, holds_in, work_with}
+use Rattle.kt_graph.specs.inner.Edges.{Visits, count_held, holds_in, work_with}
 
 -- a mark that is taken is gone
 pub taken_itself : (marks : List Bool) (place : ℕ) → holds_in (set marks place false) place ≡ false

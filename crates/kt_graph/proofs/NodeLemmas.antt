@@ -12,9 +12,9 @@ use Rattle.kt_rules.specs.Names.{is_among, with_name, without_repeats}
 use Rattle.kt_graph.specs.declared.node.Instance.{Instance as Held}
 use Rattle.kt_graph.specs.declared.settled.Part.{Part as HeldPart}
 use Rattle.kt_graph.specs.declared.settled.Settled.{Settled}
-use Rattle.kt_graph.specs.Files.{AreDistinct}
+use Rattle.kt_graph.specs.inner.Files.{AreDistinct}
 use Rattle.kt_graph.specs.Node.{Part, inputs_of, order_only_of}
-use Rattle.kt_graph.specs.Numbering.{AreBelow, HasNumbers, IsNumbered, input_numbers, numbers_without, with_number}
+use Rattle.kt_graph.specs.inner.Numbering.{AreBelow, HasNumbers, IsNumbered, input_numbers, numbers_without, with_number}
 use Rattle.kt_graph.specs.Views.{name_at, names_at, node_told, part_told}
 
 -- ---- parts

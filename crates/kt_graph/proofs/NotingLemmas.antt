@@ -17,7 +17,7 @@ use Rattle.kt_text.specs.Match.{pattern_back}
 use Rattle.kt_rules.specs.declared.entry.Target.{Target}
 use Rattle.kt_rules.specs.Entry.{Rule}
 use Rattle.kt_graph.specs.declared.ends.Ends.{Ends}
-use Rattle.kt_graph.specs.Ends.{AreAllNoted, AreNoted, HasAll, IsNoted, KeepsNoted, Notes, NotesAll, numbers_at, numbers_in}
+use Rattle.kt_graph.specs.inner.Ends.{AreAllNoted, AreNoted, HasAll, IsNoted, KeepsNoted, Notes, NotesAll, numbers_at, numbers_in}
 use Rattle.kt_graph.proofs.MemberLemmas.{Contains-cases, Contains-here, Contains-none}
 
 -- the numbers that a look-up found

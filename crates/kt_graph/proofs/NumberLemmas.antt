@@ -17,8 +17,8 @@ use Rattle.kt_rules.proofs.NameSetLemmas.{among_keys}
 use Rattle.kt_graph.specs.Node.{Part}
 use Rattle.kt_graph.specs.declared.settled.Numbered.{Numbered}
 use Rattle.kt_graph.specs.declared.settled.Part.{Part as HeldPart}
-use Rattle.kt_graph.specs.Named.{put_together}
-use Rattle.kt_graph.specs.Numbering.{StandFor, SaysNeeds, SaysPart, SayParts}
+use Rattle.kt_graph.specs.inner.Named.{put_together}
+use Rattle.kt_graph.specs.inner.Numbering.{StandFor, SaysNeeds, SaysPart, SayParts}
 
 -- ---- names that grow
 

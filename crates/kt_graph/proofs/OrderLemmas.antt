@@ -18,7 +18,7 @@ use Rattle.std.proofs.lemmas.Map.Text.{is_eq-slice_cmp}
 use Rattle.std.proofs.lemmas.Option.{slice_get_read}
 use Rattle.std.proofs.lemmas.Slice.Eq.{bytes_eq-Decides}
 use Rattle.kt_text.specs.Words.{Text}
-use Rattle.kt_graph.specs.Files.{AreDistinct, IsByteOrder}
+use Rattle.kt_graph.specs.inner.Files.{AreDistinct, IsByteOrder}
 use Rattle.kt_graph.specs.Views.{name_at, names_at}
 
 -- ---- numbers that differ

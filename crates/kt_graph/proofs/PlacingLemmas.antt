@@ -8,7 +8,7 @@ use Rattle.indexmap.specs.IndexSet.{insert_key}
 use Rattle.kt_graph.specs.declared.candidate.Candidate.{Candidate as HeldCandidate}
 use Rattle.kt_graph.specs.declared.question.Question.{Question}
 use Rattle.kt_graph.specs.declared.tried.Tried.{Tried}
-use Rattle.kt_graph.specs.Chaining.{StandsLast, StoodBefore}
+use Rattle.kt_graph.specs.inner.Chaining.{StandsLast, StoodBefore}
 use Rattle.kt_graph.specs.Search.{asked_eq}
 use Rattle.kt_graph.specs.Views.{asked_told}
 

@@ -15,11 +15,11 @@ use Rattle.kt_graph.specs.declared.node.NodeKind.{NodeKind}
 use Rattle.kt_graph.specs.declared.settled.Part.{Part as HeldPart}
 use Rattle.kt_graph.specs.declared.settled.Settled.{Settled}
 use Rattle.kt_graph.specs.Candidates.{Candidate}
-use Rattle.kt_graph.specs.Named.{needed_by}
+use Rattle.kt_graph.specs.inner.Named.{needed_by}
 use Rattle.kt_graph.specs.Node.{Instance, Node, Part, all_inputs, node_by, node_of}
-use Rattle.kt_graph.specs.Numbering.{AreBelow, HasNumbers, IsMaking, IsNumbered, Says, SaysNode, SaysPart, SayParts, StandFor}
+use Rattle.kt_graph.specs.inner.Numbering.{AreBelow, HasNumbers, IsMaking, IsNumbered, Says, SaysNode, SaysPart, SayParts, StandFor}
 use Rattle.kt_graph.specs.Reach.{IsReached}
-use Rattle.kt_graph.specs.Settling.{IsDone, IsUnderWay}
+use Rattle.kt_graph.specs.inner.Settling.{IsDone, IsUnderWay}
 use Rattle.kt_graph.specs.Views.{instance_at, instance_told, name_at, names_at, part_told}
 use Rattle.kt_graph.proofs.NumberLemmas.{names_grow, parts_kept, place_kept}
 use Rattle.kt_graph.proofs.ReachLemmas.{goal_reached, inputs_all, reached_all, reached_on, reached_only, reached_stays}

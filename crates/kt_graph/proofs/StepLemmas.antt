@@ -16,11 +16,11 @@ use Rattle.kt_graph.specs.declared.node.NodeKind.TheVariants.{Implicit}
 use Rattle.kt_graph.specs.declared.node.Instance.{Instance as Held}
 use Rattle.kt_graph.specs.declared.settled.Settled.{Settled}
 use Rattle.kt_graph.specs.declared.settling.Settling.{Settling}
-use Rattle.kt_graph.specs.Inferring.{inferred_node}
-use Rattle.kt_graph.specs.Named.{named_told, needed_by, needs_of_each, part_named, put_together}
+use Rattle.kt_graph.specs.inner.Inferring.{inferred_node}
+use Rattle.kt_graph.specs.inner.Named.{named_told, needed_by, needs_of_each, part_named, put_together}
 use Rattle.kt_graph.specs.Node.{Node, double_node, joined_needs, needs_behind, node_by, node_of, node_with, searched, used_rule}
-use Rattle.kt_graph.specs.Numbering.{SaysNode}
-use Rattle.kt_graph.specs.Settling.{Grows}
+use Rattle.kt_graph.specs.inner.Numbering.{SaysNode}
+use Rattle.kt_graph.specs.inner.Settling.{Grows}
 use Rattle.kt_graph.specs.Views.{instance_told}
 use Rattle.kt_graph.proofs.BuildingLemmas.{together_is}
 

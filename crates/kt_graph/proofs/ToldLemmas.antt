@@ -10,7 +10,7 @@ use Rattle.kt_rules.specs.Entry.{Rule}
 use Rattle.kt_rules.specs.Patterns.{is_terminal}
 use Rattle.kt_graph.specs.declared.candidate.Candidate.{Candidate as HeldCandidate}
 use Rattle.kt_graph.specs.Candidates.{Candidate}
-use Rattle.kt_graph.specs.Chaining.{IsFound}
+use Rattle.kt_graph.specs.inner.Chaining.{IsFound}
 use Rattle.kt_graph.specs.Search.{is_begun}
 use Rattle.kt_graph.specs.Views.{AreWithin, IsWithin, candidate_at, candidate_told, candidates_told}
 

@@ -19,12 +19,12 @@ use Rattle.std.proofs.lemmas.Slice.Eq.{bytes_eq-Decides}
 use Rattle.kt_text.specs.Words.{Text}
 use Rattle.kt_rules.specs.Entry.{Rule}
 use Rattle.kt_graph.specs.Faults.{IsFileTrouble}
-use Rattle.kt_graph.specs.Files.{count_of, is_repeated, made_names}
+use Rattle.kt_graph.specs.inner.Files.{count_of, is_repeated, made_names}
 use Rattle.kt_graph.specs.Groups.{made_nodes}
 use Rattle.kt_graph.specs.Node.{Node, is_leaf, node_of}
 use Rattle.kt_graph.specs.Paths.{canon_of, is_reserved}
 use Rattle.kt_graph.specs.Reach.{ComesFirst, IsCyclic, IsDoubled, IsFirst, IsGraph, IsMade, IsReached, IsReserved, Trouble, no_rule, circular, reserved_name, one_file, is_unmade, unmade_goal}
-use Rattle.kt_graph.specs.Whole.{makes_among}
+use Rattle.kt_graph.specs.inner.Whole.{makes_among}
 use Rattle.kt_graph.proofs.MemberLemmas.{Contains-cases, Contains-from_map, Contains-here, Contains-map, Contains-none, Contains-there}
 
 abbrev order : Text → Text → Ordering

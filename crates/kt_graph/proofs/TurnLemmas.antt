@@ -10,7 +10,7 @@ use Rattle.kt_rules.specs.Patterns.{is_terminal}
 use Rattle.kt_graph.specs.declared.candidate.Candidate.{Candidate as HeldCandidate}
 use Rattle.kt_graph.specs.declared.tried.Tried.{Tried}
 use Rattle.kt_graph.specs.Candidates.{Candidate}
-use Rattle.kt_graph.specs.Chaining.{IsFound, IsRightFor, Keeps, Leaves, asked_behind}
+use Rattle.kt_graph.specs.inner.Chaining.{IsFound, IsRightFor, Keeps, Leaves, asked_behind}
 use Rattle.kt_graph.specs.Search.{Asked, Asking, Choosing, asked_among, asked_by, asked_for, asked_inside, asking, chosen_of, fitting, is_inferred, is_met, open_candidates, unknown_needs, with_question, with_rule}
 use Rattle.kt_graph.specs.Views.{AreWithin, asked_told, candidate_told, candidates_told}
 use Rattle.kt_graph.proofs.AskingLemmas.{length-with_rule}

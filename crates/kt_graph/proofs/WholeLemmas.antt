@@ -12,12 +12,12 @@ use Rattle.kt_rules.specs.Entry.{Rule}
 use Rattle.kt_graph.specs.declared.edges.Edges.{Edges}
 use Rattle.kt_graph.specs.declared.node.Instance.{Instance as Held}
 use Rattle.kt_graph.specs.declared.settled.Settled.{Settled}
-use Rattle.kt_graph.specs.Edges.{AreEdgesOf, AreMadeBelow, AreNeededBelow, HasNext, IsEdge, LeadsBack, LeadsOn, LeadsTo, needed_by}
+use Rattle.kt_graph.specs.inner.Edges.{AreEdgesOf, AreMadeBelow, AreNeededBelow, HasNext, IsEdge, LeadsBack, LeadsOn, LeadsTo, needed_by}
 use Rattle.kt_graph.specs.Node.{Instance, Node, all_inputs, inputs_of, node_of}
-use Rattle.kt_graph.specs.Numbering.{AreBelow, HasNumbers}
+use Rattle.kt_graph.specs.inner.Numbering.{AreBelow, HasNumbers}
 use Rattle.kt_graph.specs.Reach.{AreOneMaking, HasEdge, HasInput, IsCyclic, IsGraph, IsInGroup, IsReached, Leads, Reaches, itself, beside}
 use Rattle.kt_graph.specs.Views.{instance_at, instance_told, name_at, names_at, node_at, node_told, nodes_told}
-use Rattle.kt_graph.specs.Whole.{IsWhole}
+use Rattle.kt_graph.specs.inner.Whole.{IsWhole}
 use Rattle.kt_graph.proofs.CircleLemmas.{Reaches-join, Reaches-none, Reaches-step, on_step, on_more}
 use Rattle.kt_graph.proofs.MemberLemmas.{Contains-cases, Contains-from_map, Contains-here, Contains-map, Contains-none, Contains-slice_get, Contains-there}
 use Rattle.kt_graph.proofs.NodeLemmas.{inputs_are, inputs_below, others_are, others_below}

@@ -1,21 +1,10 @@
 -- What is to be made (GNU make manual, "Arguments to Specify the Goals", "Other Special Variables", on
 -- `.DEFAULT_GOAL`; "How `make` Processes a Makefile").
-use Rattle.std.specs.Prelude.{List, [], ◌∷◌, map, drop, take, length, ◌-◌, option_to_list, if◌then◌else◌}
-use Rattle.std.specs.List.{prefix_len, suffix_len}
-use Rattle.kt_text.specs.Words.{Text, is_nonempty, is_separator}
+use Rattle.std.specs.Prelude.{List, [], ◌∷◌, map, option_to_list, if◌then◌else◌}
+use Rattle.kt_text.specs.Words.{Text, is_nonempty, stripped}
 use Rattle.kt_rules.specs.Names.{without_dots, without_repeats}
 use Rattle.kt_rules.specs.Entry.{Rule}
 use Rattle.kt_rules.specs.Book.{first_goal_of}
-
--- without the separators round it
-abbrev pub begun : Text → Text
-begun text = drop (prefix_len is_separator text) text
-
-abbrev pub ended : Text → Text
-ended text = take (length text - suffix_len is_separator text) text
-
-abbrev pub trimmed : Text → Text
-trimmed text = ended (begun text)
 
 -- the goals of a command line, each once; an empty one stays
 unfoldable pub named_goals : List Text → List Text
@@ -24,7 +13,7 @@ named_goals words = without_repeats (map without_dots words)
 -- the goal where the command line has none: that of a text, which is one name, or the first target
 unfoldable pub default_goals : List Rule → Text → List Text
 default_goals rules text =
-    if is_nonempty (trimmed text) then without_dots (trimmed text) ∷ [] else option_to_list (first_goal_of rules)
+    if is_nonempty (stripped text) then without_dots (stripped text) ∷ [] else option_to_list (first_goal_of rules)
 
 -- the goals; without one there is nothing to do
 abbrev pub goals_of : List Rule → List Text → Text → List Text

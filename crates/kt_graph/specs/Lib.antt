@@ -9,15 +9,5 @@ pub mod Resolution
 pub mod Groups
 pub mod Faults
 pub mod Views
-pub mod Chaining
-pub mod Settling
-pub mod Edges
-pub mod Files
 pub mod Rows
-pub mod Named
-pub mod Numbering
-pub mod Inferring
-pub mod Building
-pub mod Whole
-pub mod Grouping
-pub mod Ends
+pub mod inner

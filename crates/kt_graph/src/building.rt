@@ -6,9 +6,9 @@ ghost use Rattle.kt_rules.specs.Book.{is_double};
 ghost use Rattle.kt_rules.specs.Entry.{Rule};
 ghost use Rattle.kt_rules.specs.declared.entry.Target.{Target as HeldTarget};
 ghost use Rattle.kt_rules.specs.Slots.{rule_told};
-ghost use Rattle.kt_graph.specs.Building.{IsCut};
+ghost use Rattle.kt_graph.specs.inner.Building.{IsCut};
 ghost use Rattle.kt_graph.specs.Node.{double_node, explicit_node, first_name, group_of, kind_without, part_of, plain_node, stem_for, suffix_stem, used_rule};
-ghost use Rattle.kt_graph.specs.Named.{named_told, needs_of_each, part_named, put_together};
+ghost use Rattle.kt_graph.specs.inner.Named.{named_told, needs_of_each, part_named, put_together};
 ghost use Rattle.kt_graph.specs.Views.{instance_told};
 
 use crate::named::{Named, NamedPart};

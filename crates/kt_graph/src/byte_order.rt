@@ -1,6 +1,6 @@
 //! Names in byte order.
 ghost use Rattle.std.specs.Prelude.{◌≡◌, map, IfOk};
-ghost use Rattle.kt_graph.specs.Files.{AreDistinct, IsByteOrder};
+ghost use Rattle.kt_graph.specs.inner.Files.{AreDistinct, IsByteOrder};
 
 use std::alloc::{AllocError, Global};
 

@@ -5,7 +5,7 @@ ghost use Rattle.std.specs.List.Sorted.{IsPermutation};
 ghost use Rattle.kt_rules.specs.Entry.{Rule};
 ghost use Rattle.kt_rules.specs.Patterns.{is_terminal};
 ghost use Rattle.kt_graph.specs.Candidates.{candidate_by, candidate_of, candidates_for, matching_from, shortest};
-ghost use Rattle.kt_graph.specs.Ends.{candidate_numbered, candidates_numbered};
+ghost use Rattle.kt_graph.specs.inner.Ends.{candidate_numbered, candidates_numbered};
 ghost use Rattle.kt_graph.specs.Views.{AreWithin, IsWithin, candidate_at, candidates_told, fit_size, found_told, held_by_size, held_without_any, is_last_at, shorter_of, stays};
 
 use crate::candidate::{Candidate, fit_of};

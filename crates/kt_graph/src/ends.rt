@@ -2,7 +2,7 @@
 ghost use Rattle.std.specs.Prelude.{◌≡◌, ◌++◌, ◌∷◌, [], ℕ, List, IfOk, OnOk, bytes_eq, if◌then◌else◌};
 ghost use Rattle.kt_text.specs.Words.{Text};
 ghost use Rattle.kt_text.specs.Match.{pattern_back};
-ghost use Rattle.kt_graph.specs.Ends.{HasAll, IsNoted, Notes, NotesAll, numbers_at};
+ghost use Rattle.kt_graph.specs.inner.Ends.{HasAll, IsNoted, Notes, NotesAll, numbers_at};
 
 use indexmap::{IndexMap, IndexSet};
 use kt_rules::Target;

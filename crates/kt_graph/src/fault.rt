@@ -2,6 +2,7 @@
 ghost use Rattle.std.specs.Prelude.{◌≡◌};
 ghost use Rattle.kt_graph.specs.declared.fault.GraphFault.TheVariants.{Memory};
 
+use bstr::BStr;
 use kt_list::Sequence;
 use std::alloc::AllocError;
 use thiserror::Error;
@@ -13,7 +14,7 @@ pub enum GraphFault {
     #[error("out of memory")]
     Memory,
     /// The makefile is at fault, at no line.
-    #[error("E{number:02}")]
+    #[error("{told} [E{number:02}]", told = BStr::new(.words.as_slice()))]
     Refused {
         /// The number that a fault line ends with, as 27 of `[E27]`.
         number: u8,

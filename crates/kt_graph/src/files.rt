@@ -2,7 +2,7 @@
 ghost use Rattle.std.specs.Prelude.{◌≡◌, ◌++◌, ◌∷◌, ◌||◌, ◌&&◌, [], List, Some, false, bytes_eq, find, is_some, map, not, option_map, unwrap_or, IfOk, OnOk, if◌then◌else◌};
 ghost use Rattle.std.specs.List.{list_any};
 ghost use Rattle.kt_text.specs.Words.{Text};
-ghost use Rattle.kt_graph.specs.Files.{HasFiles, held_for, is_repeated, made_names};
+ghost use Rattle.kt_graph.specs.inner.Files.{HasFiles, held_for, is_repeated, made_names};
 ghost use Rattle.kt_graph.specs.Node.{is_leaf};
 ghost use Rattle.kt_graph.specs.Paths.{always_name, is_reserved};
 

@@ -1,12 +1,11 @@
 //! What is to be made.
-ghost use Rattle.std.specs.Prelude.{◌≡◌, ◌≤◌, length, map, IfOk, option_to_list};
-ghost use Rattle.std.specs.List.{prefix_len, suffix_len};
-ghost use Rattle.kt_text.specs.Words.{is_separator};
-ghost use Rattle.kt_graph.specs.Goals.{begun, default_goals, ended, named_goals, trimmed};
+ghost use Rattle.std.specs.Prelude.{◌≡◌, map, IfOk, option_to_list};
+ghost use Rattle.kt_graph.specs.Goals.{default_goals, named_goals};
 
 use indexmap::IndexSet;
 use kt_list::Sequence;
 use kt_rules::{Book, Name, without_dots};
+use kt_text::stripped;
 use std::alloc::{AllocError, Global};
 
 /// The goals that the words of a command line name, each once (GNU make manual, "Arguments to
@@ -35,7 +34,7 @@ fn in_order(alloc: Global, names: IndexSet<Vec<u8>>) -> Result<Vec<Name>, AllocE
 pub fn default_goal(alloc: Global, book: &Book, text: &[u8]) -> Result<Option<Name>, AllocError>
     ensures { IfOk result (λ goal. option_to_list goal ≡ default_goals book.now text.now) }
 {
-    let name = trimmed(text);
+    let name = stripped(text);
     if !name.is_empty() {
         return Ok(Some(copied(alloc, without_dots(name))?));
     }
@@ -49,49 +48,4 @@ fn copied(alloc: Global, name: &[u8]) -> Result<Name, AllocError>
     ensures { IfOk result (λ copy. copy ≡ name.now) }
 {
     Ok(Sequence::from(Vec::from_slice(alloc, name)?))
-}
-
-// The text without the separators round it.
-fn trimmed(text: &[u8]) -> &[u8]
-    ensures { result.now ≡ trimmed text.now }
-{
-    ended(begun(text))
-}
-
-// The text without the separators at its begin.
-fn begun(text: &[u8]) -> &[u8]
-    ensures { result.now ≡ begun text.now }
-{
-    &text[leading_separators(text)..]
-}
-
-// The text without those at its end.
-fn ended(text: &[u8]) -> &[u8]
-    ensures { result.now ≡ ended text.now }
-{
-    &text[..text.len() - trailing_separators(text)]
-}
-
-fn leading_separators(text: &[u8]) -> usize
-    ensures value { result ≡ prefix_len is_separator text.now }
-    ensures bound { result ≤ length text.now }
-{
-    text.iter().take_while(|byte| is_separator(**byte)).count()
-}
-
-fn trailing_separators(text: &[u8]) -> usize
-    ensures value { result ≡ suffix_len is_separator text.now }
-    ensures bound { result ≤ length text.now }
-{
-    text.iter()
-        .rev()
-        .take_while(|byte| is_separator(**byte))
-        .count()
-}
-
-#[tactic(auto, unfolding(kt_text::specs::Words::is_separator))]
-fn is_separator(byte: u8) -> bool
-    ensures { result ≡ is_separator byte }
-{
-    matches!(byte, b' ' | b'\t' | b'\n')
 }

@@ -1,6 +1,6 @@
 //! What a chosen pattern rule gives to a name.
 ghost use Rattle.std.specs.Prelude.{◌≡◌, ◌++◌, option_map, IfOk};
-ghost use Rattle.kt_graph.specs.Inferring.{Gives, making_of};
+ghost use Rattle.kt_graph.specs.inner.Inferring.{Gives, making_of};
 ghost use Rattle.kt_graph.specs.Views.{instance_told};
 
 use crate::choice::Chosen;

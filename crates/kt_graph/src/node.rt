@@ -59,14 +59,14 @@ impl<'g> Model for Node<'g> {
 
     ghost view = { λ node. node_told node.names.now node.instances.now node.number node.settled.now };
 
-    ghost use Rattle.kt_graph.specs.Whole.{IsHeld};
+    ghost use Rattle.kt_graph.specs.inner.Whole.{IsHeld};
 
     ghost invariant = { λ node. IsHeld node.names.now node.instances.now node.settled.now };
 }
 
 impl<'g> Node<'g> {
     ghost use Rattle.kt_graph.specs.Views.{node_told};
-    ghost use Rattle.kt_graph.specs.Whole.{IsHeld};
+    ghost use Rattle.kt_graph.specs.inner.Whole.{IsHeld};
 
     pub(crate) fn new(
         names: &'g [Vec<u8>],

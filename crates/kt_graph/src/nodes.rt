@@ -5,10 +5,10 @@ ghost use Rattle.kt_text.specs.Words.{Text};
 ghost use Rattle.kt_rules.specs.Entry.{Rule};
 ghost use Rattle.kt_graph.specs.Faults.{IsFileTrouble};
 ghost use Rattle.kt_graph.specs.Groups.{groups_of};
-ghost use Rattle.kt_graph.specs.Numbering.{HasNumbers};
+ghost use Rattle.kt_graph.specs.inner.Numbering.{HasNumbers};
 ghost use Rattle.kt_graph.specs.Reach.{ComesFirst, IsCyclic, IsFirst, IsGraph};
-ghost use Rattle.kt_graph.specs.Settling.{IsDone};
-ghost use Rattle.kt_graph.specs.Whole.{AreHeld, makes_among};
+ghost use Rattle.kt_graph.specs.inner.Settling.{IsDone};
+ghost use Rattle.kt_graph.specs.inner.Whole.{AreHeld, makes_among};
 ghost use Rattle.kt_graph.specs.Views.{node_at, nodes_told, trouble_told};
 
 use crate::byte_order::byte_order;
@@ -49,7 +49,7 @@ impl<'a> Model for Graph<'a> {
 
     ghost view = { λ graph. nodes_told graph.names.keys graph.instances.keys graph.nodes.items graph.order.items };
 
-    ghost use Rattle.kt_graph.specs.Whole.{IsWhole};
+    ghost use Rattle.kt_graph.specs.inner.Whole.{IsWhole};
 
     ghost invariant = { λ graph. IsWhole graph.names.keys graph.instances.keys graph.nodes.items graph.order.items };
 }
@@ -223,7 +223,7 @@ impl<'g> Model for Nodes<'g> {
 
     ghost view = { λ nodes. nodes_told nodes.names.now nodes.instances.now nodes.nodes.now nodes.numbers.now };
 
-    ghost use Rattle.kt_graph.specs.Whole.{AreHeld};
+    ghost use Rattle.kt_graph.specs.inner.Whole.{AreHeld};
 
     ghost invariant = { λ nodes. AreHeld nodes.names.now nodes.instances.now nodes.nodes.now };
 }

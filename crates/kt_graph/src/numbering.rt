@@ -3,8 +3,8 @@ ghost use Rattle.std.specs.Prelude.{◌≡◌, ◌^◌, ◌<◌, ◌++◌, [], L
 ghost use Rattle.kt_text.specs.Words.{Text};
 ghost use Rattle.kt_rules.specs.Names.{with_name};
 ghost use Rattle.kt_rules.specs.Suffixes.{all_needs};
-ghost use Rattle.kt_graph.specs.Named.{part_named, put_together};
-ghost use Rattle.kt_graph.specs.Numbering.{SaysNeeds, SaysPart, SayParts, StandFor};
+ghost use Rattle.kt_graph.specs.inner.Named.{part_named, put_together};
+ghost use Rattle.kt_graph.specs.inner.Numbering.{SaysNeeds, SaysPart, SayParts, StandFor};
 
 use crate::named::NamedPart;
 use crate::settled::{Numbered, Part};

@@ -2,7 +2,7 @@
 ghost use Rattle.std.specs.Prelude.{◌≡◌, option_map, slice_get, IfOk};
 ghost use Rattle.kt_rules.specs.Entry.{Rule};
 ghost use Rattle.kt_graph.specs.Candidates.{matching_from};
-ghost use Rattle.kt_graph.specs.Ends.{AreAllNoted, candidates_numbered};
+ghost use Rattle.kt_graph.specs.inner.Ends.{AreAllNoted, candidates_numbered};
 
 use crate::ends::Ends;
 use kt_rules::Pattern;
@@ -22,7 +22,7 @@ impl<'a> Model for Patterns<'a> {
 
     ghost Value = { List Rule };
 
-    ghost use Rattle.kt_graph.specs.Ends.{AreAllNoted};
+    ghost use Rattle.kt_graph.specs.inner.Ends.{AreAllNoted};
 
     ghost view = { λ patterns. patterns.rules.items };
 

@@ -32,7 +32,7 @@ impl<'a> Model for Search<'a> {
     ghost Value = { Searching };
 
     ghost use Rattle.std.specs.Prelude.{map};
-    ghost use Rattle.kt_graph.specs.Chaining.{IsRight};
+    ghost use Rattle.kt_graph.specs.inner.Chaining.{IsRight};
     ghost use Rattle.kt_graph.specs.Views.{asked_told};
 
     ghost view = { λ search. record {

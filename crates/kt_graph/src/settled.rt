@@ -1,6 +1,6 @@
 //! Nodes as the graph holds them: names by their numbers.
 ghost use Rattle.std.specs.Prelude.{◌≡◌, [], flat_map, fold, IfOk, OnOk};
-ghost use Rattle.kt_graph.specs.Numbering.{input_numbers, numbers_without, order_only_numbers, with_number};
+ghost use Rattle.kt_graph.specs.inner.Numbering.{input_numbers, numbers_without, order_only_numbers, with_number};
 
 use crate::node::NodeKind;
 use indexmap::IndexSet;

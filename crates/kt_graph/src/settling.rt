@@ -7,12 +7,12 @@ ghost use Rattle.kt_rules.specs.declared.entry.Target.{Target as HeldTarget};
 ghost use Rattle.kt_rules.specs.Names.{with_name};
 ghost use Rattle.kt_rules.specs.Slots.{rule_told};
 ghost use Rattle.kt_rules.specs.Suffixes.{suffixes_of};
-ghost use Rattle.kt_graph.specs.Building.{IsCut};
-ghost use Rattle.kt_graph.specs.Inferring.{Infers, Tells, inferred_node};
-ghost use Rattle.kt_graph.specs.Named.{named_told, needed_by};
+ghost use Rattle.kt_graph.specs.inner.Building.{IsCut};
+ghost use Rattle.kt_graph.specs.inner.Inferring.{Infers, Tells, inferred_node};
+ghost use Rattle.kt_graph.specs.inner.Named.{named_told, needed_by};
 ghost use Rattle.kt_graph.specs.Node.{double_node, explicit_node, node_by, node_of, node_with, plain_node, searched};
-ghost use Rattle.kt_graph.specs.Numbering.{IsMaking, SaysNode};
-ghost use Rattle.kt_graph.specs.Settling.{Grows, IsBegun, IsOver, IsSettled};
+ghost use Rattle.kt_graph.specs.inner.Numbering.{IsMaking, SaysNode};
+ghost use Rattle.kt_graph.specs.inner.Settling.{Grows, IsBegun, IsOver, IsSettled};
 ghost use Rattle.kt_graph.specs.Views.{instance_told};
 
 use crate::building::{

@@ -1,7 +1,7 @@
 //! The questions that a search put, with their answers.
 ghost use Rattle.std.specs.Prelude.{◌≡◌, [], None, length, map, take, slice_get, slice_set, unwrap_or, IfOk};
 ghost use Rattle.std.specs.List.{IsDistinct};
-ghost use Rattle.kt_graph.specs.Chaining.{IsPlaced, Keeps};
+ghost use Rattle.kt_graph.specs.inner.Chaining.{IsPlaced, Keeps};
 ghost use Rattle.kt_graph.specs.Search.{asked_eq};
 ghost use Rattle.kt_graph.specs.Views.{asked_told};
 

@@ -1,6 +1,20 @@
 //! What is wrong with a graph, and what comes first.
 use crate::graphs::{Row, tells};
+use kt_graph::GraphFault;
+use kt_list::Sequence;
 use std::test::Fail;
+
+#[test]
+fn prints_faults(rt: HostRuntime) -> Result<(), Fail> {
+    let words = Vec::from_slice(rt.alloc(), b"no rule for b")?;
+    let fault = GraphFault::Refused {
+        number: 27,
+        words: Sequence::from(words),
+    };
+    let printed = format!(in rt.alloc(); "{fault}")?;
+    assert_eq!(rt; printed.as_str(), "no rule for b [E27]");
+    Ok(())
+}
 
 #[test]
 fn goals_without_rule(rt: HostRuntime) -> Result<(), Fail> {

@@ -10,7 +10,7 @@ use Rattle.kt_ninja.specs.JoinedLines.{Text}
 use Rattle.kt_ninja.specs.Pieces.{is_long_name_byte}
 use Rattle.kt_ninja.specs.Writable.{is_empty}
 use Rattle.kt_ninja.specs.Forms.{Pieces, is_plain, name_bytes}
-use Rattle.kt_ninja.specs.Wording.{name_byte, some_word}
+use Rattle.kt_ninja.specs.inner.Wording.{name_byte, some_word}
 
 take_one : (n : ℕ) (p : Piece) (ps : Pieces) → take (1 + n) (p ∷ ps) ≡ p ∷ take n ps
 take_one n p ps = let e : 1 + n ≡ suc n = omega arith in rw e refl

@@ -6,7 +6,7 @@ use Rattle.std.proofs.Math.Seq.{take-append-add, drop-cons}
 use Rattle.kt_ninja.specs.declared.joined.FileLine.{FileLine as CutLine}
 use Rattle.kt_ninja.specs.declared.joined.Begun.{Begun as OpenLine}
 use Rattle.kt_ninja.specs.declared.joined.Line.{Line}
-use Rattle.kt_ninja.specs.Joining.{Joins, added_text, begun_by, file_line, kept_text, text_with}
+use Rattle.kt_ninja.specs.inner.Joining.{Joins, added_text, begun_by, file_line, kept_text, text_with}
 use Rattle.std.proofs.lemmas.List.Sums.{position_or_len_is}
 use Rattle.memchr.specs.Find.{IsFirstByte, is_byte}
 use Rattle.std.specs.List.{position_or_len}

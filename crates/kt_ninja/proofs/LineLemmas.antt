@@ -7,7 +7,7 @@ use Rattle.std.specs.List.{list_any, position_or_len, prefix_len, slice_split, b
 use Rattle.kt_ninja.specs.declared.piece.Piece.{Piece}
 use Rattle.kt_ninja.specs.JoinedLines.{Text}
 use Rattle.kt_ninja.specs.Forms.{Inputs, Pieces, begins_with_at, binding_of, bound_to, build_behind, build_cut, build_of, defaults_of, inputs_of, is_keyword, is_plain, name_in, paths_of, rule_of, without_lead, words_of}
-use Rattle.kt_ninja.specs.Wording.{bars_cut, key_of, not_keyword, two_of}
+use Rattle.kt_ninja.specs.inner.Wording.{bars_cut, key_of, not_keyword, two_of}
 
 -- names, by the words
 pub rule_by : (ps : Pieces) (words : List Pieces) → words ≡ words_of ps → rule_of ps ≡ name_in words

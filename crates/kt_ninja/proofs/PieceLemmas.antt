@@ -12,8 +12,8 @@ use Rattle.kt_ninja.specs.declared.read_fault.Fault.TheVariants.{NoReading, Memo
 use Rattle.kt_ninja.specs.JoinedLines.{Text}
 use Rattle.kt_ninja.specs.Writable.{is_empty}
 use Rattle.kt_ninja.specs.Pieces.{Where, behind_dollar, in_braces, in_name, is_escapable, is_long_name_byte, is_short_name_byte, outer_step, outside, pieces, pieces_from}
-use Rattle.kt_ninja.specs.Cutting.{CutsOff, CutsShort, NoShort, begins_short}
-use Rattle.kt_ninja.specs.Refusals.{Refuses}
+use Rattle.kt_ninja.specs.inner.Cutting.{CutsOff, CutsShort, NoShort, begins_short}
+use Rattle.kt_ninja.specs.inner.Refusals.{Refuses}
 
 -- a refusal of one reading is one of another that has no value either
 pub refuses_too : {X Y : Type 0} (old : Option X) (new : Option Y) → (old ≡ None → new ≡ None) → (fault : Fault) → Refuses old fault → Refuses new fault

@@ -12,7 +12,7 @@ use Rattle.kt_ninja.specs.JoinedLines.{Text, is_blank, is_comment}
 use Rattle.kt_ninja.specs.Forms.{Binding}
 use Rattle.kt_ninja.specs.NinjaRead.{Part, State, all_parts, and_then_parts, begins_part, block_from, cut_lines, ninja_read, nothing_read, plan_in, read_part, read_parts}
 use Rattle.kt_ninja.specs.Reading.{Adds, Misreads, Stops, fault_at, line_binding, part_before, part_of}
-use Rattle.kt_ninja.specs.Refusals.{Refuses}
+use Rattle.kt_ninja.specs.inner.Refusals.{Refuses}
 use Rattle.kt_ninja.specs.Text.{plan_text}
 use Rattle.kt_ninja.specs.Writable.{IsWritable}
 use Rattle.kt_ninja.proofs.PrintThenRead.{printed_is_read}

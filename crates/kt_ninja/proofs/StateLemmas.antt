@@ -10,8 +10,8 @@ use Rattle.kt_ninja.specs.Forms.{Binding, Build, Pieces}
 use Rattle.kt_ninja.specs.Scopes.{Scope, expanded, find_in, put_in, refers_to, value_in, value_within}
 use Rattle.kt_ninja.specs.NinjaRead.{Making, Stated, are_new, block_scope, made_of, paths_in, stated_with, statement_of}
 use Rattle.kt_ninja.specs.Writable.{is_among, is_empty}
-use Rattle.kt_ninja.specs.Refusals.{Refuses}
-use Rattle.kt_ninja.specs.Holding.{block_with, made_as, making_as, path_in}
+use Rattle.kt_ninja.specs.inner.Refusals.{Refuses}
+use Rattle.kt_ninja.specs.inner.Holding.{block_with, made_as, making_as, path_in}
 
 -- what is left begins with the item that comes next
 pub left_at : {X : Type 0} (xs : List X) (i : ℕ) (x : X) → i < length xs → x ≡ get_or xs i x → drop i xs ≡ x ∷ drop (i + 1) xs

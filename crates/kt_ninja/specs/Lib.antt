@@ -11,10 +11,5 @@ pub mod Forms
 pub mod Scopes
 pub mod NinjaRead
 pub mod Rows
-pub mod Cutting
-pub mod Joining
-pub mod Refusals
-pub mod Wording
-pub mod Holding
 pub mod Reading
-pub mod Equality
+pub mod inner

@@ -2,8 +2,8 @@
 ghost use Rattle.std.specs.Prelude.{◌≡◌, ◌≤◌, ◌∷◌, [], ◌++◌, IfOk, OnOk, MatchOption, MatchResult, Some, None, length};
 ghost use Rattle.std.specs.List.{list_any, position_or_len, prefix_len, slice_split};
 ghost use Rattle.kt_ninja.specs.Forms.{begins_with_at, binding_of, build_behind, build_of, build_with, defaults_of, inputs_of, is_keyword, is_plain, name_bytes, name_in, paths_of, rule_of, words_of};
-ghost use Rattle.kt_ninja.specs.Wording.{bars_cut, binding_told, build_told, inputs_told, key_of, name_byte, some_word, told, two_bars, two_of};
-ghost use Rattle.kt_ninja.specs.Refusals.{Refuses};
+ghost use Rattle.kt_ninja.specs.inner.Wording.{bars_cut, binding_told, build_told, inputs_told, key_of, name_byte, some_word, told, two_bars, two_of};
+ghost use Rattle.kt_ninja.specs.inner.Refusals.{Refuses};
 
 use crate::piece::{Piece, is_long_name_byte};
 use crate::read_fault::Fault;
@@ -97,7 +97,7 @@ fn name_byte(piece: &Piece) -> Option<u8>
 fn name_bytes(alloc: Global, pieces: &[Piece]) -> Result<Vec<u8>, Fault>
     ensures { MatchResult result (λ name. name_bytes pieces.now ≡ Some name.items) (Refuses (name_bytes pieces.now)) }
 {
-    let mut name = Vec::new(alloc);
+    let mut name = Vec::with_capacity(alloc, pieces.len())?;
     for piece in pieces {
         let Some(byte) = name_byte(piece) else {
             return Err(Fault::NoReading);

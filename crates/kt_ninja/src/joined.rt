@@ -3,7 +3,7 @@ ghost use Rattle.std.specs.Prelude.{◌≡◌, ◌+◌, ◌-◌, ◌<◌, ◌≤
 ghost use Rattle.std.specs.Option.{option_copied};
 ghost use Rattle.std.specs.List.{position_or_len, prefix_len};
 ghost use Rattle.kt_ninja.specs.JoinedLines.{ends_in_dollar, file_lines, is_blank, is_comment, joined_lines, without_indent};
-ghost use Rattle.kt_ninja.specs.Joining.{Joins, added_text, file_line, kept_text};
+ghost use Rattle.kt_ninja.specs.inner.Joining.{Joins, added_text, file_line, kept_text};
 
 use crate::bytes::first_byte;
 use kt_list::Sequence;

@@ -2,12 +2,12 @@
 ghost use Rattle.std.specs.Prelude.{◌≡◌, ◌≤◌, ◌∷◌, [], length, MatchResult, IfOk, Some, None};
 ghost use Rattle.std.specs.List.{prefix_len};
 ghost use Rattle.kt_ninja.specs.Pieces.{behind_dollar, in_braces, in_name, is_escapable, is_long_name_byte, is_short_name_byte, outside, pieces, pieces_from};
-ghost use Rattle.kt_ninja.specs.Cutting.{CutsOff, CutsShort, NoShort};
-ghost use Rattle.kt_ninja.specs.Refusals.{Refuses};
+ghost use Rattle.kt_ninja.specs.inner.Cutting.{CutsOff, CutsShort, NoShort};
+ghost use Rattle.kt_ninja.specs.inner.Refusals.{Refuses};
 
 use crate::bytes::first_byte;
 use crate::read_fault::Fault;
-use kt_list::Sequence;
+use kt_list::Shared;
 use std::alloc::{AllocError, Global};
 
 /// A byte or a variable (Ninja manual, "Lexical syntax").
@@ -18,7 +18,7 @@ pub(crate) enum Piece {
     /// A byte behind a dollar.
     Escaped(u8),
     /// The variable of this name.
-    Variable(Sequence<u8>),
+    Variable(Shared<u8>),
 }
 
 fn is_short_name_byte(byte: u8) -> bool
@@ -45,7 +45,7 @@ fn variable<'a>(alloc: Global, name: &[u8], after: &'a [u8]) -> Result<Cut<'a>, 
 {
     let name = Vec::from_slice(alloc, name)?;
     Ok(Cut {
-        piece: Piece::Variable(Sequence::from(name)),
+        piece: Piece::Variable(Shared::from_vec(name)?),
         after,
     })
 }
@@ -143,7 +143,7 @@ fn first_piece(alloc: Global, byte: u8, after: &[u8]) -> Result<Cut<'_>, Fault>
 pub(crate) fn pieces(alloc: Global, text: &[u8]) -> Result<Vec<Piece>, Fault>
     ensures { MatchResult result (λ found. pieces text.now ≡ Some found.items) (Refuses (pieces text.now)) }
 {
-    let mut pieces = Vec::new(alloc);
+    let mut pieces = Vec::with_capacity(alloc, text.len())?;
     let mut rest = text;
     while let Some((byte, after)) = first_byte(rest) {
         let cut = first_piece(alloc, byte, after)?;

@@ -2,7 +2,7 @@
 ghost use Rattle.std.specs.Prelude.{◌≡◌, ◌↔◌, IsTrue};
 ghost use Rattle.std.specs.Cmp.{partial_equiv_from_equiv};
 ghost use Rattle.kt_ninja.specs.Plan.{same_made, same_plan, same_statement};
-ghost use Rattle.kt_ninja.specs.Equality.{made_laws, plan_laws, statement_laws};
+ghost use Rattle.kt_ninja.specs.inner.Equality.{made_laws, plan_laws, statement_laws};
 
 use kt_list::Sequence;
 
@@ -45,7 +45,7 @@ impl PartialEq for Made {
 
     ghost laws = { partial_equiv_from_equiv made_laws };
 
-    #[tactic(auto, using(crate::specs::Equality::made_decided))]
+    #[tactic(auto, using(crate::specs::inner::Equality::made_decided))]
     fn eq(&self, other: &Made) -> bool
         ensures told { result ≡ same_made self.now other.now }
         ensures same { IsTrue result ↔ (self.now ≡ other.now) }

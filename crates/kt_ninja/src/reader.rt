@@ -5,9 +5,9 @@ ghost use Rattle.kt_ninja.specs.declared.plan.Plan.{Plan as PlanRead};
 ghost use Rattle.kt_ninja.specs.declared.read_fault.ReadFault.TheVariants.{Memory as MemoryRefused};
 ghost use Rattle.kt_ninja.specs.NinjaRead.{all_parts, begins_part, block_of, cut_lines, is_file_byte, is_sound, ninja_read, nothing_read, read_part, read_parts};
 ghost use Rattle.kt_ninja.specs.Reading.{Adds, Misreads, Stops, build_line, default_line, fault_at, line_binding, margin_line, part_before, part_of, read_text, rule_line};
-ghost use Rattle.kt_ninja.specs.Refusals.{Refuses};
+ghost use Rattle.kt_ninja.specs.inner.Refusals.{Refuses};
 ghost use Rattle.kt_ninja.specs.Text.{plan_text};
-ghost use Rattle.kt_ninja.specs.Wording.{binding_told};
+ghost use Rattle.kt_ninja.specs.inner.Wording.{binding_told};
 ghost use Rattle.kt_ninja.specs.Writable.{IsWritable, is_empty};
 
 use crate::bytes::first_byte;

@@ -49,7 +49,7 @@ pub(crate) fn expanded(
     ensures { IfOk result (λ text. text.items
         ≡ expanded (value_within scopes.entry.block.now scopes.entry.file.now) pieces.now) }
 {
-    let mut text = Vec::new(alloc);
+    let mut text = Vec::with_capacity(alloc, pieces.len())?;
     for piece in pieces {
         add_piece(&mut text, piece, scopes)?;
     }
@@ -187,7 +187,7 @@ pub(crate) fn command_line(
         ≡ expanded (command_value scopes.entry.inputs.now scopes.entry.outs.now scopes.entry.scopes.block.now
         scopes.entry.scopes.file.now) command.now) }
 {
-    let mut text = Vec::new(alloc);
+    let mut text = Vec::with_capacity(alloc, command.len())?;
     for piece in command {
         scopes.add_piece(&mut text, piece)?;
     }

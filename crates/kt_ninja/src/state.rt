@@ -4,9 +4,9 @@ ghost use Rattle.std.specs.List.{list_all};
 ghost use Rattle.std.specs.Str.{bytes_eq};
 ghost use Rattle.kt_ninja.specs.NinjaRead.{add_defaults, add_statement, are_new, bind, block_scope, making_of, nothing_read, paths_in, plan_of, read_build, read_default, read_rule, rule_command, statement_of, stated_with};
 ghost use Rattle.kt_ninja.specs.Scopes.{expanded, find_in, refers_to, value_in, value_within};
-ghost use Rattle.kt_ninja.specs.Holding.{Fails, block_with, made_as, making_as, path_in};
-ghost use Rattle.kt_ninja.specs.Wording.{binding_told, build_told, told};
-ghost use Rattle.kt_ninja.specs.Refusals.{Refuses};
+ghost use Rattle.kt_ninja.specs.inner.Holding.{Fails, block_with, made_as, making_as, path_in};
+ghost use Rattle.kt_ninja.specs.inner.Wording.{binding_told, build_told, told};
+ghost use Rattle.kt_ninja.specs.inner.Refusals.{Refuses};
 ghost use Rattle.kt_ninja.specs.Writable.{is_among};
 
 use crate::forms::{Binding, Build};
@@ -45,7 +45,7 @@ impl Model for Stated {
 
     ghost Value = { ReadStatement };
 
-    ghost use Rattle.kt_ninja.specs.Holding.{making_as};
+    ghost use Rattle.kt_ninja.specs.inner.Holding.{making_as};
 
     ghost view = { λ s. record {
       outs = s.outs;
@@ -191,7 +191,7 @@ fn paths(alloc: Global, paths: &[&[Piece]], scopes: Scopes) -> Result<Sequence<N
         (told paths.now) ≡ Some names)
         (Refuses (paths_in (value_within scopes.entry.block.now scopes.entry.file.now) (told paths.now))) }
 {
-    let mut names = Vec::new(alloc);
+    let mut names = Vec::with_capacity(alloc, paths.len())?;
     for pieces in paths {
         names.push(path(alloc, *pieces, scopes)?)?;
     }

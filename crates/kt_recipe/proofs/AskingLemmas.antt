@@ -13,7 +13,7 @@ use Rattle.kt_recipe.specs.declared.forms.Form.TheVariants.{Whole, Directory, Fi
 use Rattle.kt_recipe.specs.declared.subjects.Subject.{Subject}
 use Rattle.kt_recipe.specs.Forms.{text_of}
 use Rattle.kt_recipe.specs.Auto.{marks, has_parts, endings, names_in, of_mark, automatic_in}
-use Rattle.kt_recipe.specs.Asking.{subject_in, subject_of, form_of, parted, asked_by, macro_in}
+use Rattle.kt_recipe.specs.inner.Asking.{subject_in, subject_of, form_of, parted, asked_by, macro_in}
 
 -- ---- pairs behind others
 

@@ -1,9 +1,9 @@
 pub mod Forms
 pub mod Auto
-pub mod Asking
 pub mod Quoting
 pub mod Lines
 pub mod Shell
 pub mod Deeper
 pub mod Views
 pub mod Rows
+pub mod inner

@@ -3,7 +3,7 @@ ghost use Rattle.std.specs.Prelude.{◌≡◌, [], ◌∷◌, ◌++◌, IfOk, On
 ghost use Rattle.kt_text.specs.Words.{is_nonempty};
 ghost use Rattle.kt_rules.specs.Names.{is_among, without_repeats};
 ghost use Rattle.kt_graph.specs.Views.{part_needed, part_order_only, part_stem};
-ghost use Rattle.kt_recipe.specs.Asking.{macro_in};
+ghost use Rattle.kt_recipe.specs.inner.Asking.{macro_in};
 ghost use Rattle.kt_recipe.specs.Auto.{names_in};
 
 use crate::forms::text;
@@ -48,7 +48,7 @@ impl<'n, 'g> Automatic for PartMacros<'n, 'g> {
 }
 
 // What a name stands for in a part of a node, if it is that of an automatic macro.
-#[tactic(auto, unfolding(crate::specs::Asking::macro_in))]
+#[tactic(auto, unfolding(crate::specs::inner::Asking::macro_in))]
 fn macro_in<'g>(
     alloc: Global,
     node: &Node<'g>,

@@ -1,6 +1,6 @@
 //! What the names of automatic macros ask for.
 ghost use Rattle.std.specs.Prelude.{◌≡◌};
-ghost use Rattle.kt_recipe.specs.Asking.{asked_by, form_of, parted, subject_of};
+ghost use Rattle.kt_recipe.specs.inner.Asking.{asked_by, form_of, parted, subject_of};
 ghost use Rattle.kt_recipe.specs.Auto.{has_parts};
 
 use crate::forms::Form;
@@ -25,7 +25,7 @@ pub(crate) enum Subject {
 }
 
 /// What a name asks for, if it is that of an automatic macro.
-#[tactic(auto, unfolding(crate::specs::Asking::asked_by))]
+#[tactic(auto, unfolding(crate::specs::inner::Asking::asked_by))]
 pub(crate) fn asked_by(name: &[u8]) -> Option<(Subject, Form)>
     ensures { result ≡ asked_by name.now }
 {
@@ -47,7 +47,7 @@ fn parted(subject: Subject, letter: u8) -> Option<(Subject, Form)>
     }
 }
 
-#[tactic(auto, unfolding(crate::specs::Asking::subject_of))]
+#[tactic(auto, unfolding(crate::specs::inner::Asking::subject_of))]
 fn subject_of(mark: u8) -> Option<Subject>
     ensures { result ≡ subject_of mark }
 {

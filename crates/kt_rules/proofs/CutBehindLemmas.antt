@@ -12,7 +12,7 @@ use Rattle.std.proofs.lemmas.Option.{IfSome_then}
 use Rattle.std.proofs.lemmas.List.{drop_more, drop_all, length-take-le}
 use Rattle.kt_text.specs.Words.{Text}
 use Rattle.kt_rules.specs.Names.{is_among}
-use Rattle.kt_rules.specs.SuffixCuts.{cut_behind, earlier, first_cut, goes_on, is_cut_behind}
+use Rattle.kt_rules.specs.inner.SuffixCuts.{cut_behind, earlier, first_cut, goes_on, is_cut_behind}
 use Rattle.kt_rules.specs.Suffixes.{is_cut_at, suffix_cut}
 
 -- all suffixes are tried

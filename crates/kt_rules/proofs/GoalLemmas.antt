@@ -10,7 +10,7 @@ use Rattle.kt_rules.specs.declared.book.index.Spot.{Spot}
 use Rattle.kt_rules.specs.declared.book.index.Index.{Index}
 use Rattle.kt_rules.specs.Entry.{Rule}
 use Rattle.kt_rules.specs.Indexes.{spots_at}
-use Rattle.kt_rules.specs.SuffixCuts.{is_bare_at}
+use Rattle.kt_rules.specs.inner.SuffixCuts.{is_bare_at}
 use Rattle.kt_rules.specs.Suffixes.{is_bare, suffix_patterns, suffixes_of}
 use Rattle.kt_rules.specs.Book.{is_goal, first_goal_by, target_rules, explicit_rules, rules_of, recipes_of, is_double, is_group, xor, differ_in_colons, is_beside_group}
 use Rattle.kt_rules.specs.Slots.{rules_in, slot_goal, found, first_of, first_found, spot_rule, unless, explicit_left, IsKept}

@@ -4,10 +4,10 @@ use Rattle.std.specs.Prelude.{◌==◌, if◌then◌else◌}
 use Rattle.std.specs.List.{onto_first}
 use Rattle.std.proofs.lemmas.Bool.{cases_Bool, false≢true}
 use Rattle.kt_text.proofs.PlaceLemmas.{drop-prefix_len}
-use Rattle.kt_text.specs.Words.{Text, is_nonempty, is_separator}
+use Rattle.kt_text.specs.Words.{Text, is_nonempty, is_separator, stripped_start}
 use Rattle.kt_rules.specs.declared.cutting.Cut.{Cut}
 use Rattle.kt_rules.specs.declared.cutting.Cut.TheVariants.{Separator}
-use Rattle.kt_rules.specs.Names.{cuts, cut_place, pieces_of, written_words, begun}
+use Rattle.kt_rules.specs.Names.{cuts, cut_place, pieces_of, written_words}
 
 -- the pieces behind the first
 pieces_behind : Cut → Bool → Text → List Text
@@ -46,7 +46,7 @@ behind_first behind (byte ∷ text) =
     (cases_Bool (cuts Separator behind byte))
 
 -- separators in front of a text make no word
-pub written_words-begun : (text : Text) → written_words (begun text) ≡ written_words text
+pub written_words-begun : (text : Text) → written_words (stripped_start text) ≡ written_words text
 unfolding written_words
 written_words-begun [] = refl
 written_words-begun (byte ∷ text) =
@@ -54,7 +54,7 @@ written_words-begun (byte ∷ text) =
     (cases_Bool (is_separator byte))
 
 -- a text without leading separators begins with a word
-begun_place : (text : Text) → 0 < length (begun text) → 0 < cut_place Separator false (begun text)
+begun_place : (text : Text) → 0 < length (stripped_start text) → 0 < cut_place Separator false (stripped_start text)
 unfolding cut_place
 begun_place [] some = some
 begun_place (byte ∷ text) some =
@@ -73,7 +73,7 @@ take_some zero (byte ∷ text) h some = absurd (omega arith)
 take_some (suc n) (byte ∷ text) h some = omega arith
 
 -- the first word of a text that has one, and what stands after it
-pub first_written : (text words : Text) → words ≡ begun text → 0 < length words
+pub first_written : (text words : Text) → words ≡ stripped_start text → 0 < length words
     → written_words text ≡ take (cut_place Separator false words) words ∷ written_words (drop (cut_place Separator false words) words)
 unfolding written_words
 first_written text words e some =
@@ -83,7 +83,7 @@ first_written text words e some =
     ∙ ap (λ rest. take (cut_place Separator false words) words ∷ rest) (behind_first false words)
 
 -- a text of separators alone has no word
-pub none_written : (text words : Text) → words ≡ begun text → length words ≡ 0 → written_words text ≡ []
+pub none_written : (text words : Text) → words ≡ stripped_start text → length words ≡ 0 → written_words text ≡ []
 unfolding written_words pieces_of
 none_written text [] e none = sym (written_words-begun text) ∙ ap written_words (sym e)
 none_written text (byte ∷ words) e none = absurd (omega arith)

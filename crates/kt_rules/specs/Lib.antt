@@ -11,4 +11,4 @@ pub mod Slots
 pub mod Patterns
 pub mod BookRows
 pub mod Cuts
-pub mod SuffixCuts
+pub mod inner

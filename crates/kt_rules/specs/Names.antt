@@ -1,9 +1,9 @@
 -- The names of a rule line: how they are cut, quoted and spelled, and which are refused (POSIX.1-2024 make, "Target
 -- Rules"; GNU make manual, "Using Wildcard Characters in File Names" on quoting).
 use Rattle.std.specs.Prelude.{ℕ, suc, ◌+◌, ◌-◌, Bool, true, false, not, ◌==◌, ◌&&◌, ◌||◌, nat_eq, List, [], ◌∷◌, ◌++◌, length, take, drop, filter, fold, codes, slice_index, if◌then◌else◌}
-use Rattle.std.specs.List.{list_any, onto_first, prefix_len, suffix_len, starts_with, ends_with}
+use Rattle.std.specs.List.{list_any, onto_first, suffix_len, starts_with, ends_with}
 use Rattle.std.specs.Cmp.Lexicographic.{pointwise}
-use Rattle.kt_text.specs.Words.{Text, is_nonempty, is_separator}
+use Rattle.kt_text.specs.Words.{Text, is_nonempty, is_separator, stripped_start}
 use Rattle.kt_text.specs.Functions.{quotes_percent}
 use Rattle.kt_rules.specs.declared.cutting.Cut.{Cut}
 use Rattle.kt_rules.specs.declared.cutting.Cut.TheVariants.{Colon, Separator}
@@ -44,13 +44,9 @@ end_place text =
     let end = length text - suffix_len is_separator text in
     if slice_index text (end - 1) == 92 && slice_index text end == 32 then end + 1 else end
 
--- without the separators at its begin
-abbrev pub begun : Text → Text
-begun text = drop (prefix_len is_separator text) text
-
 -- without the unquoted separators round it
 unfoldable pub without_outer_separators : Text → Text
-without_outer_separators text = take (end_place (begun text)) (begun text)
+without_outer_separators text = take (end_place (stripped_start text)) (stripped_start text)
 
 -- whether a text begins with a byte that a backslash quotes
 abbrev pub begins_quotable : Text → Bool

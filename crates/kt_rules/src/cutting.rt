@@ -1,8 +1,9 @@
 //! Texts cut at colons and separators that aren't quoted.
 ghost use Rattle.std.specs.Prelude.{◌≡◌, ◌≤◌, false, length, option_map};
-ghost use Rattle.kt_text.specs.Words.{is_separator};
 ghost use Rattle.kt_rules.specs.Names.{cut_place, is_cut, is_quotable};
 ghost use Rattle.kt_rules.specs.RuleLine.{colon_cut};
+
+use kt_text::is_separator;
 
 /// What a text is cut at, where no backslash stands directly before it.
 #[derive(Clone, Copy, Debug, PartialEq, Eq)]
@@ -50,13 +51,6 @@ fn is_cut(cut: Cut, byte: u8) -> bool
         Cut::Colon => byte == b':',
         Cut::Separator => is_separator(byte),
     }
-}
-
-#[tactic(auto, unfolding(kt_text::specs::Words::is_separator))]
-pub(crate) fn is_separator(byte: u8) -> bool
-    ensures { result ≡ is_separator byte }
-{
-    matches!(byte, b' ' | b'\t' | b'\n')
 }
 
 // Whether a backslash directly before it quotes the byte.

@@ -1,12 +1,11 @@
 //! The words of a rule line as they are written.
 ghost use Rattle.std.specs.Prelude.{◌≡◌, List, ℕ, [], ◌∷◌, MatchOption, ◌≤◌, length};
-ghost use Rattle.std.specs.List.{prefix_len, suffix_len};
 ghost use Rattle.std.specs.Iterator.{YieldsFirstRef};
-ghost use Rattle.kt_text.specs.Words.{is_separator};
-ghost use Rattle.kt_rules.specs.Names.{begun, end_place, without_outer_separators, written_words};
+ghost use Rattle.kt_rules.specs.Names.{end_place, without_outer_separators, written_words};
 ghost use Rattle.std.specs.Iterator.{item_count};
 
-use crate::cutting::{Cut, cut_place, is_separator};
+use crate::cutting::{Cut, cut_place};
+use kt_text::{stripped_start, trailing_separators};
 use std::marker::Model;
 
 /// The words of a text, cut at separators that aren't quoted. Each borrows the text.
@@ -48,35 +47,11 @@ fn first_word(text: &[u8]) -> Option<(&[u8], &[u8])>
     ensures { MatchOption result (written_words text.now ≡ [])
         (λ cut. written_words text.now ≡ cut.0.now ∷ written_words cut.1.now) }
 {
-    let words = begun(text);
+    let words = stripped_start(text);
     if words.is_empty() {
         return None;
     }
     Some(words.split_at(cut_place(words, Cut::Separator)))
-}
-
-// The text without the separators at its begin.
-fn begun(text: &[u8]) -> &[u8]
-    ensures { result.now ≡ begun text.now }
-{
-    &text[leading_separators(text)..]
-}
-
-fn leading_separators(text: &[u8]) -> usize
-    ensures value { result ≡ prefix_len is_separator text.now }
-    ensures bound { result ≤ length text.now }
-{
-    text.iter().take_while(|byte| is_separator(**byte)).count()
-}
-
-fn trailing_separators(text: &[u8]) -> usize
-    ensures value { result ≡ suffix_len is_separator text.now }
-    ensures bound { result ≤ length text.now }
-{
-    text.iter()
-        .rev()
-        .take_while(|byte| is_separator(**byte))
-        .count()
 }
 
 // The text without the separators round it that aren't quoted.
@@ -84,7 +59,7 @@ fn trailing_separators(text: &[u8]) -> usize
 pub(crate) fn without_outer_separators(text: &[u8]) -> &[u8]
     ensures { result.now ≡ without_outer_separators text.now }
 {
-    let words = begun(text);
+    let words = stripped_start(text);
     &words[..end_place(words)]
 }
 

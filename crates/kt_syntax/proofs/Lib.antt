@@ -1,5 +1,6 @@
 pub mod AssignmentLemmas
 pub mod Closing
+pub mod CondensedLines
 pub mod HeadLemmas
 pub mod Kinding
 pub mod MaskLaw

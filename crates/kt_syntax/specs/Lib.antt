@@ -2,6 +2,7 @@ pub mod Assignments
 pub mod BlockRows
 pub mod Blocks
 pub mod Comments
+pub mod Condensed
 pub mod Grammar
 pub mod Heads
 pub mod Kinds

@@ -5,6 +5,7 @@ ghost use Rattle.kt_syntax.specs.declared.role.Head.{Head};
 ghost use Rattle.kt_syntax.specs.Assignments.{AssignmentLaw};
 ghost use Rattle.kt_syntax.specs.BlockRows.{RowsOfBlocks};
 ghost use Rattle.kt_syntax.specs.Blocks.{Items, blocks_of, tree_of};
+ghost use Rattle.kt_syntax.specs.Condensed.{LineLaw};
 ghost use Rattle.kt_syntax.specs.Grammar.{IsTreeOf};
 ghost use Rattle.kt_syntax.specs.Masked.{MaskLaw};
 ghost use Rattle.kt_syntax.specs.Rows.{RowsOfKinds, RowsOfRules, RowsOfTerms, RowsOfTexts};
@@ -59,4 +60,10 @@ pub fn law_of_masks()
 /// find them: at the first place of that kind, and nowhere where there is none.
 pub fn law_of_signs()
     ensures { SignLaw }
+{}
+
+/// What a line says is what its condensed text says: its kind with each part, whether it assigns a
+/// target-specific macro, and the head of a rule line.
+pub fn law_of_lines()
+    ensures { LineLaw }
 {}

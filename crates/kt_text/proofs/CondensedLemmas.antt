@@ -125,14 +125,14 @@ pub ruleset condensed_steps = (condensed_of-start, condensed_more, condensed_end
 abbrev HasNoNewline : Text → Type 0
 HasNoNewline text = (k : ℕ) → k < length text → slice_index text k ≡ 10 → ⊥
 
-one_piece : (text : Text) → HasNoNewline text → pieces_of text ≡ text ∷ []
+pub one_piece : (text : Text) → HasNoNewline text → pieces_of text ≡ text ∷ []
 unfolding pieces_of
 one_piece [] free = refl
 one_piece (byte ∷ text) free =
     let other : (byte == 10) ≡ false = false_from_ne_true _ (λ h. free 0 (omega arith) (eqb-true byte 10 h)) in
     rw other (ap (onto_first byte) (one_piece text (λ k l e. free (suc k) (omega arith) e)))
 
-one_group : (more : Bool) (text : Text) → is_continued text ≡ more → groups (text ∷ []) ≡ (text ∷ []) ∷ []
+pub one_group : (more : Bool) (text : Text) → is_continued text ≡ more → groups (text ∷ []) ≡ (text ∷ []) ∷ []
 unfolding groups
 one_group true text h = groups-continued text [] h
 one_group false text h = groups-ended text [] h

@@ -1,5 +1,5 @@
 -- The groups of physical lines that make logical ones.
-use Rattle.std.proofs.Common.{◌≡◌, Bool, true, false, List, [], ◌∷◌, refl, sym, length, arith}
+use Rattle.std.proofs.Common.{◌≡◌, ◌<◌, Bool, true, false, List, [], ◌∷◌, refl, sym, length, arith}
 use Rattle.std.proofs.lemmas.Bool.{false≢true}
 use Rattle.std.specs.List.{onto_first}
 use Rattle.bstr.specs.Text.{lines_of}
@@ -14,6 +14,10 @@ groups-ended line lines h = rw h refl
 pub groups-continued : (line : Text) (lines : List Text) → is_continued line ≡ true → groups (line ∷ lines) ≡ onto_first line (groups lines)
 unfolding groups
 groups-continued line lines h = rw h refl
+
+pub length-onto : (line : Text) (found : List (List Text)) → 0 < length found → length (onto_first line found) ≡ length found
+length-onto line [] l = absurd (omega arith)
+length-onto line (group ∷ found) l = refl
 
 -- the first group begins with the first line
 pub record BeginsWith (line : Text) (found : List (List Text)) : Type 0 where

@@ -1,9 +1,12 @@
 pub mod CondensedLemmas
+pub mod CondensingLemmas
 pub mod GroupLemmas
+pub mod LineTextLemmas
 pub mod ListLemmas
 pub mod LogicalLemmas
 pub mod MatchLemmas
 pub mod NameLemmas
+pub mod NewlineLemmas
 pub mod OrderLemmas
 pub mod PatternLemmas
 pub mod PhysicalLemmas

@@ -59,7 +59,7 @@ length-content line =
     let two = length-take-le (length front - 1) front (omega arith) in
     grind (arith, nat_tests, one, two)
 
-kept_within : (line : Text) → kept_of_last line ≤ length line
+pub kept_within : (line : Text) → kept_of_last line ≤ length line
 unfolding kept_of_last
 kept_within line = let l = length-content line in omega arith
 

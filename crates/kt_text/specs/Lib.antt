@@ -1,3 +1,4 @@
+pub mod Condensing
 pub mod Words
 pub mod Match
 pub mod Lines

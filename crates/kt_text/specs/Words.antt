@@ -28,6 +28,18 @@ trimmed_start text = drop (prefix_len is_blank text) text
 abbrev pub trimmed_end : Text → Text
 trimmed_end text = take (length text - suffix_len is_blank text) text
 
+-- without the separators at its begin
+abbrev pub stripped_start : Text → Text
+stripped_start text = drop (prefix_len is_separator text) text
+
+-- without those at its end
+abbrev pub stripped_end : Text → Text
+stripped_end text = take (length text - suffix_len is_separator text) text
+
+-- without those at either end
+abbrev pub stripped : Text → Text
+stripped text = stripped_end (stripped_start text)
+
 -- the maximal runs without a separator: the pieces of a cut at each separator, without the empty ones
 unfoldable pub words_of : Text → List Text
 words_of text = filter is_nonempty (slice_split is_separator text)

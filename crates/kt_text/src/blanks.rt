@@ -36,8 +36,9 @@ fn trailing_blanks(text: &[u8]) -> usize
         .count()
 }
 
+/// Whether the byte is a blank: a space or a tab (POSIX.1-2024, "Definitions").
 #[tactic(auto, unfolding(crate::specs::Words::is_blank))]
-fn is_blank(byte: u8) -> bool
+pub fn is_blank(byte: u8) -> bool
     ensures { result ≡ is_blank byte }
 {
     matches!(byte, b' ' | b'\t')

@@ -1,4 +1,5 @@
 //! Laws of the definitions. These functions do nothing: their contracts are what counts.
+ghost use Rattle.kt_text.specs.Condensing.{CondensingLaw};
 ghost use Rattle.kt_text.specs.Rows.{RowsOfFunctions, RowsOfLines};
 ghost use Rattle.kt_text.specs.Sorted.{SortLaw};
 
@@ -15,4 +16,10 @@ pub fn rows_of_functions()
 /// What `sort` gives rises by bytes and has exactly the words of its text; no other list does.
 pub fn law_of_sort()
     ensures { SortLaw }
+{}
+
+/// A text without newline stays as it is when it is condensed. The condensed text of a line, each
+/// newline of which is continued, is such a text. The text of each logical line is such a line.
+pub fn law_of_condensing()
+    ensures { CondensingLaw }
 {}

@@ -12,9 +12,10 @@ mod logical;
 mod output;
 mod pattern;
 mod physical;
+mod separators;
 mod word_runs;
 
-pub use blanks::{trim_end, trim_start};
+pub use blanks::{is_blank, trim_end, trim_start};
 pub use condense::{condensed, joined};
 pub use cut::words;
 pub use fault::TextFault;
@@ -22,4 +23,5 @@ pub use line::{Line, LineFault};
 pub use logical::{logical_lines, nul_line};
 pub use pattern::match_pattern;
 pub use physical::{is_continued, line_content};
+pub use separators::{is_separator, stripped, stripped_start, trailing_separators};
 pub use word_runs::Words;

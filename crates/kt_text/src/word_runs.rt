@@ -5,6 +5,7 @@ ghost use Rattle.std.specs.List.{position_or_len};
 ghost use Rattle.bstr.specs.Text.{TakesFirstRef};
 ghost use Rattle.kt_text.specs.Words.{is_separator, words_of};
 
+use crate::separators::is_separator;
 use memchr::memchr3;
 use std::marker::Model;
 
@@ -77,11 +78,4 @@ fn word_end(text: &[u8]) -> usize
     ensures bound { result ≤ length text.now }
 {
     memchr3(b' ', b'\t', b'\n', text).unwrap_or(text.len())
-}
-
-#[tactic(auto, unfolding(crate::specs::Words::is_separator))]
-fn is_separator(byte: u8) -> bool
-    ensures { result ≡ is_separator byte }
-{
-    matches!(byte, b' ' | b'\t' | b'\n')
 }

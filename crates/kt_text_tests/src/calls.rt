@@ -1,7 +1,8 @@
 //! Worked values of each call, by the manuals and by GNU make.
 use kt_text::{
-    LineFault, TextFault, condensed, functions, is_continued, joined, line_content, logical_lines,
-    match_pattern, trim_end, trim_start, words,
+    LineFault, TextFault, condensed, functions, is_blank, is_continued, is_separator, joined,
+    line_content, logical_lines, match_pattern, stripped, stripped_start, trailing_separators,
+    trim_end, trim_start, words,
 };
 use std::process::Abort;
 use std::test::Fail;
@@ -37,6 +38,15 @@ fn patterns_match(rt: HostRuntime) {
 fn blanks_are_trimmed(rt: HostRuntime) {
     assert_eq!(rt; trim_start(b"\t a \n "), b"a \n ".as_slice());
     assert_eq!(rt; trim_end(b" \n a\t "), b" \n a".as_slice());
+}
+
+#[test]
+fn separators_are_stripped(rt: HostRuntime) {
+    assert_eq!(rt; stripped(b"\t\n a b \n"), b"a b".as_slice());
+    assert_eq!(rt; stripped_start(b"\t\n a b \n"), b"a b \n".as_slice());
+    assert_eq!(rt; trailing_separators(b"\t\n a b \n"), 2);
+    assert_eq!(rt; (is_separator(b'\n'), is_separator(b'\r')), (true, false));
+    assert_eq!(rt; (is_blank(b'\t'), is_blank(b'\n')), (true, false));
 }
 
 #[test]

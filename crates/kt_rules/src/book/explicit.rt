@@ -3,7 +3,7 @@ ghost use Rattle.std.specs.Prelude.{◌≡◌, ◌&&◌, ◌∷◌, [], MatchOpt
 ghost use Rattle.std.specs.Iterator.{YieldsFirstBy, item_count};
 ghost use Rattle.std.specs.List.{list_any};
 ghost use Rattle.kt_rules.specs.Slots.{explicit_left, explicit_rule, rule_told};
-ghost use Rattle.kt_rules.specs.SuffixCuts.{is_bare_at};
+ghost use Rattle.kt_rules.specs.inner.SuffixCuts.{is_bare_at};
 ghost use Rattle.kt_rules.specs.Suffixes.{suffix_patterns};
 
 use super::index::Spot;

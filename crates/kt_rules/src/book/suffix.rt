@@ -1,6 +1,6 @@
 //! Names of suffix rules.
 ghost use Rattle.std.specs.Prelude.{◌≡◌, ◌≤◌, length, map, is_some, IfSome};
-ghost use Rattle.kt_rules.specs.SuffixCuts.{cut_behind, earlier, first_cut, goes_on, is_cut_behind};
+ghost use Rattle.kt_rules.specs.inner.SuffixCuts.{cut_behind, earlier, first_cut, goes_on, is_cut_behind};
 ghost use Rattle.kt_rules.specs.Suffixes.{suffix_cut, suffix_patterns};
 
 use super::name_set::NameSet;

@@ -3,7 +3,7 @@ ghost use Rattle.std.specs.Prelude.{◌≡◌, not, ◌&&◌, is_some, option_ma
 ghost use Rattle.std.specs.List.{list_any};
 ghost use Rattle.kt_rules.specs.Book.{is_double, is_group, is_made, is_pattern};
 ghost use Rattle.kt_rules.specs.Slots.{first_found, rule_told, spot_rule, target_rule};
-ghost use Rattle.kt_rules.specs.SuffixCuts.{is_bare_at};
+ghost use Rattle.kt_rules.specs.inner.SuffixCuts.{is_bare_at};
 ghost use Rattle.kt_rules.specs.Suffixes.{is_bare, is_empty, is_single, needs_nothing};
 
 use super::index::Spot;

@@ -5,7 +5,7 @@ use Rattle.kt_ninja.specs.declared.plan.Plan.{Plan}
 use Rattle.kati.specs.declared.reading.Makefile.{Makefile}
 use Rattle.kati.specs.Course.{Follows}
 use Rattle.kati.specs.Meaning.{MeansRead}
-use Rattle.kati.specs.Views.{read_of}
+use Rattle.kati.specs.inner.Views.{read_of}
 use Rattle.kati.proofs.MeaningLemmas.{comes_blames, comes_too, followed_off, followed_on, meant}
 use Rattle.kati.proofs.translating.planned_if_read.Goals as goal
 

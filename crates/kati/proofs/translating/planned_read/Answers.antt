@@ -4,7 +4,7 @@ use Rattle.kt_graph.specs.Known.{known_names}
 use Rattle.kati.specs.Chosen.{chosen_goals}
 use Rattle.kati.specs.Course.{Computes}
 use Rattle.kati.specs.Meaning.{MeansGoals}
-use Rattle.kati.specs.Views.{read_of}
+use Rattle.kati.specs.inner.Views.{read_of}
 use Rattle.kati.proofs.MeaningLemmas.{computed_off, computed_on}
 use Rattle.kati.proofs.translating.planned_read.Goals as goal
 

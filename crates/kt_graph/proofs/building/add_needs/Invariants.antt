@@ -1,6 +1,6 @@
 use Rattle.std.proofs.Common.{◌≡◌, ◌++◌, drop, map}
 use Rattle.kt_rules.specs.Slots.{rule_told}
-use Rattle.kt_graph.specs.Named.{needs_of_each}
+use Rattle.kt_graph.specs.inner.Named.{needs_of_each}
 use Rattle.kt_graph.proofs.building.add_needs.Given as goal
 
 abbrev pub invariant-loop-rule : goal.invariant-loop-rule

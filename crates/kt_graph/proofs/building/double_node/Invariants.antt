@@ -1,6 +1,6 @@
 use Rattle.std.proofs.Common.{◌≡◌, ◌++◌, drop, map}
 use Rattle.kt_rules.specs.Slots.{rule_told}
-use Rattle.kt_graph.specs.Named.{part_named}
+use Rattle.kt_graph.specs.inner.Named.{part_named}
 use Rattle.kt_graph.specs.Node.{own_part}
 use Rattle.kt_graph.proofs.building.double_node.Given as goal
 

@@ -1,7 +1,7 @@
 use Rattle.std.proofs.Common.{◌∷◌, ◌++◌, ◌∙◌, ap, map, refl}
 use Rattle.kt_rules.specs.Slots.{rule_told}
 use Rattle.kt_graph.specs.declared.node.NodeKind.TheVariants.{Explicit}
-use Rattle.kt_graph.specs.Named.{needs_of_each}
+use Rattle.kt_graph.specs.inner.Named.{needs_of_each}
 use Rattle.kt_graph.proofs.BuildingLemmas.{explicit_told}
 use Rattle.kt_graph.proofs.building.explicit_node.Goals as goal
 

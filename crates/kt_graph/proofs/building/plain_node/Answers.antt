@@ -1,6 +1,6 @@
 use Rattle.std.proofs.Common.{◌++◌, ◌∙◌, ap, map, None, refl}
 use Rattle.kt_rules.specs.Slots.{rule_told}
-use Rattle.kt_graph.specs.Named.{needs_of_each}
+use Rattle.kt_graph.specs.inner.Named.{needs_of_each}
 use Rattle.kt_graph.proofs.BuildingLemmas.{plain_told}
 use Rattle.kt_graph.proofs.building.plain_node.Goals as goal
 

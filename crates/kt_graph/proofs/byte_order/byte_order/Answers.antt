@@ -1,6 +1,6 @@
 use Rattle.std.proofs.Common.{◌≡◌, ◌∙◌, ℕ, length, map, Vec, Global, refl, sym, ap, subst, arith}
 use Rattle.std.proofs.lemmas.Result.{IfOk-weaker}
-use Rattle.kt_graph.specs.Files.{IsByteOrder}
+use Rattle.kt_graph.specs.inner.Files.{IsByteOrder}
 use Rattle.kt_graph.proofs.OrderLemmas.{AreNumbered, Numbered, numbered_more, sorted_order}
 use Rattle.kt_graph.proofs.byte_order.byte_order.Goals as goal
 

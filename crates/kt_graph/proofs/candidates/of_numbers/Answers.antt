@@ -1,6 +1,6 @@
 use Rattle.std.proofs.Common.{◌<◌, ◌++◌, ap, length, sym, ◌∙◌, arith}
 use Rattle.std.proofs.lemmas.List.{append-nil, drop_all}
-use Rattle.kt_graph.specs.Ends.{candidates_numbered}
+use Rattle.kt_graph.specs.inner.Ends.{candidates_numbered}
 use Rattle.kt_graph.specs.Views.{candidates_told}
 use Rattle.kt_graph.proofs.EndLemmas.{numbered_more, within_with}
 use Rattle.kt_graph.proofs.ToldLemmas.{read_itself}

@@ -1,5 +1,5 @@
 use Rattle.std.proofs.Common.{◌≡◌, ◌++◌, drop}
-use Rattle.kt_graph.specs.Ends.{candidates_numbered}
+use Rattle.kt_graph.specs.inner.Ends.{candidates_numbered}
 use Rattle.kt_graph.specs.Views.{AreWithin, candidates_told}
 use Rattle.kt_graph.proofs.candidates.of_numbers.Given as goal
 

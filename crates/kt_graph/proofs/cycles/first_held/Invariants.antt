@@ -1,6 +1,6 @@
 use Rattle.std.proofs.Common.{◌≡◌, ◌-◌, ℕ, false, length, take}
 use Rattle.std.specs.List.{Contains}
-use Rattle.kt_graph.specs.Edges.{holds_in}
+use Rattle.kt_graph.specs.inner.Edges.{holds_in}
 use Rattle.kt_graph.proofs.cycles.first_held.Given as goal
 
 abbrev pub invariant-loop-from : goal.invariant-loop-from

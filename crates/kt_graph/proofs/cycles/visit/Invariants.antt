@@ -1,5 +1,5 @@
 use Rattle.std.proofs.Common.{take}
-use Rattle.kt_graph.specs.Edges.{Visits}
+use Rattle.kt_graph.specs.inner.Edges.{Visits}
 use Rattle.kt_graph.proofs.cycles.visit.Given as goal
 
 abbrev pub invariant-loop-vertex : goal.invariant-loop-vertex

@@ -1,13 +1,13 @@
 use Rattle.std.proofs.Common.{◌≡◌, ℕ, ◌<◌, List, length, get_or, take, sym, subst, arith}
 use Rattle.std.proofs.lemmas.List.{take_all, take_more}
-use Rattle.kt_graph.specs.Grouping.{IsGroupingOf}
+use Rattle.kt_graph.specs.inner.Grouping.{IsGroupingOf}
 use Rattle.kt_graph.proofs.GroupingLemmas.{grouped_as_told, next_after, none_grouped}
 use Rattle.kt_graph.proofs.grouping.grouped.Goals as goal
 
 pub loop-number-init : goal.loop-number-init
 loop-number-init c =
     let none = c.in_ok-grouping.ensures in
-    none_grouped c.args.instances.now c.in_ok-grouping.grouping.places.items (Rattle.kt_graph.specs.Grouping.groups_held c.in_ok-grouping.grouping) none.0 none.1
+    none_grouped c.args.instances.now c.in_ok-grouping.grouping.places.items (Rattle.kt_graph.specs.inner.Grouping.groups_held c.in_ok-grouping.grouping) none.0 none.1
 
 pub loop-number-preserved : goal.loop-number-preserved
 loop-number-preserved c =

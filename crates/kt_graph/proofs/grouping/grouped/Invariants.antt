@@ -1,5 +1,5 @@
 use Rattle.std.proofs.Common.{take}
-use Rattle.kt_graph.specs.Grouping.{IsGroupingOf}
+use Rattle.kt_graph.specs.inner.Grouping.{IsGroupingOf}
 use Rattle.kt_graph.proofs.grouping.grouped.Given as goal
 
 abbrev pub invariant-loop-number : goal.invariant-loop-number

@@ -1,5 +1,5 @@
 use Rattle.std.proofs.Common.{◌≡◌, drop, fold}
-use Rattle.kt_graph.specs.Numbering.{with_number}
+use Rattle.kt_graph.specs.inner.Numbering.{with_number}
 use Rattle.kt_graph.proofs.settled.add_all.Given as goal
 
 abbrev pub invariant-loop-number : goal.invariant-loop-number

@@ -1,5 +1,5 @@
 use Rattle.std.proofs.Common.{◌≡◌, drop, fold}
-use Rattle.kt_graph.specs.Numbering.{numbers_without, with_number}
+use Rattle.kt_graph.specs.inner.Numbering.{numbers_without, with_number}
 use Rattle.kt_graph.proofs.settled.add_others.Given as goal
 
 abbrev pub invariant-loop-number : goal.invariant-loop-number

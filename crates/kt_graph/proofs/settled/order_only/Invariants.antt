@@ -1,6 +1,6 @@
 use Rattle.std.proofs.Common.{◌≡◌, [], drop, fold}
 use Rattle.std.specs.List.{flat_map}
-use Rattle.kt_graph.specs.Numbering.{numbers_without, with_number}
+use Rattle.kt_graph.specs.inner.Numbering.{numbers_without, with_number}
 use Rattle.kt_graph.proofs.settled.order_only.Given as goal
 
 abbrev pub invariant-loop-part : goal.invariant-loop-part

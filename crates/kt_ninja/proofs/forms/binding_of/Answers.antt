@@ -3,7 +3,7 @@ use Rattle.std.proofs.lemmas.List.{take_rest}
 use Rattle.std.proofs.lemmas.Result.{err_from_is_err_and}
 use Rattle.std.specs.List.{position_or_len, prefix_len}
 use Rattle.kt_ninja.specs.Forms.{binding_of, is_plain}
-use Rattle.kt_ninja.specs.Wording.{key_of}
+use Rattle.kt_ninja.specs.inner.Wording.{key_of}
 use Rattle.kt_ninja.proofs.LineLemmas.{any_none, binding_none, binding_read, binding_refused}
 use Rattle.kt_ninja.proofs.PieceLemmas.{refuses_too}
 use Rattle.kt_ninja.proofs.forms.binding_of.Goals as goal

@@ -1,7 +1,7 @@
 use Rattle.std.proofs.Common.{ap, ◌∙◌, sym}
 use Rattle.std.proofs.lemmas.Result.{err_from_is_err_and}
 use Rattle.kt_ninja.specs.Forms.{build_of, paths_of}
-use Rattle.kt_ninja.specs.Wording.{told, two_of}
+use Rattle.kt_ninja.specs.inner.Wording.{told, two_of}
 use Rattle.kt_ninja.proofs.LineLemmas.{build_none, sides_read, sides_refused}
 use Rattle.kt_ninja.proofs.PieceLemmas.{refuses_too}
 use Rattle.kt_ninja.proofs.forms.build_of.Goals as goal

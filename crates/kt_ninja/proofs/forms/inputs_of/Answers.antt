@@ -1,5 +1,5 @@
 use Rattle.std.proofs.Common.{ap}
-use Rattle.kt_ninja.specs.Wording.{told}
+use Rattle.kt_ninja.specs.inner.Wording.{told}
 use Rattle.kt_ninja.proofs.LineLemmas.{inputs_read}
 use Rattle.kt_ninja.proofs.forms.inputs_of.Goals as goal
 

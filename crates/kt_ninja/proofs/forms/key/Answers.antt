@@ -1,7 +1,7 @@
 use Rattle.std.proofs.Common.{ap, ◌∙◌, sym, None}
 use Rattle.std.proofs.lemmas.Result.{err_from_is_err_and}
 use Rattle.kt_ninja.specs.Forms.{name_in}
-use Rattle.kt_ninja.specs.Wording.{key_of, told}
+use Rattle.kt_ninja.specs.inner.Wording.{key_of, told}
 use Rattle.kt_ninja.proofs.LineLemmas.{key_by, key_free, key_taken}
 use Rattle.kt_ninja.proofs.PieceLemmas.{refuses_too}
 use Rattle.kt_ninja.proofs.forms.key.Goals as goal

@@ -1,5 +1,5 @@
 use Rattle.std.proofs.Common.{ap, ◌∙◌}
-use Rattle.kt_ninja.specs.Wording.{told}
+use Rattle.kt_ninja.specs.inner.Wording.{told}
 use Rattle.kt_ninja.proofs.LineLemmas.{rule_by}
 use Rattle.kt_ninja.proofs.forms.rule_name.Goals as goal
 

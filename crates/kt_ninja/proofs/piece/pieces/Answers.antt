@@ -5,7 +5,7 @@ use Rattle.kt_ninja.proofs.PieceLemmas.{cuts_too, map_none, pieces_begin, pieces
 use Rattle.kt_ninja.proofs.piece.pieces.Goals as goal
 
 pub loop-byte-init : goal.loop-byte-init
-loop-byte-init c = rw c.new-pieces.ensures.items (pieces_begin c.args.text.now)
+loop-byte-init c = rw c.in_ok-pieces.ensures.items (pieces_begin c.args.text.now)
 
 pub loop-byte-preserved : goal.loop-byte-preserved
 loop-byte-preserved c =
@@ -23,7 +23,7 @@ returns c = sym c.loop-byte.invariant ∙ pieces_end c.loop-byte.pieces.items c.
 
 pub returns-in_err-cut : goal.returns-in_err-cut
 returns-in_err-cut c =
-    let p = err_from_is_err_and c.from_residual.result c.from_residual.ensures.1 in
+    let p = err_from_is_err_and c.from_residual-in_err-cut.result c.from_residual-in_err-cut.ensures.1 in
     rw (p.1, p.2)
     (refuses_too (pieces_from outside (c.in-Some.byte ∷ c.in-Some.after.now)) (pieces c.args.text.now)
     (λ none. sym c.loop-byte.invariant ∙ map_none c.loop-byte.pieces.items (pieces_from outside c.loop-byte.rest.now) (ap (pieces_from outside) c.in-Some.ensures ∙ none))

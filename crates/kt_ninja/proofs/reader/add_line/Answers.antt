@@ -2,7 +2,7 @@ use Rattle.std.proofs.Common.{◌≡◌, sym, ◌∙◌, ap, map, true, false}
 use Rattle.std.proofs.lemmas.Result.{err_from_is_err_and}
 use Rattle.kt_ninja.specs.JoinedLines.{is_blank, is_comment}
 use Rattle.kt_ninja.specs.Reading.{line_binding}
-use Rattle.kt_ninja.specs.Wording.{binding_told}
+use Rattle.kt_ninja.specs.inner.Wording.{binding_told}
 use Rattle.kt_ninja.proofs.PieceLemmas.{refuses_too}
 use Rattle.kt_ninja.proofs.ReaderLemmas.{binding_adds, binding_stops, blank_adds, closed_stops, comment_adds, told_more}
 use Rattle.kt_ninja.proofs.reader.add_line.Goals as goal

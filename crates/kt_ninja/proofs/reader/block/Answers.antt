@@ -1,7 +1,7 @@
 use Rattle.std.proofs.Common.{◌++◌, sym, ◌∙◌, ap, map, option_map, arith}
 use Rattle.std.proofs.lemmas.List.{drop_all}
 use Rattle.kt_ninja.specs.NinjaRead.{block_from}
-use Rattle.kt_ninja.specs.Wording.{binding_told}
+use Rattle.kt_ninja.specs.inner.Wording.{binding_told}
 use Rattle.kt_ninja.proofs.ReaderLemmas.{block_over}
 use Rattle.kt_ninja.proofs.reader.block.Goals as goal
 

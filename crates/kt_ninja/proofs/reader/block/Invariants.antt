@@ -1,6 +1,6 @@
 use Rattle.std.proofs.Common.{◌≡◌, ◌++◌, false, drop, map, option_map}
 use Rattle.kt_ninja.specs.NinjaRead.{block_from}
-use Rattle.kt_ninja.specs.Wording.{binding_told}
+use Rattle.kt_ninja.specs.inner.Wording.{binding_told}
 use Rattle.kt_ninja.proofs.reader.block.Given as goal
 
 abbrev pub invariant-loop-line : goal.invariant-loop-line

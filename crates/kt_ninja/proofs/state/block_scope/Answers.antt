@@ -2,8 +2,8 @@ use Rattle.std.proofs.Common.{[], ◌+◌, ap, sym, ◌∙◌, drop, map, arith}
 use Rattle.std.proofs.lemmas.List.{drop_all}
 use Rattle.std.proofs.lemmas.Result.{err_from_is_err_and}
 use Rattle.kt_ninja.specs.NinjaRead.{block_scope}
-use Rattle.kt_ninja.specs.Holding.{block_with}
-use Rattle.kt_ninja.specs.Wording.{binding_told}
+use Rattle.kt_ninja.specs.inner.Holding.{block_with}
+use Rattle.kt_ninja.specs.inner.Wording.{binding_told}
 use Rattle.kt_ninja.proofs.PieceLemmas.{refuses_too}
 use Rattle.kt_ninja.proofs.StateLemmas.{block_end, block_refused, block_taken, told_at}
 use Rattle.kt_ninja.proofs.state.block_scope.Goals as goal

@@ -1,6 +1,6 @@
 use Rattle.std.proofs.Common.{◌≡◌, [], drop, map}
 use Rattle.kt_ninja.specs.NinjaRead.{block_scope}
-use Rattle.kt_ninja.specs.Wording.{binding_told}
+use Rattle.kt_ninja.specs.inner.Wording.{binding_told}
 use Rattle.kt_ninja.proofs.state.block_scope.Given as goal
 
 abbrev pub invariant-loop-binding : goal.invariant-loop-binding

@@ -3,15 +3,15 @@ use Rattle.std.proofs.lemmas.List.{drop_all}
 use Rattle.std.proofs.lemmas.Result.{err_from_is_err_and}
 use Rattle.kt_ninja.specs.NinjaRead.{paths_in}
 use Rattle.kt_ninja.specs.Scopes.{value_within}
-use Rattle.kt_ninja.specs.Holding.{path_in}
-use Rattle.kt_ninja.specs.Wording.{told}
+use Rattle.kt_ninja.specs.inner.Holding.{path_in}
+use Rattle.kt_ninja.specs.inner.Wording.{told}
 use Rattle.kt_ninja.proofs.PieceLemmas.{refuses_too}
 use Rattle.kt_ninja.proofs.StateLemmas.{path_refused, path_taken, paths_end, told_at}
 use Rattle.kt_ninja.proofs.state.paths.Goals as goal
 
 pub returns-in_err-path : goal.returns-in_err-path
 returns-in_err-path c =
-    let p = err_from_is_err_and c.from_residual.result c.from_residual.ensures.1 in
+    let p = err_from_is_err_and c.from_residual-in_err-path.result c.from_residual-in_err-path.ensures.1 in
     let i = c.loop-pieces.pieces-index in
     let value_of = value_within c.args.scopes.block.now c.args.scopes.file.now in
     let front = c.loop-pieces.names.items in

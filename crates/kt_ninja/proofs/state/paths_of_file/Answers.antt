@@ -1,7 +1,7 @@
 use Rattle.std.proofs.Common.{ap}
 use Rattle.kt_ninja.specs.NinjaRead.{paths_in}
 use Rattle.kt_ninja.specs.Scopes.{value_in, value_within}
-use Rattle.kt_ninja.specs.Wording.{told}
+use Rattle.kt_ninja.specs.inner.Wording.{told}
 use Rattle.kt_ninja.proofs.StateLemmas.{carried, within_none}
 use Rattle.kt_ninja.proofs.state.paths_of_file.Goals as goal
 

@@ -2,8 +2,8 @@ use Rattle.std.proofs.Common.{sym, ◌∙◌, ap}
 use Rattle.std.proofs.lemmas.Result.{err_from_is_err_and}
 use Rattle.kt_ninja.specs.NinjaRead.{paths_in, stated_with}
 use Rattle.kt_ninja.specs.Scopes.{value_within}
-use Rattle.kt_ninja.specs.Holding.{making_as}
-use Rattle.kt_ninja.specs.Wording.{build_told, told}
+use Rattle.kt_ninja.specs.inner.Holding.{making_as}
+use Rattle.kt_ninja.specs.inner.Wording.{build_told, told}
 use Rattle.kt_ninja.proofs.PieceLemmas.{refuses_too}
 use Rattle.kt_ninja.proofs.StateLemmas.{no_implicit, no_inputs, no_order_only}
 use Rattle.kt_ninja.proofs.state.with_paths.Goals as goal

@@ -1,11 +1,11 @@
 use Rattle.std.proofs.Common.{◌∙◌, ap, List, rules, subst}
 use Rattle.kt_text.specs.Words.{Text}
 use Rattle.kt_syntax.specs.Reading.{left_at}
-use Rattle.kt_eval.specs.Views.{compared_told}
+use Rattle.kt_eval.specs.inner.Views.{compared_told}
 use Rattle.kt_eval.specs.Step.{Gave, Fails, GoesOn, Outcome, store_of, world_of}
 use Rattle.std.proofs.lemmas.Result.{err_from_is_err_and}
 use Rattle.kt_eval.proofs.EarlyLemmas.{eval_fails, foreach_fails, word_fails, sheet_fails, equal_fails, argument_at_fails, argument_at_front, or_at_fails, and_at_fails, definition_fails, first_fails, branch_fails}
-use Rattle.kt_eval.proofs.FrontLemmas.{call_by_name_front, rule_of_parts_front, read_text_front}
+use Rattle.kt_eval.proofs.FrontLemmas.{call_by_name_front, rule_of_parts_front}
 use Rattle.std.specs.Prelude.{Some, option_map, map}
 use Rattle.kt_eval.specs.Levels.{evaluator}
 use Rattle.kt_eval.specs.Reading.{read_items}
@@ -20,106 +20,162 @@ read_conditional-returns-then-branch-clause-gives g t c = λ known.
     (first_taken e c.args.page.now c.args.page.now.blocks.steps c.args.place c.args.next c.args.after c.args.self.now.world c.branch_holds.new.self.world
     c.requires.reads (c.in_ok-branch_holds.ensures.gives known ∙ ap (λ b. Gave c.branch_holds.new.self.world b) c.if-branch.true))
 
-pub apply_foreach-returns-in_err-expanded-clause-gives : goal.apply_foreach-returns-in_err-expanded-clause-gives
-apply_foreach-returns-in_err-expanded-clause-gives g t c = λ known.
-    let p = err_from_is_err_and c.from_residual.result c.from_residual.ensures.1 in
-    rw (p.1, p.2)
-    (foreach_fails g.M.Scope.writable (store_of c.args.self.now.known) c.args.below c.in_err-expanded.field-0.0 c.args.self.now.world c.expand.new.self.world c.args.variable.now c.args.list.now c.args.body.now (c.in_err-expanded.ensures.gives known))
+pub apply_foreach-returns-in_err-expanded : goal.apply_foreach-returns-in_err-expanded
+apply_foreach-returns-in_err-expanded g t c = record {
+  gives = λ known.
+      let p = err_from_is_err_and c.from_residual.result c.from_residual.ensures.1 in
+      rw (p.1, p.2)
+      (foreach_fails g.M.Scope.writable (store_of c.args.self.now.known) c.args.below c.in_err-expanded.field-0.0 c.args.self.now.world c.expand.new.self.world c.args.variable.now c.args.list.now c.args.body.now (c.in_err-expanded.ensures.gives known));
+  kept = search rules;
+  blames = search rules;
+}
 
-pub apply_eval-returns-in_err-x-clause-gives : goal.apply_eval-returns-in_err-x-clause-gives
-apply_eval-returns-in_err-x-clause-gives g t c = λ known.
-    let p = err_from_is_err_and c.from_residual-in_err-x.result c.from_residual-in_err-x.ensures.1 in
-    rw (p.1, p.2)
-    (eval_fails g.M.Scope.writable (store_of c.args.self.now.known) c.args.below c.in_err-x.field-0.0 c.args.self.now.world c.expand.new.self.world c.args.text.now (search rules) (c.in_err-x.ensures.gives known))
+pub apply_eval-returns-in_err-x : goal.apply_eval-returns-in_err-x
+apply_eval-returns-in_err-x g t c = record {
+  gives = λ known.
+      let p = err_from_is_err_and c.from_residual-in_err-x.result c.from_residual-in_err-x.ensures.1 in
+      rw (p.1, p.2)
+      (eval_fails g.M.Scope.writable (store_of c.args.self.now.known) c.args.below c.in_err-x.field-0.0 c.args.self.now.world c.expand.new.self.world c.args.text.now (search rules) (c.in_err-x.ensures.gives known));
+  kept = search rules;
+  blames = search rules;
+}
 
-pub call_by_name-returns-in_err-from_slice-clause-gives : goal.call_by_name-returns-in_err-from_slice-clause-gives
-call_by_name-returns-in_err-from_slice-clause-gives g t c = λ known.
-    let p = err_from_is_err_and c.from_residual-in_err-from_slice.result c.from_residual-in_err-from_slice.ensures.1 in
-    rw (p.1, p.2) (call_by_name_front g.M.Scope.writable (store_of c.args.self.now.known) c.args.below c.args.name.now (map (λ a. a.now) c.args.texts.now) c.args.self.now.world)
+pub call_by_name-returns-in_err-from_slice : goal.call_by_name-returns-in_err-from_slice
+call_by_name-returns-in_err-from_slice g t c = record {
+  gives = λ known.
+      let p = err_from_is_err_and c.from_residual-in_err-from_slice.result c.from_residual-in_err-from_slice.ensures.1 in
+      rw (p.1, p.2) (call_by_name_front g.M.Scope.writable (store_of c.args.self.now.known) c.args.below c.args.name.now (map (λ a. a.now) c.args.texts.now) c.args.self.now.world);
+  kept = search rules;
+  blames = search rules;
+}
 
-pub call_by_name-returns-in_err-from_vec-clause-gives : goal.call_by_name-returns-in_err-from_vec-clause-gives
-call_by_name-returns-in_err-from_vec-clause-gives g t c = λ known.
-    let p = err_from_is_err_and c.from_residual-in_err-from_vec.result c.from_residual-in_err-from_vec.ensures.1 in
-    rw (p.1, p.2) (call_by_name_front g.M.Scope.writable (store_of c.args.self.now.known) c.args.below c.args.name.now (map (λ a. a.now) c.args.texts.now) c.args.self.now.world)
+pub call_by_name-returns-in_err-from_vec : goal.call_by_name-returns-in_err-from_vec
+call_by_name-returns-in_err-from_vec g t c = record {
+  gives = λ known.
+      let p = err_from_is_err_and c.from_residual-in_err-from_vec.result c.from_residual-in_err-from_vec.ensures.1 in
+      rw (p.1, p.2) (call_by_name_front g.M.Scope.writable (store_of c.args.self.now.known) c.args.below c.args.name.now (map (λ a. a.now) c.args.texts.now) c.args.self.now.world);
+  kept = search rules;
+  blames = search rules;
+}
 
-pub call_by_name-returns-in_err-push-clause-gives : goal.call_by_name-returns-in_err-push-clause-gives
-call_by_name-returns-in_err-push-clause-gives g t c = λ known.
-    let p = err_from_is_err_and c.from_residual-in_err-push.result c.from_residual-in_err-push.ensures.1 in
-    rw (p.1, p.2) (call_by_name_front g.M.Scope.writable (store_of c.args.self.now.known) c.args.below c.args.name.now (map (λ a. a.now) c.args.texts.now) c.args.self.now.world)
+pub call_by_name-returns-in_err-push : goal.call_by_name-returns-in_err-push
+call_by_name-returns-in_err-push g t c = record {
+  gives = λ known.
+      let p = err_from_is_err_and c.from_residual-in_err-push.result c.from_residual-in_err-push.ensures.1 in
+      rw (p.1, p.2) (call_by_name_front g.M.Scope.writable (store_of c.args.self.now.known) c.args.below c.args.name.now (map (λ a. a.now) c.args.texts.now) c.args.self.now.world);
+  kept = search rules;
+  blames = search rules;
+}
 
-pub read_text-returns-in-Err-Memory-clause-gives : goal.read_text-returns-in-Err-Memory-clause-gives
-read_text-returns-in-Err-Memory-clause-gives g t c = λ known.
-    read_text_front g.M.Scope.writable (store_of c.args.self.now.known) c.args.below c.args.source.now c.args.text.now c.args.self.now.world
+pub read_rule-returns-in_err-recipe : goal.read_rule-returns-in_err-recipe
+read_rule-returns-in_err-recipe g t c = record {
+  gives = λ known.
+      let p = err_from_is_err_and c.from_residual.result c.from_residual.ensures.1 in
+      rw (p.1, p.2) (rule_of_parts_front g.M.Scope.writable (store_of c.args.self.now.known) c.args.below (Some (record { head = c.args.head.now; recipe = option_map (λ text. text.now) c.args.recipe })) c.args.self.now.world);
+  kept = search rules;
+  blames = search rules;
+}
 
-pub read_rule-returns-in_err-recipe-clause-gives : goal.read_rule-returns-in_err-recipe-clause-gives
-read_rule-returns-in_err-recipe-clause-gives g t c = λ known.
-    let p = err_from_is_err_and c.from_residual.result c.from_residual.ensures.1 in
-    rw (p.1, p.2) (rule_of_parts_front g.M.Scope.writable (store_of c.args.self.now.known) c.args.below (Some (record { head = c.args.head.now; recipe = option_map (λ text. text.now) c.args.recipe })) c.args.self.now.world)
+pub read_rule-returns-in_err-head : goal.read_rule-returns-in_err-head
+read_rule-returns-in_err-head g t c = record {
+  gives = λ known.
+      let p = err_from_is_err_and c.from_residual-in_err-head.result c.from_residual-in_err-head.ensures.1 in
+      rw (p.1, p.2) (rule_of_parts_front g.M.Scope.writable (store_of c.args.self.now.known) c.args.below (Some (record { head = c.args.head.now; recipe = option_map (λ text. text.now) c.args.recipe })) c.args.self.now.world);
+  kept = search rules;
+  blames = search rules;
+}
 
-pub read_rule-returns-in_err-head-clause-gives : goal.read_rule-returns-in_err-head-clause-gives
-read_rule-returns-in_err-head-clause-gives g t c = λ known.
-    let p = err_from_is_err_and c.from_residual-in_err-head.result c.from_residual-in_err-head.ensures.1 in
-    rw (p.1, p.2) (rule_of_parts_front g.M.Scope.writable (store_of c.args.self.now.known) c.args.below (Some (record { head = c.args.head.now; recipe = option_map (λ text. text.now) c.args.recipe })) c.args.self.now.world)
+pub are_equal-returns-in_err-x : goal.are_equal-returns-in_err-x
+are_equal-returns-in_err-x g t c = record {
+  gives = λ known.
+      let p = err_from_is_err_and c.from_residual.result c.from_residual.ensures.1 in
+      rw (p.1, p.2, c.in-Some.is)
+      (equal_fails g.M.Scope.writable (store_of c.args.self.now.known) c.args.below c.in_err-x.field-0.0 c.args.self.now.world c.expand_here.new.self.world (compared_told c.in-Some.compared) (c.in_err-x.ensures.gives known));
+  kept = search rules;
+  blames = search rules;
+}
 
-pub are_equal-returns-in_err-x-clause-gives : goal.are_equal-returns-in_err-x-clause-gives
-are_equal-returns-in_err-x-clause-gives g t c = λ known.
-    let p = err_from_is_err_and c.from_residual.result c.from_residual.ensures.1 in
-    rw (p.1, p.2, c.in-Some.is)
-    (equal_fails g.M.Scope.writable (store_of c.args.self.now.known) c.args.below c.in_err-x.field-0.0 c.args.self.now.world c.expand_here.new.self.world (compared_told c.in-Some.compared) (c.in_err-x.ensures.gives known))
+pub each_argument-returns-in_err-x : goal.each_argument-returns-in_err-x
+each_argument-returns-in_err-x g t c = record {
+  gives = λ known.
+      let p = err_from_is_err_and c.from_residual.result c.from_residual.ensures.1 in
+      let h = rw c.arguments.invariant.kept.0 at c.in_err-x.ensures.gives in
+      rw (p.1, p.2)
+      (subst (λ (o : Outcome (List Text)). Fails c.in_err-x.field-0.0 c.expand.new.self.world o) (c.arguments.invariant.rest known)
+      (argument_at_fails g.M.Scope.writable (store_of c.args.self.now.known) c.args.below c.in_err-x.field-0.0 c.arguments.self.world c.expand.new.self.world c.arguments.out.items c.args.texts.now c.arguments.place _ c.arguments-test.true (h known)));
+  kept = search rules;
+  blames = search rules;
+}
 
-pub each_argument-returns-in_err-x-clause-gives : goal.each_argument-returns-in_err-x-clause-gives
-each_argument-returns-in_err-x-clause-gives g t c = λ known.
-    let p = err_from_is_err_and c.from_residual.result c.from_residual.ensures.1 in
-    let h = rw c.arguments.invariant.kept.0 at c.in_err-x.ensures.gives in
-    rw (p.1, p.2)
-    (subst (λ (o : Outcome (List Text)). Fails c.in_err-x.field-0.0 c.expand.new.self.world o) (c.arguments.invariant.rest known)
-    (argument_at_fails g.M.Scope.writable (store_of c.args.self.now.known) c.args.below c.in_err-x.field-0.0 c.arguments.self.world c.expand.new.self.world c.arguments.out.items c.args.texts.now c.arguments.place _ c.arguments-test.true (h known)))
+pub each_argument-returns-in_err-from_vec : goal.each_argument-returns-in_err-from_vec
+each_argument-returns-in_err-from_vec g t c = record {
+  gives = λ known.
+      let p = err_from_is_err_and c.from_residual-in_err-from_vec.result c.from_residual-in_err-from_vec.ensures.1 in
+      let h = rw c.arguments.invariant.kept.0 at c.in_ok-x.ensures.gives in
+      rw (p.1, p.2)
+      (subst (λ (o : Outcome (List Text)). GoesOn c.expand.new.self.world (world_of o)) (c.arguments.invariant.rest known)
+      (argument_at_front g.M.Scope.writable (store_of c.args.self.now.known) c.args.below c.arguments.self.world c.expand.new.self.world c.arguments.out.items c.args.texts.now c.arguments.place _ _ c.arguments-test.true (h known)));
+  kept = search rules;
+  blames = search rules;
+}
 
-pub each_argument-returns-in_err-from_vec-clause-gives : goal.each_argument-returns-in_err-from_vec-clause-gives
-each_argument-returns-in_err-from_vec-clause-gives g t c = λ known.
-    let p = err_from_is_err_and c.from_residual-in_err-from_vec.result c.from_residual-in_err-from_vec.ensures.1 in
-    let h = rw c.arguments.invariant.kept.0 at c.in_ok-x.ensures.gives in
-    rw (p.1, p.2)
-    (subst (λ (o : Outcome (List Text)). GoesOn c.expand.new.self.world (world_of o)) (c.arguments.invariant.rest known)
-    (argument_at_front g.M.Scope.writable (store_of c.args.self.now.known) c.args.below c.arguments.self.world c.expand.new.self.world c.arguments.out.items c.args.texts.now c.arguments.place _ _ c.arguments-test.true (h known)))
+pub each_argument-returns-in_err-push : goal.each_argument-returns-in_err-push
+each_argument-returns-in_err-push g t c = record {
+  gives = λ known.
+      let p = err_from_is_err_and c.from_residual-in_err-push.result c.from_residual-in_err-push.ensures.1 in
+      let h = rw c.arguments.invariant.kept.0 at c.in_ok-x.ensures.gives in
+      rw (p.1, p.2)
+      (subst (λ (o : Outcome (List Text)). GoesOn c.expand.new.self.world (world_of o)) (c.arguments.invariant.rest known)
+      (argument_at_front g.M.Scope.writable (store_of c.args.self.now.known) c.args.below c.arguments.self.world c.expand.new.self.world c.arguments.out.items c.args.texts.now c.arguments.place _ _ c.arguments-test.true (h known)));
+  kept = search rules;
+  blames = search rules;
+}
 
-pub each_argument-returns-in_err-push-clause-gives : goal.each_argument-returns-in_err-push-clause-gives
-each_argument-returns-in_err-push-clause-gives g t c = λ known.
-    let p = err_from_is_err_and c.from_residual-in_err-push.result c.from_residual-in_err-push.ensures.1 in
-    let h = rw c.arguments.invariant.kept.0 at c.in_ok-x.ensures.gives in
-    rw (p.1, p.2)
-    (subst (λ (o : Outcome (List Text)). GoesOn c.expand.new.self.world (world_of o)) (c.arguments.invariant.rest known)
-    (argument_at_front g.M.Scope.writable (store_of c.args.self.now.known) c.args.below c.arguments.self.world c.expand.new.self.world c.arguments.out.items c.args.texts.now c.arguments.place _ _ c.arguments-test.true (h known)))
+pub each_word-returns-in_err-x : goal.each_word-returns-in_err-x
+each_word-returns-in_err-x g t c = record {
+  gives = λ known.
+      let p = err_from_is_err_and c.from_residual-in_err-x.result c.from_residual-in_err-x.ensures.1 in
+      let h = rw (c.in_ok-bind.ensures.done, c.words.invariant.kept.0) at c.in_err-x.ensures.gives in
+      rw (p.1, p.2)
+      (subst (λ (o : Outcome Text). Fails c.in_err-x.field-0.0 c.expand.new.self.world o) (c.words.invariant.rest known)
+      (word_fails g.M.Scope.writable (store_of c.args.self.now.known) c.args.below c.in_err-x.field-0.0 c.words.self.world c.expand.new.self.world c.args.name.now c.args.body.now c.words.out.items c.words.separator.now _ _ c.in-Some.word.now c.words.rest c.next.new.self c.in-Some.ensures.steps (search rules) (search rules) (h known)));
+  kept = search rules;
+  blames = search rules;
+}
 
-pub each_word-returns-in_err-x-clause-gives : goal.each_word-returns-in_err-x-clause-gives
-each_word-returns-in_err-x-clause-gives g t c = λ known.
-    let p = err_from_is_err_and c.from_residual-in_err-x.result c.from_residual-in_err-x.ensures.1 in
-    let h = rw (c.in_ok-bind.ensures.done, c.words.invariant.kept.0) at c.in_err-x.ensures.gives in
-    rw (p.1, p.2)
-    (subst (λ (o : Outcome Text). Fails c.in_err-x.field-0.0 c.expand.new.self.world o) (c.words.invariant.rest known)
-    (word_fails g.M.Scope.writable (store_of c.args.self.now.known) c.args.below c.in_err-x.field-0.0 c.words.self.world c.expand.new.self.world c.args.name.now c.args.body.now c.words.out.items c.words.separator.now _ _ c.in-Some.word.now c.words.rest c.next.new.self c.in-Some.ensures.steps (search rules) (search rules) (h known)))
+pub read_page-returns-in_err-read_items : goal.read_page-returns-in_err-read_items
+read_page-returns-in_err-read_items g t c = record {
+  gives = λ known.
+      let p = err_from_is_err_and c.from_residual.result c.from_residual.ensures.1 in
+      rw (p.1, p.2)
+      (sheet_fails g.M.Scope.writable (store_of c.args.self.now.known) c.args.below c.args.page.now c.in_err-read_items.field-0.0 c.args.self.now.world c.read_items.new.self.world (c.in_err-read_items.ensures.gives known));
+  kept = search rules;
+  blames = search rules;
+}
 
-pub read_page-returns-in_err-read_items-clause-gives : goal.read_page-returns-in_err-read_items-clause-gives
-read_page-returns-in_err-read_items-clause-gives g t c = λ known.
-    let p = err_from_is_err_and c.from_residual.result c.from_residual.ensures.1 in
-    rw (p.1, p.2)
-    (sheet_fails g.M.Scope.writable (store_of c.args.self.now.known) c.args.below c.args.page.now c.in_err-read_items.field-0.0 c.args.self.now.world c.read_items.new.self.world (c.in_err-read_items.ensures.gives known))
+pub apply_or-returns-in_err-x : goal.apply_or-returns-in_err-x
+apply_or-returns-in_err-x g t c = record {
+  gives = λ known.
+      let p = err_from_is_err_and c.from_residual.result c.from_residual.ensures.1 in
+      let h = rw (c.arguments.invariant.kept.0, c.stripped.ensures) at c.in_err-x.ensures.gives in
+      rw (p.1, p.2)
+      (subst (λ (o : Outcome Text). Fails c.in_err-x.field-0.0 c.expand.new.self.world o) (c.arguments.invariant.rest known)
+      (or_at_fails g.M.Scope.writable (store_of c.args.self.now.known) c.args.below c.in_err-x.field-0.0 c.arguments.self.world c.expand.new.self.world c.args.texts.now c.arguments.place _ c.arguments-test.true (h known)));
+  kept = search rules;
+  blames = search rules;
+}
 
-pub apply_or-returns-in_err-x-clause-gives : goal.apply_or-returns-in_err-x-clause-gives
-apply_or-returns-in_err-x-clause-gives g t c = λ known.
-    let p = err_from_is_err_and c.from_residual.result c.from_residual.ensures.1 in
-    let h = rw (c.arguments.invariant.kept.0, c.stripped.ensures) at c.in_err-x.ensures.gives in
-    rw (p.1, p.2)
-    (subst (λ (o : Outcome Text). Fails c.in_err-x.field-0.0 c.expand.new.self.world o) (c.arguments.invariant.rest known)
-    (or_at_fails g.M.Scope.writable (store_of c.args.self.now.known) c.args.below c.in_err-x.field-0.0 c.arguments.self.world c.expand.new.self.world c.args.texts.now c.arguments.place _ c.arguments-test.true (h known)))
-
-pub apply_and-returns-in_err-x-clause-gives : goal.apply_and-returns-in_err-x-clause-gives
-apply_and-returns-in_err-x-clause-gives g t c = λ known.
-    let p = err_from_is_err_and c.from_residual.result c.from_residual.ensures.1 in
-    let h = rw (c.arguments.invariant.kept.0, c.stripped.ensures) at c.in_err-x.ensures.gives in
-    rw (p.1, p.2)
-    (subst (λ (o : Outcome Text). Fails c.in_err-x.field-0.0 c.expand.new.self.world o) (c.arguments.invariant.rest known)
-    (and_at_fails g.M.Scope.writable (store_of c.args.self.now.known) c.args.below c.in_err-x.field-0.0 c.arguments.self.world c.expand.new.self.world c.args.texts.now c.arguments.place _ c.arguments-test.true (h known)))
+pub apply_and-returns-in_err-x : goal.apply_and-returns-in_err-x
+apply_and-returns-in_err-x g t c = record {
+  gives = λ known.
+      let p = err_from_is_err_and c.from_residual.result c.from_residual.ensures.1 in
+      let h = rw (c.arguments.invariant.kept.0, c.stripped.ensures) at c.in_err-x.ensures.gives in
+      rw (p.1, p.2)
+      (subst (λ (o : Outcome Text). Fails c.in_err-x.field-0.0 c.expand.new.self.world o) (c.arguments.invariant.rest known)
+      (and_at_fails g.M.Scope.writable (store_of c.args.self.now.known) c.args.below c.in_err-x.field-0.0 c.arguments.self.world c.expand.new.self.world c.args.texts.now c.arguments.place _ c.arguments-test.true (h known)));
+  kept = search rules;
+  blames = search rules;
+}
 
 pub read_conditional-returns-in_err-branch_holds-clause-gives : goal.read_conditional-returns-in_err-branch_holds-clause-gives
 read_conditional-returns-in_err-branch_holds-clause-gives g t c = λ known.

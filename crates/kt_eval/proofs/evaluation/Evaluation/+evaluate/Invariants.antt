@@ -19,9 +19,6 @@ decreases-expand g l = 64 * l.levels
 abbrev pub decreases-eval : goal.decreases-eval
 decreases-eval g l = 64 * l.levels
 
-abbrev pub decreases-body_of : goal.decreases-body_of
-decreases-body_of g l = 64 * l.below + 1
-
 abbrev pub decreases-value_of : goal.decreases-value_of
 decreases-value_of g l = 64 * l.below + 1
 

@@ -3,7 +3,7 @@ use Rattle.std.proofs.Common.{◌≡◌, ◌+◌, Some, None, find, length, map,
 use Rattle.std.specs.Prelude.{IfSome}
 use Rattle.std.specs.List.{list_all}
 use Rattle.std.proofs.lemmas.Result.{IfOk-weaker, on_ok_weaker}
-use Rattle.kt_graph.specs.Chaining.{IsFound, IsRightFor}
+use Rattle.kt_graph.specs.inner.Chaining.{IsFound, IsRightFor}
 use Rattle.kt_graph.specs.Search.{asking, chain_limit, fitting, is_inferred, is_met, open_candidates}
 use Rattle.kt_graph.specs.Views.{candidate_told, candidates_told}
 use Rattle.kt_graph.proofs.AskingLemmas.{length-with_rule}

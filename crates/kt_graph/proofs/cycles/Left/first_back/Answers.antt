@@ -2,7 +2,7 @@ use Rattle.std.proofs.Common.{◌∙◌, ◌≤◌, length, sym, arith}
 use Rattle.std.proofs.lemmas.Bool.{false≢true}
 use Rattle.std.proofs.lemmas.List.{take_all}
 use Rattle.std.proofs.lemmas.List.Elements.{All-more}
-use Rattle.kt_graph.specs.Edges.{LeadsBack}
+use Rattle.kt_graph.specs.inner.Edges.{LeadsBack}
 use Rattle.kt_graph.proofs.CircleLemmas.{first_at}
 use Rattle.kt_graph.proofs.cycles.Left.first_back.Goals as goal
 

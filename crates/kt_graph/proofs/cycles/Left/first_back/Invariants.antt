@@ -1,5 +1,5 @@
 use Rattle.std.proofs.Common.{All, take}
-use Rattle.kt_graph.specs.Edges.{LeadsBack}
+use Rattle.kt_graph.specs.inner.Edges.{LeadsBack}
 use Rattle.kt_graph.proofs.cycles.Left.first_back.Given as goal
 
 abbrev pub invariant-loop-vertex : goal.invariant-loop-vertex

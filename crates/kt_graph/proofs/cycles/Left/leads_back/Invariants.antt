@@ -1,5 +1,5 @@
 use Rattle.std.proofs.Common.{◌+◌, length}
-use Rattle.kt_graph.specs.Edges.{Searches, count_held}
+use Rattle.kt_graph.specs.inner.Edges.{Searches, count_held}
 use Rattle.kt_graph.proofs.cycles.Left.leads_back.Given as goal
 
 abbrev pub invariant-loop-other : goal.invariant-loop-other

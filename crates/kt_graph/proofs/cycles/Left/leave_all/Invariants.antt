@@ -1,5 +1,5 @@
 use Rattle.std.proofs.Common.{◌≡◌, ◌+◌, length}
-use Rattle.kt_graph.specs.Edges.{IsKept, count_held}
+use Rattle.kt_graph.specs.inner.Edges.{IsKept, count_held}
 use Rattle.kt_graph.proofs.cycles.Left.leave_all.Given as goal
 
 abbrev pub invariant-loop-vertex : goal.invariant-loop-vertex

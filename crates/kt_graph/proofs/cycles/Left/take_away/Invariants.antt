@@ -1,5 +1,5 @@
 use Rattle.std.proofs.Common.{◌≡◌}
-use Rattle.kt_graph.specs.Edges.{IsKept}
+use Rattle.kt_graph.specs.inner.Edges.{IsKept}
 use Rattle.kt_graph.proofs.cycles.Left.take_away.Given as goal
 
 abbrev pub invariant-loop-vertex : goal.invariant-loop-vertex

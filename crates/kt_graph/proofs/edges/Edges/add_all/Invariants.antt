@@ -1,5 +1,5 @@
 use Rattle.std.proofs.Common.{◌≡◌, drop}
-use Rattle.kt_graph.specs.Edges.{edges_from, rows_of, with_edges}
+use Rattle.kt_graph.specs.inner.Edges.{edges_from, rows_of, with_edges}
 use Rattle.kt_graph.proofs.edges.Edges.add_all.Given as goal
 
 abbrev pub invariant-loop-to : goal.invariant-loop-to

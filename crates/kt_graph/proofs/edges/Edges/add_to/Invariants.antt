@@ -1,5 +1,5 @@
 use Rattle.std.proofs.Common.{◌≡◌, drop}
-use Rattle.kt_graph.specs.Edges.{edges_to, rows_of, with_edges}
+use Rattle.kt_graph.specs.inner.Edges.{edges_to, rows_of, with_edges}
 use Rattle.kt_graph.proofs.edges.Edges.add_to.Given as goal
 
 abbrev pub invariant-loop-from : goal.invariant-loop-from

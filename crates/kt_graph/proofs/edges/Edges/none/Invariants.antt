@@ -1,5 +1,5 @@
 use Rattle.std.proofs.Common.{◌≡◌, map}
-use Rattle.kt_graph.specs.Edges.{bare_rows}
+use Rattle.kt_graph.specs.inner.Edges.{bare_rows}
 use Rattle.kt_graph.proofs.edges.Edges.none.Given as goal
 
 abbrev pub invariant-loop : goal.invariant-loop

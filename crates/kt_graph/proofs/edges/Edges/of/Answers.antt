@@ -1,7 +1,7 @@
 use Rattle.std.proofs.Common.{◌≤◌, List, length, sym, ap, ◌∙◌, arith}
 use Rattle.std.proofs.lemmas.List.{drop_all}
 use Rattle.kt_graph.specs.declared.settled.Settled.{Settled}
-use Rattle.kt_graph.specs.Edges.{node_edges, nodes_edges, rows_of, with_edges}
+use Rattle.kt_graph.specs.inner.Edges.{node_edges, nodes_edges, rows_of, with_edges}
 use Rattle.kt_graph.proofs.EdgeLemmas.{edges_are, edges_within, length_after, nodes_more}
 use Rattle.kt_graph.proofs.edges.Edges.of.Goals as goal
 

@@ -1,5 +1,5 @@
 use Rattle.std.proofs.Common.{◌≡◌, ◌+◌, drop, length}
-use Rattle.kt_graph.specs.Edges.{bare_rows, nodes_edges, rows_of, with_edges}
+use Rattle.kt_graph.specs.inner.Edges.{bare_rows, nodes_edges, rows_of, with_edges}
 use Rattle.kt_graph.proofs.edges.Edges.of.Given as goal
 
 abbrev pub invariant-loop-number : goal.invariant-loop-number

@@ -1,6 +1,6 @@
 use Rattle.std.proofs.Common.{◌≤◌, ℕ, List, Vec, Global, length, sym, ap, ◌∙◌, arith}
 use Rattle.std.proofs.lemmas.List.{drop_all, length-map}
-use Rattle.kt_graph.specs.Edges.{rows_of, turned_from, with_edges}
+use Rattle.kt_graph.specs.inner.Edges.{rows_of, turned_from, with_edges}
 use Rattle.kt_graph.proofs.EdgeLemmas.{row_at, turned_are, turned_more}
 use Rattle.kt_graph.proofs.edges.Edges.reversed.Goals as goal
 

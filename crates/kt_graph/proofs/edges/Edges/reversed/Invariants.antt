@@ -1,5 +1,5 @@
 use Rattle.std.proofs.Common.{◌≡◌, drop, length}
-use Rattle.kt_graph.specs.Edges.{bare_rows, rows_of, turned_from, with_edges}
+use Rattle.kt_graph.specs.inner.Edges.{bare_rows, rows_of, turned_from, with_edges}
 use Rattle.kt_graph.proofs.edges.Edges.reversed.Given as goal
 
 abbrev pub invariant-loop-from : goal.invariant-loop-from

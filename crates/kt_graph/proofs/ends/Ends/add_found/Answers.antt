@@ -1,6 +1,6 @@
 use Rattle.std.proofs.Common.{ap, ◌∙◌, length, ◌-◌, arith}
 use Rattle.std.proofs.lemmas.List.{take_rest}
-use Rattle.kt_graph.specs.Ends.{numbers_at}
+use Rattle.kt_graph.specs.inner.Ends.{numbers_at}
 use Rattle.kt_graph.proofs.NotingLemmas.{found_more, found_same}
 use Rattle.kt_graph.proofs.ends.Ends.add_found.Goals as goal
 

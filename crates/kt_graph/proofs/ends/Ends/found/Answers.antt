@@ -1,6 +1,6 @@
 use Rattle.std.proofs.Common.{◌≡◌, ◌<◌, ◌∙◌, ℕ, List, length, sym, subst, take, arith, rules}
 use Rattle.std.proofs.lemmas.List.{take_all, take_more}
-use Rattle.kt_graph.specs.Ends.{HasAll}
+use Rattle.kt_graph.specs.inner.Ends.{HasAll}
 use Rattle.kt_graph.proofs.NotingLemmas.{none_found}
 use Rattle.kt_graph.proofs.ends.Ends.found.Goals as goal
 

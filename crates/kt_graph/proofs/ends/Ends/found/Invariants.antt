@@ -1,5 +1,5 @@
 use Rattle.std.proofs.Common.{take}
-use Rattle.kt_graph.specs.Ends.{HasAll}
+use Rattle.kt_graph.specs.inner.Ends.{HasAll}
 use Rattle.kt_graph.proofs.ends.Ends.found.Given as goal
 
 abbrev pub invariant-loop-length : goal.invariant-loop-length

@@ -1,5 +1,5 @@
 use Rattle.std.proofs.Common.{◌≡◌, ◌++◌, ◌∷◌, [], ℕ, List, is_some, sym, ap, ◌∙◌}
-use Rattle.kt_graph.specs.Ends.{numbers_at}
+use Rattle.kt_graph.specs.inner.Ends.{numbers_at}
 use Rattle.kt_graph.proofs.NotingLemmas.{noted, items_of}
 use Rattle.kt_graph.proofs.ends.Ends.note_number.Goals as goal
 

@@ -3,7 +3,7 @@ use Rattle.std.proofs.lemmas.List.{take_all}
 use Rattle.kt_text.specs.Words.{Text}
 use Rattle.kt_text.specs.Match.{pattern_back}
 use Rattle.kt_rules.specs.declared.entry.Target.{Target}
-use Rattle.kt_graph.specs.Ends.{Notes, NotesAll}
+use Rattle.kt_graph.specs.inner.Ends.{Notes, NotesAll}
 use Rattle.kt_graph.proofs.NotingLemmas.{none_noted, target_noted}
 use Rattle.kt_graph.proofs.ends.Ends.note_targets.Goals as goal
 

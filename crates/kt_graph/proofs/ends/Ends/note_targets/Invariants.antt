@@ -1,5 +1,5 @@
 use Rattle.std.proofs.Common.{take}
-use Rattle.kt_graph.specs.Ends.{NotesAll}
+use Rattle.kt_graph.specs.inner.Ends.{NotesAll}
 use Rattle.kt_graph.proofs.ends.Ends.note_targets.Given as goal
 
 abbrev pub invariant-loop-target : goal.invariant-loop-target

@@ -1,6 +1,6 @@
 use Rattle.std.proofs.Common.{◌≡◌, ◌++◌, ◌∷◌, [], List, ap, subst, sym, true, ◌∙◌}
 use Rattle.kt_text.specs.Words.{Text}
-use Rattle.kt_graph.specs.Files.{held_for, made_names, several_in}
+use Rattle.kt_graph.specs.inner.Files.{held_for, made_names, several_in}
 use Rattle.kt_graph.specs.Paths.{canon_of}
 use Rattle.kt_graph.proofs.FileLemmas.{files_with, made_one}
 use Rattle.kt_graph.proofs.files.Files.add.Goals as goal

@@ -1,6 +1,6 @@
 use Rattle.std.proofs.Common.{Bool, Some, if◌then◌else◌, ap, ◌∙◌}
 use Rattle.std.specs.Str.{bytes_eq}
-use Rattle.kt_graph.specs.Files.{held_for}
+use Rattle.kt_graph.specs.inner.Files.{held_for}
 use Rattle.kt_graph.proofs.FileLemmas.{held_after}
 use Rattle.kt_graph.proofs.files.Files.add_file.Goals as goal
 

@@ -1,6 +1,6 @@
 use Rattle.std.proofs.Common.{◌≡◌, ◌∙◌, [], Some, ap, rules, false, sym, true}
 use Rattle.kt_text.specs.Words.{Text}
-use Rattle.kt_graph.specs.Files.{is_repeated}
+use Rattle.kt_graph.specs.inner.Files.{is_repeated}
 use Rattle.kt_graph.proofs.FileLemmas.{found_first}
 use Rattle.kt_graph.proofs.files.Files.first_repeated.Goals as goal
 

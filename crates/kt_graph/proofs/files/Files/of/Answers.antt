@@ -1,7 +1,7 @@
 use Rattle.std.proofs.Common.{◌≡◌, ◌++◌, ◌∷◌, [], List, rules, subst}
 use Rattle.std.specs.List.{list_any}
 use Rattle.kt_text.specs.Words.{Text}
-use Rattle.kt_graph.specs.Files.{HasFiles, made_names}
+use Rattle.kt_graph.specs.inner.Files.{HasFiles, made_names}
 use Rattle.kt_graph.specs.Node.{Node}
 use Rattle.kt_graph.specs.Paths.{is_reserved}
 use Rattle.kt_graph.proofs.FileLemmas.{made_end, made_more, reserved_end, reserved_more}

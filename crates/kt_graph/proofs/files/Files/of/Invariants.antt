@@ -1,7 +1,7 @@
 use Rattle.std.proofs.Common.{◌≡◌, ◌++◌, ◌||◌, List}
 use Rattle.std.specs.List.{list_any}
 use Rattle.kt_text.specs.Words.{Text}
-use Rattle.kt_graph.specs.Files.{HasFiles, made_names}
+use Rattle.kt_graph.specs.inner.Files.{HasFiles, made_names}
 use Rattle.kt_graph.specs.Paths.{is_reserved}
 use Rattle.kt_graph.proofs.files.Files.of.Given as goal
 

@@ -1,7 +1,7 @@
 use Rattle.std.proofs.Common.{List, sym, subst}
 use Rattle.std.proofs.lemmas.Option.{MatchOption-at_none, MatchOption-at_some}
 use Rattle.kt_graph.specs.declared.settled.Settled.{Settled}
-use Rattle.kt_graph.specs.Edges.{AreEdgesOf}
+use Rattle.kt_graph.specs.inner.Edges.{AreEdgesOf}
 use Rattle.kt_graph.specs.Reach.{IsGraph}
 use Rattle.kt_graph.proofs.CyclicLemmas.{first_cyclic, none_cyclic}
 use Rattle.kt_graph.proofs.WholeLemmas.{needed_below}

@@ -1,5 +1,5 @@
 use Rattle.std.proofs.Common.{Some, None, sym, ◌∙◌}
-use Rattle.kt_graph.specs.Files.{made_names}
+use Rattle.kt_graph.specs.inner.Files.{made_names}
 use Rattle.kt_graph.proofs.TroubleLemmas.{file_trouble, is_reserved_there}
 use Rattle.kt_graph.proofs.nodes.Graph.path_trouble.Goals as goal
 

@@ -5,7 +5,7 @@ use Rattle.kt_rules.specs.Entry.{Rule}
 use Rattle.kt_rules.specs.Names.{with_name}
 use Rattle.kt_graph.specs.declared.settling.Settling.{Settling}
 use Rattle.kt_graph.specs.Reach.{IsGraph}
-use Rattle.kt_graph.specs.Settling.{IsBegun, IsDone}
+use Rattle.kt_graph.specs.inner.Settling.{IsBegun, IsDone}
 use Rattle.kt_graph.proofs.SettlingLemmas.{done_numbers}
 use Rattle.kt_graph.proofs.nodes.Graph.reached.Goals as goal
 

@@ -1,7 +1,7 @@
 use Rattle.std.proofs.Common.{◌≡◌, ◌++◌, List, drop, fold, take}
 use Rattle.kt_text.specs.Words.{Text}
 use Rattle.kt_rules.specs.Names.{with_name}
-use Rattle.kt_graph.specs.Numbering.{StandFor}
+use Rattle.kt_graph.specs.inner.Numbering.{StandFor}
 use Rattle.kt_graph.proofs.numbering.Numbers.add_names.Given as goal
 
 abbrev pub invariant-loop-name : goal.invariant-loop-name

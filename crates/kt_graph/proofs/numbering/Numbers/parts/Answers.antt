@@ -2,8 +2,8 @@ use Rattle.std.proofs.Common.{◌++◌, ◌∷◌, [], map, subst, sym}
 use Rattle.std.proofs.lemmas.List.{map-append}
 use Rattle.kt_rules.specs.Suffixes.{all_needs}
 use Rattle.kt_graph.specs.declared.named.NamedPart.{NamedPart}
-use Rattle.kt_graph.specs.Named.{part_named}
-use Rattle.kt_graph.specs.Numbering.{SayParts}
+use Rattle.kt_graph.specs.inner.Named.{part_named}
+use Rattle.kt_graph.specs.inner.Numbering.{SayParts}
 use Rattle.kt_graph.proofs.NumberLemmas.{part_reached, parts_more}
 use Rattle.kt_graph.proofs.numbering.Numbers.parts.Goals as goal
 

@@ -2,8 +2,8 @@ use Rattle.std.proofs.Common.{◌≡◌, fold, map}
 use Rattle.std.specs.List.{flat_map}
 use Rattle.kt_rules.specs.Names.{with_name}
 use Rattle.kt_rules.specs.Suffixes.{all_needs}
-use Rattle.kt_graph.specs.Named.{part_named}
-use Rattle.kt_graph.specs.Numbering.{SayParts}
+use Rattle.kt_graph.specs.inner.Named.{part_named}
+use Rattle.kt_graph.specs.inner.Numbering.{SayParts}
 use Rattle.kt_graph.proofs.numbering.Numbers.parts.Given as goal
 
 abbrev pub invariant-loop-part : goal.invariant-loop-part

@@ -1,7 +1,7 @@
 use Rattle.std.proofs.Common.{◌≡◌, drop, fold, take}
 use Rattle.std.specs.List.{flat_map}
 use Rattle.kt_rules.specs.Names.{with_name}
-use Rattle.kt_graph.specs.Numbering.{StandFor}
+use Rattle.kt_graph.specs.inner.Numbering.{StandFor}
 use Rattle.kt_graph.proofs.numbering.Numbers.prerequisites.Given as goal
 
 abbrev pub invariant-loop-needs : goal.invariant-loop-needs

@@ -3,7 +3,7 @@ use Rattle.std.specs.List.{dedup}
 use Rattle.std.proofs.lemmas.List.Filters.{dedup_is}
 use Rattle.kt_rules.specs.Entry.{Rule}
 use Rattle.kt_graph.specs.Candidates.{matching_from}
-use Rattle.kt_graph.specs.Ends.{candidates_numbered}
+use Rattle.kt_graph.specs.inner.Ends.{candidates_numbered}
 use Rattle.kt_graph.proofs.EndLemmas.{numbers_in_order}
 use Rattle.kt_graph.proofs.patterns.Patterns.numbers.Goals as goal
 

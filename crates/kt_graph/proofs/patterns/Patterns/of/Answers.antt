@@ -1,6 +1,6 @@
 use Rattle.std.proofs.Common.{List, subst}
 use Rattle.kt_rules.specs.Entry.{Rule}
-use Rattle.kt_graph.specs.Ends.{AreAllNoted}
+use Rattle.kt_graph.specs.inner.Ends.{AreAllNoted}
 use Rattle.kt_graph.proofs.patterns.Patterns.of.Goals as goal
 
 pub invariant_of-result : goal.invariant_of-result

@@ -2,7 +2,7 @@ use Rattle.std.proofs.Common.{◌≡◌, ◌∙◌, ap, map}
 use Rattle.kt_text.specs.Words.{Text}
 use Rattle.kt_rules.specs.Slots.{rule_told}
 use Rattle.kt_rules.specs.Suffixes.{suffixes_of}
-use Rattle.kt_graph.specs.Named.{named_told}
+use Rattle.kt_graph.specs.inner.Named.{named_told}
 use Rattle.kt_graph.specs.Node.{double_node}
 use Rattle.kt_graph.proofs.StepLemmas.{grown_too, said_too}
 use Rattle.kt_graph.proofs.settling.Settling.double_node.Goals as goal

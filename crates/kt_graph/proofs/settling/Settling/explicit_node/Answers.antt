@@ -5,11 +5,11 @@ use Rattle.kt_rules.specs.declared.entry.Target.{Target}
 use Rattle.kt_rules.specs.Entry.{Rule}
 use Rattle.kt_rules.specs.Slots.{rule_told}
 use Rattle.kt_rules.specs.Suffixes.{suffixes_of}
-use Rattle.kt_graph.specs.Building.{IsCut}
-use Rattle.kt_graph.specs.Named.{named_told, needed_by}
+use Rattle.kt_graph.specs.inner.Building.{IsCut}
+use Rattle.kt_graph.specs.inner.Named.{named_told, needed_by}
 use Rattle.kt_graph.specs.Node.{explicit_node}
-use Rattle.kt_graph.specs.Numbering.{SaysNode}
-use Rattle.kt_graph.specs.Settling.{Grows}
+use Rattle.kt_graph.specs.inner.Numbering.{SaysNode}
+use Rattle.kt_graph.specs.inner.Settling.{Grows}
 use Rattle.kt_graph.proofs.settling.Settling.explicit_node.Goals as goal
 
 pub returns-clause-says : goal.returns-clause-says

@@ -3,7 +3,7 @@ use Rattle.std.proofs.lemmas.List.Folds.{flat_map-map}
 use Rattle.kt_rules.specs.Names.{with_name}
 use Rattle.kt_rules.specs.Suffixes.{all_needs}
 use Rattle.kt_graph.specs.declared.settling.Settling.{Settling}
-use Rattle.kt_graph.specs.Named.{part_named}
+use Rattle.kt_graph.specs.inner.Named.{part_named}
 use Rattle.kt_graph.specs.Node.{Part}
 use Rattle.kt_graph.proofs.StepLemmas.{always_ok}
 use Rattle.kt_graph.proofs.settling.Settling.hold.Goals as goal

@@ -1,8 +1,8 @@
 use Rattle.std.proofs.Common.{◌≡◌, map, refl}
 use Rattle.kt_text.specs.Words.{Text}
 use Rattle.kt_rules.specs.Slots.{rule_told}
-use Rattle.kt_graph.specs.Inferring.{inferred_node}
-use Rattle.kt_graph.specs.Named.{named_told}
+use Rattle.kt_graph.specs.inner.Inferring.{inferred_node}
+use Rattle.kt_graph.specs.inner.Named.{named_told}
 use Rattle.kt_graph.proofs.StepLemmas.{grown_too, implicit_told, said_too}
 use Rattle.kt_graph.proofs.settling.Settling.implicit_node.Goals as goal
 

@@ -2,7 +2,7 @@ use Rattle.std.proofs.Common.{◌≡◌, ◌∙◌, Some, ap, subst, sym}
 use Rattle.std.specs.Option.{option_map}
 use Rattle.std.proofs.lemmas.Result.{IfOk-weaker}
 use Rattle.kt_rules.specs.Book.{patterns_of}
-use Rattle.kt_graph.specs.Inferring.{Infers, Tells}
+use Rattle.kt_graph.specs.inner.Inferring.{Infers, Tells}
 use Rattle.kt_graph.specs.Node.{searched}
 use Rattle.kt_graph.specs.Search.{Searching, choice_of}
 use Rattle.kt_graph.specs.Views.{choice_told}

@@ -4,10 +4,10 @@ use Rattle.kt_text.specs.Words.{Text}
 use Rattle.kt_rules.specs.Book.{is_phony}
 use Rattle.kt_rules.specs.Slots.{rule_told}
 use Rattle.kt_rules.specs.Suffixes.{suffixes_of}
-use Rattle.kt_graph.specs.Named.{named_told, needed_by}
+use Rattle.kt_graph.specs.inner.Named.{named_told, needed_by}
 use Rattle.kt_graph.specs.Node.{plain_node}
-use Rattle.kt_graph.specs.Numbering.{SaysNode}
-use Rattle.kt_graph.specs.Settling.{Grows}
+use Rattle.kt_graph.specs.inner.Numbering.{SaysNode}
+use Rattle.kt_graph.specs.inner.Settling.{Grows}
 use Rattle.kt_graph.proofs.settling.Settling.plain_node.Goals as goal
 
 pub returns-clause-says : goal.returns-clause-says

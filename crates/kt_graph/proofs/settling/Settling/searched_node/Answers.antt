@@ -2,11 +2,11 @@ use Rattle.std.proofs.Common.{◌≡◌, ◌∙◌, None, ap, map, subst, sym}
 use Rattle.std.proofs.lemmas.Result.{IfOk-weaker, on_ok_weaker}
 use Rattle.kt_text.specs.Words.{Text}
 use Rattle.kt_rules.specs.Slots.{rule_told}
-use Rattle.kt_graph.specs.Inferring.{Tells, inferred_node}
-use Rattle.kt_graph.specs.Named.{needed_by}
+use Rattle.kt_graph.specs.inner.Inferring.{Tells, inferred_node}
+use Rattle.kt_graph.specs.inner.Named.{needed_by}
 use Rattle.kt_graph.specs.Node.{node_by, searched}
-use Rattle.kt_graph.specs.Numbering.{SaysNode}
-use Rattle.kt_graph.specs.Settling.{Grows}
+use Rattle.kt_graph.specs.inner.Numbering.{SaysNode}
+use Rattle.kt_graph.specs.inner.Settling.{Grows}
 use Rattle.kt_graph.proofs.StepLemmas.{grows_after}
 use Rattle.kt_graph.proofs.settling.Settling.searched_node.Goals as goal
 

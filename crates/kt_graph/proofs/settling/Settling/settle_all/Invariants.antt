@@ -1,6 +1,6 @@
 use Rattle.std.proofs.Common.{◌≡◌, ◌-◌, ◌^◌, List, length}
 use Rattle.kt_text.specs.Words.{Text}
-use Rattle.kt_graph.specs.Settling.{IsBegun, IsOver, IsUnderWay}
+use Rattle.kt_graph.specs.inner.Settling.{IsBegun, IsOver, IsUnderWay}
 use Rattle.kt_graph.proofs.settling.Settling.settle_all.Given as goal
 
 abbrev pub invariant-loop-name : goal.invariant-loop-name

@@ -1,5 +1,5 @@
 use Rattle.std.proofs.Common.{rules}
-use Rattle.kt_ninja.specs.Equality.{plan_decided}
+use Rattle.kt_ninja.specs.inner.Equality.{plan_decided}
 use Rattle.kt_ninja.proofs.plan.PlanPartialEq.eq.Goals as goal
 
 pub returns-then-eq-clause-same : goal.returns-then-eq-clause-same

@@ -1,5 +1,5 @@
 use Rattle.std.proofs.Common.{rules}
-use Rattle.kt_ninja.specs.Equality.{statement_decided}
+use Rattle.kt_ninja.specs.inner.Equality.{statement_decided}
 use Rattle.kt_ninja.proofs.plan.StatementPartialEq.eq.Goals as goal
 
 pub returns-then-eq-4-clause-same : goal.returns-then-eq-4-clause-same

@@ -1,6 +1,6 @@
 use Rattle.std.proofs.Common.{◌≡◌, refl, ◌∙◌, ap}
 use Rattle.kt_ninja.specs.NinjaRead.{Stated, statement_of}
-use Rattle.kt_ninja.specs.Holding.{made_as, making_as}
+use Rattle.kt_ninja.specs.inner.Holding.{made_as, making_as}
 use Rattle.kt_ninja.proofs.StateLemmas.{statement_told}
 use Rattle.kt_ninja.proofs.state.Stated.into_statement.Goals as goal
 

@@ -1,5 +1,5 @@
 use Rattle.std.proofs.Common.{◌≡◌, ◌∙◌, ◌≤◌, sym, ap, length, arith}
-use Rattle.kt_rules.specs.SuffixCuts.{cut_behind}
+use Rattle.kt_rules.specs.inner.SuffixCuts.{cut_behind}
 use Rattle.kt_rules.proofs.CutBehindLemmas.{cut_at, cut_end}
 use Rattle.kt_rules.proofs.book.suffix.first_cut.Goals as goal
 

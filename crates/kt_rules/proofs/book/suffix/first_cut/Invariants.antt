@@ -1,5 +1,5 @@
 use Rattle.std.proofs.Common.{◌≡◌, drop}
-use Rattle.kt_rules.specs.SuffixCuts.{earlier, first_cut}
+use Rattle.kt_rules.specs.inner.SuffixCuts.{earlier, first_cut}
 use Rattle.kt_rules.proofs.CutBehindLemmas.{names_in}
 use Rattle.kt_rules.proofs.book.suffix.first_cut.Given as goal
 

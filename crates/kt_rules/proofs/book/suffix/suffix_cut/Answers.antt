@@ -1,5 +1,5 @@
 use Rattle.std.proofs.Common.{◌≡◌, ◌∙◌, ap}
-use Rattle.kt_rules.specs.SuffixCuts.{first_cut}
+use Rattle.kt_rules.specs.inner.SuffixCuts.{first_cut}
 use Rattle.kt_rules.specs.Suffixes.{suffix_cut}
 use Rattle.kt_rules.proofs.CutBehindLemmas.{all_cuts, cut_within}
 use Rattle.kt_rules.proofs.book.suffix.suffix_cut.Goals as goal

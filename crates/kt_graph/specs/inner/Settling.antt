@@ -11,7 +11,7 @@ use Rattle.kt_graph.specs.declared.node.Instance.{Instance as Held}
 use Rattle.kt_graph.specs.declared.settled.Settled.{Settled}
 use Rattle.kt_graph.specs.declared.settling.Settling.{Settling}
 use Rattle.kt_graph.specs.Node.{node_of}
-use Rattle.kt_graph.specs.Numbering.{Says, SaysNode}
+use Rattle.kt_graph.specs.inner.Numbering.{Says, SaysNode}
 use Rattle.kt_graph.specs.Reach.{IsReached}
 use Rattle.kt_graph.specs.Views.{name_at}
 

@@ -9,7 +9,7 @@ use Rattle.kt_graph.specs.declared.settled.Settled.{Settled}
 use Rattle.kt_graph.specs.Groups.{are_together, is_one_making, made_nodes}
 use Rattle.kt_graph.specs.Node.{Instance, Node}
 use Rattle.kt_graph.specs.Views.{instance_at, name_at, nodes_told}
-use Rattle.kt_graph.specs.Whole.{AreApart}
+use Rattle.kt_graph.specs.inner.Whole.{AreApart}
 
 -- the groups of nodes behind others: a node that stands with none before it begins one, of all later nodes that stand
 -- with it

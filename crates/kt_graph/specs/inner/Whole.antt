@@ -5,10 +5,10 @@ use Rattle.std.specs.declared.vec.Vec.{Vec}
 use Rattle.std.specs.declared.alloc.Global.{Global}
 use Rattle.kt_graph.specs.declared.node.Instance.{Instance as Held}
 use Rattle.kt_graph.specs.declared.settled.Settled.{Settled}
-use Rattle.kt_graph.specs.Files.{AreDistinct, IsByteOrder}
+use Rattle.kt_graph.specs.inner.Files.{AreDistinct, IsByteOrder}
 use Rattle.kt_text.specs.Words.{Text}
 use Rattle.kt_graph.specs.Node.{Node, is_leaf}
-use Rattle.kt_graph.specs.Numbering.{HasNumbers}
+use Rattle.kt_graph.specs.inner.Numbering.{HasNumbers}
 use Rattle.kt_graph.specs.Views.{instance_at}
 
 -- no two makings are equal

@@ -1,0 +1,123 @@
+-- The inputs of one name alone are those of its statement as they stand.
+use Rattle.std.proofs.Common.{◌≡◌, Bool, true, false, not, cond, ◌||◌, if◌then◌else◌, List, [], ◌∷◌, ◌++◌, filter, flat_map, refl, sym, ap, ◌∙◌, append-nil, true≢false}
+use Rattle.std.specs.Prelude.{fold}
+use Rattle.std.specs.Cmp.Lexicographic.{pointwise}
+use Rattle.std.specs.Prelude.{nat_eq}
+use Rattle.std.proofs.lemmas.List.{append_assoc}
+use Rattle.std.proofs.lemmas.List.Folds.{list_any-append}
+use Rattle.kt_text.specs.Words.{Text}
+use Rattle.kt_rules.specs.Names.{is_among, with_name, without_repeats}
+use Rattle.kt_graph.specs.Node.{Node, inputs_of, order_only_of}
+use Rattle.kati.specs.Planned.{joined_inputs, joined_order_only}
+
+-- none of the names is among those before it
+abbrev AreNew : List Text → List Text → Type 0
+AreNew old [] = Unit {0}
+AreNew old (name ∷ names) = (is_among old name ≡ false) × AreNew (old ++ name ∷ []) names
+
+all_added : (old names : List Text) → AreNew old names → fold with_name old names ≡ old ++ names
+all_added old [] new = sym (append-nil old)
+all_added old (name ∷ names) new =
+    ap (λ (b : Bool). fold with_name (if b then old else old ++ name ∷ []) names) new.0
+    ∙ all_added (old ++ name ∷ []) names new.1
+    ∙ append_assoc old (name ∷ []) names
+
+-- what a fold adds to old names
+abbrev Adds : List Text → List Text → Type 0
+Adds old names = (more : List Text) × (fold with_name old names ≡ old ++ more) × AreNew old more
+
+adds_by : (old : List Text) (name : Text) (names : List Text) (b : Bool) → is_among old name ≡ b
+    → Adds old names → Adds (old ++ name ∷ []) names
+    → ((more : List Text) × (fold with_name (if b then old else old ++ name ∷ []) names ≡ old ++ more) × AreNew old more)
+adds_by old name names true e same longer = same
+adds_by old name names false e same longer =
+    (name ∷ longer.0, longer.1 ∙ append_assoc old (name ∷ []) longer.0, (e, longer.2))
+
+adds : (old names : List Text) → Adds old names
+adds old [] = ([], sym (append-nil old), tt)
+adds old (name ∷ names) =
+    adds_by old name names (is_among old name) refl (adds old names) (adds (old ++ name ∷ []) names)
+
+once_more : (names : List Text) → without_repeats (without_repeats names) ≡ without_repeats names
+unfolding without_repeats
+once_more names =
+    let more = adds [] names in
+    ap (λ (l : List Text). fold with_name [] l) more.1 ∙ all_added [] more.0 more.2 ∙ sym more.1
+
+-- ---- of fewer names
+
+both_false : (a b : Bool) → (a || b) ≡ false → (a ≡ false) × (b ≡ false)
+both_false false b e = (refl, e)
+both_false true b e = absurd (true≢false e)
+
+either_false : (a b : Bool) → a ≡ false → b ≡ false → (a || b) ≡ false
+either_false a b e f = ap (λ (x : Bool). x || b) e ∙ f
+
+abbrev NotAmong : List Text → List Text → Type 0
+NotAmong old kept = (name : Text) → is_among old name ≡ false → is_among kept name ≡ false
+
+one_passed : (old kept : List Text) (name : Text) → NotAmong old kept → NotAmong (old ++ name ∷ []) kept
+one_passed old kept name fewer other e =
+    fewer other (both_false (is_among old other) (is_among (name ∷ []) other)
+    (sym (list_any-append (pointwise nat_eq other) old (name ∷ [])) ∙ e)).0
+
+one_kept : (old kept : List Text) (name : Text) → NotAmong old kept → NotAmong (old ++ name ∷ []) (kept ++ name ∷ [])
+one_kept old kept name fewer other e =
+    let both = both_false (is_among old other) (is_among (name ∷ []) other)
+    (sym (list_any-append (pointwise nat_eq other) old (name ∷ [])) ∙ e) in
+    list_any-append (pointwise nat_eq other) kept (name ∷ [])
+    ∙ either_false (is_among kept other) (is_among (name ∷ []) other) (fewer other both.0) both.1
+
+fewer_by : (p : Text → Bool) (kept : List Text) (name : Text) (names : List Text) (b : Bool) → is_among kept name ≡ false
+    → AreNew kept (filter p names) → AreNew (kept ++ name ∷ []) (filter p names)
+    → AreNew kept (cond b (name ∷ filter p names) (filter p names))
+fewer_by p kept name names true e passed held = (e, held)
+fewer_by p kept name names false e passed held = passed
+
+fewer_new : (p : Text → Bool) (old kept names : List Text) → NotAmong old kept → AreNew old names → AreNew kept (filter p names)
+fewer_new p old kept [] fewer new = tt
+fewer_new p old kept (name ∷ names) fewer new =
+    fewer_by p kept name names (p name) (fewer name new.0)
+    (fewer_new p (old ++ name ∷ []) kept names (one_passed old kept name fewer) new.1)
+    (fewer_new p (old ++ name ∷ []) (kept ++ name ∷ []) names (one_kept old kept name fewer) new.1)
+
+filtered_once : (p : Text → Bool) (names : List Text) → without_repeats (filter p (without_repeats names)) ≡ filter p (without_repeats names)
+unfolding without_repeats
+filtered_once p names =
+    let more = adds [] names in
+    ap (λ (l : List Text). fold with_name [] (filter p l)) more.1
+    ∙ all_added [] (filter p more.0) (fewer_new p [] [] more.0 (λ name e. e) more.2)
+    ∙ ap (λ (l : List Text). filter p l) (sym more.1)
+
+twice_by : (p : Text → Bool) (name : Text) (names : List Text) (b : Bool) → p name ≡ b → filter p (filter p names) ≡ filter p names
+    → filter p (cond b (name ∷ filter p names) (filter p names)) ≡ cond b (name ∷ filter p names) (filter p names)
+twice_by p name names true e rest =
+    ap (λ (b : Bool). cond b (name ∷ filter p (filter p names)) (filter p (filter p names))) e ∙ ap (λ (l : List Text). name ∷ l) rest
+twice_by p name names false e rest = rest
+
+filter_twice : (p : Text → Bool) (names : List Text) → filter p (filter p names) ≡ filter p names
+filter_twice p [] = refl
+filter_twice p (name ∷ names) = twice_by p name names (p name) refl (filter_twice p names)
+
+-- ---- of a statement
+
+pub own_inputs : (node : Node) → joined_inputs (node ∷ []) ≡ inputs_of node
+unfolding inputs_of
+own_inputs node =
+    ap without_repeats (append-nil (inputs_of node)) ∙ once_more (flat_map (λ part. part.needs.prerequisites) node.parts)
+
+order_only_by : (node : Node) (inputs : List Text) → order_only_of node ≡ filter (λ name. not (is_among inputs name)) (without_repeats (flat_map (λ part. part.needs.order_only) node.parts))
+    → filter (λ name. not (is_among inputs name)) (without_repeats (order_only_of node ++ [])) ≡ order_only_of node
+order_only_by node inputs is =
+    let others : List Text = flat_map (λ part. part.needs.order_only) node.parts in
+    let test : Text → Bool = λ name. not (is_among inputs name) in
+    ap (λ (names : List Text). filter test (without_repeats names)) (append-nil (order_only_of node) ∙ is)
+    ∙ ap (filter test) (filtered_once test others)
+    ∙ filter_twice test (without_repeats others)
+    ∙ sym is
+
+pub own_order_only : (node : Node) → joined_order_only (node ∷ []) ≡ order_only_of node
+unfolding order_only_of
+own_order_only node =
+    ap (λ (inputs : List Text). filter (λ name. not (is_among inputs name)) (without_repeats (order_only_of node ++ []))) (own_inputs node)
+    ∙ order_only_by node (inputs_of node) refl

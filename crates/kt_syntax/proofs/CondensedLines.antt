@@ -1,0 +1,25 @@
+-- What a line says is what its condensed text says.
+use Rattle.std.proofs.Common.{◌≡◌, take, refl, sym, ap, ◌∙◌, ⊎_elim}
+use Rattle.std.proofs.lemmas.Bool.{cases_Bool}
+use Rattle.kt_text.specs.Words.{Text}
+use Rattle.kt_text.specs.Lines.{condensed_of}
+use Rattle.kt_text.proofs.CondensingLemmas.{condensed_once}
+use Rattle.kt_syntax.specs.Mask.{mask_of}
+use Rattle.kt_syntax.specs.Kinds.{kind_of}
+use Rattle.kt_syntax.specs.Heads.{head_end, is_target_specific, rule_texts}
+use Rattle.kt_syntax.specs.Condensed.{LineLaw, head_of_parts}
+
+-- the head is that of the text, whatever the line as it stands
+head_by_text : (line other text : Text) → head_of_parts (rule_texts line text) ≡ head_of_parts (rule_texts other text)
+unfolding rule_texts
+head_by_text line other text =
+    ⊎_elim (λ h. rw h refl) (λ h. rw h refl) (cases_Bool (is_target_specific text (take (head_end text) (mask_of text))))
+
+pub line_law : LineLaw
+line_law = record {
+  condensed = λ line tab. refl;
+  kind = λ line tab h. ap (λ text. kind_of text tab) (sym (condensed_once line h));
+  head = λ line h.
+      head_by_text line (condensed_of line) (condensed_of line)
+      ∙ ap (λ text. head_of_parts (rule_texts (condensed_of line) text)) (sym (condensed_once line h));
+}

@@ -1,0 +1,158 @@
+-- The condensed text of a line has no newline.
+use Rattle.std.proofs.Common.{◌≡◌, ◌<◌, ◌-◌, ◌==◌, ℕ, Bool, true, false, List, [], ◌∷◌, ◌++◌, length, take, refl, sym, ap, subst, ◌∙◌, arith, append-nil, cond, ⊎_elim}
+use Rattle.std.proofs.lemmas.Bool.{cases_Bool, eqb-true, false_from_ne_true}
+use Rattle.std.specs.List.{onto_first, flat_map}
+use Rattle.bstr.specs.Text.{no_cr, without_terminator}
+use Rattle.kt_text.specs.Words.{Text, trimmed_start, trimmed_end}
+use Rattle.kt_text.specs.Lines.{is_continued, is_ended, groups, pieces_of, before_backslash, trimmed_line, space_before, condensed_line, condensed_rest, condensed_group, condensed_of}
+use Rattle.kt_text.specs.Condensing.{IsLine, CondensingLaw}
+use Rattle.kt_text.proofs.CondensedLemmas.{condensed_alone, one_group}
+use Rattle.kt_text.proofs.NewlineLemmas.{IsFree, free_append, free_take, free_drop, free_space, free_nil, free_at}
+use Rattle.kt_text.proofs.LineTextLemmas.{content_ended, lines_are}
+use Rattle.kt_text.proofs.GroupLemmas.{groups-ended, groups-continued, groups-begins, length-onto}
+
+-- ---- the pieces of a text
+
+-- each piece but the last has one newline, at its end; the last has none
+ArePieces : List Text → Type 0
+ArePieces [] = ⊥
+ArePieces (piece ∷ []) = IsFree piece
+ArePieces (piece ∷ next ∷ pieces) = (front : Text) × (piece ≡ front ++ 10 ∷ []) × IsFree front × ArePieces (next ∷ pieces)
+
+byte_before : (byte : ℕ) (pieces : List Text) → (byte == 10) ≡ false → ArePieces pieces → ArePieces (onto_first byte pieces)
+unfolding ArePieces IsFree
+byte_before byte [] h a = absurd a
+byte_before byte (piece ∷ []) h a = (h, a)
+byte_before byte (piece ∷ next ∷ pieces) h a = (byte ∷ a.0, ap (λ (t : Text). byte ∷ t) a.1, (h, a.2), a.3)
+
+newline_before : (pieces : List Text) → ArePieces pieces → ArePieces ((10 ∷ []) ∷ pieces)
+unfolding ArePieces IsFree
+newline_before [] a = absurd a
+newline_before (piece ∷ pieces) a = ([], refl, tt, a)
+
+are_pieces : (text : Text) → ArePieces (pieces_of text)
+unfolding ArePieces IsFree pieces_of
+are_pieces [] = tt
+are_pieces (byte ∷ text) =
+    ⊎_elim (λ h. rw h (subst (λ b. ArePieces ((b ∷ []) ∷ pieces_of text)) (sym (eqb-true byte 10 h)) (newline_before (pieces_of text) (are_pieces text))))
+    (λ h. rw h (byte_before byte (pieces_of text) h (are_pieces text)))
+    (cases_Bool (byte == 10))
+
+-- ---- what a piece keeps
+
+free_either : (test : Bool) (first second : Text) → IsFree first → IsFree second → IsFree (cond test first second)
+free_either true first second a b = a
+free_either false first second a b = b
+
+free_no_cr : (text : Text) → IsFree text → IsFree (no_cr text)
+free_no_cr text a = free_either _ (take (length text - 1) text) text (free_take (length text - 1) text a) a
+
+-- the last piece
+free_content : (line : Text) → IsFree line → IsFree (without_terminator line)
+free_content line a =
+    free_either _ (no_cr (take (length line - 1) line)) line (free_no_cr (take (length line - 1) line) (free_take (length line - 1) line a)) a
+
+-- any other
+front_content : (front : Text) → IsFree front → IsFree (without_terminator (front ++ 10 ∷ []))
+front_content front a = subst IsFree (sym (content_ended front)) (free_no_cr front a)
+
+free_backslash : (front : Text) → IsFree front → IsFree (before_backslash (front ++ 10 ∷ []))
+free_backslash front a = free_take _ (without_terminator (front ++ 10 ∷ [])) (front_content front a)
+
+free_space_before : (continued continues : Bool) (text : Text) → IsFree (space_before continued continues text)
+free_space_before false continues text = free_nil
+free_space_before true false text = free_space
+free_space_before true true [] = free_nil
+free_space_before true true (byte ∷ text) = free_space
+
+free_start : (text : Text) → IsFree text → IsFree (trimmed_start text)
+free_start text a = free_drop _ text a
+
+free_end : (text : Text) → IsFree text → IsFree (trimmed_end text)
+free_end text a = free_take _ text a
+
+free_more : (continued : Bool) (front : Text) → IsFree front → IsFree (trimmed_line continued true (front ++ 10 ∷ []))
+free_more false front a = free_end _ (free_backslash front a)
+free_more true front a = free_end _ (free_start _ (free_backslash front a))
+
+free_last : (continued : Bool) (line : Text) → IsFree line → IsFree (trimmed_line continued false line)
+free_last false line a = free_content line a
+free_last true line a = free_start _ (free_content line a)
+
+no_end : (line : Text) → IsFree line → is_ended line ≡ false
+unfolding is_ended
+no_end [] a = refl
+no_end (byte ∷ line) a = false_from_ne_true _ (λ h. free_at (byte ∷ line) a (length (byte ∷ line) - 1) (omega arith) (eqb-true _ 10 h))
+
+more_is_free : (continued : Bool) (front : Text) → IsFree front → IsFree (condensed_line continued true (front ++ 10 ∷ []))
+unfolding condensed_line
+more_is_free continued front a =
+    let text : Text = trimmed_line continued true (front ++ 10 ∷ []) in
+    free_append (space_before continued true text) (text ++ []) (free_space_before continued true text) (free_append text [] (free_more continued front a) free_nil)
+
+last_is_free : (continued : Bool) (line : Text) → IsFree line → IsFree (condensed_line continued false line)
+unfolding condensed_line
+last_is_free continued line a =
+    let text : Text = trimmed_line continued false line in
+    rw (no_end line a)
+    (free_append (space_before continued false text) (text ++ []) (free_space_before continued false text) (free_append text [] (free_last continued line a) free_nil))
+
+rest_is_free : (lines : List Text) → ArePieces lines → IsFree (condensed_rest lines)
+unfolding ArePieces condensed_rest
+rest_is_free [] a = absurd a
+rest_is_free (line ∷ []) a = last_is_free true line a
+rest_is_free (line ∷ next ∷ lines) a =
+    free_append (condensed_line true true line) (condensed_rest (next ∷ lines))
+    (subst (λ (t : Text). IsFree (condensed_line true true t)) (sym a.1) (more_is_free true a.0 a.2)) (rest_is_free (next ∷ lines) a.3)
+
+group_is_free : (lines : List Text) → ArePieces lines → IsFree (condensed_group lines)
+unfolding ArePieces condensed_group
+group_is_free [] a = absurd a
+group_is_free (line ∷ []) a = last_is_free false line a
+group_is_free (line ∷ next ∷ lines) a =
+    free_append (condensed_line false true line) (condensed_rest (next ∷ lines))
+    (subst (λ (t : Text). IsFree (condensed_line false true t)) (sym a.1) (more_is_free false a.0 a.2)) (rest_is_free (next ∷ lines) a.3)
+
+-- ---- one group
+
+onto_whole : (line : Text) (lines : List Text) → groups lines ≡ lines ∷ [] → onto_first line (groups lines) ≡ (line ∷ lines) ∷ []
+onto_whole line lines h = ap (onto_first line) h
+
+more_groups : (line : Text) (lines : List Text) → 0 < length (groups (line ∷ lines))
+more_groups line lines = let b = groups-begins line lines in rw b.are (omega arith)
+
+more_group : (more : Bool) (line next : Text) (lines : List Text) → is_continued line ≡ more → (length (groups (next ∷ lines)) ≡ 1 → groups (next ∷ lines) ≡ (next ∷ lines) ∷ [])
+    → length (groups (line ∷ next ∷ lines)) ≡ 1 → groups (line ∷ next ∷ lines) ≡ (line ∷ next ∷ lines) ∷ []
+more_group true line next lines h whole e =
+    let c = groups-continued line (next ∷ lines) h in
+    let same = length-onto line (groups (next ∷ lines)) (more_groups next lines) in
+    c ∙ onto_whole line (next ∷ lines) (whole (sym same ∙ sym (ap length c) ∙ e))
+more_group false line next lines h whole e =
+    let c = ap length (groups-ended line (next ∷ lines) h) in
+    let some = more_groups next lines in
+    absurd (omega arith)
+
+whole_group : (lines : List Text) → length (groups lines) ≡ 1 → groups lines ≡ lines ∷ []
+unfolding groups
+whole_group [] e = absurd (omega arith)
+whole_group (line ∷ []) e = one_group (is_continued line) line refl
+whole_group (line ∷ next ∷ lines) e = more_group (is_continued line) line next lines refl (whole_group (next ∷ lines)) e
+
+line_is_free : (line : Text) → IsLine line → IsFree (condensed_of line)
+unfolding condensed_of
+line_is_free line h =
+    let one = whole_group (pieces_of line) h in
+    let is : flat_map condensed_group (groups (pieces_of line)) ≡ condensed_group (pieces_of line) =
+    ap (flat_map condensed_group) one ∙ append-nil (condensed_group (pieces_of line)) in
+    subst IsFree (sym is) (group_is_free (pieces_of line) (are_pieces line))
+
+pub condensed_once : (line : Text) → IsLine line → condensed_of (condensed_of line) ≡ condensed_of line
+condensed_once line h = condensed_alone (condensed_of line) (free_at (condensed_of line) (line_is_free line h))
+
+pub condensing_law : CondensingLaw
+condensing_law = record {
+  stays = condensed_alone;
+  no_newline = λ line h. free_at (condensed_of line) (line_is_free line h);
+  once = condensed_once;
+  lines = lines_are;
+}
