@@ -15,4 +15,5 @@ pub record CondensingLaw : Type 0 where
   pub no_newline : (line : Text) → IsLine line → (k : ℕ) → k < length (condensed_of line)
       → slice_index (condensed_of line) k ≡ 10 → ⊥
   pub once : (line : Text) → IsLine line → condensed_of (condensed_of line) ≡ condensed_of line
-  pub lines : (text : Text) → All (λ line. IsLine (slice_range text line.span.start line.span.end)) (logical_lines_of text)
+  pub lines : (text : Text)
+      → All (λ line. IsLine (slice_range text line.span.start line.span.end)) (logical_lines_of text)
