@@ -3,9 +3,9 @@
 
     scripts/gate_cost.py [REVISION [LOG]]
 
-LOG gets what the gate prints. The script prints the gate's last line, the minutes that it took and the processor minutes, and then the processor seconds of each crate: its
-proof, its tests and its edits, told apart by the folder and the arguments of each process of the prover. A machine with other work on it
-takes longer, but hardly more processor time.
+LOG gets what the gate prints. The script prints the gate's last line, the minutes that it took and the processor minutes, and then the
+processor seconds of each crate: its proof, its tests and its edits, told apart by the folder and the arguments of each process of the
+prover, and last the checks that its edits took, in order. A machine with more work than processors takes more processor time too.
 """
 
 import os
@@ -19,7 +19,7 @@ from pathlib import Path
 
 ROOT = Path(__file__).resolve().parent.parent
 TICKS = os.sysconf("SC_CLK_TCK")
-PARTS = ("proof", "tests", "edits", "other")
+PARTS = ("proof", "tests", "edits")
 
 
 class Sampler(threading.Thread):
@@ -52,10 +52,10 @@ class Sampler(threading.Thread):
         self.seen[process.name, fields[19]] = crate, part, (int(fields[11]) + int(fields[12])) / TICKS
 
     def table(self):
+        """The seconds of each check, by crate and part, in the order in which the checks began."""
         costs = {}
-        for crate, part, seconds in self.seen.values():
-            row = costs.setdefault(crate, dict.fromkeys(PARTS, 0))
-            row[part] += seconds
+        for (_, began), (crate, part, seconds) in sorted(self.seen.items(), key=lambda it: int(it[0][1])):
+            costs.setdefault(crate, {part: [] for part in PARTS})[part].append(seconds)
         return costs
 
 
@@ -74,9 +74,10 @@ def main():
         used = resource.getrusage(resource.RUSAGE_CHILDREN)
         print(path.read_text(errors="replace").rstrip().splitlines()[-1])
         print(f"{(time.time() - started) / 60:.0f} minutes, {(used.ru_utime + used.ru_stime) / 60:.0f} processor minutes")
-        print("| Crate | " + " | ".join(PARTS) + " |")
+        print("| Crate | " + " | ".join(PARTS) + " | each edit |")
         for crate, row in sorted(sampler.table().items()):
-            print(f"| {crate} | " + " | ".join(f"{row[part]:.0f}" for part in PARTS) + " |")
+            sums = " | ".join(f"{sum(row[part]):.0f}" for part in PARTS)
+            print(f"| {crate} | {sums} | " + ", ".join(f"{it:.0f}" for it in row["edits"]) + " |")
         sys.exit(status)
 
 
