@@ -146,7 +146,7 @@ fn copied(alloc: Global, name: &[u8]) -> Result<Name, AllocError>
 fn copies(alloc: Global, names: Inputs) -> Result<Vec<Name>, AllocError>
     ensures { IfOk result (λ list. list.items ≡ names.entry) }
 {
-    let mut list = Vec::new(alloc);
+    let mut list = Vec::with_capacity(alloc, names.len())?;
     for name in names {
         list.push(copied(alloc, name)?)?;
     }

@@ -14,3 +14,6 @@ pub mod MachineLemmas
 pub mod PureLemmas
 mod ReadingRowLemmas
 pub mod LastLemmas
+pub mod SplitLemmas
+pub mod BalancedLemmas
+pub mod DoublingLemmas

@@ -15,6 +15,8 @@ pub mod Reading
 pub mod Faults
 pub mod Levels
 pub mod Growing
+pub mod Arguments
+pub mod Doubling
 pub mod Machines
 pub mod Rows
 pub mod inner

@@ -3,13 +3,12 @@ ghost use Rattle.std.specs.Prelude.{◌≡◌, ◌≤◌, ◌+◌, ◌-◌, ◌=
 ghost use Rattle.std.specs.List.{after_first, before_first, list_any, position_or_len};
 ghost use Rattle.std.specs.Str.{bytes_eq};
 ghost use Rattle.kt_text.specs.Words.{is_separator};
-ghost use Rattle.kt_text.specs.Match.{has_percent};
 ghost use Rattle.kt_eval.specs.Calls.{arguments_of, arity, asked_by, asked_of, byte_name, closer, commas, cuts, function_of, is_function_name, is_refused_function, may_cut, name_function, naming_of, nested, one_less, opener, other_function, string_function, text_function_name};
 ghost use Rattle.kt_eval.specs.inner.Views.{asked_told, naming_told};
 
 use crate::function::{Function, TextFunction};
 use kt_syntax::Mark;
-use kt_text::{is_separator, stripped_start};
+use kt_text::{has_percent, is_separator, stripped_start};
 use memchr::memchr;
 use std::alloc::{AllocError, Global};
 
@@ -204,13 +203,6 @@ fn cut_at(wanted: u8, text: &[u8]) -> Option<(&[u8], &[u8])>
 {
     let place = memchr(wanted, text)?;
     Some((&text[..place], &text[place + 1..]))
-}
-
-#[tactic(auto, unfolding(kt_text::specs::Match::has_percent, kt_text::specs::Match::is_percent))]
-fn has_percent(text: &[u8]) -> bool
-    ensures { result ≡ has_percent text.now }
-{
-    cut_at(b'%', text).is_some()
 }
 
 fn behind_percent(alloc: Global, text: &[u8]) -> Result<Vec<u8>, AllocError>

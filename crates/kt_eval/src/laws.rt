@@ -2,6 +2,8 @@
 ghost use Rattle.std.specs.Prelude.{ℕ, Bool, List};
 ghost use Rattle.kt_text.specs.Words.{Text};
 ghost use Rattle.kt_eval.specs.declared.function.Function.{Function};
+ghost use Rattle.kt_eval.specs.Arguments.{ArgumentLaw};
+ghost use Rattle.kt_eval.specs.Doubling.{DoublingLaw};
 ghost use Rattle.kt_eval.specs.Expansion.{apply, expanded};
 ghost use Rattle.kt_eval.specs.Files.{Store};
 ghost use Rattle.kt_eval.specs.Growing.{StaysOneDeeper, TakesNothingBack};
@@ -47,4 +49,15 @@ pub fn one_deeper()
         → StaysOneDeeper (λ levels. apply (evaluator reads store levels) function arguments) }
     ensures reading { (reads : Bool) (store : Store) (names : List Text)
         → StaysOneDeeper (λ levels. read_first store (evaluator reads store levels) names) }
+{}
+
+/// Each text is cut into the arguments of a call in exactly one way: with a comma between each two
+/// they are the text, and those of a balanced text are balanced.
+pub fn law_of_arguments()
+    ensures { ArgumentLaw }
+{}
+
+/// A text with each dollar doubled, as `:::=` leaves it, is expanded to the text.
+pub fn doubled_texts_expand_to_themselves()
+    ensures { DoublingLaw }
 {}

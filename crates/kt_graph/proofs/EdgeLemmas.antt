@@ -173,13 +173,13 @@ turned_are edges reversed within turned from to = (
 
 pub node_added : (first second third last : List (List ℕ)) (names number from : ℕ) (node : Settled)
     → second ≡ with_edges first (making_edges names number node.made_with) → from ≡ needing names number node.made_with
-    → third ≡ with_edges second (edges_from from node.inputs.keys) → last ≡ with_edges third (edges_from from node.order_only.keys)
+    → third ≡ with_edges second (edges_from from node.inputs.items) → last ≡ with_edges third (edges_from from node.order_only.items)
     → last ≡ with_edges first (node_edges names number node)
 node_added first second third last names number from node making leads inputs others =
     others
-    ∙ ap (λ (rows : List (List ℕ)). with_edges rows (edges_from from node.order_only.keys)) inputs
-    ∙ sym (fold-append with_edge second (edges_from from node.inputs.keys) (edges_from from node.order_only.keys))
-    ∙ ap (with_edges second) (sym (map-append (λ to. (from, to)) node.inputs.keys node.order_only.keys))
+    ∙ ap (λ (rows : List (List ℕ)). with_edges rows (edges_from from node.order_only.items)) inputs
+    ∙ sym (fold-append with_edge second (edges_from from node.inputs.items) (edges_from from node.order_only.items))
+    ∙ ap (with_edges second) (sym (map-append (λ to. (from, to)) node.inputs.items node.order_only.items))
     ∙ ap (λ (rows : List (List ℕ)). with_edges rows (edges_from from (needed_by node))) making
     ∙ sym (fold-append with_edge first (making_edges names number node.made_with) (edges_from from (needed_by node)))
     ∙ ap (λ n. with_edges first (making_edges names number node.made_with ++ edges_from n (needed_by node))) leads

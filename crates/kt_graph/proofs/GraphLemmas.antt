@@ -107,8 +107,8 @@ module _ (names : List (Vec ℕ Global)) (instances : List Held) (nodes : List S
       let at : (node : Settled) × (slice_get nodes number ≡ Some node) = node_there names instances nodes order whole number below in
       let own = numbers_of names instances nodes order whole number at.0 at.1 in
       let named : names_at names (needed_by at.0) ≡ all_inputs (node_of rules known (name_at names number)) =
-      map-append (name_at names) at.0.inputs.keys at.0.order_only.keys
-      ∙ ap (λ (xs : List Text). xs ++ names_at names at.0.order_only.keys) (inputs_are names instances number at.0 whole.held.distinct own)
+      map-append (name_at names) at.0.inputs.items at.0.order_only.items
+      ∙ ap (λ (xs : List Text). xs ++ names_at names at.0.order_only.items) (inputs_are names instances number at.0 whole.held.distinct own)
       ∙ ap (λ (xs : List Text). inputs_of (node_told names instances number at.0) ++ xs) (others_are names instances number at.0 whole.held.distinct own)
       ∙ ap all_inputs (is_told number at.0 at.1) in
       let of : (to : ℕ) × Contains (needed_by at.0) to × (name_at names to ≡ input) =

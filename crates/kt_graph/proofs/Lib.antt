@@ -4,6 +4,7 @@ pub mod NameKeys
 pub mod NeedLemmas
 pub mod OrderLemmas
 pub mod PartLemmas
+pub mod SpellingLemmas
 pub mod SizeOrder
 pub mod Membership
 pub mod UnknownLemmas
@@ -21,6 +22,7 @@ pub mod BuildingLemmas
 pub mod ReachLemmas
 pub mod ChosenLemmas
 pub mod InferringLemmas
+pub mod SettledLemmas
 pub mod SettlingLemmas
 pub mod StepLemmas
 pub mod MemberLemmas

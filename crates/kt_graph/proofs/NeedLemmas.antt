@@ -4,27 +4,11 @@ use Rattle.memchr.specs.Find.{IsFirstByte, is_byte}
 use Rattle.kt_text.specs.Words.{Text}
 use Rattle.kt_text.specs.Match.{pattern_front, pattern_back}
 use Rattle.kt_text.proofs.MatchLemmas.{pattern_cut, percent_found, no_percent_found}
-use Rattle.kt_rules.specs.Names.{without_dots}
-use Rattle.kt_graph.specs.Candidates.{needed_name, spelled_out}
+use Rattle.kt_graph.specs.Candidates.{spelled_out}
 
 -- a name without percent sign is itself
 pub plain_spelled : (directory stem name : Text) → IsFirstByte (is_byte 37) name None → spelled_out directory stem name ≡ name
 plain_spelled directory stem name found = rw (no_percent_found name found) refl
-
-pub plain_needed : (directory stem name : Text) → IsFirstByte (is_byte 37) name None → name ≡ needed_name directory stem name
-plain_needed directory stem name found = rw (no_percent_found name found) refl
-
--- one with a percent sign is in four parts
-pub cut_spelled : (directory stem name : Text) (percent : ℕ) → IsFirstByte (is_byte 37) name (Some percent)
-    → spelled_out directory stem name ≡ directory ++ (take percent name ++ (stem ++ drop (percent + 1) name))
-cut_spelled directory stem name percent found =
-    let parts = percent_found name percent found in
-    rw (parts.0, parts.1, parts.2) refl
-
-pub cut_needed : (directory stem name text : Text) (percent : ℕ) → IsFirstByte (is_byte 37) name (Some percent)
-    → text ≡ directory ++ (take percent name ++ (stem ++ drop (percent + 1) name)) → without_dots text ≡ needed_name directory stem name
-cut_needed directory stem name text percent found is =
-    ap without_dots (is ∙ sym (cut_spelled directory stem name percent found)) ∙ rw ((percent_found name percent found).0) refl
 
 pub cut_length : (directory stem name : Text) (percent : ℕ) → IsFirstByte (is_byte 37) name (Some percent)
     → (length (spelled_out directory stem name) ≡ length name - 1 + length directory + length stem) × (0 < length name)

@@ -183,14 +183,14 @@ other_below count (part ∷ parts) all =
     (other_below count parts (All-tail (λ (one : HeldPart). IsNumbered count one.needs) part parts all))
 
 -- the inputs have numbers of names
-pub inputs_below : (names makings : ℕ) (node : Settled) → HasNumbers names makings node → AreBelow names node.inputs.keys
+pub inputs_below : (names makings : ℕ) (node : Settled) → HasNumbers names makings node → AreBelow names node.inputs.items
 inputs_below names makings node numbers =
     subst (AreBelow names) (sym numbers.inputs) (below_all names (needed_numbers node.parts.items) [] (needed_below names node.parts.items numbers.parts) (All-nil (λ n. n < names)))
 
 without_below : (count : ℕ) (p : ℕ → Bool) (numbers : List ℕ) → AreBelow count numbers → AreBelow count (filter p numbers)
 without_below count p numbers below = Rattle.std.proofs.lemmas.List.Elements.All-filter p (λ n. n < count) numbers below
 
-pub others_below : (names makings : ℕ) (node : Settled) → HasNumbers names makings node → AreBelow names node.order_only.keys
+pub others_below : (names makings : ℕ) (node : Settled) → HasNumbers names makings node → AreBelow names node.order_only.items
 others_below names makings node numbers =
     subst (AreBelow names) (sym numbers.order_only)
     (below_all names (numbers_without (input_numbers node.parts.items) (other_numbers node.parts.items)) []
@@ -199,7 +199,7 @@ others_below names makings node numbers =
 
 -- the names of a node's inputs
 pub inputs_are : (names : List (Vec ℕ Global)) (instances : List Held) (number : ℕ) (node : Settled) → AreDistinct names
-    → HasNumbers (length names) (length instances) node → names_at names node.inputs.keys ≡ inputs_of (node_told names instances number node)
+    → HasNumbers (length names) (length instances) node → names_at names node.inputs.items ≡ inputs_of (node_told names instances number node)
 unfolding inputs_of without_repeats
 inputs_are names instances number node distinct numbers =
     ap (names_at names) numbers.inputs
@@ -207,7 +207,7 @@ inputs_are names instances number node distinct numbers =
     ∙ ap (fold with_name []) (sym (needed_told names node.parts.items))
 
 pub others_are : (names : List (Vec ℕ Global)) (instances : List Held) (number : ℕ) (node : Settled) → AreDistinct names
-    → HasNumbers (length names) (length instances) node → names_at names node.order_only.keys ≡ order_only_of (node_told names instances number node)
+    → HasNumbers (length names) (length instances) node → names_at names node.order_only.items ≡ order_only_of (node_told names instances number node)
 unfolding order_only_of without_repeats
 others_are names instances number node distinct numbers =
     let parts = node.parts.items in

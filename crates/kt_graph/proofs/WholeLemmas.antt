@@ -110,11 +110,11 @@ module _ (names : List (Vec ℕ Global)) (instances : List Held) (nodes : List S
 
   pub needed_in : (number : ℕ) (node : Settled) (to : ℕ) → slice_get nodes number ≡ Some node → Contains (needed_by node) to → to < length names
   needed_in number node to at has = ⊎_elim
-      (λ (h : Contains node.inputs.keys to).
-      All-contains (λ n. n < length names) node.inputs.keys to (inputs_below (length names) (length instances) node (numbers_of number node at)) h)
-      (λ (h : Contains node.order_only.keys to).
-      All-contains (λ n. n < length names) node.order_only.keys to (others_below (length names) (length instances) node (numbers_of number node at)) h)
-      (Contains-append_cases node.inputs.keys node.order_only.keys to has)
+      (λ (h : Contains node.inputs.items to).
+      All-contains (λ n. n < length names) node.inputs.items to (inputs_below (length names) (length instances) node (numbers_of number node at)) h)
+      (λ (h : Contains node.order_only.items to).
+      All-contains (λ n. n < length names) node.order_only.items to (others_below (length names) (length instances) node (numbers_of number node at)) h)
+      (Contains-append_cases node.inputs.items node.order_only.items to has)
 
   pub needed_below : AreNeededBelow nodes
   needed_below k d within l e inside =
@@ -214,8 +214,8 @@ module _ (names : List (Vec ℕ Global)) (instances : List Held) (nodes : List S
     inputs_named : (number : ℕ) (node : Settled) → slice_get nodes number ≡ Some node
         → names_at names (needed_by node) ≡ all_inputs (node_of rules known (name_at names number))
     inputs_named number node at =
-        map-append (name_at names) node.inputs.keys node.order_only.keys
-        ∙ ap (λ (xs : List Text). xs ++ names_at names node.order_only.keys) (inputs_are names instances number node whole.held.distinct (numbers_of number node at))
+        map-append (name_at names) node.inputs.items node.order_only.items
+        ∙ ap (λ (xs : List Text). xs ++ names_at names node.order_only.items) (inputs_are names instances number node whole.held.distinct (numbers_of number node at))
         ∙ ap (λ (xs : List Text). inputs_of (node_told names instances number node) ++ xs) (others_are names instances number node whole.held.distinct (numbers_of number node at))
         ∙ ap all_inputs (sym (is_node number node at))
 

@@ -10,3 +10,4 @@ pub mod Building
 pub mod Whole
 pub mod Grouping
 pub mod Ends
+pub mod Spelling

@@ -9,6 +9,7 @@ ghost use Rattle.kt_graph.specs.Paths.{always_name, is_reserved};
 use crate::node::Node;
 use crate::nodes::Nodes;
 use crate::paths::{canon, is_always};
+use crate::spelling::is_canonical;
 use indexmap::IndexMap;
 use std::alloc::{AllocError, Global};
 
@@ -98,6 +99,9 @@ impl Files {
     {
         if !node.is_made() {
             return Ok(false);
+        }
+        if is_canonical(node.name()) {
+            return Ok(self.is_several(node.name()));
         }
         let file = canon(self.alloc, node.name())?;
         Ok(self.is_several(file.as_slice()))

@@ -29,6 +29,7 @@ mod reaching;
 mod search;
 mod settled;
 mod settling;
+mod spelling;
 mod tried;
 mod trouble;
 

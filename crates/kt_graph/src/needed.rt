@@ -1,12 +1,14 @@
 //! What a pattern rule needs for a name.
-ghost use Rattle.std.specs.Prelude.{◌≡◌, ◌+◌, ◌-◌, ◌^◌, ◌<◌, ◌++◌, drop, length, min, take, IfOk, nat_le};
+ghost use Rattle.std.specs.Prelude.{◌≡◌, ◌-◌, ◌^◌, ◌++◌, length, min, take, IfOk, nat_le};
 ghost use Rattle.std.specs.List.{list_all, slice_range};
+ghost use Rattle.kt_text.specs.Functions.{with_stem};
 ghost use Rattle.kt_graph.specs.Candidates.{are_short, name_limit, needed_name, needed_names, needs_with, spelled_out};
 ghost use Rattle.kt_graph.specs.Views.{IsWithin};
 
 use crate::candidate::Fit;
 use kt_list::Sequence;
-use kt_rules::{Name, Needs, without_dots};
+use kt_rules::{Name, Needs, dotless};
+use kt_text::{has_percent, push_with_stem};
 use memchr::memchr;
 use std::alloc::{AllocError, Global};
 
@@ -74,26 +76,20 @@ impl<'n> Stemming<'n> {
     pub(crate) fn name(self, alloc: Global, name: &[u8]) -> Result<Vec<u8>, AllocError>
         ensures { IfOk result (λ made. made.items ≡ needed_name self.entry.directory.now self.entry.stem.now name.now) }
     {
-        match memchr(b'%', name) {
-            None => Vec::from_slice(alloc, name),
-            Some(percent) => {
-                let text = self.put_at(percent, alloc, name)?;
-                Vec::from_slice(alloc, without_dots(text.as_slice()))
-            }
+        if !has_percent(name) {
+            return Vec::from_slice(alloc, name);
         }
+        dotless(alloc, self.spelled_out(alloc, name)?)
     }
 
-    // A name with the stem in the place of a byte, and the directory before it.
-    fn put_at(self, place: usize, alloc: Global, name: &[u8]) -> Result<Vec<u8>, AllocError>
-        requires { place < length name.now }
+    // A name with the stem put in, and the directory before it.
+    fn spelled_out(self, alloc: Global, name: &[u8]) -> Result<Vec<u8>, AllocError>
         ensures { IfOk result (λ text. text.items ≡ self.entry.directory.now
-            ++ (take place name.now ++ (self.entry.stem.now ++ drop (place + 1) name.now))) }
+            ++ with_stem name.now self.entry.stem.now) }
     {
         let mut text = Vec::with_capacity(alloc, self.len(name))?;
         text.extend_from_slice(self.directory)?;
-        text.extend_from_slice(&name[..place])?;
-        text.extend_from_slice(self.stem)?;
-        text.extend_from_slice(&name[place + 1..])?;
+        push_with_stem(&mut text, name, self.stem)?;
         Ok(text)
     }
 

@@ -195,6 +195,13 @@ impl<'g> Inputs<'g> {
     {
         Inputs { names, numbers }
     }
+
+    /// How many names are left. Takes no memory.
+    pub fn len(&self) -> usize
+        ensures { result ≡ length self.now }
+    {
+        self.numbers.len()
+    }
 }
 
 impl<'g> Iterator for Inputs<'g> {

@@ -3,6 +3,7 @@ ghost use Rattle.std.specs.Prelude.{◌≡◌, ◌++◌, ◌∷◌, ◌==◌, []
 ghost use Rattle.std.specs.List.{join_with_byte, slice_split};
 ghost use Rattle.kt_graph.specs.Paths.{above_name, always_name, canon_of, ends_in_name, is_rooted, step_up, with_part};
 
+use crate::spelling::is_canonical;
 use std::alloc::{AllocError, Global};
 
 /// The name that phony statements with a command need.
@@ -10,8 +11,18 @@ const ALWAYS: &[u8] = b"_kati_always_build_";
 
 /// The one spelling of a name's file: without empty components and `.`, each `..` with the component
 /// before it taken away. No file is looked at.
-#[tactic(auto, unfolding(crate::specs::Paths::canon_of, crate::specs::Paths::parts_of))]
 pub(crate) fn canon(alloc: Global, name: &[u8]) -> Result<Vec<u8>, AllocError>
+    ensures { IfOk result (λ canon. canon.items ≡ canon_of name.now) }
+{
+    if is_canonical(name) {
+        return Vec::from_slice(alloc, name);
+    }
+    resolved(alloc, name)
+}
+
+// The same, component by component.
+#[tactic(auto, unfolding(crate::specs::Paths::canon_of, crate::specs::Paths::parts_of))]
+fn resolved(alloc: Global, name: &[u8]) -> Result<Vec<u8>, AllocError>
     ensures { IfOk result (λ canon. canon.items ≡ canon_of name.now) }
 {
     let rooted = is_rooted(name);
@@ -38,7 +49,7 @@ pub(crate) fn is_always(canon: &[u8]) -> bool
     canon == ALWAYS
 }
 
-fn is_rooted(name: &[u8]) -> bool
+pub(crate) fn is_rooted(name: &[u8]) -> bool
     ensures { result ≡ is_rooted name.now }
 {
     matches!(name, [b'/', ..])

@@ -1,5 +1,5 @@
 //! Nodes as the graph holds them: names by their numbers.
-ghost use Rattle.std.specs.Prelude.{◌≡◌, [], flat_map, fold, IfOk, OnOk};
+ghost use Rattle.std.specs.Prelude.{◌≡◌, [], flat_map, fold, IfOk, IfSome, OnOk};
 ghost use Rattle.kt_graph.specs.inner.Numbering.{input_numbers, numbers_without, order_only_numbers, with_number};
 
 use crate::node::NodeKind;
@@ -16,9 +16,9 @@ pub(crate) struct Settled<'a> {
     /// The number of the making that makes other names, too.
     pub(crate) made_with: Option<usize>,
     /// The prerequisites, each once.
-    pub(crate) inputs: IndexSet<usize>,
+    pub(crate) inputs: Vec<usize>,
     /// The order-only ones, each once and without these.
-    pub(crate) order_only: IndexSet<usize>,
+    pub(crate) order_only: Vec<usize>,
 }
 
 /// A recipe with what its automatic macros tell.
@@ -46,11 +46,10 @@ impl<'a> Settled<'a> {
     ) -> Result<Settled<'a>, AllocError>
         ensures held { IfOk result (λ node. (node.kind ≡ kind) × (node.parts ≡ parts.entry)
             × (node.made_with ≡ made_with)) }
-        ensures inputs { IfOk result (λ node. node.inputs.keys ≡ input_numbers parts.entry.items) }
-        ensures order_only { IfOk result (λ node. node.order_only.keys ≡ order_only_numbers parts.entry.items) }
+        ensures inputs { IfOk result (λ node. node.inputs.items ≡ input_numbers parts.entry.items) }
+        ensures order_only { IfOk result (λ node. node.order_only.items ≡ order_only_numbers parts.entry.items) }
     {
-        let inputs = inputs(alloc, parts.as_slice())?;
-        let order_only = order_only(alloc, parts.as_slice(), &inputs)?;
+        let (inputs, order_only) = needed(alloc, parts.as_slice())?;
         Ok(Settled {
             kind,
             parts,
@@ -58,6 +57,36 @@ impl<'a> Settled<'a> {
             inputs,
             order_only,
         })
+    }
+}
+
+// The inputs of parts, and the order-only ones.
+fn needed(alloc: Global, parts: &[Part]) -> Result<(Vec<usize>, Vec<usize>), AllocError>
+    ensures inputs { IfOk result (λ needed. needed.0.items ≡ input_numbers parts.now) }
+    ensures order_only { IfOk result (λ needed. needed.1.items ≡ order_only_numbers parts.now) }
+{
+    if let Some(alone) = needed_alone(parts) {
+        return Ok((Vec::from_slice(alloc, alone)?, Vec::new(alloc)));
+    }
+    let inputs = inputs(alloc, parts)?;
+    let order_only = order_only(alloc, parts, &inputs)?;
+    Ok((
+        Vec::from_slice(alloc, inputs.as_slice())?,
+        Vec::from_slice(alloc, order_only.as_slice())?,
+    ))
+}
+
+// The one prerequisite of the one part, or none, where it has no order-only ones, as most nodes have.
+fn needed_alone<'p>(parts: &'p [Part]) -> Option<&'p [usize]>
+    ensures inputs { IfSome result (λ numbers. numbers.now ≡ input_numbers parts.now) }
+    ensures order_only { IfSome result (λ _. order_only_numbers parts.now ≡ []) }
+{
+    let (part, others) = parts.split_first()?;
+    let numbers = part.needs.prerequisites.as_slice();
+    if others.is_empty() && numbers.len() < 2 && part.needs.order_only.is_empty() {
+        Some(numbers)
+    } else {
+        None
     }
 }
 

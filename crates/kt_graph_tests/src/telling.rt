@@ -60,10 +60,9 @@ fn put_group(told: &mut Vec<u8>, group: &[Node]) {
 }
 
 fn put_order_only(told: &mut Vec<u8>, node: &Node) {
-    let mut names = node.order_only();
-    if let Some(first) = names.next() {
-        put(told, b" | ");
-        put(told, first);
+    let names = node.order_only();
+    if names.len() > 0 {
+        put(told, b" |");
         put_inputs(told, names);
     }
 }

@@ -15,3 +15,7 @@ pub mod AddLemmas
 pub mod CutBehindLemmas
 pub mod PatternLemmas
 pub mod CutLemmas
+pub mod PartLemmas
+pub mod HeadWordLemmas
+pub mod QuoteLemmas
+pub mod OuterLemmas

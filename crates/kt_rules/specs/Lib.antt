@@ -11,4 +11,5 @@ pub mod Slots
 pub mod Patterns
 pub mod BookRows
 pub mod Cuts
+pub mod HeadWords
 pub mod inner

@@ -9,12 +9,11 @@ ghost use Rattle.kt_rules.specs.RuleLine.{first_refusal, fits, is_bad_group, lin
 use crate::entry::Name;
 use crate::head::Separator;
 use crate::line::Line;
-use crate::name::has_percent;
 use crate::refusal::Refusal;
 use crate::refused::{
     WAIT, are_same, is_refused_name, is_refused_target, is_special, is_without_effect,
 };
-use kt_text::match_pattern;
+use kt_text::{has_percent, match_pattern};
 
 // The first of the tests that fails.
 #[tactic(auto, unfolding(crate::specs::RuleLine::line_refusal, crate::specs::RuleLine::first_refusal))]

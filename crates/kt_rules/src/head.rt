@@ -4,9 +4,9 @@ ghost use Rattle.kt_rules.specs.Names.{written_words};
 ghost use Rattle.kt_rules.specs.RuleLine.{behind_double, colon_cut, group_head, group_targets, head_behind, head_of, head_round, heads_told, pattern_word};
 
 use crate::cutting::colon_cut;
-use crate::name::has_percent;
 use crate::refusal::Refusal;
 use crate::written::{WrittenWords, without_outer_separators};
+use kt_text::has_percent;
 
 /// What stands between the targets of a rule line and what they need.
 #[derive(Clone, Copy, Debug, PartialEq, Eq)]

@@ -1,6 +1,7 @@
 //! Laws of the definitions. These functions do nothing: their contracts are what counts.
 ghost use Rattle.kt_rules.specs.BookRows.{RowsOfAdding, RowsOfAnswers, RowsOfPatternRules, RowsOfSuffixRules};
 ghost use Rattle.kt_rules.specs.Cuts.{CutsAtFirstColon, DropsDots};
+ghost use Rattle.kt_rules.specs.HeadWords.{OuterLaw, UnquotedLaw, WrittenWordsLaw};
 ghost use Rattle.kt_rules.specs.Rows.{RowsOfLines, RowsOfNames, RowsOfRefusals};
 
 /// Worked rule lines that are taken.
@@ -46,4 +47,19 @@ pub fn first_colon()
 /// Each leading `./` of a name goes with all slashes behind it, and nothing else.
 pub fn leading_dots()
     ensures { DropsDots }
+{}
+
+/// The words of a head and the separators round them are its text, and no other words are.
+pub fn words_of_a_head()
+    ensures { WrittenWordsLaw }
+{}
+
+/// Without its outer separators a text is what stands between them; a quoted one is none of them.
+pub fn outer_separators()
+    ensures { OuterLaw }
+{}
+
+/// Unquoting drops each backslash directly before a space or colon, and nothing else.
+pub fn unquoting()
+    ensures { UnquotedLaw }
 {}

@@ -19,6 +19,6 @@ mod written;
 pub use book::{Book, Entries, Explicit, Pattern, TargetRule, Warnings};
 pub use entry::{Entry, Kind, Name, Needs, RecipeLine, Stemmed, Target};
 pub use fault::RuleFault;
-pub use name::without_dots;
+pub use name::{dotless, without_dots};
 pub use place::Place;
 pub use reading::read_rule;

@@ -2,11 +2,10 @@
 ghost use Rattle.std.specs.Prelude.{◌≡◌, ◌≤◌, ◌<◌, ◌==◌, false, true, length, IfOk, MatchOption};
 ghost use Rattle.std.specs.List.{prefix_len};
 ghost use Rattle.kt_text.specs.Functions.{with_stem};
-ghost use Rattle.kt_text.specs.Match.{has_percent, pattern_back, pattern_front};
 ghost use Rattle.kt_rules.specs.Names.{after_dots, begins_quotable, name_of, unquoted, without_dots};
 
 use crate::cutting::is_quotable;
-use memchr::memchr;
+use kt_text::push_with_stem;
 use std::alloc::{AllocError, Global};
 
 /// The name without its leading `./`.
@@ -62,9 +61,9 @@ pub(crate) fn name_of(alloc: Global, word: &[u8]) -> Result<Vec<u8>, AllocError>
     dotless(alloc, unquoted(alloc, word)?)
 }
 
-// The text without its leading `./`.
+/// The text without its leading `./`, as [`without_dots`] has it.
 #[tactic(auto, unfolding(crate::specs::Names::without_dots))]
-pub(crate) fn dotless(alloc: Global, text: Vec<u8>) -> Result<Vec<u8>, AllocError>
+pub fn dotless(alloc: Global, text: Vec<u8>) -> Result<Vec<u8>, AllocError>
     ensures { IfOk result (λ name. name.items ≡ without_dots text.items) }
 {
     if past_dot(text.as_slice()).is_none() {
@@ -107,37 +106,7 @@ pub(crate) fn stemmed_name(
 ) -> Result<Vec<u8>, AllocError>
     ensures { IfOk result (λ name. name.items ≡ without_dots (with_stem pattern.now stem.now)) }
 {
-    dotless(alloc, with_stem(alloc, pattern, stem)?)
-}
-
-// The text with the stem in place of its first percent sign.
-fn with_stem(alloc: Global, pattern: &[u8], stem: &[u8]) -> Result<Vec<u8>, AllocError>
-    ensures { IfOk result (λ text. text.items ≡ with_stem pattern.now stem.now) }
-{
-    let Some((front, back)) = percent_cut(pattern) else {
-        return Vec::from_slice(alloc, pattern);
-    };
-    let mut text = Vec::with_capacity(alloc, pattern.len())?;
-    text.extend_from_slice(front)?;
-    text.extend_from_slice(stem)?;
-    text.extend_from_slice(back)?;
-    Ok(text)
-}
-
-// What stands before the first percent sign, and after it.
-#[tactic(auto, using(kt_text::proofs::MatchLemmas::match_facts))]
-fn percent_cut(pattern: &[u8]) -> Option<(&[u8], &[u8])>
-    ensures { MatchOption result (has_percent pattern.now ≡ false)
-        (λ cut. (has_percent pattern.now ≡ true) × (cut.0.now ≡ pattern_front pattern.now)
-        × (cut.1.now ≡ pattern_back pattern.now)) }
-{
-    let percent = memchr(b'%', pattern)?;
-    Some((&pattern[..percent], &pattern[percent + 1..]))
-}
-
-// Whether there is a percent sign.
-pub(crate) fn has_percent(name: &[u8]) -> bool
-    ensures { result ≡ has_percent name.now }
-{
-    percent_cut(name).is_some()
+    let mut name = Vec::with_capacity(alloc, pattern.len().saturating_add(stem.len()))?;
+    push_with_stem(&mut name, pattern, stem)?;
+    dotless(alloc, name)
 }

@@ -1,6 +1,6 @@
 //! Rule lines by the GNU make manual and by the rows that kati is to read.
 use crate::telling::{place, put, put_fault, put_needs, put_place, read, text};
-use kt_rules::{Entry, Kind, Target, without_dots};
+use kt_rules::{Entry, Kind, Target, dotless, without_dots};
 use std::alloc::{AllocError, Global};
 use std::process::Abort;
 use std::test::Fail;
@@ -319,7 +319,7 @@ fn prints_faults(rt: HostRuntime) -> Result<(), Fail> {
 }
 
 #[test]
-fn removes_leading_dots(rt: HostRuntime) {
+fn removes_leading_dots(rt: HostRuntime) -> Result<(), Fail> {
     for (name, left) in [
         (b"./x".as_slice(), b"x".as_slice()),
         (b".//././/x", b"x"),
@@ -331,5 +331,8 @@ fn removes_leading_dots(rt: HostRuntime) {
         (b".", b"."),
     ] {
         assert_eq!(rt; without_dots(name), left);
+        let owned = dotless(rt.alloc(), Vec::from_slice(rt.alloc(), name)?)?;
+        assert_eq!(rt; owned.as_slice(), left);
     }
+    Ok(())
 }

@@ -21,7 +21,7 @@ pub use cut::words;
 pub use fault::TextFault;
 pub use line::{Line, LineFault};
 pub use logical::{logical_lines, nul_line};
-pub use pattern::match_pattern;
+pub use pattern::{has_percent, match_pattern, push_with_stem};
 pub use physical::{is_continued, line_content};
 pub use separators::{is_separator, stripped, stripped_start, trailing_separators};
 pub use word_runs::Words;

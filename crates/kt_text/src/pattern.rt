@@ -1,10 +1,12 @@
 //! Patterns with a percent sign.
-ghost use Rattle.std.specs.Prelude.{◌≡◌, ◌+◌, ◌-◌, ◌≤◌, ℕ, false, length, true, IfNone, IfSome, MatchOption, option_map};
+ghost use Rattle.std.specs.Prelude.{◌≡◌, ◌++◌, ◌+◌, ◌-◌, ◌≤◌, ℕ, false, length, true, IfNone, IfSome, MatchOption, OnOk, option_map};
 ghost use Rattle.std.specs.List.{slice_range};
+ghost use Rattle.kt_text.specs.Functions.{with_stem};
 ghost use Rattle.kt_text.specs.Words.{Text};
 ghost use Rattle.kt_text.specs.Match.{Match, has_percent, is_between, pattern_back, pattern_front, stem_span};
 
 use memchr::memchr;
+use std::alloc::AllocError;
 use std::ops::Range;
 
 /// The place of the stem: of the part of `word` for which the first `%` of `pattern` stands.
@@ -48,11 +50,26 @@ pub(crate) fn cut_pattern(pattern: &[u8]) -> Option<(&[u8], &[u8])>
     Some((&pattern[..percent], &pattern[percent + 1..]))
 }
 
-// Whether there is a percent sign.
-pub(crate) fn has_percent(pattern: &[u8]) -> bool
+/// Whether there is a percent sign. Takes no memory.
+pub fn has_percent(pattern: &[u8]) -> bool
     ensures { result ≡ has_percent pattern.now }
 {
     cut_pattern(pattern).is_some()
+}
+
+/// Appends the pattern with the stem in place of its first percent sign; a pattern without one is
+/// appended as it is. GNU make manual, "Introduction to Pattern Rules".
+pub fn push_with_stem(text: &mut Vec<u8>, pattern: &[u8], stem: &[u8]) -> Result<(), AllocError>
+    ensures { OnOk result (text.new.items ≡ text.old.items ++ with_stem pattern.now stem.now) }
+{
+    match cut_pattern(pattern) {
+        Some((front, back)) => {
+            text.extend_from_slice(front)?;
+            text.extend_from_slice(stem)?;
+            text.extend_from_slice(back)
+        }
+        None => text.extend_from_slice(pattern),
+    }
 }
 
 // Whether the word begins with one text and ends with the other, without sharing a byte.

@@ -1,8 +1,8 @@
 //! Worked values of each call, by the manuals and by GNU make.
 use kt_text::{
-    LineFault, TextFault, condensed, functions, is_blank, is_continued, is_separator, joined,
-    line_content, logical_lines, match_pattern, stripped, stripped_start, trailing_separators,
-    trim_end, trim_start, words,
+    LineFault, TextFault, condensed, functions, has_percent, is_blank, is_continued, is_separator,
+    joined, line_content, logical_lines, match_pattern, push_with_stem, stripped, stripped_start,
+    trailing_separators, trim_end, trim_start, words,
 };
 use std::process::Abort;
 use std::test::Fail;
@@ -32,6 +32,23 @@ fn patterns_match(rt: HostRuntime) {
         let stem = match_pattern(pattern, word).map(|stem| (stem.start, stem.end));
         assert_eq!(rt; stem, wanted);
     }
+}
+
+#[test]
+fn stems_are_put_in(rt: HostRuntime) -> Result<(), Fail> {
+    let rows: [(&[u8], bool, &[u8]); 4] = [
+        (b"%.c", true, b"d/x.c"),
+        (b"lib%.%", true, b"d/libx.%"),
+        (b"%", true, b"d/x"),
+        (b"y.c", false, b"d/y.c"),
+    ];
+    for (pattern, is_pattern, wanted) in rows {
+        let mut text = Vec::from_slice(rt.alloc(), b"d/")?;
+        push_with_stem(&mut text, pattern, b"x")?;
+        assert_eq!(rt; text.as_slice(), wanted);
+        assert_eq!(rt; has_percent(pattern), is_pattern);
+    }
+    Ok(())
 }
 
 #[test]

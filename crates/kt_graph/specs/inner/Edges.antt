@@ -60,7 +60,7 @@ AreReversed edges reversed = (from to : ℕ) → HasNext reversed from to ↔ Ha
 -- ---- the edges of nodes
 
 abbrev pub needed_by : Settled → List ℕ
-needed_by node = node.inputs.keys ++ node.order_only.keys
+needed_by node = node.inputs.items ++ node.order_only.items
 
 -- a name that is made alone leads to what it needs, any other one to its making
 abbrev pub LeadsTo : ℕ → Settled → Option ℕ → ℕ → Type 0

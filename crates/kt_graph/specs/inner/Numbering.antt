@@ -40,8 +40,8 @@ order_only_numbers parts =
 -- a node has the numbers of names and of makings alone; its inputs are what its parts need, each once
 pub record HasNumbers (names makings : ℕ) (node : Settled) : Type 0 where
   pub parts : All (λ part. IsNumbered names part.needs) node.parts.items
-  pub inputs : node.inputs.keys ≡ input_numbers node.parts.items
-  pub order_only : node.order_only.keys ≡ order_only_numbers node.parts.items
+  pub inputs : node.inputs.items ≡ input_numbers node.parts.items
+  pub order_only : node.order_only.items ≡ order_only_numbers node.parts.items
   pub made_with : IfSome node.made_with (λ making. making < makings)
 
 -- what is held for a name says a node
@@ -78,5 +78,5 @@ pub record SaysNode (names : List Text) (instances : List Held) (expected : Node
   pub kind : node.kind ≡ expected.kind
   pub parts : SayParts names expected.parts node.parts.items
   pub making : IsMaking instances expected.made_with node.made_with
-  pub inputs : node.inputs.keys ≡ input_numbers node.parts.items
-  pub order_only : node.order_only.keys ≡ order_only_numbers node.parts.items
+  pub inputs : node.inputs.items ≡ input_numbers node.parts.items
+  pub order_only : node.order_only.items ≡ order_only_numbers node.parts.items

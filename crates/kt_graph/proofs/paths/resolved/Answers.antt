@@ -1,7 +1,7 @@
 use Rattle.std.proofs.Common.{drop, ap}
 use Rattle.std.proofs.lemmas.List.{drop_all}
 use Rattle.kt_graph.proofs.PartLemmas.{canon_is, told}
-use Rattle.kt_graph.proofs.paths.canon.Goals as goal
+use Rattle.kt_graph.proofs.paths.resolved.Goals as goal
 
 pub returns : goal.returns
 returns c =

@@ -2,7 +2,7 @@ use Rattle.std.proofs.Common.{◌≡◌, ◌==◌, [], map, drop, fold, reverse,
 use Rattle.std.specs.Borrow.{Bor}
 use Rattle.std.specs.List.{slice_split}
 use Rattle.kt_graph.specs.Paths.{with_part}
-use Rattle.kt_graph.proofs.paths.canon.Given as goal
+use Rattle.kt_graph.proofs.paths.resolved.Given as goal
 
 abbrev pub invariant-loop-part : goal.invariant-loop-part
 invariant-loop-part l =

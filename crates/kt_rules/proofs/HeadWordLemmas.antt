@@ -1,0 +1,236 @@
+-- The words of a head: each text is cut into words and separators, in one way.
+use Rattle.std.proofs.Common.{◌≡◌, ℕ, suc, ◌-◌, Bool, true, false, List, [], ◌∷◌, ◌++◌, length, take, map, filter, flat_map, All, refl, sym, ap, subst, ◌∙◌, true≢false, arith, ⊎_elim, ◌⊎◌, inl, inr, append_assoc, append-nil}
+use Rattle.std.specs.Prelude.{◌==◌}
+use Rattle.std.specs.List.{onto_first}
+use Rattle.std.proofs.lemmas.List.Elements.{All-cons, All-nil}
+use Rattle.kt_text.specs.Words.{Text, is_nonempty, is_separator}
+use Rattle.kt_rules.specs.declared.cutting.Cut.TheVariants.{Separator}
+use Rattle.kt_rules.specs.Names.{pieces_of, written_words}
+use Rattle.kt_rules.specs.Cuts.{ends_in_backslash}
+use Rattle.kt_rules.specs.HeadWords.{separates, HoldsNoSeparator, Part, part_text, part_word, IsPart, HasGap, AreApart, AreWords, WrittenWordsLaw}
+use Rattle.kt_rules.proofs.PartLemmas.{right_false, AreSeparators, QuotesNone, first_is, others_are, one_more_is, none_in, all_head, all_tail, no_backslash, cuts_is, is_one, not_quoted, separates_too, holds_less, holds_none, holds_more}
+
+-- a word ends at the first byte that separates
+word_ends : (before : Bool) (word rest : Text) (byte : ℕ) → HoldsNoSeparator before word
+    → separates (ends_in_backslash before word) byte ≡ true
+    → pieces_of Separator before (word ++ byte ∷ rest) ≡ word ∷ pieces_of Separator false rest
+unfolding pieces_of
+word_ends before [] rest byte h s = rw (cuts_is before byte ∙ s) refl
+word_ends before (first ∷ word) rest byte h s =
+    rw (cuts_is before first ∙ h [] word first refl)
+    (ap (onto_first first) (word_ends (first == 92) word rest byte (holds_less before first word h) s))
+
+-- or at the end of the text
+word_alone : (before : Bool) (word : Text) → HoldsNoSeparator before word → pieces_of Separator before word ≡ word ∷ []
+unfolding pieces_of
+word_alone before [] h = refl
+word_alone before (first ∷ word) h =
+    rw (cuts_is before first ∙ h [] word first refl)
+    (ap (onto_first first) (word_alone (first == 92) word (holds_less before first word h)))
+
+-- separators make no word
+one_skipped : (byte : ℕ) (text : Text) → is_separator byte ≡ true → written_words (byte ∷ text) ≡ written_words text
+unfolding pieces_of written_words
+one_skipped byte text h = rw h refl
+
+gap_skipped : (gap rest : Text) → AreSeparators gap → written_words (gap ++ rest) ≡ written_words rest
+gap_skipped [] rest h = refl
+gap_skipped (byte ∷ gap) rest h =
+    one_skipped byte (gap ++ rest) (first_is byte gap h)
+    ∙ gap_skipped gap rest (others_are byte gap h)
+
+word_kept : (word : Text) (words : List Text) → is_nonempty word ≡ true
+    → filter is_nonempty (word ∷ words) ≡ word ∷ filter is_nonempty words
+word_kept [] words h = absurd (true≢false (sym h))
+word_kept (byte ∷ word) words h = refl
+
+-- where there is no separator, nothing follows
+abbrev Goes : {A : Type 0} → Text → List A → Type 0
+Goes gap rest = (is_nonempty gap ≡ true) ⊎ (rest ≡ [])
+
+-- a word with separators behind it, or at the end of the text
+one_word : (word gap rest : Text) → is_nonempty word ≡ true → HoldsNoSeparator false word → AreSeparators gap
+    → QuotesNone false word gap → Goes gap rest
+    → written_words ((word ++ gap) ++ rest) ≡ word ∷ written_words rest
+unfolding pieces_of written_words
+one_word word [] rest some holds gaps q end =
+    ⊎_elim (λ h. absurd (true≢false (sym h)))
+    (λ h. rw h (ap written_words (append-nil (word ++ []) ∙ append-nil word)
+    ∙ ap (filter is_nonempty) (word_alone false word holds) ∙ word_kept word [] some)) end
+one_word word (byte ∷ gap) rest some holds gaps q end =
+    let one = first_is byte gap gaps in
+    ap written_words (append_assoc word (byte ∷ gap) rest)
+    ∙ ap (filter is_nonempty)
+    (word_ends false word (gap ++ rest) byte holds (separates_too (ends_in_backslash false word) byte one q))
+    ∙ word_kept word (pieces_of Separator false (gap ++ rest)) some
+    ∙ ap (λ (words : List Text). word ∷ words) (gap_skipped gap rest (others_are byte gap gaps))
+
+less_one : (n : ℕ) → suc n - 1 ≡ n
+less_one n = omega arith
+
+-- the gaps of parts, without the first, and with one more
+apart_first : (part next : Part) (parts : List Part) → AreApart (part ∷ next ∷ parts) → HasGap part
+apart_first part next parts h =
+    all_head HasGap part (take (length parts) (next ∷ parts))
+    (subst (λ n. All HasGap (take n (part ∷ next ∷ parts))) (less_one (suc (length parts))) h)
+
+apart_less : (part next : Part) (parts : List Part) → AreApart (part ∷ next ∷ parts)
+    → AreApart (next ∷ parts)
+apart_less part next parts h =
+    subst (λ n. All HasGap (take n (next ∷ parts))) (sym (less_one (length parts)))
+    (all_tail HasGap part (take (length parts) (next ∷ parts))
+    (subst (λ n. All HasGap (take n (part ∷ next ∷ parts))) (less_one (suc (length parts))) h))
+
+apart_more : (part : Part) (parts : List Part) → Goes part.gap parts → AreApart parts
+    → AreApart (part ∷ parts)
+apart_more part [] g h = subst (λ n. All HasGap (take n (part ∷ []))) (sym (less_one 0)) (All-nil HasGap)
+apart_more part (next ∷ parts) g h =
+    let has : HasGap part = ⊎_elim (λ yes. yes) (λ no. absurd (none_in next [] parts (sym no))) g in
+    subst (λ n. All HasGap (take n (part ∷ next ∷ parts))) (sym (less_one (suc (length parts))))
+    (All-cons HasGap part (take (length parts) (next ∷ parts)) has
+    (subst (λ n. All HasGap (take n (next ∷ parts))) (less_one (length parts)) h))
+
+-- parts that are put together are cut again
+words_of_parts : (parts : List Part) → All IsPart parts → AreApart parts
+    → written_words (flat_map part_text parts) ≡ map part_word parts
+unfolding written_words pieces_of
+words_of_parts [] each apart = refl
+words_of_parts (part ∷ []) each apart =
+    let one = all_head IsPart part [] each in
+    one_word part.word part.gap [] one.some one.whole one.behind.separators one.behind.unquoted (inr refl)
+words_of_parts (part ∷ next ∷ parts) each apart =
+    let one = all_head IsPart part (next ∷ parts) each in
+    one_word part.word part.gap (flat_map part_text (next ∷ parts))
+    one.some one.whole one.behind.separators one.behind.unquoted
+    (inl (apart_first part next parts apart))
+    ∙ ap (λ (words : List Text). part.word ∷ words)
+    (words_of_parts (next ∷ parts) (all_tail IsPart part (next ∷ parts) each) (apart_less part next parts apart))
+
+are_written : (text leading : Text) (parts : List Part) → text ≡ leading ++ flat_map part_text parts
+    → AreSeparators leading
+    → All IsPart parts → AreApart parts → written_words text ≡ map part_word parts
+are_written text leading parts e gap each apart =
+    ap written_words e ∙ gap_skipped leading (flat_map part_text parts) gap ∙ words_of_parts parts each apart
+
+-- a text cut up behind a byte: what is left of a word, separators, and parts
+record CutUp (before : Bool) (text : Text) : Type 0 where
+  first : Text
+  gap : Text
+  parts : List Part
+  together : text ≡ first ++ (gap ++ flat_map part_text parts)
+  holds : HoldsNoSeparator before first
+  separators : AreSeparators gap
+  unquoted : QuotesNone before first gap
+  each : All IsPart parts
+  apart : AreApart parts
+  between : Goes gap parts
+
+abbrev part_of : Text → Text → Part
+part_of word gap = record { word = word; gap = gap }
+
+is_part : (byte : ℕ) (word gap : Text) → HoldsNoSeparator false (byte ∷ word) → AreSeparators gap
+    → QuotesNone false (byte ∷ word) gap → IsPart (part_of (byte ∷ word) gap)
+is_part byte word gap holds gaps q =
+    record { some = refl; whole = holds; behind = record { separators = gaps; unquoted = q } }
+
+-- a byte that separates, before a word or before separators
+cut_gap : (before : Bool) (byte : ℕ) (text first gap : Text) (parts : List Part) → separates before byte ≡ true
+    → text ≡ first ++ (gap ++ flat_map part_text parts) → HoldsNoSeparator false first → AreSeparators gap
+    → QuotesNone false first gap → All IsPart parts → AreApart parts
+    → Goes gap parts → CutUp before (byte ∷ text)
+cut_gap before byte text [] gap parts s e holds gaps q each apart between = record {
+  first = [];
+  gap = byte ∷ gap;
+  parts = parts;
+  together = ap (λ (xs : Text). byte ∷ xs) e;
+  holds = holds_none before;
+  separators = one_more_is byte gap (is_one before byte s) gaps;
+  unquoted = not_quoted before byte s;
+  each = each;
+  apart = apart;
+  between = inl refl;
+}
+cut_gap before byte text (letter ∷ word) gap parts s e holds gaps q each apart between = record {
+  first = [];
+  gap = byte ∷ [];
+  parts = part_of (letter ∷ word) gap ∷ parts;
+  together = ap (λ (xs : Text). byte ∷ xs) (e ∙ sym (append_assoc (letter ∷ word) gap (flat_map part_text parts)));
+  holds = holds_none before;
+  separators = one_more_is byte [] (is_one before byte s) refl;
+  unquoted = not_quoted before byte s;
+  each = All-cons IsPart (part_of (letter ∷ word) gap) parts (is_part letter word gap holds gaps q) each;
+  apart = apart_more (part_of (letter ∷ word) gap) parts between apart;
+  between = inl refl;
+}
+
+cut_more : (before : Bool) (byte : ℕ) (text : Text) → CutUp (byte == 92) text → (b : Bool) → separates before byte ≡ b
+    → CutUp before (byte ∷ text)
+cut_more before byte text rest true s =
+    let no : (byte == 92) ≡ false = no_backslash byte (is_one before byte s) in
+    cut_gap before byte text rest.first rest.gap rest.parts s rest.together
+    (subst (λ b. HoldsNoSeparator b rest.first) no rest.holds) rest.separators
+    (subst (λ b. QuotesNone b rest.first rest.gap) no rest.unquoted)
+    rest.each rest.apart rest.between
+cut_more before byte text rest false s = record {
+  first = byte ∷ rest.first;
+  gap = rest.gap;
+  parts = rest.parts;
+  together = ap (λ (xs : Text). byte ∷ xs) rest.together;
+  holds = holds_more before byte rest.first s rest.holds;
+  separators = rest.separators;
+  unquoted = rest.unquoted;
+  each = rest.each;
+  apart = rest.apart;
+  between = rest.between;
+}
+
+cut_up : (before : Bool) (text : Text) → CutUp before text
+cut_up before [] = record {
+  first = [];
+  gap = [];
+  parts = [];
+  together = refl;
+  holds = holds_none before;
+  separators = refl;
+  unquoted = right_false before;
+  each = All-nil IsPart;
+  apart = λ k d within. absurd (omega (arith, within));
+  between = inr refl;
+}
+cut_up before (byte ∷ text) = cut_more before byte text (cut_up (byte == 92) text) (separates before byte) refl
+
+from_all : (text leading : Text) (parts : List Part) → text ≡ leading ++ flat_map part_text parts
+    → AreSeparators leading → All IsPart parts → AreApart parts → AreWords text (written_words text)
+from_all text leading parts e gap each apart = record {
+  leading = leading;
+  parts = parts;
+  together = e;
+  are_words = are_written text leading parts e gap each apart;
+  before = record { separators = gap; unquoted = refl };
+  each = each;
+  apart = apart;
+}
+
+-- from the begin: the first word may be missing
+from_parts : (text first gap : Text) (parts : List Part) → text ≡ first ++ (gap ++ flat_map part_text parts)
+    → HoldsNoSeparator false first → AreSeparators gap → QuotesNone false first gap → All IsPart parts → AreApart parts
+    → Goes gap parts → AreWords text (written_words text)
+from_parts text [] gap parts e holds gaps q each apart between = from_all text gap parts e gaps each apart
+from_parts text (letter ∷ word) gap parts e holds gaps q each apart between =
+    from_all text [] (part_of (letter ∷ word) gap ∷ parts)
+    (e ∙ sym (append_assoc (letter ∷ word) gap (flat_map part_text parts))) refl
+    (All-cons IsPart (part_of (letter ∷ word) gap) parts (is_part letter word gap holds gaps q) each)
+    (apart_more (part_of (letter ∷ word) gap) parts between apart)
+
+some_words : (text : Text) → AreWords text (written_words text)
+some_words text =
+    let cut = cut_up false text in
+    from_parts text cut.first cut.gap cut.parts cut.together cut.holds cut.separators cut.unquoted cut.each
+    cut.apart cut.between
+
+only_words : (text : Text) (words : List Text) → AreWords text words → words ≡ written_words text
+only_words text words are =
+    are.are_words ∙ sym (are_written text are.leading are.parts are.together are.before.separators are.each are.apart)
+
+pub written_words_law : WrittenWordsLaw
+written_words_law = record { some = some_words; only = only_words }

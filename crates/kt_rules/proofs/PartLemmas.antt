@@ -1,0 +1,119 @@
+-- What separates the words of a head, and lists that begin or end with an element.
+use Rattle.std.proofs.Common.{◌≡◌, ℕ, suc, Bool, true, false, not, List, [], ◌∷◌, ◌++◌, All, refl, sym, ap, ◌∙◌, true≢false, arith}
+use Rattle.std.specs.Prelude.{◌==◌, ◌&&◌, ◌||◌}
+use Rattle.std.proofs.lemmas.Bool.{eqb-true}
+use Rattle.std.specs.List.{list_all}
+use Rattle.kt_text.specs.Words.{Text, is_separator}
+use Rattle.kt_rules.specs.declared.cutting.Cut.TheVariants.{Separator}
+use Rattle.kt_rules.specs.Names.{cuts, is_quotable}
+use Rattle.kt_rules.specs.Cuts.{ends_in_backslash}
+use Rattle.kt_rules.specs.HeadWords.{separates, HoldsNoSeparator, begins_with_space}
+
+pub and_left : (a b : Bool) → (a && b) ≡ true → a ≡ true
+and_left true b h = refl
+and_left false b h = absurd (true≢false (sym h))
+
+pub and_right : (a b : Bool) → (a && b) ≡ true → b ≡ true
+and_right true b h = h
+and_right false b h = absurd (true≢false (sym h))
+
+pub both_true : (a b : Bool) → a ≡ true → b ≡ true → (a && b) ≡ true
+both_true a b e f = rw e f
+
+pub right_false : (a : Bool) → (a && false) ≡ false
+right_false true = refl
+right_false false = refl
+
+pub no_true : (a : Bool) → not a ≡ true → a ≡ false
+no_true true h = absurd (true≢false (sym h))
+no_true false h = refl
+
+pub none_in : {A : Type 0} (x : A) (front back : List A) → [] ≡ front ++ x ∷ back → ⊥
+none_in x [] back h = cc
+none_in x (y ∷ front) back h = cc
+
+pub head_is : {A : Type 0} (x y : A) (xs ys : List A) → x ∷ xs ≡ y ∷ ys → x ≡ y
+head_is x y xs ys h = cc
+
+pub tail_is : {A : Type 0} (x y : A) (xs ys : List A) → x ∷ xs ≡ y ∷ ys → xs ≡ ys
+tail_is x y xs ys h = cc
+
+pub all_head : {A : Type 0} (P : A → Type 0) (x : A) (xs : List A) → All P (x ∷ xs) → P x
+all_head P x xs h = h 0 x (omega arith)
+
+pub all_tail : {A : Type 0} (P : A → Type 0) (x : A) (xs : List A) → All P (x ∷ xs) → All P xs
+all_tail P x xs h = λ k d within. h (suc k) d (omega (arith, within))
+
+abbrev pub AreSeparators : Text → Type 0
+AreSeparators text = list_all is_separator text ≡ true
+
+-- a backslash at a text's end quotes no space at the begin of the text behind it
+abbrev pub QuotesNone : Bool → Text → Text → Type 0
+QuotesNone before text behind = (ends_in_backslash before text && begins_with_space behind) ≡ false
+
+pub first_is : (byte : ℕ) (text : Text) → AreSeparators (byte ∷ text) → is_separator byte ≡ true
+first_is byte text h = and_left (is_separator byte) (list_all is_separator text) h
+
+pub others_are : (byte : ℕ) (text : Text) → AreSeparators (byte ∷ text) → AreSeparators text
+others_are byte text h = and_right (is_separator byte) (list_all is_separator text) h
+
+pub one_more_is : (byte : ℕ) (text : Text) → is_separator byte ≡ true → AreSeparators text → AreSeparators (byte ∷ text)
+one_more_is byte text h all = both_true (is_separator byte) (list_all is_separator text) h all
+
+-- a separator that can be quoted is a space
+space_only : (byte : ℕ) → is_separator byte ≡ true → is_quotable byte ≡ (byte == 32)
+unfolding is_separator
+space_only byte h = by (byte == 32) (byte == 9) (byte == 10) refl refl refl h
+  where
+    by : (a b c : Bool) → byte == 32 ≡ a → byte == 9 ≡ b → byte == 10 ≡ c → (a || b || c) ≡ true → (a || byte == 58) ≡ a
+    by true b c e f g k = refl
+    by false true c e f g k = rw (eqb-true byte 9 f) refl
+    by false false true e f g k = rw (eqb-true byte 10 g) refl
+    by false false false e f g k = absurd (true≢false (sym k))
+
+-- and none is a backslash
+pub no_backslash : (byte : ℕ) → is_separator byte ≡ true → (byte == 92) ≡ false
+unfolding is_separator
+no_backslash byte h = by (byte == 32) (byte == 9) (byte == 10) refl refl refl h
+  where
+    by : (a b c : Bool) → byte == 32 ≡ a → byte == 9 ≡ b → byte == 10 ≡ c → (a || b || c) ≡ true → (byte == 92) ≡ false
+    by true b c e f g k = rw (eqb-true byte 32 e) refl
+    by false true c e f g k = rw (eqb-true byte 9 f) refl
+    by false false true e f g k = rw (eqb-true byte 10 g) refl
+    by false false false e f g k = absurd (true≢false (sym k))
+
+-- words are cut at the bytes that separate
+pub cuts_is : (behind : Bool) (byte : ℕ) → cuts Separator behind byte ≡ separates behind byte
+cuts_is behind byte = by (is_separator byte) refl
+  where
+    by : (b : Bool) → is_separator byte ≡ b
+        → (b && not (behind && is_quotable byte)) ≡ (b && not (behind && byte == 32))
+    by true h = ap (λ q. not (behind && q)) (space_only byte h)
+    by false h = refl
+
+-- what a byte that separates is
+pub is_one : (behind : Bool) (byte : ℕ) → separates behind byte ≡ true → is_separator byte ≡ true
+is_one behind byte h = and_left (is_separator byte) (not (behind && byte == 32)) h
+
+pub not_quoted : (behind : Bool) (byte : ℕ) → separates behind byte ≡ true → (behind && byte == 32) ≡ false
+not_quoted behind byte h = no_true (behind && byte == 32) (and_right (is_separator byte) (not (behind && byte == 32)) h)
+
+pub separates_too : (behind : Bool) (byte : ℕ) → is_separator byte ≡ true → (behind && byte == 32) ≡ false
+    → separates behind byte ≡ true
+separates_too behind byte h q = both_true (is_separator byte) (not (behind && byte == 32)) h (ap not q)
+
+-- a text that holds none, without its first byte, and with one more
+pub holds_less : (before : Bool) (byte : ℕ) (text : Text) → HoldsNoSeparator before (byte ∷ text)
+    → HoldsNoSeparator (byte == 92) text
+holds_less before byte text h = λ front back other e. h (byte ∷ front) back other (ap (λ (xs : Text). byte ∷ xs) e)
+
+pub holds_none : (before : Bool) → HoldsNoSeparator before []
+holds_none before = λ front back byte e. absurd (none_in byte front back e)
+
+pub holds_more : (before : Bool) (byte : ℕ) (text : Text) → separates before byte ≡ false
+    → HoldsNoSeparator (byte == 92) text → HoldsNoSeparator before (byte ∷ text)
+holds_more before byte text s h [] back other e = ap (separates before) (sym (head_is byte other text back e)) ∙ s
+holds_more before byte text s h (first ∷ front) back other e =
+    ap (λ b. separates (ends_in_backslash (b == 92) front) other)
+    (sym (head_is byte first text (front ++ other ∷ back) e))
+    ∙ h front back other (tail_is byte first text (front ++ other ∷ back) e)

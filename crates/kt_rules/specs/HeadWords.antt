@@ -1,0 +1,115 @@
+-- How the head of a rule line is cut into words, trimmed and unquoted, as facts about the parts of a text (POSIX.1-2024
+-- make, "Target Rules": names separated by blanks). That a backslash quotes only a space or colon directly behind it is
+-- kati's own.
+use Rattle.std.specs.Prelude.{◌≡◌, ℕ, Bool, true, false, not, ◌-◌, ◌==◌, ◌&&◌, List, [], ◌∷◌, ◌++◌, length, take, map, flat_map, All}
+use Rattle.std.specs.List.{list_all}
+use Rattle.kt_text.specs.Words.{Text, is_nonempty, is_separator}
+use Rattle.kt_rules.specs.Names.{is_quotable, begins_quotable, written_words, without_outer_separators, unquoted}
+use Rattle.kt_rules.specs.Cuts.{ends_in_backslash}
+
+-- whether a byte separates words: a separator, but no space that a backslash directly before it quotes
+abbrev pub separates : Bool → ℕ → Bool
+separates behind_backslash byte = is_separator byte && not (behind_backslash && byte == 32)
+
+-- no byte of a text separates words; a backslash may stand directly before the text
+abbrev pub HoldsNoSeparator : Bool → Text → Type 0
+HoldsNoSeparator before text = (front back : Text) (byte : ℕ) → text ≡ front ++ byte ∷ back
+    → separates (ends_in_backslash before front) byte ≡ false
+
+abbrev pub begins_with_space : Text → Bool
+begins_with_space [] = false
+begins_with_space (byte ∷ text) = byte == 32
+
+-- separators alone, which stand behind a text: a backslash at its end quotes none of them
+pub record IsGap (text gap : Text) : Type 0 where
+  pub separators : list_all is_separator gap ≡ true
+  pub unquoted : (ends_in_backslash false text && begins_with_space gap) ≡ false
+
+-- a word with the separators behind it
+pub record Part : Type 0 where
+  pub word : Text
+  pub gap : Text
+
+abbrev pub part_text : Part → Text
+part_text part = part.word ++ part.gap
+
+abbrev pub part_word : Part → Text
+part_word part = part.word
+
+-- a word has a byte and none that separates; behind it stand separators
+pub record IsPart (part : Part) : Type 0 where
+  pub some : is_nonempty part.word ≡ true
+  pub whole : HoldsNoSeparator false part.word
+  pub behind : IsGap part.word part.gap
+
+abbrev pub HasGap : Part → Type 0
+HasGap part = is_nonempty part.gap ≡ true
+
+-- between two parts there are separators: only behind the last there may be none
+abbrev pub AreApart : List Part → Type 0
+AreApart parts = All HasGap (take (length parts - 1) parts)
+
+-- a text is separators and its words, each with the separators behind it
+pub record AreWords (text : Text) (words : List Text) : Type 0 where
+  pub leading : Text
+  pub parts : List Part
+  pub together : text ≡ leading ++ flat_map part_text parts
+  pub are_words : words ≡ map part_word parts
+  pub before : IsGap [] leading
+  pub each : All IsPart parts
+  pub apart : AreApart parts
+
+-- each text has such words, the written ones, and no others
+pub record WrittenWordsLaw : Type 0 where
+  pub some : (text : Text) → AreWords text (written_words text)
+  pub only : (text : Text) (words : List Text) → AreWords text words → words ≡ written_words text
+
+-- the first byte of a text, if there is one, is no separator
+abbrev pub BeginsWithNone : Text → Type 0
+BeginsWithNone text = (back : Text) (byte : ℕ) → text ≡ byte ∷ back → is_separator byte ≡ false
+
+-- its last byte, if there is one, doesn't separate words; a backslash may stand directly before the text
+abbrev pub EndsWithNone : Bool → Text → Type 0
+EndsWithNone before text = (front : Text) (byte : ℕ) → text ≡ front ++ byte ∷ []
+    → separates (ends_in_backslash before front) byte ≡ false
+
+-- a text is separators, a middle that neither begins nor ends with one, and separators again
+pub record IsMiddle (text middle : Text) : Type 0 where
+  pub leading : Text
+  pub trailing : Text
+  pub together : text ≡ leading ++ (middle ++ trailing)
+  pub before : IsGap [] leading
+  pub behind : IsGap middle trailing
+  pub begin : BeginsWithNone middle
+  pub end : EndsWithNone false middle
+
+-- each text has such a middle, what is left without its outer separators, and no other
+pub record OuterLaw : Type 0 where
+  pub some : (text : Text) → IsMiddle text (without_outer_separators text)
+  pub only : (text middle : Text) → IsMiddle text middle → middle ≡ without_outer_separators text
+
+-- no backslash of a text quotes: none stands directly before a space or colon
+abbrev pub HoldsNoQuote : Text → Type 0
+HoldsNoQuote text = (front back : Text) (byte : ℕ) → text ≡ front ++ 92 ∷ byte ∷ back → is_quotable byte ≡ false
+
+-- a piece with the backslash before it
+abbrev pub quoted_text : Text → Text
+quoted_text piece = 92 ∷ piece
+
+abbrev pub piece_text : Text → Text
+piece_text piece = piece
+
+-- a text is pieces with a backslash before each but the first, and another the same pieces without them: these
+-- backslashes quote the byte directly behind them, and no other does
+pub record IsUnquoted (text left : Text) : Type 0 where
+  pub first : Text
+  pub pieces : List Text
+  pub together : text ≡ first ++ flat_map quoted_text pieces
+  pub stays : left ≡ first ++ flat_map piece_text pieces
+  pub quoted : list_all begins_quotable pieces ≡ true
+  pub no_other : All HoldsNoQuote (first ∷ pieces)
+
+-- each text has such another, what unquoting leaves of it, and no second one
+pub record UnquotedLaw : Type 0 where
+  pub some : (text : Text) → IsUnquoted text (unquoted text)
+  pub only : (text left : Text) → IsUnquoted text left → left ≡ unquoted text
