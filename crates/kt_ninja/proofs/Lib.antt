@@ -14,6 +14,8 @@ pub mod PrintThenRead
 pub mod JoinedLemmas
 pub mod TableLemmas
 pub mod PieceLemmas
+pub mod SpellingLemmas
+pub mod ContinuedLemmas
 pub mod ScopeLemmas
 pub mod FormLemmas
 pub mod StateLemmas

@@ -6,7 +6,9 @@ pub mod Blocks
 pub mod Memory
 pub mod Escaping
 pub mod JoinedLines
+pub mod Continued
 pub mod Pieces
+pub mod Spellings
 pub mod Forms
 pub mod Scopes
 pub mod NinjaRead
