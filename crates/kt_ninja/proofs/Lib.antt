@@ -17,6 +17,8 @@ pub mod PieceLemmas
 pub mod SpellingLemmas
 pub mod ContinuedLemmas
 pub mod ScopeLemmas
+pub mod SpelledLemmas
+pub mod SpelledParts
 pub mod FormLemmas
 pub mod StateLemmas
 pub mod ReaderLemmas

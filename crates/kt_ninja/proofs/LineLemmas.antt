@@ -1,10 +1,10 @@
 -- The forms of a line, by their parts.
-use Rattle.std.proofs.Common.{◌≡◌, ℕ, suc, ◌+◌, ◌<◌, Bool, true, false, List, [], ◌∷◌, refl, sym, ◌∙◌, ap, length, take, drop, arith, Option, Some, None, option_map, ⊎_elim}
-use Rattle.std.proofs.lemmas.Bool.{cases_Bool}
-use Rattle.std.proofs.lemmas.List.{drop-drop}
+use Rattle.std.proofs.Common.{◌≡◌, suc, ◌+◌, true, false, List, [], ◌∷◌, ◌++◌, refl, sym, ◌∙◌, ap, length, take, drop, arith, Option, Some, None, option_map, ⊎_elim}
+use Rattle.std.proofs.lemmas.Bool.{cases_Bool, false≢true}
+use Rattle.std.proofs.Math.Seq.{take-append_seam}
 use Rattle.std.specs.Option.{option_and_then}
-use Rattle.std.specs.List.{list_any, position_or_len, prefix_len, slice_split, before_first, after_first}
-use Rattle.kt_ninja.specs.declared.piece.Piece.{Piece}
+use Rattle.std.specs.List.{list_any, position_or_len, slice_split, before_first, after_first}
+use Rattle.kt_ninja.specs.Pieces.{Plain}
 use Rattle.kt_ninja.specs.JoinedLines.{Text}
 use Rattle.kt_ninja.specs.Forms.{Inputs, Pieces, begins_with_at, binding_of, bound_to, build_behind, build_cut, build_of, defaults_of, inputs_of, is_keyword, is_plain, name_in, paths_of, rule_of, without_lead, words_of}
 use Rattle.kt_ninja.specs.inner.Wording.{bars_cut, key_of, not_keyword, two_of}
@@ -24,23 +24,6 @@ key_taken ps words name text h is same taken = key_by ps words (Some name) h is 
 pub key_free : (ps : Pieces) (words : List Pieces) (name text : Text) → words ≡ words_of ps → name_in words ≡ Some name → text ≡ name → is_keyword text ≡ false → key_of ps ≡ Some name
 key_free ps words name text h is same free = key_by ps words (Some name) h is ∙ rw (sym same) (rw free refl)
 
--- whether a piece passes, by the first place
-pub any_none : (test : Piece → Bool) (ps : Pieces) → position_or_len test ps ≡ length ps → list_any test ps ≡ false
-any_none test [] h = refl
-any_none test (p ∷ ps) h =
-    ⊎_elim
-    (λ t. absurd (let e : 0 ≡ suc (length ps) = rw t at h in omega (arith, e)))
-    (λ f. rw f (any_none test ps (let e : 1 + position_or_len test ps ≡ suc (length ps) = rw f at h in omega (arith, e))))
-    (cases_Bool (test p))
-
-pub any_some : (test : Piece → Bool) (ps : Pieces) → position_or_len test ps < length ps → list_any test ps ≡ true
-any_some test [] h = absurd (omega (arith, h))
-any_some test (p ∷ ps) h =
-    ⊎_elim
-    (λ t. rw t refl)
-    (λ f. rw f (any_some test ps (let e : 1 + position_or_len test ps < suc (length ps) = rw f at h in omega (arith, e))))
-    (cases_Bool (test p))
-
 -- bindings
 pub binding_none : (ps : Pieces) → list_any (is_plain 61) ps ≡ false → binding_of ps ≡ None
 unfolding binding_of
@@ -55,20 +38,44 @@ pub binding_by : (ps : Pieces) → list_any (is_plain 61) ps ≡ true
 unfolding binding_of key_of
 binding_by ps h = rw h (bound (without_lead (after_first (is_plain 61) ps)) (name_in (words_of (before_first (is_plain 61) ps))))
 
-pub binding_refused : (ps : Pieces) (place : ℕ) → place ≡ position_or_len (is_plain 61) ps → place < length ps → key_of (take place ps) ≡ None → binding_of ps ≡ None
-binding_refused ps place is low h =
-    binding_by ps (any_some (is_plain 61) ps (rw is at low))
-    ∙ ap (option_map (λ key. record { key = key; value = without_lead (after_first (is_plain 61) ps) })) (ap (λ n. key_of (take n ps)) (sym is) ∙ h)
+-- a line by what stands on both sides of its first `=`
+place_is : (front back : Pieces) → list_any (is_plain 61) front ≡ false → position_or_len (is_plain 61) (front ++ Plain 61 ∷ back) ≡ length front
+place_is [] back h = refl
+place_is (p ∷ ps) back h =
+    ⊎_elim
+    (λ d. absurd (let yes : list_any (is_plain 61) (p ∷ ps) ≡ true = rw d refl in false≢true (sym h ∙ yes)))
+    (λ d. let later = place_is ps back (rw d at h) in
+    let more : position_or_len (is_plain 61) (p ∷ (ps ++ Plain 61 ∷ back)) ≡ 1 + position_or_len (is_plain 61) (ps ++ Plain 61 ∷ back) = rw d refl in
+    omega (arith, more, later))
+    (cases_Bool (is_plain 61 p))
 
-pub binding_read : (ps value : Pieces) (place lead : ℕ) (key : Text) → place ≡ position_or_len (is_plain 61) ps → place < length ps → key_of (take place ps) ≡ Some key
-    → lead ≡ prefix_len (is_plain 32) (drop (place + 1) ps) → value ≡ drop (place + 1 + lead) ps
-    → binding_of ps ≡ Some (record { key = key; value = value })
-binding_read ps value place lead key is low h spaces cut =
-    let rest : value ≡ without_lead (after_first (is_plain 61) ps) =
-    cut ∙ sym (drop-drop lead (place + 1) ps) ∙ ap (λ n. drop n (drop (place + 1) ps)) spaces ∙ ap (λ n. without_lead (drop (n + 1) ps)) is in
-    binding_by ps (any_some (is_plain 61) ps (rw is at low))
-    ∙ ap (option_map (λ k. record { key = k; value = without_lead (after_first (is_plain 61) ps) })) (ap (λ n. key_of (take n ps)) (sym is) ∙ h)
-    ∙ ap (λ v. Some (record { key = key; value = v })) (sym rest)
+drop_past : (front back : Pieces) → drop (length front + 1) (front ++ Plain 61 ∷ back) ≡ back
+drop_past [] back = refl
+drop_past (p ∷ ps) back = let e : length (p ∷ ps) + 1 ≡ suc (length ps + 1) = omega arith in rw e (drop_past ps back)
+
+any_mark : (front back : Pieces) → list_any (is_plain 61) (front ++ Plain 61 ∷ back) ≡ true
+any_mark [] back = refl
+any_mark (p ∷ ps) back = ⊎_elim (λ d. rw d refl) (λ d. rw d (any_mark ps back)) (cases_Bool (is_plain 61 p))
+
+binding_sides : (ps front back : Pieces) → ps ≡ front ++ Plain 61 ∷ back → list_any (is_plain 61) front ≡ false
+    → binding_of ps ≡ option_map (λ key. record { key = key; value = without_lead back }) (key_of front)
+binding_sides ps front back is free =
+    let here : binding_of (front ++ Plain 61 ∷ back) ≡ option_map (λ key. record { key = key; value = without_lead (after_first (is_plain 61) (front ++ Plain 61 ∷ back)) })
+    (key_of (before_first (is_plain 61) (front ++ Plain 61 ∷ back))) = binding_by (front ++ Plain 61 ∷ back) (any_mark front back) in
+    let before : before_first (is_plain 61) (front ++ Plain 61 ∷ back) ≡ front =
+    ap (λ n. take n (front ++ Plain 61 ∷ back)) (place_is front back free) ∙ take-append_seam front (Plain 61 ∷ back) in
+    let after : after_first (is_plain 61) (front ++ Plain 61 ∷ back) ≡ back =
+    ap (λ n. drop (n + 1) (front ++ Plain 61 ∷ back)) (place_is front back free) ∙ drop_past front back in
+    ap binding_of is ∙ here ∙ ap (λ v. option_map (λ key. record { key = key; value = without_lead v }) (key_of (before_first (is_plain 61) (front ++ Plain 61 ∷ back)))) after
+    ∙ ap (λ f. option_map (λ key. record { key = key; value = without_lead back }) (key_of f)) before
+
+pub binding_refused : (ps front back : Pieces) → ps ≡ front ++ Plain 61 ∷ back → list_any (is_plain 61) front ≡ false → key_of front ≡ None → binding_of ps ≡ None
+binding_refused ps front back is free h = binding_sides ps front back is free ∙ ap (option_map (λ key. record { key = key; value = without_lead back })) h
+
+pub binding_read : (ps front back value : Pieces) (key : Text) → ps ≡ front ++ Plain 61 ∷ back → list_any (is_plain 61) front ≡ false → key_of front ≡ Some key
+    → value ≡ without_lead back → binding_of ps ≡ Some (record { key = key; value = value })
+binding_read ps front back value key is free h cut =
+    binding_sides ps front back is free ∙ ap (option_map (λ k. record { key = k; value = without_lead back })) h ∙ ap (λ v. Some (record { key = key; value = v })) (sym cut)
 
 -- default targets
 pub defaults_none : (ps : Pieces) → list_any (is_plain 58) ps ≡ true → defaults_of ps ≡ None

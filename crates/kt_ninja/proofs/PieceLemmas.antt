@@ -1,18 +1,16 @@
 -- Pieces, cut off one after another.
-use Rattle.std.proofs.Common.{◌≡◌, ◌≢◌, ℕ, suc, zero, ◌+◌, ◌≤◌, Bool, true, false, ◌==◌, List, [], ◌∷◌, ◌++◌, refl, sym, ◌∙◌, ap, append_assoc, append-nil, length, take, drop, arith, Option, Some, None, option_map, if◌then◌else◌, ⊎_elim}
+use Rattle.std.proofs.Common.{◌≡◌, ◌≢◌, ℕ, suc, zero, ◌+◌, ◌≤◌, Bool, true, false, ◌==◌, List, [], ◌∷◌, ◌++◌, refl, sym, ◌∙◌, ap, append_assoc, append-nil, length, take, drop, arith, MatchOption, Option, Some, None, option_map, if◌then◌else◌, ⊎_elim}
 use Rattle.std.proofs.lemmas.Bool.{cases_Bool, false≢true, eqb-true}
 use Rattle.std.proofs.lemmas.List.{length-drop}
 use Rattle.std.specs.Option.{option_and_then}
 use Rattle.std.specs.List.{prefix_len}
-use Rattle.kt_ninja.specs.declared.piece.Piece.{Piece}
-use Rattle.kt_ninja.specs.declared.piece.Piece.TheVariants.{Plain, Escaped, Variable}
-use Rattle.kt_ninja.specs.declared.piece.Cut.{Cut}
+use Rattle.kt_ninja.specs.declared.spelling.Cut.{Cut}
 use Rattle.kt_ninja.specs.declared.read_fault.Fault.{Fault}
 use Rattle.kt_ninja.specs.declared.read_fault.Fault.TheVariants.{NoReading, Memory}
 use Rattle.kt_ninja.specs.JoinedLines.{Text}
 use Rattle.kt_ninja.specs.Writable.{is_empty}
-use Rattle.kt_ninja.specs.Pieces.{Where, behind_dollar, in_braces, in_name, is_escapable, is_long_name_byte, is_short_name_byte, outer_step, outside, pieces, pieces_from}
-use Rattle.kt_ninja.specs.inner.Cutting.{CutsOff, CutsShort, NoShort, begins_short}
+use Rattle.kt_ninja.specs.Pieces.{Piece, Plain, Escaped, Variable, Where, behind_dollar, in_braces, in_name, is_escapable, is_long_name_byte, is_short_name_byte, outer_step, outside, pieces_from}
+use Rattle.kt_ninja.specs.inner.Cutting.{CutsOff, CutsShort, begins_short, dollar_piece}
 use Rattle.kt_ninja.specs.inner.Refusals.{Refuses}
 
 -- a refusal of one reading is one of another that has no value either
@@ -147,7 +145,7 @@ begins_short-none (b ∷ bs) n h none =
 
 -- a name without braces that is cut off
 pub short_cut : (text name after : Text) (n : ℕ) (cut : Cut) → n ≡ prefix_len is_short_name_byte text → n ≢ 0 → name ≡ take n text → after ≡ drop n text
-    → cut.piece ≡ Variable name → cut.after.now ≡ after → (begins_short text ≡ true) × CutsOff (in_name []) text cut
+    → dollar_piece cut.dollar ≡ Variable name → cut.after.now ≡ after → (begins_short text ≡ true) × CutsOff (in_name []) text cut
 short_cut text name after n cut length_is some front back piece rest = (
   begins_short-length text n length_is some,
   record {
@@ -166,7 +164,7 @@ closed_by name b bs some is = rw (is, some) refl
 
 -- a name in braces that is cut off
 pub brace_cut : (text name after rest : Text) (n b : ℕ) (cut : Cut) → n ≡ prefix_len is_long_name_byte text → n ≤ length text → n ≢ 0 → name ≡ take n text → after ≡ drop n text
-    → after ≡ b ∷ rest → b ≡ 125 → cut.piece ≡ Variable name → cut.after.now ≡ rest → CutsOff (in_braces []) text cut
+    → after ≡ b ∷ rest → b ≡ 125 → dollar_piece cut.dollar ≡ Variable name → cut.after.now ≡ rest → CutsOff (in_braces []) text cut
 brace_cut text name after rest n b cut length_is low some front back is brace piece left =
     let named : is_empty name ≡ false = rw front (some_take n text some low) in
     record {
@@ -197,27 +195,17 @@ pub cuts_too : (old new : Where) (text longer : Text) (cut : Cut) → pieces_fro
 cuts_too old new text longer cut same more h =
     record { first = same ∙ h.first; less = omega (arith, more, h.less) }
 
--- pieces of a text, piece by piece
-pub pieces_more : (found : List Piece) (text : Text) (cut : Cut) → CutsOff outside text cut
-    → option_map (λ later. found ++ later) (pieces_from outside text) ≡ option_map (λ later. (found ++ cut.piece ∷ []) ++ later) (pieces_from outside cut.after.now)
-pieces_more found text cut h = ap (option_map (λ later. found ++ later)) h.first ∙ map_twice found (cut.piece ∷ []) (pieces_from outside cut.after.now)
-
-pub pieces_begin : (text : Text) → option_map (λ later. [] ++ later) (pieces_from outside text) ≡ pieces text
-unfolding pieces
-pieces_begin text = none_before (pieces_from outside text)
-
-pub pieces_end : (found : List Piece) (text : Text) → text ≡ [] → option_map (λ later. found ++ later) (pieces_from outside text) ≡ Some found
-unfolding pieces_from
-pieces_end found text h = rw h (ap Some (append-nil found))
-
 -- a name without braces, behind its dollar
 pub short_of : (text : Text) (b : ℕ) (bs : Text) (cut : Cut) → text ≡ b ∷ bs → is_escapable b ≡ false → (b == 123) ≡ false → CutsShort text cut → CutsOff behind_dollar text cut
 short_of text b bs cut is escapable brace h =
     let short : is_short_name_byte b ≡ true = ap begins_short (sym is) ∙ h.0 in
     cuts_too (in_name []) behind_dollar text text cut (rw is (escape-short b bs escapable brace short)) (omega arith) h.1
 
-pub no_short_of : (text : Text) (b : ℕ) (bs : Text) (fault : Fault) → text ≡ b ∷ bs → is_escapable b ≡ false → (b == 123) ≡ false → NoShort text fault
-    → Refuses (pieces_from behind_dollar text) fault
-no_short_of text b bs NoReading is escapable brace h =
+pub no_short_of : (text : Text) (b : ℕ) (bs : Text) → text ≡ b ∷ bs → is_escapable b ≡ false → (b == 123) ≡ false → begins_short text ≡ false → pieces_from behind_dollar text ≡ None
+no_short_of text b bs is escapable brace h =
     let short : is_short_name_byte b ≡ false = ap begins_short (sym is) ∙ h in rw is (escape-none b bs escapable brace short)
-no_short_of text b bs Memory is escapable brace h = tt
+
+-- what is cut off, where it is cut off elsewhere
+pub cuts_option : {P Q : Type 0} {C D : Cut → Type 0} (found : Option Cut) → MatchOption found P C → (P → Q) → ((cut : Cut) → C cut → D cut) → MatchOption found Q D
+cuts_option None h f g = f h
+cuts_option (Some cut) h f g = g cut h

@@ -5,10 +5,8 @@ use Rattle.std.specs.List.{list_all, list_any, flat_map, slice_split}
 use Rattle.std.specs.Option.{option_and_then}
 use Rattle.std.proofs.lemmas.Bool.{and_from, and_parts, not-true}
 use Rattle.std.proofs.lemmas.List.Elements.{filter-append}
-use Rattle.kt_ninja.specs.declared.piece.Piece.{Piece}
-use Rattle.kt_ninja.specs.declared.piece.Piece.TheVariants.{Plain, Escaped, Variable}
 use Rattle.kt_ninja.specs.JoinedLines.{Text}
-use Rattle.kt_ninja.specs.Pieces.{is_escapable}
+use Rattle.kt_ninja.specs.Pieces.{Piece, Plain, Escaped, Variable, is_escapable}
 use Rattle.kt_ninja.specs.Forms.{Build, Inputs, Pieces, binding_of, bound_to, build_behind, build_cut, build_of, build_with, defaults_of, inputs_of, is_plain, name_bytes, name_in, paths_of, rule_of, without_lead, words_of}
 use Rattle.kt_ninja.specs.Writable.{is_empty, is_name_byte}
 use Rattle.kt_ninja.proofs.PrintedPieces.{all_both, all_implies, neither, piece_by}

@@ -5,8 +5,8 @@ use Rattle.std.specs.List.{concat, list_all}
 use Rattle.std.proofs.lemmas.Bool.{and_from, and_parts}
 use Rattle.std.proofs.lemmas.List.Folds.{list_all-append}
 use Rattle.std.proofs.lemmas.List.Concat.{flat_map-append}
+use Rattle.kt_ninja.specs.Pieces.{Plain}
 use Rattle.kt_ninja.specs.declared.joined.Line.{Line}
-use Rattle.kt_ninja.specs.declared.piece.Piece.TheVariants.{Plain}
 use Rattle.kt_ninja.specs.declared.plan.Made.{Made}
 use Rattle.kt_ninja.specs.declared.plan.Made.TheVariants.{Command, Phony}
 use Rattle.kt_ninja.specs.declared.plan.Statement.{Statement}

@@ -7,12 +7,10 @@ use Rattle.std.proofs.Math.Bool.{or_assoc}
 use Rattle.std.proofs.lemmas.Bool.{and_from, and_parts}
 use Rattle.std.proofs.lemmas.Fmt.{decimal_digit, decimal-digits_of}
 use Rattle.std.proofs.lemmas.Int.Digits.{all_below_base_digits_of, first_digits_of, same_from_digits_of}
-use Rattle.kt_ninja.specs.declared.piece.Piece.{Piece}
-use Rattle.kt_ninja.specs.declared.piece.Piece.TheVariants.{Plain, Escaped, Variable}
 use Rattle.kt_ninja.specs.declared.plan.Made.{Made}
 use Rattle.kt_ninja.specs.declared.plan.Made.TheVariants.{Command, Phony}
 use Rattle.kt_ninja.specs.JoinedLines.{Text}
-use Rattle.kt_ninja.specs.Pieces.{is_escapable, is_letter_or_digit, is_long_name_byte, is_short_name_byte}
+use Rattle.kt_ninja.specs.Pieces.{Piece, Plain, Escaped, Variable, is_escapable, is_letter_or_digit, is_long_name_byte, is_short_name_byte}
 use Rattle.kt_ninja.specs.Forms.{Pieces, name_bytes}
 use Rattle.kt_ninja.specs.Scopes.{expanded, names_one, refers_to}
 use Rattle.kt_ninja.specs.Text.{command_text, is_special_in_command, is_special_in_name, lead_text, number_text, rule_name_text}

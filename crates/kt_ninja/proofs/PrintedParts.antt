@@ -5,13 +5,12 @@ use Rattle.std.specs.List.{list_all}
 use Rattle.std.specs.Option.{option_and_then}
 use Rattle.std.specs.Str.{bytes_eq}
 use Rattle.std.proofs.lemmas.Bool.{and_from, and_parts}
-use Rattle.kt_ninja.specs.declared.piece.Piece.TheVariants.{Plain}
 use Rattle.kt_ninja.specs.declared.joined.Line.{Line}
 use Rattle.kt_ninja.specs.declared.plan.Made.{Made}
 use Rattle.kt_ninja.specs.declared.plan.Made.TheVariants.{Command, Phony}
 use Rattle.kt_ninja.specs.declared.plan.Statement.{Statement}
 use Rattle.kt_ninja.specs.JoinedLines.{Text, is_comment}
-use Rattle.kt_ninja.specs.Pieces.{pieces}
+use Rattle.kt_ninja.specs.Pieces.{Plain, pieces}
 use Rattle.kt_ninja.specs.Forms.{Binding, Build, Form, Pieces, binding_of, build_form, build_of, default_form, defaults_of, form_of, rule_form, rule_of}
 use Rattle.kt_ninja.specs.Scopes.{Table, find_in, put_in, value_in, value_within}
 use Rattle.kt_ninja.specs.NinjaRead.{Making, State, Stated, add_defaults, add_statement, are_new, block_from, block_of, block_scope, is_file_byte, is_sound, making_of, outs_of, paths_in, read_build, read_default, read_form, read_head, read_part, read_rule, rule_command, stated_with}

@@ -6,10 +6,8 @@ use Rattle.std.proofs.lemmas.Bool.{and_from, and_parts, not-true}
 use Rattle.std.proofs.lemmas.List.Folds.{list_all-append}
 use Rattle.std.proofs.lemmas.List.Concat.{flat_map-append}
 use Rattle.kt_ninja.specs.Text.{escaped}
-use Rattle.kt_ninja.specs.declared.piece.Piece.{Piece}
-use Rattle.kt_ninja.specs.declared.piece.Piece.TheVariants.{Plain, Escaped, Variable}
 use Rattle.kt_ninja.specs.JoinedLines.{Text, ends_in_dollar}
-use Rattle.kt_ninja.specs.Pieces.{is_escapable, outside, pieces_from}
+use Rattle.kt_ninja.specs.Pieces.{Piece, Plain, Escaped, Variable, is_escapable, outside, pieces_from}
 use Rattle.kt_ninja.specs.Forms.{Pieces}
 use Rattle.kt_ninja.specs.Scopes.{expanded, piece_text}
 use Rattle.kt_ninja.specs.Writable.{is_command_byte}

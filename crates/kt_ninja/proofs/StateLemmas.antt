@@ -1,6 +1,7 @@
 -- What was read so far, step by step.
 use Rattle.std.proofs.Common.{◌≡◌, ℕ, ◌+◌, ◌<◌, Bool, true, false, not, ◌&&◌, ◌||◌, List, [], ◌∷◌, ◌++◌, refl, sym, ◌∙◌, ap, append_assoc, append-nil, length, drop, map, get_or, Option, Some, None, option_map, is_some, subst, Result, MatchResult, if◌then◌else◌}
 use Rattle.std.proofs.lemmas.List.{drop_more}
+use Rattle.std.specs.List.{list_all}
 use Rattle.kt_ninja.specs.declared.plan.Made.{Made}
 use Rattle.kt_ninja.specs.declared.read_fault.Fault.{Fault}
 use Rattle.kt_ninja.specs.declared.state.Making.{Making as HeldMaking}
@@ -8,7 +9,7 @@ use Rattle.kt_ninja.specs.declared.state.Making.TheVariants.{ByNothing, ByOwn, B
 use Rattle.kt_ninja.specs.JoinedLines.{Text}
 use Rattle.kt_ninja.specs.Forms.{Binding, Build, Pieces}
 use Rattle.kt_ninja.specs.Scopes.{Scope, expanded, find_in, put_in, refers_to, value_in, value_within}
-use Rattle.kt_ninja.specs.NinjaRead.{Making, Stated, are_new, block_scope, made_of, paths_in, stated_with, statement_of}
+use Rattle.kt_ninja.specs.NinjaRead.{Making, State, Stated, add_defaults, are_new, block_scope, made_of, outs_of, paths_in, stated_with, statement_of}
 use Rattle.kt_ninja.specs.Writable.{is_among, is_empty}
 use Rattle.kt_ninja.specs.inner.Refusals.{Refuses}
 use Rattle.kt_ninja.specs.inner.Holding.{block_with, made_as, making_as, path_in}
@@ -131,3 +132,8 @@ no_order_only value_of making b outs inputs implicit h i j k = rw (h, i, j, k) r
 pub within_none : (none file : Scope) → none ≡ [] → value_within none file ≡ value_in file
 unfolding find_in
 within_none none file h = ap (λ block. value_within block file) h
+
+-- default targets, put behind those above
+pub defaults_added : (state : State) (names all : List Text) → list_all (is_among (outs_of state.stated)) names ≡ true → all ≡ state.defaults ++ names
+    → add_defaults state names ≡ Some (record state { defaults = all })
+defaults_added state names all outs is = rw outs (ap (λ d. Some (record state { defaults = d })) (sym is))

@@ -3,10 +3,8 @@
 use Rattle.std.specs.Prelude.{ℕ, Bool, false, not, ◌==◌, ◌||◌, nat_eq, List, [], ◌∷◌, drop, filter, Option, Some, None, option_map, codes, if◌then◌else◌}
 use Rattle.std.specs.Option.{option_and_then}
 use Rattle.std.specs.List.{list_any, slice_split, prefix_len, before_first, after_first, starts_with}
-use Rattle.kt_ninja.specs.declared.piece.Piece.{Piece}
-use Rattle.kt_ninja.specs.declared.piece.Piece.TheVariants.{Plain, Escaped, Variable}
 use Rattle.kt_ninja.specs.JoinedLines.{Text}
-use Rattle.kt_ninja.specs.Pieces.{is_long_name_byte, pieces}
+use Rattle.kt_ninja.specs.Pieces.{Piece, Plain, Escaped, Variable, is_long_name_byte, pieces}
 use Rattle.kt_ninja.specs.Writable.{is_among, is_empty}
 
 -- a path or a value

@@ -1,10 +1,14 @@
 -- Values and paths as pieces (Ninja manual, "Lexical syntax": the escapes `$$`, `$ `, `$:`, `$name` and `${name}`).
 use Rattle.std.specs.Prelude.{ℕ, Bool, ◌==◌, ◌&&◌, ◌||◌, nat_le, List, [], ◌∷◌, ◌++◌, Option, Some, None, option_map, if◌then◌else◌}
 use Rattle.std.specs.Option.{option_and_then}
-use Rattle.kt_ninja.specs.declared.piece.Piece.{Piece}
-use Rattle.kt_ninja.specs.declared.piece.Piece.TheVariants.{Plain, Escaped, Variable}
 use Rattle.kt_ninja.specs.JoinedLines.{Text}
 use Rattle.kt_ninja.specs.Writable.{is_empty}
+
+-- a byte as it stands, a byte behind a dollar, or the variable of a name
+pub data Piece : Type 0 where
+  Plain : ℕ → Piece
+  Escaped : ℕ → Piece
+  Variable : Text → Piece
 
 -- a letter or digit of ASCII
 abbrev pub is_letter_or_digit : ℕ → Bool

@@ -1,11 +1,9 @@
 -- Pieces by their spellings (Ninja manual, "Lexical syntax"): what `pieces` gives is the one way to cut a text.
 use Rattle.std.specs.Prelude.{◌≡◌, ◌⊎◌, ℕ, Bool, true, false, ◌==◌, List, [], ◌∷◌, ◌++◌, Some}
 use Rattle.std.specs.List.{concat, list_all}
-use Rattle.kt_ninja.specs.declared.piece.Piece.{Piece}
-use Rattle.kt_ninja.specs.declared.piece.Piece.TheVariants.{Plain, Escaped, Variable}
 use Rattle.kt_ninja.specs.JoinedLines.{Text}
 use Rattle.kt_ninja.specs.Writable.{is_empty}
-use Rattle.kt_ninja.specs.Pieces.{is_escapable, is_long_name_byte, is_short_name_byte, pieces}
+use Rattle.kt_ninja.specs.Pieces.{Piece, Plain, Escaped, Variable, is_escapable, is_long_name_byte, is_short_name_byte, pieces}
 
 -- a name: at least one byte, and all of this kind
 abbrev pub IsName : (ℕ → Bool) → Text → Type 0

@@ -1,4 +1,5 @@
 -- What only contracts of private functions and proofs cite: nothing here has to be read to know what is promised.
+pub mod Spelled
 pub mod Cutting
 pub mod Joining
 pub mod Refusals

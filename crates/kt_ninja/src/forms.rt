@@ -1,56 +1,34 @@
 //! The forms of a line.
-ghost use Rattle.std.specs.Prelude.{◌≡◌, ◌≤◌, ◌∷◌, [], ◌++◌, IfOk, OnOk, MatchOption, MatchResult, Some, None, length};
-ghost use Rattle.std.specs.List.{list_any, position_or_len, prefix_len, slice_split};
-ghost use Rattle.kt_ninja.specs.Forms.{begins_with_at, binding_of, build_behind, build_of, build_with, defaults_of, inputs_of, is_keyword, is_plain, name_bytes, name_in, paths_of, rule_of, words_of};
-ghost use Rattle.kt_ninja.specs.inner.Wording.{bars_cut, binding_told, build_told, inputs_told, key_of, name_byte, some_word, told, two_bars, two_of};
+ghost use Rattle.std.specs.Prelude.{◌≡◌, ◌++◌, ◌∷◌, [], IfOk, OnOk, MatchOption, MatchResult, Some, None};
+ghost use Rattle.std.specs.List.{list_any, slice_split};
+ghost use Rattle.kt_ninja.specs.Forms.{binding_of, build_behind, build_of, build_with, defaults_of, inputs_of, is_keyword, is_plain, name_in, paths_of, rule_of, words_of};
+ghost use Rattle.kt_ninja.specs.inner.Cutting.{is_mark};
+ghost use Rattle.kt_ninja.specs.inner.Wording.{bars_cut, binding_told, build_told, inputs_told, key_of, some_word, two_bars, two_of};
 ghost use Rattle.kt_ninja.specs.inner.Refusals.{Refuses};
+ghost use Rattle.std.specs.Prelude.{true};
 
-use crate::piece::{Piece, is_long_name_byte};
 use crate::read_fault::Fault;
-use kt_list::Sequence;
+use crate::spelling::Spelling;
 use std::alloc::{AllocError, Global};
 
-// Whether it is this byte, written without a dollar.
-fn is_plain(byte: u8, piece: &Piece) -> bool
-    ensures { result ≡ is_plain byte piece.now }
-{
-    match piece {
-        Piece::Plain(plain) => *plain == byte,
-        Piece::Escaped(_) | Piece::Variable(_) => false,
-    }
-}
-
-// Where the first such byte stands, or how many pieces there are.
-fn plain_place(byte: u8, pieces: &[Piece]) -> usize
-    ensures value { result ≡ position_or_len (is_plain byte) pieces.now }
-    ensures bound { result ≤ length pieces.now }
-{
-    pieces
-        .iter()
-        .take_while(|piece| !is_plain(byte, piece))
-        .count()
-}
-
 // What stands between such bytes.
-fn parts(alloc: Global, byte: u8, pieces: &[Piece]) -> Result<Vec<&[Piece]>, AllocError>
-    ensures { IfOk result (λ parts. told parts.items ≡ slice_split (is_plain byte) pieces.now) }
+fn parts<'t>(alloc: Global, mark: u8, line: &Spelling<'t>) -> Result<Vec<Spelling<'t>>, AllocError>
+    requires { is_mark mark ≡ true }
+    ensures { IfOk result (λ parts. parts.items ≡ slice_split (is_plain mark) line.now) }
 {
     let mut parts = Vec::new(alloc);
-    let mut rest = pieces;
-    loop {
-        let (part, after) = rest.split_at(plain_place(byte, rest));
+    let mut rest = line.again();
+    while let Some((part, after)) = rest.split(mark) {
         parts.push(part)?;
-        let Some((_, later)) = after.split_first() else {
-            break;
-        };
-        rest = later;
+        rest = after;
     }
+    parts.push(rest)?;
     Ok(parts)
 }
 
 // Adds the word, if it has a piece.
-fn add_word<'p>(words: &mut Vec<&'p [Piece]>, word: &'p [Piece]) -> Result<(), AllocError>
-    ensures { OnOk result (told words.new.items ≡ told words.old.items ++ some_word word.now) }
+fn add_word<'t>(words: &mut Vec<Spelling<'t>>, word: Spelling<'t>) -> Result<(), AllocError>
+    ensures { OnOk result (words.new.items ≡ words.old.items ++ some_word word.entry) }
 {
     if !word.is_empty() {
         words.push(word)?;
@@ -59,82 +37,52 @@ fn add_word<'p>(words: &mut Vec<&'p [Piece]>, word: &'p [Piece]) -> Result<(), A
 }
 
 // What stands between plain spaces.
-#[tactic(auto, unfolding(crate::specs::Forms::words_of))]
-fn words(alloc: Global, pieces: &[Piece]) -> Result<Vec<&[Piece]>, AllocError>
-    ensures { IfOk result (λ words. told words.items ≡ words_of pieces.now) }
+fn words<'t>(alloc: Global, line: &Spelling<'t>) -> Result<Vec<Spelling<'t>>, AllocError>
+    ensures { IfOk result (λ words. words.items ≡ words_of line.now) }
 {
-    let parts = parts(alloc, b' ', pieces)?;
     let mut words = Vec::new(alloc);
-    for part in &parts {
-        add_word(&mut words, *part)?;
+    let mut rest = line.again();
+    while let Some((word, after)) = rest.split(b' ') {
+        add_word(&mut words, word)?;
+        rest = after;
     }
+    add_word(&mut words, rest)?;
     Ok(words)
 }
 
-fn has_plain(byte: u8, pieces: &[Piece]) -> bool
-    ensures { result ≡ list_any (is_plain byte) pieces.now }
+fn has_plain(mark: u8, line: &Spelling) -> bool
+    requires { is_mark mark ≡ true }
+    ensures { result ≡ list_any (is_plain mark) line.now }
 {
-    pieces.iter().any(|piece| is_plain(byte, piece))
-}
-
-// The byte of a name that the piece is.
-fn name_byte(piece: &Piece) -> Option<u8>
-    ensures { result ≡ name_byte piece.now }
-{
-    match piece {
-        Piece::Plain(byte) => {
-            if is_long_name_byte(*byte) {
-                Some(*byte)
-            } else {
-                None
-            }
-        }
-        Piece::Escaped(_) | Piece::Variable(_) => None,
-    }
-}
-
-// The bytes of a name.
-fn name_bytes(alloc: Global, pieces: &[Piece]) -> Result<Vec<u8>, Fault>
-    ensures { MatchResult result (λ name. name_bytes pieces.now ≡ Some name.items) (Refuses (name_bytes pieces.now)) }
-{
-    let mut name = Vec::with_capacity(alloc, pieces.len())?;
-    for piece in pieces {
-        let Some(byte) = name_byte(piece) else {
-            return Err(Fault::NoReading);
-        };
-        name.push(byte)?;
-    }
-    Ok(name)
+    line.split(mark).is_some()
 }
 
 // The name that one word is.
-fn name_in(alloc: Global, words: &[&[Piece]]) -> Result<Vec<u8>, Fault>
-    ensures { MatchResult result (λ name. name_in (told words.now)
-        ≡ Some name.items) (Refuses (name_in (told words.now))) }
+fn name_in<'t>(words: &[Spelling<'t>]) -> Option<&'t [u8]>
+    ensures { MatchOption result (name_in words.now ≡ None) (λ name. name_in words.now ≡ Some name.now) }
 {
-    let Some((word, later)) = words.split_first() else {
-        return Err(Fault::NoReading);
-    };
-    if later.is_empty() {
-        name_bytes(alloc, *word)
-    } else {
-        Err(Fault::NoReading)
+    match words {
+        [word] => word.name(),
+        _ => None,
     }
 }
 
 /// The name behind `rule`.
-pub(crate) fn rule_name(alloc: Global, pieces: &[Piece]) -> Result<Vec<u8>, Fault>
-    ensures { MatchResult result (λ name. rule_of pieces.now ≡ Some name.items) (Refuses (rule_of pieces.now)) }
+pub(crate) fn rule_name<'t>(alloc: Global, line: &Spelling<'t>) -> Result<&'t [u8], Fault>
+    ensures { MatchResult result (λ name. rule_of line.now ≡ Some name.now) (Refuses (rule_of line.now)) }
 {
-    let words = words(alloc, pieces)?;
-    name_in(alloc, words.as_slice())
+    let words = words(alloc, line)?;
+    match name_in(words.as_slice()) {
+        Some(name) => Ok(name),
+        None => Err(Fault::NoReading),
+    }
 }
 
 /// A variable and what it is set to.
 #[derive(Drop)]
-pub(crate) struct Binding {
-    pub(crate) key: Sequence<u8>,
-    pub(crate) value: Sequence<Piece>,
+pub(crate) struct Binding<'t> {
+    pub(crate) key: &'t [u8],
+    pub(crate) value: Spelling<'t>,
 }
 
 fn is_keyword(name: &[u8]) -> bool
@@ -148,211 +96,189 @@ fn is_keyword(name: &[u8]) -> bool
         || name == b"pool".as_slice()
 }
 
-// How many plain spaces the pieces begin with.
-fn lead(pieces: &[Piece]) -> usize
-    ensures value { result ≡ prefix_len (is_plain 32) pieces.now }
-    ensures bound { result ≤ length pieces.now }
-{
-    pieces
-        .iter()
-        .take_while(|piece| is_plain(b' ', piece))
-        .count()
-}
-
 // The key that stands before `=`.
-fn key(alloc: Global, pieces: &[Piece]) -> Result<Vec<u8>, Fault>
-    ensures { MatchResult result (λ key. key_of pieces.now ≡ Some key.items) (Refuses (key_of pieces.now)) }
+fn key<'t>(alloc: Global, front: &Spelling<'t>) -> Result<&'t [u8], Fault>
+    ensures { MatchResult result (λ key. key_of front.now ≡ Some key.now) (Refuses (key_of front.now)) }
 {
-    let words = words(alloc, pieces)?;
-    let name = name_in(alloc, words.as_slice())?;
-    if is_keyword(name.as_slice()) {
+    let words = words(alloc, front)?;
+    let Some(name) = name_in(words.as_slice()) else {
+        return Err(Fault::NoReading);
+    };
+    if is_keyword(name) {
         return Err(Fault::NoReading);
     }
     Ok(name)
 }
 
 /// The binding of a key to what stands behind the first `=`.
-pub(crate) fn binding_of(alloc: Global, mut pieces: Vec<Piece>) -> Result<Binding, Fault>
-    ensures { MatchResult result (λ binding. binding_of pieces.items
-        ≡ Some (binding_told binding)) (Refuses (binding_of pieces.items)) }
+pub(crate) fn binding_of<'t>(alloc: Global, line: &Spelling<'t>) -> Result<Binding<'t>, Fault>
+    ensures { MatchResult result (λ binding. binding_of line.now
+        ≡ Some (binding_told binding)) (Refuses (binding_of line.now)) }
 {
-    let place = plain_place(b'=', pieces.as_slice());
-    if place == pieces.len() {
+    let Some((front, value)) = line.split(b'=') else {
         return Err(Fault::NoReading);
-    }
-    let key = key(alloc, &pieces[..place])?;
-    let from = place + 1;
-    let lead = lead(&pieces[from..]);
-    let value = pieces.split_off(from + lead)?;
+    };
     Ok(Binding {
-        key: Sequence::from(key),
-        value: Sequence::from(value),
+        key: key(alloc, &front)?,
+        value: value.without_lead(),
     })
 }
 
 /// What a build line names behind its rule.
 #[derive(Drop)]
-pub(crate) struct Inputs<'p> {
-    pub(crate) explicit: Vec<&'p [Piece]>,
-    pub(crate) implicit: Vec<&'p [Piece]>,
-    pub(crate) order_only: Vec<&'p [Piece]>,
+pub(crate) struct Inputs<'t> {
+    pub(crate) explicit: Vec<Spelling<'t>>,
+    pub(crate) implicit: Vec<Spelling<'t>>,
+    pub(crate) order_only: Vec<Spelling<'t>>,
 }
 
 /// A build line.
 #[derive(Drop)]
-pub(crate) struct Build<'p> {
-    pub(crate) outs: Vec<&'p [Piece]>,
-    pub(crate) rule: Vec<u8>,
-    pub(crate) inputs: Inputs<'p>,
+pub(crate) struct Build<'t> {
+    pub(crate) outs: Vec<Spelling<'t>>,
+    pub(crate) rule: &'t [u8],
+    pub(crate) inputs: Inputs<'t>,
 }
 
 // Paths without a bar, at least one.
-fn paths(alloc: Global, pieces: &[Piece]) -> Result<Vec<&[Piece]>, Fault>
-    ensures { MatchResult result (λ paths. paths_of pieces.now
-        ≡ Some (told paths.items)) (Refuses (paths_of pieces.now)) }
+fn paths<'t>(alloc: Global, line: &Spelling<'t>) -> Result<Vec<Spelling<'t>>, Fault>
+    ensures { MatchResult result (λ paths. paths_of line.now ≡ Some paths.items) (Refuses (paths_of line.now)) }
 {
-    let words = words(alloc, pieces)?;
-    if words.is_empty() || has_plain(b'|', pieces) {
+    let words = words(alloc, line)?;
+    if words.is_empty() || has_plain(b'|', line) {
         return Err(Fault::NoReading);
     }
     Ok(words)
 }
 
-fn begins_with_at(pieces: &[Piece]) -> bool
-    ensures { result ≡ begins_with_at pieces.now }
-{
-    match pieces.split_first() {
-        Some((first, _)) => is_plain(b'@', first),
-        None => false,
-    }
-}
-
 // The two parts, if there are two.
-fn two<'p>(parts: &[&'p [Piece]]) -> Option<(&'p [Piece], &'p [Piece])>
-    ensures { MatchOption result (two_of (told parts.now) ≡ None)
-        (λ both. told parts.now ≡ both.0.now ∷ both.1.now ∷ []) }
+fn two<'t>(parts: &[Spelling<'t>]) -> Option<(Spelling<'t>, Spelling<'t>)>
+    ensures { MatchOption result (two_of parts.now ≡ None) (λ both. parts.now ≡ both.0 ∷ both.1 ∷ []) }
 {
-    let Some((first, later)) = parts.split_first() else {
-        return None;
-    };
-    let Some((second, rest)) = later.split_first() else {
-        return None;
-    };
-    if rest.is_empty() {
-        Some((*first, *second))
-    } else {
-        None
+    match parts {
+        [first, second] => Some((first.again(), second.again())),
+        _ => None,
     }
 }
 
 // What stands behind two bars, by what stands between them, which is nothing, and behind them.
-fn behind_two_bars<'p>(parts: &[&'p [Piece]]) -> Result<&'p [Piece], Fault>
-    ensures { MatchResult result (λ order. two_bars (told parts.now)
-        ≡ Some order.now) (Refuses (two_bars (told parts.now))) }
+fn behind_two_bars<'t>(parts: &[Spelling<'t>]) -> Result<Spelling<'t>, Fault>
+    ensures { MatchResult result (λ order. two_bars parts.now ≡ Some order) (Refuses (two_bars parts.now)) }
 {
-    let Some((between, order)) = two(parts) else {
-        return Err(Fault::NoReading);
-    };
-    if between.is_empty() {
-        Ok(order)
-    } else {
-        Err(Fault::NoReading)
+    match two(parts) {
+        Some((between, order)) if between.is_empty() => Ok(order),
+        _ => Err(Fault::NoReading),
     }
 }
 
 // What stands behind one bar and behind two, by the parts between the bars.
-fn behind_bars<'p>(bars: &[&'p [Piece]]) -> Result<(&'p [Piece], &'p [Piece]), Fault>
-    ensures { MatchResult result (λ cut. bars_cut (told bars.now)
-        ≡ Some (cut.0.now, cut.1.now)) (Refuses (bars_cut (told bars.now))) }
+fn behind_bars<'t>(bars: &[Spelling<'t>]) -> Result<(Spelling<'t>, Spelling<'t>), Fault>
+    ensures { MatchResult result (λ cut. bars_cut bars.now ≡ Some (cut.0, cut.1)) (Refuses (bars_cut bars.now)) }
 {
     let Some((implicit, later)) = bars.split_first() else {
-        return Ok((&[], &[]));
+        return Ok((Spelling::empty(), Spelling::empty()));
     };
-    if begins_with_at(*implicit) {
+    if implicit.begins_with_at() {
         return Err(Fault::NoReading);
     }
     if later.is_empty() {
-        return Ok((*implicit, &[]));
+        return Ok((implicit.again(), Spelling::empty()));
     }
     if implicit.is_empty() {
-        return Ok((&[], behind_two_bars(bars)?));
+        return Ok((Spelling::empty(), behind_two_bars(bars)?));
     }
-    Ok((*implicit, behind_two_bars(later)?))
+    Ok((implicit.again(), behind_two_bars(later)?))
+}
+
+// Copies of spellings.
+fn again<'t>(alloc: Global, words: &[Spelling<'t>]) -> Result<Vec<Spelling<'t>>, AllocError>
+    ensures { IfOk result (λ copies. copies.items ≡ words.now) }
+{
+    let mut copies = Vec::with_capacity(alloc, words.len())?;
+    for word in words {
+        copies.push(word.again())?;
+    }
+    Ok(copies)
 }
 
 // What a build line names behind its rule, by the words before its first bar and the parts behind it.
-fn inputs_of<'p>(
+fn inputs_of<'t>(
     alloc: Global,
-    explicit: &[&'p [Piece]],
-    bars: &[&'p [Piece]],
-) -> Result<Inputs<'p>, Fault>
-    ensures { MatchResult result (λ inputs. inputs_of (told explicit.now) (told bars.now)
-        ≡ Some (inputs_told inputs)) (Refuses (inputs_of (told explicit.now) (told bars.now))) }
+    explicit: &[Spelling<'t>],
+    bars: &[Spelling<'t>],
+) -> Result<Inputs<'t>, Fault>
+    ensures { MatchResult result (λ inputs. inputs_of explicit.now bars.now
+        ≡ Some (inputs_told inputs)) (Refuses (inputs_of explicit.now bars.now)) }
 {
     let (implicit, order_only) = behind_bars(bars)?;
     Ok(Inputs {
-        explicit: Vec::from_slice(alloc, explicit)?,
-        implicit: words(alloc, implicit)?,
-        order_only: words(alloc, order_only)?,
+        explicit: again(alloc, explicit)?,
+        implicit: words(alloc, &implicit)?,
+        order_only: words(alloc, &order_only)?,
     })
 }
 
 // A build line of these outputs, by the words before its first bar and the parts behind it.
-fn build_with<'p>(
+fn build_with<'t>(
     alloc: Global,
-    outs: Vec<&'p [Piece]>,
-    front: &[&'p [Piece]],
-    bars: &[&'p [Piece]],
-) -> Result<Build<'p>, Fault>
-    ensures { MatchResult result (λ build. build_with (told outs.entry.items) (told front.now) (told bars.now)
-        ≡ Some (build_told build)) (Refuses (build_with (told outs.entry.items) (told front.now) (told bars.now))) }
+    outs: Vec<Spelling<'t>>,
+    front: &[Spelling<'t>],
+    bars: &[Spelling<'t>],
+) -> Result<Build<'t>, Fault>
+    ensures { MatchResult result (λ build. build_with outs.entry.items front.now bars.now
+        ≡ Some (build_told build)) (Refuses (build_with outs.entry.items front.now bars.now)) }
 {
     let Some((rule, explicit)) = front.split_first() else {
         return Err(Fault::NoReading);
     };
-    let rule = name_bytes(alloc, *rule)?;
+    let Some(rule) = rule.name() else {
+        return Err(Fault::NoReading);
+    };
     let inputs = inputs_of(alloc, explicit, bars)?;
     Ok(Build { outs, rule, inputs })
 }
 
 // The same by all that stands behind the colon.
-fn build_behind<'p>(
+fn build_behind<'t>(
     alloc: Global,
-    outs: Vec<&'p [Piece]>,
-    rest: &'p [Piece],
-) -> Result<Build<'p>, Fault>
-    ensures { MatchResult result (λ build. build_behind (told outs.entry.items) (slice_split (is_plain 124) rest.now)
+    outs: Vec<Spelling<'t>>,
+    rest: &Spelling<'t>,
+) -> Result<Build<'t>, Fault>
+    ensures { MatchResult result (λ build. build_behind outs.entry.items (slice_split (is_plain 124) rest.now)
         ≡ Some (build_told build)) (Refuses
-        (build_behind (told outs.entry.items) (slice_split (is_plain 124) rest.now))) }
+        (build_behind outs.entry.items (slice_split (is_plain 124) rest.now))) }
 {
     let bars = parts(alloc, b'|', rest)?;
     let Some((front, behind)) = bars.as_slice().split_first() else {
         return Err(Fault::NoReading);
     };
-    let front = words(alloc, *front)?;
+    let front = words(alloc, front)?;
     build_with(alloc, outs, front.as_slice(), behind)
 }
 
 /// What stands behind `build`.
-pub(crate) fn build_of(alloc: Global, pieces: &[Piece]) -> Result<Build<'_>, Fault>
-    ensures { MatchResult result (λ build. build_of pieces.now
-        ≡ Some (build_told build)) (Refuses (build_of pieces.now)) }
+pub(crate) fn build_of<'t>(alloc: Global, line: &Spelling<'t>) -> Result<Build<'t>, Fault>
+    ensures { MatchResult result (λ build. build_of line.now
+        ≡ Some (build_told build)) (Refuses (build_of line.now)) }
 {
-    let sides = parts(alloc, b':', pieces)?;
+    let sides = parts(alloc, b':', line)?;
     let Some((outs, rest)) = two(sides.as_slice()) else {
         return Err(Fault::NoReading);
     };
-    let outs = paths(alloc, outs)?;
-    build_behind(alloc, outs, rest)
+    let outs = paths(alloc, &outs)?;
+    build_behind(alloc, outs, &rest)
 }
 
 /// What stands behind `default`.
-pub(crate) fn defaults_of(alloc: Global, pieces: &[Piece]) -> Result<Vec<&[Piece]>, Fault>
-    ensures { MatchResult result (λ paths. defaults_of pieces.now
-        ≡ Some (told paths.items)) (Refuses (defaults_of pieces.now)) }
+pub(crate) fn defaults_of<'t>(
+    alloc: Global,
+    line: &Spelling<'t>,
+) -> Result<Vec<Spelling<'t>>, Fault>
+    ensures { MatchResult result (λ paths. defaults_of line.now
+        ≡ Some paths.items) (Refuses (defaults_of line.now)) }
 {
-    if has_plain(b':', pieces) {
+    if has_plain(b':', line) {
         return Err(Fault::NoReading);
     }
-    paths(alloc, pieces)
+    paths(alloc, line)
 }

@@ -66,7 +66,7 @@ fn indent(text: &[u8]) -> usize
     text.iter().take_while(|byte| **byte == b' ').count()
 }
 
-fn without_indent(text: &[u8]) -> &[u8]
+pub(crate) fn without_indent(text: &[u8]) -> &[u8]
     ensures { result.now ≡ without_indent text.now }
 {
     &text[indent(text)..]

@@ -9,13 +9,13 @@ mod forms;
 mod joined;
 pub mod laws;
 mod memory;
-mod piece;
 mod plan;
 mod printer;
 mod read_fault;
 mod reader;
 mod scopes;
 mod sink;
+mod spelling;
 mod state;
 mod table;
 

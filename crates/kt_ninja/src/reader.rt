@@ -6,6 +6,7 @@ ghost use Rattle.kt_ninja.specs.declared.read_fault.ReadFault.TheVariants.{Memor
 ghost use Rattle.kt_ninja.specs.NinjaRead.{all_parts, begins_part, block_of, cut_lines, is_file_byte, is_sound, ninja_read, nothing_read, read_part, read_parts};
 ghost use Rattle.kt_ninja.specs.Reading.{Adds, Misreads, Stops, build_line, default_line, fault_at, line_binding, margin_line, part_before, part_of, read_text, rule_line};
 ghost use Rattle.kt_ninja.specs.inner.Refusals.{Refuses};
+ghost use Rattle.kt_ninja.specs.Pieces.{pieces};
 ghost use Rattle.kt_ninja.specs.Text.{plan_text};
 ghost use Rattle.kt_ninja.specs.inner.Wording.{binding_told};
 ghost use Rattle.kt_ninja.specs.Writable.{IsWritable, is_empty};
@@ -13,9 +14,9 @@ ghost use Rattle.kt_ninja.specs.Writable.{IsWritable, is_empty};
 use crate::bytes::first_byte;
 use crate::forms::{Binding, binding_of, build_of, defaults_of, rule_name};
 use crate::joined::{Line, is_blank, is_comment, joined_lines};
-use crate::piece::pieces;
 use crate::plan::Plan;
 use crate::read_fault::{Fault, ReadFault};
+use crate::spelling::Spelling;
 use crate::state::State;
 use std::alloc::Global;
 
@@ -60,21 +61,31 @@ fn no_bindings(block: &[Binding]) -> bool
     block.is_empty()
 }
 
+// The text as a spelling.
+fn spelling(text: &[u8]) -> Result<Spelling<'_>, Fault>
+    ensures { MatchResult result (λ spelling. pieces text.now ≡ Some spelling) (Refuses (pieces text.now)) }
+{
+    match Spelling::of(text) {
+        Some(spelling) => Ok(spelling),
+        None => Err(Fault::NoReading),
+    }
+}
+
 // The binding that a line is.
-fn line_binding(alloc: Global, text: &[u8]) -> Result<Binding, Fault>
+fn line_binding(alloc: Global, text: &[u8]) -> Result<Binding<'_>, Fault>
     ensures { MatchResult result (λ binding. line_binding text.now
         ≡ Some (binding_told binding)) (Refuses (line_binding text.now)) }
 {
-    let pieces = pieces(alloc, text)?;
-    binding_of(alloc, pieces)
+    let line = spelling(text)?;
+    binding_of(alloc, &line)
 }
 
 // Adds a line to a block, and answers whether the block is closed behind it.
-fn add_line(
+fn add_line<'t>(
     alloc: Global,
     closed: bool,
-    bindings: &mut Vec<Binding>,
-    line: &Line,
+    bindings: &mut Vec<Binding<'t>>,
+    line: &'t Line,
 ) -> Result<bool, Fault>
     ensures { MatchResult result (λ now. Adds closed (map binding_told bindings.old.items) line.now now
         (map binding_told bindings.new.items)) (Stops closed line.now) }
@@ -94,7 +105,7 @@ fn add_line(
 }
 
 // The bindings of a block.
-fn block(alloc: Global, body: &[Line]) -> Result<Vec<Binding>, Fault>
+fn block(alloc: Global, body: &[Line]) -> Result<Vec<Binding<'_>>, Fault>
     ensures { MatchResult result (λ block. block_of body.now
         ≡ Some (map binding_told block.items)) (Refuses (block_of body.now)) }
 {
@@ -107,68 +118,68 @@ fn block(alloc: Global, body: &[Line]) -> Result<Vec<Binding>, Fault>
 }
 
 // What stands behind `rule`.
-fn read_rule_line(
+fn read_rule_line<'t>(
     alloc: Global,
-    state: State,
-    block: Vec<Binding>,
-    text: &[u8],
-) -> Result<State, Fault>
-    ensures { MatchResult result (λ next. rule_line state (map binding_told block.items) text.now
-        ≡ Some next) (Refuses (rule_line state (map binding_told block.items) text.now)) }
+    state: State<'t>,
+    block: &[Binding<'t>],
+    text: &'t [u8],
+) -> Result<State<'t>, Fault>
+    ensures { MatchResult result (λ next. rule_line state.entry (map binding_told block.now) text.now
+        ≡ Some next) (Refuses (rule_line state.entry (map binding_told block.now) text.now)) }
 {
-    let pieces = pieces(alloc, text)?;
-    let name = rule_name(alloc, pieces.as_slice())?;
+    let line = spelling(text)?;
+    let name = rule_name(alloc, &line)?;
     state.read_rule(name, block)
 }
 
 // What stands behind `build`.
-fn read_build_line(
+fn read_build_line<'t>(
     alloc: Global,
-    state: State,
-    block: &[Binding],
-    text: &[u8],
-) -> Result<State, Fault>
-    ensures { MatchResult result (λ next. build_line state (map binding_told block.now) text.now
-        ≡ Some next) (Refuses (build_line state (map binding_told block.now) text.now)) }
+    state: State<'t>,
+    block: &[Binding<'t>],
+    text: &'t [u8],
+) -> Result<State<'t>, Fault>
+    ensures { MatchResult result (λ next. build_line state.entry (map binding_told block.now) text.now
+        ≡ Some next) (Refuses (build_line state.entry (map binding_told block.now) text.now)) }
 {
-    let pieces = pieces(alloc, text)?;
-    let build = build_of(alloc, pieces.as_slice())?;
+    let line = spelling(text)?;
+    let build = build_of(alloc, &line)?;
     state.read_build(&build, block)
 }
 
 // What stands behind `default`, which has no block.
-fn read_default_line(
+fn read_default_line<'t>(
     alloc: Global,
-    state: State,
-    block: &[Binding],
-    text: &[u8],
-) -> Result<State, Fault>
-    ensures { MatchResult result (λ next. default_line state (map binding_told block.now) text.now
-        ≡ Some next) (Refuses (default_line state (map binding_told block.now) text.now)) }
+    state: State<'t>,
+    block: &[Binding<'t>],
+    text: &'t [u8],
+) -> Result<State<'t>, Fault>
+    ensures { MatchResult result (λ next. default_line state.entry (map binding_told block.now) text.now
+        ≡ Some next) (Refuses (default_line state.entry (map binding_told block.now) text.now)) }
 {
     if !no_bindings(block) {
         return Err(Fault::NoReading);
     }
-    let pieces = pieces(alloc, text)?;
-    let paths = defaults_of(alloc, pieces.as_slice())?;
+    let line = spelling(text)?;
+    let paths = defaults_of(alloc, &line)?;
     state.read_default(paths.as_slice())
 }
 
 // A binding at the margin, which has no block.
-fn read_margin_line(
+fn read_margin_line<'t>(
     alloc: Global,
-    state: State,
-    block: &[Binding],
-    text: &[u8],
-) -> Result<State, Fault>
-    ensures { MatchResult result (λ next. margin_line state (map binding_told block.now) text.now
-        ≡ Some next) (Refuses (margin_line state (map binding_told block.now) text.now)) }
+    state: State<'t>,
+    block: &[Binding<'t>],
+    text: &'t [u8],
+) -> Result<State<'t>, Fault>
+    ensures { MatchResult result (λ next. margin_line state.entry (map binding_told block.now) text.now
+        ≡ Some next) (Refuses (margin_line state.entry (map binding_told block.now) text.now)) }
 {
     if !no_bindings(block) {
         return Err(Fault::NoReading);
     }
     let binding = line_binding(alloc, text)?;
-    Ok(state.bind(binding)?)
+    Ok(state.bind(&binding)?)
 }
 
 // What stands behind the keyword, if the text begins with it.
@@ -182,20 +193,25 @@ fn behind<'t>(keyword: &[u8], text: &'t [u8]) -> Option<&'t [u8]>
 
 // A line at the margin, with the block below it.
 #[tactic(auto, unfolding(crate::specs::Forms::form_of))]
-fn read_text(alloc: Global, state: State, block: Vec<Binding>, text: &[u8]) -> Result<State, Fault>
-    ensures { MatchResult result (λ next. read_text state (map binding_told block.items) text.now
-        ≡ Some next) (Refuses (read_text state (map binding_told block.items) text.now)) }
+fn read_text<'t>(
+    alloc: Global,
+    state: State<'t>,
+    block: &[Binding<'t>],
+    text: &'t [u8],
+) -> Result<State<'t>, Fault>
+    ensures { MatchResult result (λ next. read_text state.entry (map binding_told block.now) text.now
+        ≡ Some next) (Refuses (read_text state.entry (map binding_told block.now) text.now)) }
 {
     if let Some(rest) = behind(b"rule ", text) {
         return read_rule_line(alloc, state, block, rest);
     }
     if let Some(rest) = behind(b"build ", text) {
-        return read_build_line(alloc, state, block.as_slice(), rest);
+        return read_build_line(alloc, state, block, rest);
     }
     if let Some(rest) = behind(b"default ", text) {
-        return read_default_line(alloc, state, block.as_slice(), rest);
+        return read_default_line(alloc, state, block, rest);
     }
-    read_margin_line(alloc, state, block.as_slice(), text)
+    read_margin_line(alloc, state, block, text)
 }
 
 // The lines before the first that begins a part.
@@ -217,15 +233,20 @@ fn read_before(alloc: Global, body: &[Line]) -> Result<(), Fault>
 
 // A part of the file: the line that begins it, and the lines up to the next such line.
 #[tactic(auto, unfolding(crate::specs::NinjaRead::read_part))]
-fn read_part(alloc: Global, state: State, head: &Line, body: &[Line]) -> Result<State, Fault>
-    ensures { MatchResult result (λ next. read_part state (part_of head.now body.now)
-        ≡ Some next) (Refuses (read_part state (part_of head.now body.now))) }
+fn read_part<'t>(
+    alloc: Global,
+    state: State<'t>,
+    head: &'t Line,
+    body: &'t [Line],
+) -> Result<State<'t>, Fault>
+    ensures { MatchResult result (λ next. read_part state.entry (part_of head.now body.now)
+        ≡ Some next) (Refuses (read_part state.entry (part_of head.now body.now))) }
 {
     if !is_sound(head) || !all_sound(body) {
         return Err(Fault::NoReading);
     }
     let block = block(alloc, body)?;
-    read_text(alloc, state, block, head.text.as_slice())
+    read_text(alloc, state, block.as_slice(), head.text.as_slice())
 }
 
 // How many lines there are before the next that begins a part.
@@ -246,7 +267,7 @@ fn fault_at(number: u64, fault: Fault) -> ReadFault
 }
 
 // The parts of the file, where no line stands before the first.
-fn read_parts(alloc: Global, parts: &[Line]) -> Result<State, ReadFault>
+fn read_parts(alloc: Global, parts: &[Line]) -> Result<State<'_>, ReadFault>
     requires { (cut_lines parts.now).before ≡ [] }
     ensures { MatchResult result (λ state. read_parts nothing_read (cut_lines parts.now).parts
         ≡ Ok state) (Misreads (read_parts nothing_read (cut_lines parts.now).parts)) }
@@ -265,7 +286,7 @@ fn read_parts(alloc: Global, parts: &[Line]) -> Result<State, ReadFault>
 }
 
 // All lines of the file.
-fn read_lines(alloc: Global, lines: &[Line]) -> Result<State, ReadFault>
+fn read_lines(alloc: Global, lines: &[Line]) -> Result<State<'_>, ReadFault>
     ensures { MatchResult result (λ state. read_parts nothing_read (all_parts (cut_lines lines.now))
         ≡ Ok state) (Misreads (read_parts nothing_read (all_parts (cut_lines lines.now)))) }
 {

@@ -1,10 +1,11 @@
 //! Variables and what they stand for.
 ghost use Rattle.std.specs.Prelude.{◌≡◌, ◌∷◌, ◌++◌, IfOk, OnOk, map};
 ghost use Rattle.std.specs.List.{list_all, flat_map};
+ghost use Rattle.kt_ninja.specs.inner.Cutting.{dollar_piece};
 ghost use Rattle.kt_ninja.specs.Scopes.{byte_in_quotes, command_value, expanded, is_shell_safe, piece_text, shell_word, shell_words, value_in, value_within};
 
-use crate::piece::Piece;
 use crate::plan::Name;
+use crate::spelling::{Dollar, Spelling};
 use crate::table::Table;
 use kt_list::Sequence;
 use std::alloc::{AllocError, Global};
@@ -39,31 +40,36 @@ fn value_in<'a>(scope: &'a Scope, name: &[u8]) -> &'a [u8]
     }
 }
 
-/// What the pieces stand for.
-#[tactic(auto, unfolding(crate::specs::Scopes::expanded))]
+/// What a spelling stands for.
 pub(crate) fn expanded(
     alloc: Global,
-    pieces: &[Piece],
+    spelling: &Spelling,
     scopes: Scopes,
 ) -> Result<Vec<u8>, AllocError>
     ensures { IfOk result (λ text. text.items
-        ≡ expanded (value_within scopes.entry.block.now scopes.entry.file.now) pieces.now) }
+        ≡ expanded (value_within scopes.entry.block.now scopes.entry.file.now) spelling.now) }
 {
-    let mut text = Vec::with_capacity(alloc, pieces.len())?;
-    for piece in pieces {
-        add_piece(&mut text, piece, scopes)?;
+    let mut text = Vec::new(alloc);
+    let mut rest = spelling.again();
+    loop {
+        let run = rest.run();
+        text.extend_from_slice(run.plain)?;
+        let Some(dollar) = run.dollar else {
+            return Ok(text);
+        };
+        add_dollar(&mut text, dollar, scopes)?;
+        rest = run.after;
     }
-    Ok(text)
 }
 
-// Adds what a piece stands for.
-fn add_piece(text: &mut Vec<u8>, piece: &Piece, scopes: Scopes) -> Result<(), AllocError>
+// Adds what stands behind a dollar.
+fn add_dollar(text: &mut Vec<u8>, dollar: Dollar, scopes: Scopes) -> Result<(), AllocError>
     ensures { OnOk result (text.new.items ≡ text.old.items
-        ++ piece_text (value_within scopes.entry.block.now scopes.entry.file.now) piece.now) }
+        ++ piece_text (value_within scopes.entry.block.now scopes.entry.file.now) (dollar_piece dollar.entry)) }
 {
-    match piece {
-        Piece::Plain(byte) | Piece::Escaped(byte) => Ok(text.push(*byte)?),
-        Piece::Variable(name) => text.extend_from_slice(scopes.value(name.as_slice())),
+    match dollar {
+        Dollar::Byte(byte) => Ok(text.push(byte)?),
+        Dollar::Variable(name) => text.extend_from_slice(scopes.value(name)),
     }
 }
 
@@ -163,33 +169,38 @@ impl<'a> CommandScopes<'a> {
         }
     }
 
-    // Adds what a piece of the command stands for.
-    fn add_piece(&self, text: &mut Vec<u8>, piece: &Piece) -> Result<(), AllocError>
+    // Adds what stands behind a dollar of the command.
+    fn add_dollar(&self, text: &mut Vec<u8>, dollar: Dollar) -> Result<(), AllocError>
         ensures { OnOk result (text.new.items ≡ text.old.items
             ++ piece_text (command_value self.now.inputs.now self.now.outs.now self.now.scopes.block.now
-            self.now.scopes.file.now) piece.now) }
+            self.now.scopes.file.now) (dollar_piece dollar.entry)) }
     {
-        match piece {
-            Piece::Plain(byte) | Piece::Escaped(byte) => Ok(text.push(*byte)?),
-            Piece::Variable(name) => self.add_value(text, name.as_slice()),
+        match dollar {
+            Dollar::Byte(byte) => Ok(text.push(byte)?),
+            Dollar::Variable(name) => self.add_value(text, name),
         }
     }
 }
 
 /// The command line that a rule's command is for a statement.
-#[tactic(auto, unfolding(crate::specs::Scopes::expanded))]
 pub(crate) fn command_line(
     alloc: Global,
-    command: &[Piece],
+    command: &Spelling,
     scopes: CommandScopes,
 ) -> Result<Vec<u8>, AllocError>
     ensures { IfOk result (λ text. text.items
         ≡ expanded (command_value scopes.entry.inputs.now scopes.entry.outs.now scopes.entry.scopes.block.now
         scopes.entry.scopes.file.now) command.now) }
 {
-    let mut text = Vec::with_capacity(alloc, command.len())?;
-    for piece in command {
-        scopes.add_piece(&mut text, piece)?;
+    let mut text = Vec::new(alloc);
+    let mut rest = command.again();
+    loop {
+        let run = rest.run();
+        text.extend_from_slice(run.plain)?;
+        let Some(dollar) = run.dollar else {
+            return Ok(text);
+        };
+        scopes.add_dollar(&mut text, dollar)?;
+        rest = run.after;
     }
-    Ok(text)
 }

@@ -1,46 +1,46 @@
 //! What was read of a Ninja file so far.
 ghost use Rattle.std.specs.Prelude.{◌≡◌, ◌++◌, [], true, codes, is_some, map, IfOk, MatchResult, Some};
-ghost use Rattle.std.specs.List.{list_all};
+ghost use Rattle.std.specs.List.{list_all, list_any};
 ghost use Rattle.std.specs.Str.{bytes_eq};
 ghost use Rattle.kt_ninja.specs.NinjaRead.{add_defaults, add_statement, are_new, bind, block_scope, making_of, nothing_read, paths_in, plan_of, read_build, read_default, read_rule, rule_command, statement_of, stated_with};
 ghost use Rattle.kt_ninja.specs.Scopes.{expanded, find_in, refers_to, value_in, value_within};
 ghost use Rattle.kt_ninja.specs.inner.Holding.{Fails, block_with, made_as, making_as, path_in};
-ghost use Rattle.kt_ninja.specs.inner.Wording.{binding_told, build_told, told};
+ghost use Rattle.kt_ninja.specs.inner.Wording.{binding_told, build_told};
 ghost use Rattle.kt_ninja.specs.inner.Refusals.{Refuses};
 ghost use Rattle.kt_ninja.specs.Writable.{is_among};
 
 use crate::forms::{Binding, Build};
-use crate::piece::Piece;
 use crate::plan::{Made, Name, Plan, Statement};
 use crate::read_fault::Fault;
 use crate::scopes::{CommandScopes, Scope, Scopes, command_line, expanded};
+use crate::spelling::Spelling;
 use crate::table::{Names, Table};
-use kt_list::{Sequence, Shared};
+use kt_list::Sequence;
 use std::alloc::{AllocError, Global};
 use std::marker::Model;
 
 /// How the outputs of a statement are made.
 #[derive(Drop)]
-enum Making {
+enum Making<'t> {
     ByNothing,
     /// By a command of the statement's own.
     ByOwn(Sequence<u8>),
     /// By its rule's command, with the scope of its block.
-    ByRule(Shared<Piece>),
+    ByRule(Spelling<'t>),
 }
 
 /// A statement whose command may not be known yet: it looks up variables as the file leaves them.
 #[derive(Drop)]
-struct Stated {
+struct Stated<'t> {
     outs: Sequence<Name>,
-    making: Making,
+    making: Making<'t>,
     block: Scope,
     inputs: Sequence<Name>,
     implicit: Sequence<Name>,
     order_only: Sequence<Name>,
 }
 
-impl Model for Stated {
+impl<'t> Model for Stated<'t> {
     ghost use Rattle.kt_ninja.specs.NinjaRead.{Stated as ReadStatement};
 
     ghost Value = { ReadStatement };
@@ -58,16 +58,16 @@ impl Model for Stated {
 
 /// The variables of the file, the commands of its rules, its statements with their outputs, and the default targets.
 #[derive(Drop)]
-pub(crate) struct State {
+pub(crate) struct State<'t> {
     alloc: Global,
     file: Scope,
-    rules: Table<Shared<Piece>>,
-    stated: Vec<Stated>,
+    rules: Table<Spelling<'t>>,
+    stated: Vec<Stated<'t>>,
     outs: Names,
     defaults: Vec<Name>,
 }
 
-impl Model for State {
+impl<'t> Model for State<'t> {
     ghost use Rattle.std.specs.Prelude.{◌≡◌};
     ghost use Rattle.kt_ninja.specs.NinjaRead.{State as ReadState, outs_of};
 
@@ -89,54 +89,56 @@ fn is_command(name: &[u8]) -> bool
     name == b"command".as_slice()
 }
 
-fn refers_to_command(pieces: &[Piece]) -> bool
-    ensures { result ≡ refers_to (bytes_eq (codes "command")) pieces.now }
+fn is_any_command(names: &[&[u8]]) -> bool
+    ensures { result ≡ list_any (λ name. bytes_eq (codes "command") name.now) names.now }
 {
-    pieces.iter().any(|piece| match piece {
-        Piece::Variable(name) => b"command".as_slice() == name.as_slice(),
-        Piece::Plain(_) | Piece::Escaped(_) => false,
-    })
+    names.iter().any(|name| b"command".as_slice() == *name)
+}
+
+fn refers_to_command(alloc: Global, spelling: &Spelling) -> Result<bool, AllocError>
+    ensures { IfOk result (λ refers. refers ≡ refers_to (bytes_eq (codes "command")) spelling.now) }
+{
+    let names = spelling.variables(alloc)?;
+    Ok(is_any_command(names.as_slice()))
 }
 
 // The command of a rule's block: its one binding.
-fn rule_command(block: Vec<Binding>) -> Result<Shared<Piece>, Fault>
-    ensures { MatchResult result (λ command. rule_command (map binding_told block.items)
-        ≡ Some command) (Refuses (rule_command (map binding_told block.items))) }
+fn rule_command<'t>(alloc: Global, block: &[Binding<'t>]) -> Result<Spelling<'t>, Fault>
+    ensures { MatchResult result (λ command. rule_command (map binding_told block.now)
+        ≡ Some command) (Refuses (rule_command (map binding_told block.now))) }
 {
-    let mut block = block;
-    let Some(binding) = block.pop() else {
+    let [binding] = block else {
         return Err(Fault::NoReading);
     };
-    if !block.is_empty() {
+    if !is_command(binding.key) || binding.value.is_empty() {
         return Err(Fault::NoReading);
     }
-    let Binding { key, value } = binding;
-    if !is_command(key.as_slice()) || refers_to_command(value.as_slice()) {
+    if refers_to_command(alloc, &binding.value)? {
         return Err(Fault::NoReading);
     }
-    let value = value.into_vec();
-    if value.is_empty() {
-        return Err(Fault::NoReading);
-    }
-    Ok(Shared::from_vec(value)?)
+    Ok(binding.value.again())
 }
 
-fn refers_to_key(scope: &Scope, pieces: &[Piece]) -> bool
-    ensures { result ≡ refers_to (λ name. is_some (find_in scope.now name)) pieces.now }
+fn is_any_key(scope: &Scope, names: &[&[u8]]) -> bool
+    ensures { result ≡ list_any (λ name. is_some (find_in scope.now name.now)) names.now }
 {
-    pieces.iter().any(|piece| match piece {
-        Piece::Variable(name) => scope.has(name.as_slice()),
-        Piece::Plain(_) | Piece::Escaped(_) => false,
-    })
+    names.iter().any(|name| scope.has(*name))
 }
 
-// What the pieces stand for by the variables of the file alone.
+fn refers_to_key(alloc: Global, scope: &Scope, spelling: &Spelling) -> Result<bool, AllocError>
+    ensures { IfOk result (λ refers. refers ≡ refers_to (λ name. is_some (find_in scope.now name)) spelling.now) }
+{
+    let names = spelling.variables(alloc)?;
+    Ok(is_any_key(scope, names.as_slice()))
+}
+
+// What it stands for by the variables of the file alone.
 #[tactic(auto, unfolding(crate::specs::Scopes::find_in))]
-fn value_of(alloc: Global, pieces: &[Piece], file: &Scope) -> Result<Vec<u8>, AllocError>
-    ensures { IfOk result (λ text. text.items ≡ expanded (value_in file.now) pieces.now) }
+fn value_of(alloc: Global, spelling: &Spelling, file: &Scope) -> Result<Vec<u8>, AllocError>
+    ensures { IfOk result (λ text. text.items ≡ expanded (value_in file.now) spelling.now) }
 {
     let none = Table::new(alloc);
-    expanded(alloc, pieces, Scopes { block: &none, file })
+    expanded(alloc, spelling, Scopes { block: &none, file })
 }
 
 // Adds a binding to the scope of a block.
@@ -149,13 +151,11 @@ fn add_to_block(
     ensures { MatchResult result (λ _. block_with file.now block.old (binding_told binding.now)
         ≡ Some block.new) (Refuses (block_with file.now block.old (binding_told binding.now))) }
 {
-    let key = binding.key.as_slice();
-    let value = binding.value.as_slice();
-    if block.has(key) || refers_to_key(block, value) {
+    if block.has(binding.key) || refers_to_key(alloc, block, &binding.value)? {
         return Err(Fault::NoReading);
     }
-    let key = Vec::from_slice(alloc, key)?;
-    let value = value_of(alloc, value, file)?;
+    let key = Vec::from_slice(alloc, binding.key)?;
+    let value = value_of(alloc, &binding.value, file)?;
     block.put(key, Sequence::from(value))?;
     Ok(())
 }
@@ -173,12 +173,12 @@ fn block_scope(alloc: Global, file: &Scope, bindings: &[Binding]) -> Result<Scop
 }
 
 // The value of a path, which isn't empty.
-fn path(alloc: Global, pieces: &[Piece], scopes: Scopes) -> Result<Name, Fault>
+fn path(alloc: Global, path: &Spelling, scopes: Scopes) -> Result<Name, Fault>
     ensures { MatchResult result (λ name. path_in (value_within scopes.entry.block.now scopes.entry.file.now)
-        pieces.now ≡ Some name) (Refuses
-        (path_in (value_within scopes.entry.block.now scopes.entry.file.now) pieces.now)) }
+        path.now ≡ Some name) (Refuses
+        (path_in (value_within scopes.entry.block.now scopes.entry.file.now) path.now)) }
 {
-    let name = expanded(alloc, pieces, scopes)?;
+    let name = expanded(alloc, path, scopes)?;
     if name.is_empty() {
         return Err(Fault::NoReading);
     }
@@ -186,38 +186,38 @@ fn path(alloc: Global, pieces: &[Piece], scopes: Scopes) -> Result<Name, Fault>
 }
 
 // Paths, none of which is empty.
-fn paths(alloc: Global, paths: &[&[Piece]], scopes: Scopes) -> Result<Sequence<Name>, Fault>
+fn paths(alloc: Global, paths: &[Spelling], scopes: Scopes) -> Result<Sequence<Name>, Fault>
     ensures { MatchResult result (λ names. paths_in (value_within scopes.entry.block.now scopes.entry.file.now)
-        (told paths.now) ≡ Some names)
-        (Refuses (paths_in (value_within scopes.entry.block.now scopes.entry.file.now) (told paths.now))) }
+        paths.now ≡ Some names)
+        (Refuses (paths_in (value_within scopes.entry.block.now scopes.entry.file.now) paths.now)) }
 {
     let mut names = Vec::with_capacity(alloc, paths.len())?;
-    for pieces in paths {
-        names.push(path(alloc, *pieces, scopes)?)?;
+    for spelling in paths {
+        names.push(path(alloc, spelling, scopes)?)?;
     }
     Ok(Sequence::from(names))
 }
 
 // Paths by the variables of the file alone.
-fn paths_of_file(alloc: Global, targets: &[&[Piece]], file: &Scope) -> Result<Sequence<Name>, Fault>
-    ensures { MatchResult result (λ names. paths_in (value_in file.now) (told targets.now)
-        ≡ Some names) (Refuses (paths_in (value_in file.now) (told targets.now))) }
+fn paths_of_file(alloc: Global, targets: &[Spelling], file: &Scope) -> Result<Sequence<Name>, Fault>
+    ensures { MatchResult result (λ names. paths_in (value_in file.now) targets.now
+        ≡ Some names) (Refuses (paths_in (value_in file.now) targets.now)) }
 {
     let none = Table::new(alloc);
     paths(alloc, targets, Scopes { block: &none, file })
 }
 
 // A statement of a build line, by the variables of its block and of the file.
-fn with_paths(
+fn with_paths<'t>(
     alloc: Global,
     build: &Build,
-    making: Making,
+    making: Making<'t>,
     block: Scope,
     file: &Scope,
-) -> Result<Stated, Fault>
-    ensures { MatchResult result (λ s. stated_with (value_within block file.now) (making_as block making)
+) -> Result<Stated<'t>, Fault>
+    ensures { MatchResult result (λ s. stated_with (value_within block file.now) (making_as block making.entry)
         (build_told build.now) ≡ Some s)
-        (Refuses (stated_with (value_within block file.now) (making_as block making) (build_told build.now))) }
+        (Refuses (stated_with (value_within block file.now) (making_as block making.entry) (build_told build.now))) }
 {
     let scopes = Scopes {
         block: &block,
@@ -241,22 +241,22 @@ fn with_paths(
 fn made(alloc: Global, making: Making, scopes: CommandScopes) -> Result<Made, AllocError>
     ensures { IfOk result (λ made. made
         ≡ made_as scopes.entry.inputs.now scopes.entry.outs.now scopes.entry.scopes.block.now
-        scopes.entry.scopes.file.now making) }
+        scopes.entry.scopes.file.now making.entry) }
 {
     match making {
         Making::ByNothing => Ok(Made::Phony),
         Making::ByOwn(command) => Ok(Made::Command(command)),
         Making::ByRule(command) => {
-            let command = command_line(alloc, command.as_slice(), scopes)?;
+            let command = command_line(alloc, &command, scopes)?;
             Ok(Made::Command(Sequence::from(command)))
         }
     }
 }
 
-impl Stated {
+impl<'t> Stated<'t> {
     // The statement, by the variables that the file leaves.
     fn into_statement(self, alloc: Global, file: &Scope) -> Result<Statement, AllocError>
-        ensures { IfOk result (λ s. s ≡ statement_of file.now self) }
+        ensures { IfOk result (λ s. s ≡ statement_of file.now self.entry) }
     {
         let Stated {
             outs,
@@ -311,9 +311,9 @@ fn is_phony(name: &[u8]) -> bool
     name == b"phony".as_slice()
 }
 
-impl State {
+impl<'t> State<'t> {
     #[tactic(auto, unfolding(crate::specs::NinjaRead::nothing_read))]
-    pub(crate) fn new(alloc: Global) -> State
+    pub(crate) fn new(alloc: Global) -> State<'t>
         ensures { result ≡ nothing_read }
     {
         State {
@@ -328,31 +328,36 @@ impl State {
 
     /// A variable at the margin.
     #[tactic(auto, unfolding(crate::specs::NinjaRead::bind))]
-    pub(crate) fn bind(mut self, binding: Binding) -> Result<State, AllocError>
-        ensures { IfOk result (λ state. state ≡ bind self (binding_told binding)) }
+    pub(crate) fn bind(mut self, binding: &Binding) -> Result<State<'t>, AllocError>
+        ensures { IfOk result (λ state. state ≡ bind self.entry (binding_told binding.now)) }
     {
-        let Binding { key, value } = binding;
-        let value = value_of(self.alloc, value.as_slice(), &self.file)?;
-        self.file.put(key.into_vec(), Sequence::from(value))?;
+        let value = value_of(self.alloc, &binding.value, &self.file)?;
+        let key = Vec::from_slice(self.alloc, binding.key)?;
+        self.file.put(key, Sequence::from(value))?;
         Ok(self)
     }
 
     /// A rule with its block.
     #[tactic(auto, unfolding(crate::specs::NinjaRead::read_rule))]
-    pub(crate) fn read_rule(mut self, name: Vec<u8>, block: Vec<Binding>) -> Result<State, Fault>
-        ensures { MatchResult result (λ state. read_rule self name.items (map binding_told block.items)
-            ≡ Some state) (Refuses (read_rule self name.items (map binding_told block.items))) }
+    pub(crate) fn read_rule(
+        mut self,
+        name: &[u8],
+        block: &[Binding<'t>],
+    ) -> Result<State<'t>, Fault>
+        ensures { MatchResult result (λ state. read_rule self.entry name.now (map binding_told block.now)
+            ≡ Some state) (Refuses (read_rule self.entry name.now (map binding_told block.now))) }
     {
-        if is_phony(name.as_slice()) || self.rules.has(name.as_slice()) {
+        if is_phony(name) || self.rules.has(name) {
             return Err(Fault::NoReading);
         }
-        let command = rule_command(block)?;
+        let command = rule_command(self.alloc, block)?;
+        let name = Vec::from_slice(self.alloc, name)?;
         self.rules.put(name, command)?;
         Ok(self)
     }
 
     #[tactic(auto, unfolding(crate::specs::NinjaRead::making_of))]
-    fn making(&self, rule: &[u8], block: &Scope) -> Result<Making, Fault>
+    fn making(&self, rule: &[u8], block: &Scope) -> Result<Making<'t>, Fault>
         ensures { MatchResult result (λ making. making_of self.now rule.now block.now
             ≡ Some (making_as block.now making)) (Refuses (making_of self.now rule.now block.now)) }
     {
@@ -367,7 +372,7 @@ impl State {
                 let own = Vec::from_slice(self.alloc, own.as_slice())?;
                 Ok(Making::ByOwn(Sequence::from(own)))
             }
-            None => Ok(Making::ByRule(command.share()?)),
+            None => Ok(Making::ByRule(command.again())),
         }
     }
 
@@ -380,30 +385,36 @@ impl State {
     }
 
     // A statement of a build line.
-    fn statement(&self, build: &Build, making: Making, block: Scope) -> Result<Stated, Fault>
-        ensures { MatchResult result (λ s. stated_with (value_within block self.now.file) (making_as block making)
+    fn statement(
+        &self,
+        build: &Build,
+        making: Making<'t>,
+        block: Scope,
+    ) -> Result<Stated<'t>, Fault>
+        ensures { MatchResult result (λ s. stated_with (value_within block self.now.file) (making_as block making.entry)
             (build_told build.now) ≡ Some s)
-            (Refuses (stated_with (value_within block self.now.file) (making_as block making) (build_told build.now))) }
+            (Refuses (stated_with (value_within block self.now.file) (making_as block making.entry)
+            (build_told build.now))) }
     {
         with_paths(self.alloc, build, making, block, &self.file)
     }
 
     /// A build line with its block.
     #[tactic(auto, unfolding(crate::specs::NinjaRead::read_build))]
-    pub(crate) fn read_build(self, build: &Build, block: &[Binding]) -> Result<State, Fault>
-        ensures { MatchResult result (λ state. read_build self (build_told build.now) (map binding_told block.now)
-            ≡ Some state) (Refuses (read_build self (build_told build.now) (map binding_told block.now))) }
+    pub(crate) fn read_build(self, build: &Build, block: &[Binding]) -> Result<State<'t>, Fault>
+        ensures { MatchResult result (λ state. read_build self.entry (build_told build.now) (map binding_told block.now)
+            ≡ Some state) (Refuses (read_build self.entry (build_told build.now) (map binding_told block.now))) }
     {
         let block = self.block(block)?;
-        let making = self.making(build.rule.as_slice(), &block)?;
+        let making = self.making(build.rule, &block)?;
         let statement = self.statement(build, making, block)?;
         self.with_statement(statement)
     }
 
     // One more statement, if its outputs are new.
-    fn with_statement(self, statement: Stated) -> Result<State, Fault>
-        ensures { MatchResult result (λ state. add_statement self statement
-            ≡ Some state) (Refuses (add_statement self statement)) }
+    fn with_statement(self, statement: Stated<'t>) -> Result<State<'t>, Fault>
+        ensures { MatchResult result (λ state. add_statement self.entry statement.entry
+            ≡ Some state) (Refuses (add_statement self.entry statement.entry)) }
     {
         let State {
             alloc,
@@ -426,27 +437,27 @@ impl State {
     }
 
     // The names of default targets.
-    fn targets(&self, targets: &[&[Piece]]) -> Result<Sequence<Name>, Fault>
-        ensures { MatchResult result (λ names. paths_in (value_in self.now.file) (told targets.now)
-            ≡ Some names) (Refuses (paths_in (value_in self.now.file) (told targets.now))) }
+    fn targets(&self, targets: &[Spelling]) -> Result<Sequence<Name>, Fault>
+        ensures { MatchResult result (λ names. paths_in (value_in self.now.file) targets.now
+            ≡ Some names) (Refuses (paths_in (value_in self.now.file) targets.now)) }
     {
         paths_of_file(self.alloc, targets, &self.file)
     }
 
     /// Default targets.
     #[tactic(auto, unfolding(crate::specs::NinjaRead::read_default))]
-    pub(crate) fn read_default(self, targets: &[&[Piece]]) -> Result<State, Fault>
-        ensures { MatchResult result (λ state. read_default self (told targets.now)
-            ≡ Some state) (Refuses (read_default self (told targets.now))) }
+    pub(crate) fn read_default(self, targets: &[Spelling]) -> Result<State<'t>, Fault>
+        ensures { MatchResult result (λ state. read_default self.entry targets.now
+            ≡ Some state) (Refuses (read_default self.entry targets.now)) }
     {
         let names = self.targets(targets)?;
         self.with_defaults(names)
     }
 
     // More default targets, each an output of a statement above.
-    fn with_defaults(mut self, names: Sequence<Name>) -> Result<State, Fault>
-        ensures { MatchResult result (λ state. add_defaults self names
-            ≡ Some state) (Refuses (add_defaults self names)) }
+    fn with_defaults(mut self, names: Sequence<Name>) -> Result<State<'t>, Fault>
+        ensures { MatchResult result (λ state. add_defaults self.entry names
+            ≡ Some state) (Refuses (add_defaults self.entry names)) }
     {
         if !all_among(&self.outs, names.as_slice()) {
             return Err(Fault::NoReading);
@@ -459,7 +470,7 @@ impl State {
     /// What was read, as a plan.
     #[tactic(auto, unfolding(crate::specs::NinjaRead::plan_of))]
     pub(crate) fn into_plan(self) -> Result<Plan, AllocError>
-        ensures { IfOk result (λ plan. plan ≡ plan_of self) }
+        ensures { IfOk result (λ plan. plan ≡ plan_of self.entry) }
     {
         let State {
             alloc,

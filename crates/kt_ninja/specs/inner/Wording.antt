@@ -1,30 +1,16 @@
 -- Words and names, one after another, and what the forms of a line tell (the reader's own).
-use Rattle.std.specs.Prelude.{ℕ, List, [], ◌∷◌, map, Option, Some, None, option_map, if◌then◌else◌}
-use Rattle.std.specs.Borrow.{Bor}
+use Rattle.std.specs.Prelude.{List, [], ◌∷◌, Option, Some, None, option_map, if◌then◌else◌}
 use Rattle.std.specs.Option.{option_and_then}
 use Rattle.kt_ninja.specs.declared.forms.Binding.{Binding as ReadBinding}
 use Rattle.kt_ninja.specs.declared.forms.Build.{Build as ReadBuild}
 use Rattle.kt_ninja.specs.declared.forms.Inputs.{Inputs as ReadInputs}
-use Rattle.kt_ninja.specs.declared.piece.Piece.{Piece}
-use Rattle.kt_ninja.specs.declared.piece.Piece.TheVariants.{Plain, Escaped, Variable}
 use Rattle.kt_ninja.specs.JoinedLines.{Text}
-use Rattle.kt_ninja.specs.Pieces.{is_long_name_byte}
 use Rattle.kt_ninja.specs.Forms.{Binding, Build, Inputs, Pieces, begins_with_at, is_keyword, name_in, words_of}
-
--- borrowed parts of a line, as what they hold
-abbrev pub told : List (Bor Pieces) → List Pieces
-told words = map (λ word. word.now) words
 
 -- the word, if it has a piece
 abbrev pub some_word : Pieces → List Pieces
 some_word [] = []
 some_word (p ∷ ps) = (p ∷ ps) ∷ []
-
--- the byte of a name that a piece is
-abbrev pub name_byte : Piece → Option ℕ
-name_byte (Plain b) = if is_long_name_byte b then Some b else None
-name_byte (Escaped b) = None
-name_byte (Variable name) = None
 
 -- the name that stands before `=`, if it is no keyword
 abbrev pub not_keyword : Text → Option Text
@@ -56,16 +42,16 @@ bars_cut (implicit ∷ parts) = if begins_with_at implicit then None else bars_b
 
 -- the binding that was read
 abbrev pub binding_told : ReadBinding → Binding
-binding_told b = record { key = b.key; value = b.value }
+binding_told b = record { key = b.key.now; value = b.value }
 
 -- the inputs that were read
 abbrev pub inputs_told : ReadInputs → Inputs
 inputs_told i = record {
-  explicit = told i.explicit.items;
-  implicit = told i.implicit.items;
-  order_only = told i.order_only.items;
+  explicit = i.explicit.items;
+  implicit = i.implicit.items;
+  order_only = i.order_only.items;
 }
 
 -- the build line that was read
 abbrev pub build_told : ReadBuild → Build
-build_told b = record { outs = told b.outs.items; rule_name = b.rule.items; inputs = inputs_told b.inputs }
+build_told b = record { outs = b.outs.items; rule_name = b.rule.now; inputs = inputs_told b.inputs }

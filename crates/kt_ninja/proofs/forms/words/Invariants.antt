@@ -1,8 +1,9 @@
-use Rattle.std.proofs.Common.{◌≡◌, ◌++◌, drop, filter, map, not}
+use Rattle.std.proofs.Common.{◌≡◌, ◌++◌, length}
 use Rattle.kt_ninja.specs.Forms.{words_of}
-use Rattle.kt_ninja.specs.Writable.{is_empty}
 use Rattle.kt_ninja.proofs.forms.words.Given as goal
 
-abbrev pub invariant-loop-part : goal.invariant-loop-part
-invariant-loop-part l =
-    map (λ word. word.now) l.words.items ++ filter (λ word. not (is_empty word)) (map (λ part. part.now) (drop l.part-index l.part-items)) ≡ words_of l.pieces
+abbrev pub invariant-loop-word : goal.invariant-loop-word
+invariant-loop-word l = l.words.items ++ words_of l.rest ≡ words_of l.line
+
+abbrev pub decreases-loop-word : goal.decreases-loop-word
+decreases-loop-word l = length l.rest

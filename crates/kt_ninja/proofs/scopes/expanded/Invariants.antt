@@ -1,6 +1,9 @@
-use Rattle.std.proofs.Common.{◌≡◌, ◌++◌, drop}
+use Rattle.std.proofs.Common.{◌≡◌, ◌++◌, length}
 use Rattle.kt_ninja.specs.Scopes.{expanded, value_within}
 use Rattle.kt_ninja.proofs.scopes.expanded.Given as goal
 
-abbrev pub invariant-loop-piece : goal.invariant-loop-piece
-invariant-loop-piece l = l.text.items ++ expanded (value_within l.scopes.block.now l.scopes.file.now) (drop l.piece-index l.pieces) ≡ expanded (value_within l.scopes.block.now l.scopes.file.now) l.pieces
+abbrev pub invariant-loop-text : goal.invariant-loop-text
+invariant-loop-text l = l.text.items ++ expanded (value_within l.scopes.block.now l.scopes.file.now) l.rest ≡ expanded (value_within l.scopes.block.now l.scopes.file.now) l.spelling
+
+abbrev pub decreases-loop-text : goal.decreases-loop-text
+decreases-loop-text l = length l.rest

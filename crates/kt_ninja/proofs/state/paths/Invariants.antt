@@ -1,10 +1,9 @@
 use Rattle.std.proofs.Common.{◌≡◌, ◌++◌, drop, option_map}
 use Rattle.kt_ninja.specs.NinjaRead.{paths_in}
 use Rattle.kt_ninja.specs.Scopes.{value_within}
-use Rattle.kt_ninja.specs.inner.Wording.{told}
 use Rattle.kt_ninja.proofs.state.paths.Given as goal
 
-abbrev pub invariant-loop-pieces : goal.invariant-loop-pieces
-invariant-loop-pieces l =
-    option_map (λ more. l.names.items ++ more) (paths_in (value_within l.scopes.block.now l.scopes.file.now) (told (drop l.pieces-index l.paths)))
-    ≡ paths_in (value_within l.scopes.block.now l.scopes.file.now) (told l.paths)
+abbrev pub invariant-loop-spelling : goal.invariant-loop-spelling
+invariant-loop-spelling l =
+    option_map (λ more. l.names.items ++ more) (paths_in (value_within l.scopes.block.now l.scopes.file.now) (drop l.spelling-index l.paths))
+    ≡ paths_in (value_within l.scopes.block.now l.scopes.file.now) l.paths

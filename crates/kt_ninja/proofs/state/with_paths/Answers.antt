@@ -3,7 +3,7 @@ use Rattle.std.proofs.lemmas.Result.{err_from_is_err_and}
 use Rattle.kt_ninja.specs.NinjaRead.{paths_in, stated_with}
 use Rattle.kt_ninja.specs.Scopes.{value_within}
 use Rattle.kt_ninja.specs.inner.Holding.{making_as}
-use Rattle.kt_ninja.specs.inner.Wording.{build_told, told}
+use Rattle.kt_ninja.specs.inner.Wording.{build_told}
 use Rattle.kt_ninja.proofs.PieceLemmas.{refuses_too}
 use Rattle.kt_ninja.proofs.StateLemmas.{no_implicit, no_inputs, no_order_only}
 use Rattle.kt_ninja.proofs.state.with_paths.Goals as goal
@@ -15,10 +15,10 @@ returns-in_err-inputs c =
     let making = making_as c.args.block c.args.making in
     let build = build_told c.args.build.now in
     rw (p.1, p.2)
-    (refuses_too (paths_in value_of (told c.as_slice-2.result.now)) (stated_with value_of making build)
+    (refuses_too (paths_in value_of c.as_slice-2.result.now) (stated_with value_of making build)
     (λ none. no_inputs value_of making build c.in_ok-outs.outs
-    (ap (λ l. paths_in value_of (told l)) (sym c.as_slice.ensures.value) ∙ c.in_ok-outs.ensures)
-    (ap (λ l. paths_in value_of (told l)) (sym c.as_slice-2.ensures.value) ∙ none))
+    (ap (λ l. paths_in value_of l) (sym c.as_slice.ensures.value) ∙ c.in_ok-outs.ensures)
+    (ap (λ l. paths_in value_of l) (sym c.as_slice-2.ensures.value) ∙ none))
     c.in_err-inputs.field-0.0 c.in_err-inputs.ensures)
 
 pub returns-in_err-implicit : goal.returns-in_err-implicit
@@ -28,11 +28,11 @@ returns-in_err-implicit c =
     let making = making_as c.args.block c.args.making in
     let build = build_told c.args.build.now in
     rw (p.1, p.2)
-    (refuses_too (paths_in value_of (told c.as_slice-3.result.now)) (stated_with value_of making build)
+    (refuses_too (paths_in value_of c.as_slice-3.result.now) (stated_with value_of making build)
     (λ none. no_implicit value_of making build c.in_ok-outs.outs c.in_ok-inputs.inputs
-    (ap (λ l. paths_in value_of (told l)) (sym c.as_slice.ensures.value) ∙ c.in_ok-outs.ensures)
-    (ap (λ l. paths_in value_of (told l)) (sym c.as_slice-2.ensures.value) ∙ c.in_ok-inputs.ensures)
-    (ap (λ l. paths_in value_of (told l)) (sym c.as_slice-3.ensures.value) ∙ none))
+    (ap (λ l. paths_in value_of l) (sym c.as_slice.ensures.value) ∙ c.in_ok-outs.ensures)
+    (ap (λ l. paths_in value_of l) (sym c.as_slice-2.ensures.value) ∙ c.in_ok-inputs.ensures)
+    (ap (λ l. paths_in value_of l) (sym c.as_slice-3.ensures.value) ∙ none))
     c.in_err-implicit.field-0.0 c.in_err-implicit.ensures)
 
 pub returns-in_err-order_only : goal.returns-in_err-order_only
@@ -42,10 +42,10 @@ returns-in_err-order_only c =
     let making = making_as c.args.block c.args.making in
     let build = build_told c.args.build.now in
     rw (p.1, p.2)
-    (refuses_too (paths_in value_of (told c.as_slice-4.result.now)) (stated_with value_of making build)
+    (refuses_too (paths_in value_of c.as_slice-4.result.now) (stated_with value_of making build)
     (λ none. no_order_only value_of making build c.in_ok-outs.outs c.in_ok-inputs.inputs c.in_ok-implicit.implicit
-    (ap (λ l. paths_in value_of (told l)) (sym c.as_slice.ensures.value) ∙ c.in_ok-outs.ensures)
-    (ap (λ l. paths_in value_of (told l)) (sym c.as_slice-2.ensures.value) ∙ c.in_ok-inputs.ensures)
-    (ap (λ l. paths_in value_of (told l)) (sym c.as_slice-3.ensures.value) ∙ c.in_ok-implicit.ensures)
-    (ap (λ l. paths_in value_of (told l)) (sym c.as_slice-4.ensures.value) ∙ none))
+    (ap (λ l. paths_in value_of l) (sym c.as_slice.ensures.value) ∙ c.in_ok-outs.ensures)
+    (ap (λ l. paths_in value_of l) (sym c.as_slice-2.ensures.value) ∙ c.in_ok-inputs.ensures)
+    (ap (λ l. paths_in value_of l) (sym c.as_slice-3.ensures.value) ∙ c.in_ok-implicit.ensures)
+    (ap (λ l. paths_in value_of l) (sym c.as_slice-4.ensures.value) ∙ none))
     c.in_err-order_only.field-0.0 c.in_err-order_only.ensures)

@@ -1,7 +1,0 @@
-use Rattle.kt_ninja.proofs.PieceLemmas.{short_cut}
-use Rattle.kt_ninja.proofs.piece.short_variable.Goals as goal
-
-pub returns : goal.returns
-returns c =
-    short_cut c.args.text.now c.split_at.result.0.now c.split_at.result.1.now c.short_name_length-length.result c.in_ok-variable.field-0 c.short_name_length-length.ensures.value c.if-length-eq0.false
-    c.split_at.ensures.front c.split_at.ensures.back c.in_ok-variable.ensures.0 c.in_ok-variable.ensures.1
