@@ -45,6 +45,10 @@ impl Files {
         ensures made { OnOk result ((names : List Text) → HasFiles self.old names
             → HasFiles self.new (names ++ made_names (node.now ∷ []))) }
     {
+        if !node.is_made() && is_canonical(node.name()) {
+            self.has_always = self.has_always_with(node.name());
+            return Ok(());
+        }
         let file = canon(self.alloc, node.name())?;
         self.has_always = self.has_always_with(file.as_slice());
         if node.is_made() {

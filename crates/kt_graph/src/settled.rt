@@ -7,6 +7,9 @@ use indexmap::IndexSet;
 use kt_rules::RecipeLine;
 use std::alloc::{AllocError, Global};
 
+// So many numbers are a few.
+const FEW: usize = 8;
+
 /// What makes a name and what it needs.
 #[derive(Drop)]
 pub(crate) struct Settled<'a> {
@@ -65,8 +68,8 @@ fn needed(alloc: Global, parts: &[Part]) -> Result<(Vec<usize>, Vec<usize>), All
     ensures inputs { IfOk result (λ needed. needed.0.items ≡ input_numbers parts.now) }
     ensures order_only { IfOk result (λ needed. needed.1.items ≡ order_only_numbers parts.now) }
 {
-    if let Some(alone) = needed_alone(parts) {
-        return Ok((Vec::from_slice(alloc, alone)?, Vec::new(alloc)));
+    if let Some(few) = needed_few(parts) {
+        return Ok((distinct(alloc, few)?, Vec::new(alloc)));
     }
     let inputs = inputs(alloc, parts)?;
     let order_only = order_only(alloc, parts, &inputs)?;
@@ -76,18 +79,38 @@ fn needed(alloc: Global, parts: &[Part]) -> Result<(Vec<usize>, Vec<usize>), All
     ))
 }
 
-// The one prerequisite of the one part, or none, where it has no order-only ones, as most nodes have.
-fn needed_alone<'p>(parts: &'p [Part]) -> Option<&'p [usize]>
-    ensures inputs { IfSome result (λ numbers. numbers.now ≡ input_numbers parts.now) }
+// The prerequisites of the one part, where they are few and none is order-only, as with most nodes.
+fn needed_few<'p>(parts: &'p [Part]) -> Option<&'p [usize]>
+    ensures inputs { IfSome result (λ numbers. fold with_number [] numbers.now ≡ input_numbers parts.now) }
     ensures order_only { IfSome result (λ _. order_only_numbers parts.now ≡ []) }
 {
     let (part, others) = parts.split_first()?;
     let numbers = part.needs.prerequisites.as_slice();
-    if others.is_empty() && numbers.len() < 2 && part.needs.order_only.is_empty() {
+    if others.is_empty() && numbers.len() <= FEW && part.needs.order_only.is_empty() {
         Some(numbers)
     } else {
         None
     }
+}
+
+// A few numbers, each once: they are compared with one another, which is cheaper than a set of them.
+fn distinct(alloc: Global, numbers: &[usize]) -> Result<Vec<usize>, AllocError>
+    ensures { IfOk result (λ distinct. distinct.items ≡ fold with_number [] numbers.now) }
+{
+    let mut distinct = Vec::with_capacity(alloc, numbers.len())?;
+    for number in numbers {
+        add_if_new(&mut distinct, *number)?;
+    }
+    Ok(distinct)
+}
+
+fn add_if_new(numbers: &mut Vec<usize>, number: usize) -> Result<(), AllocError>
+    ensures { OnOk result (numbers.new.items ≡ with_number numbers.old.items number) }
+{
+    if !numbers.contains(&number) {
+        numbers.push(number)?;
+    }
+    Ok(())
 }
 
 // The prerequisites of parts, each once.
