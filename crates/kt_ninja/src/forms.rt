@@ -1,10 +1,10 @@
 //! The forms of a line.
-ghost use Rattle.std.specs.Prelude.{◌≡◌, ◌++◌, ◌∷◌, [], IfOk, OnOk, MatchOption, MatchResult, Some, None};
+ghost use Rattle.std.specs.Prelude.{◌≡◌, ◌++◌, ◌∷◌, [], IfOk, OnOk, MatchOption, Some, None};
 ghost use Rattle.std.specs.List.{list_any, slice_split};
 ghost use Rattle.kt_ninja.specs.Forms.{binding_of, build_behind, build_of, build_with, defaults_of, inputs_of, is_keyword, is_plain, name_in, paths_of, rule_of, words_of};
 ghost use Rattle.kt_ninja.specs.inner.Cutting.{is_mark};
 ghost use Rattle.kt_ninja.specs.inner.Wording.{bars_cut, binding_told, build_told, inputs_told, key_of, some_word, two_bars, two_of};
-ghost use Rattle.kt_ninja.specs.inner.Refusals.{Refuses};
+ghost use Rattle.kt_ninja.specs.inner.Refusals.{Reads, ReadsAs};
 ghost use Rattle.std.specs.Prelude.{true};
 
 use crate::read_fault::Fault;
@@ -69,7 +69,7 @@ fn name_in<'t>(words: &[Spelling<'t>]) -> Option<&'t [u8]>
 
 /// The name behind `rule`.
 pub(crate) fn rule_name<'t>(alloc: Global, line: &Spelling<'t>) -> Result<&'t [u8], Fault>
-    ensures { MatchResult result (λ name. rule_of line.now ≡ Some name.now) (Refuses (rule_of line.now)) }
+    ensures { ReadsAs (λ name. name.now) result (rule_of line.now) }
 {
     let words = words(alloc, line)?;
     match name_in(words.as_slice()) {
@@ -98,7 +98,7 @@ fn is_keyword(name: &[u8]) -> bool
 
 // The key that stands before `=`.
 fn key<'t>(alloc: Global, front: &Spelling<'t>) -> Result<&'t [u8], Fault>
-    ensures { MatchResult result (λ key. key_of front.now ≡ Some key.now) (Refuses (key_of front.now)) }
+    ensures { ReadsAs (λ key. key.now) result (key_of front.now) }
 {
     let words = words(alloc, front)?;
     let Some(name) = name_in(words.as_slice()) else {
@@ -112,8 +112,7 @@ fn key<'t>(alloc: Global, front: &Spelling<'t>) -> Result<&'t [u8], Fault>
 
 /// The binding of a key to what stands behind the first `=`.
 pub(crate) fn binding_of<'t>(alloc: Global, line: &Spelling<'t>) -> Result<Binding<'t>, Fault>
-    ensures { MatchResult result (λ binding. binding_of line.now
-        ≡ Some (binding_told binding)) (Refuses (binding_of line.now)) }
+    ensures { ReadsAs binding_told result (binding_of line.now) }
 {
     let Some((front, value)) = line.split(b'=') else {
         return Err(Fault::NoReading);
@@ -142,7 +141,7 @@ pub(crate) struct Build<'t> {
 
 // Paths without a bar, at least one.
 fn paths<'t>(alloc: Global, line: &Spelling<'t>) -> Result<Vec<Spelling<'t>>, Fault>
-    ensures { MatchResult result (λ paths. paths_of line.now ≡ Some paths.items) (Refuses (paths_of line.now)) }
+    ensures { ReadsAs (λ paths. paths.items) result (paths_of line.now) }
 {
     let words = words(alloc, line)?;
     if words.is_empty() || has_plain(b'|', line) {
@@ -163,7 +162,7 @@ fn two<'t>(parts: &[Spelling<'t>]) -> Option<(Spelling<'t>, Spelling<'t>)>
 
 // What stands behind two bars, by what stands between them, which is nothing, and behind them.
 fn behind_two_bars<'t>(parts: &[Spelling<'t>]) -> Result<Spelling<'t>, Fault>
-    ensures { MatchResult result (λ order. two_bars parts.now ≡ Some order) (Refuses (two_bars parts.now)) }
+    ensures { Reads result (two_bars parts.now) }
 {
     match two(parts) {
         Some((between, order)) if between.is_empty() => Ok(order),
@@ -173,7 +172,7 @@ fn behind_two_bars<'t>(parts: &[Spelling<'t>]) -> Result<Spelling<'t>, Fault>
 
 // What stands behind one bar and behind two, by the parts between the bars.
 fn behind_bars<'t>(bars: &[Spelling<'t>]) -> Result<(Spelling<'t>, Spelling<'t>), Fault>
-    ensures { MatchResult result (λ cut. bars_cut bars.now ≡ Some (cut.0, cut.1)) (Refuses (bars_cut bars.now)) }
+    ensures { ReadsAs (λ cut. (cut.0, cut.1)) result (bars_cut bars.now) }
 {
     let Some((implicit, later)) = bars.split_first() else {
         return Ok((Spelling::empty(), Spelling::empty()));
@@ -207,8 +206,7 @@ fn inputs_of<'t>(
     explicit: &[Spelling<'t>],
     bars: &[Spelling<'t>],
 ) -> Result<Inputs<'t>, Fault>
-    ensures { MatchResult result (λ inputs. inputs_of explicit.now bars.now
-        ≡ Some (inputs_told inputs)) (Refuses (inputs_of explicit.now bars.now)) }
+    ensures { ReadsAs inputs_told result (inputs_of explicit.now bars.now) }
 {
     let (implicit, order_only) = behind_bars(bars)?;
     Ok(Inputs {
@@ -225,8 +223,7 @@ fn build_with<'t>(
     front: &[Spelling<'t>],
     bars: &[Spelling<'t>],
 ) -> Result<Build<'t>, Fault>
-    ensures { MatchResult result (λ build. build_with outs.entry.items front.now bars.now
-        ≡ Some (build_told build)) (Refuses (build_with outs.entry.items front.now bars.now)) }
+    ensures { ReadsAs build_told result (build_with outs.entry.items front.now bars.now) }
 {
     let Some((rule, explicit)) = front.split_first() else {
         return Err(Fault::NoReading);
@@ -244,9 +241,7 @@ fn build_behind<'t>(
     outs: Vec<Spelling<'t>>,
     rest: &Spelling<'t>,
 ) -> Result<Build<'t>, Fault>
-    ensures { MatchResult result (λ build. build_behind outs.entry.items (slice_split (is_plain 124) rest.now)
-        ≡ Some (build_told build)) (Refuses
-        (build_behind outs.entry.items (slice_split (is_plain 124) rest.now))) }
+    ensures { ReadsAs build_told result (build_behind outs.entry.items (slice_split (is_plain 124) rest.now)) }
 {
     let bars = parts(alloc, b'|', rest)?;
     let Some((front, behind)) = bars.as_slice().split_first() else {
@@ -258,8 +253,7 @@ fn build_behind<'t>(
 
 /// What stands behind `build`.
 pub(crate) fn build_of<'t>(alloc: Global, line: &Spelling<'t>) -> Result<Build<'t>, Fault>
-    ensures { MatchResult result (λ build. build_of line.now
-        ≡ Some (build_told build)) (Refuses (build_of line.now)) }
+    ensures { ReadsAs build_told result (build_of line.now) }
 {
     let sides = parts(alloc, b':', line)?;
     let Some((outs, rest)) = two(sides.as_slice()) else {
@@ -274,8 +268,7 @@ pub(crate) fn defaults_of<'t>(
     alloc: Global,
     line: &Spelling<'t>,
 ) -> Result<Vec<Spelling<'t>>, Fault>
-    ensures { MatchResult result (λ paths. defaults_of line.now
-        ≡ Some paths.items) (Refuses (defaults_of line.now)) }
+    ensures { ReadsAs (λ paths. paths.items) result (defaults_of line.now) }
 {
     if has_plain(b':', line) {
         return Err(Fault::NoReading);

@@ -1,11 +1,11 @@
 //! Reading a Ninja file.
-ghost use Rattle.std.specs.Prelude.{◌≡◌, ◌≤◌, ◌∷◌, [], true, false, not, nat_eq, drop, length, map, MatchOption, MatchResult, Ok, Some};
+ghost use Rattle.std.specs.Prelude.{◌≡◌, ◌≤◌, [], true, false, not, nat_eq, drop, length, map, MatchOption, MatchResult, Ok, Some};
 ghost use Rattle.std.specs.List.{list_all, prefix_len, starts_with};
 ghost use Rattle.kt_ninja.specs.declared.plan.Plan.{Plan as PlanRead};
 ghost use Rattle.kt_ninja.specs.declared.read_fault.ReadFault.TheVariants.{Memory as MemoryRefused};
 ghost use Rattle.kt_ninja.specs.NinjaRead.{all_parts, begins_part, block_of, cut_lines, is_file_byte, is_sound, ninja_read, nothing_read, read_part, read_parts};
 ghost use Rattle.kt_ninja.specs.Reading.{Adds, Misreads, Stops, build_line, default_line, fault_at, line_binding, margin_line, part_before, part_of, read_text, rule_line};
-ghost use Rattle.kt_ninja.specs.inner.Refusals.{Refuses};
+ghost use Rattle.kt_ninja.specs.inner.Refusals.{Reads, ReadsAs};
 ghost use Rattle.kt_ninja.specs.Pieces.{pieces};
 ghost use Rattle.kt_ninja.specs.Text.{plan_text};
 ghost use Rattle.kt_ninja.specs.inner.Wording.{binding_told};
@@ -63,7 +63,7 @@ fn no_bindings(block: &[Binding]) -> bool
 
 // The text as a spelling.
 fn spelling(text: &[u8]) -> Result<Spelling<'_>, Fault>
-    ensures { MatchResult result (λ spelling. pieces text.now ≡ Some spelling) (Refuses (pieces text.now)) }
+    ensures { Reads result (pieces text.now) }
 {
     match Spelling::of(text) {
         Some(spelling) => Ok(spelling),
@@ -73,8 +73,7 @@ fn spelling(text: &[u8]) -> Result<Spelling<'_>, Fault>
 
 // The binding that a line is.
 fn line_binding(alloc: Global, text: &[u8]) -> Result<Binding<'_>, Fault>
-    ensures { MatchResult result (λ binding. line_binding text.now
-        ≡ Some (binding_told binding)) (Refuses (line_binding text.now)) }
+    ensures { ReadsAs binding_told result (line_binding text.now) }
 {
     let line = spelling(text)?;
     binding_of(alloc, &line)
@@ -106,8 +105,7 @@ fn add_line<'t>(
 
 // The bindings of a block.
 fn block(alloc: Global, body: &[Line]) -> Result<Vec<Binding<'_>>, Fault>
-    ensures { MatchResult result (λ block. block_of body.now
-        ≡ Some (map binding_told block.items)) (Refuses (block_of body.now)) }
+    ensures { ReadsAs (λ block. map binding_told block.items) result (block_of body.now) }
 {
     let mut bindings = Vec::new(alloc);
     let mut closed = false;
@@ -124,8 +122,7 @@ fn read_rule_line<'t>(
     block: &[Binding<'t>],
     text: &'t [u8],
 ) -> Result<State<'t>, Fault>
-    ensures { MatchResult result (λ next. rule_line state.entry (map binding_told block.now) text.now
-        ≡ Some next) (Refuses (rule_line state.entry (map binding_told block.now) text.now)) }
+    ensures { Reads result (rule_line state.entry (map binding_told block.now) text.now) }
 {
     let line = spelling(text)?;
     let name = rule_name(alloc, &line)?;
@@ -139,8 +136,7 @@ fn read_build_line<'t>(
     block: &[Binding<'t>],
     text: &'t [u8],
 ) -> Result<State<'t>, Fault>
-    ensures { MatchResult result (λ next. build_line state.entry (map binding_told block.now) text.now
-        ≡ Some next) (Refuses (build_line state.entry (map binding_told block.now) text.now)) }
+    ensures { Reads result (build_line state.entry (map binding_told block.now) text.now) }
 {
     let line = spelling(text)?;
     let build = build_of(alloc, &line)?;
@@ -154,8 +150,7 @@ fn read_default_line<'t>(
     block: &[Binding<'t>],
     text: &'t [u8],
 ) -> Result<State<'t>, Fault>
-    ensures { MatchResult result (λ next. default_line state.entry (map binding_told block.now) text.now
-        ≡ Some next) (Refuses (default_line state.entry (map binding_told block.now) text.now)) }
+    ensures { Reads result (default_line state.entry (map binding_told block.now) text.now) }
 {
     if !no_bindings(block) {
         return Err(Fault::NoReading);
@@ -172,8 +167,7 @@ fn read_margin_line<'t>(
     block: &[Binding<'t>],
     text: &'t [u8],
 ) -> Result<State<'t>, Fault>
-    ensures { MatchResult result (λ next. margin_line state.entry (map binding_told block.now) text.now
-        ≡ Some next) (Refuses (margin_line state.entry (map binding_told block.now) text.now)) }
+    ensures { Reads result (margin_line state.entry (map binding_told block.now) text.now) }
 {
     if !no_bindings(block) {
         return Err(Fault::NoReading);
@@ -199,8 +193,7 @@ fn read_text<'t>(
     block: &[Binding<'t>],
     text: &'t [u8],
 ) -> Result<State<'t>, Fault>
-    ensures { MatchResult result (λ next. read_text state.entry (map binding_told block.now) text.now
-        ≡ Some next) (Refuses (read_text state.entry (map binding_told block.now) text.now)) }
+    ensures { Reads result (read_text state.entry (map binding_told block.now) text.now) }
 {
     if let Some(rest) = behind(b"rule ", text) {
         return read_rule_line(alloc, state, block, rest);
@@ -217,8 +210,7 @@ fn read_text<'t>(
 // The lines before the first that begins a part.
 #[tactic(auto, unfolding(crate::specs::NinjaRead::read_part))]
 fn read_before(alloc: Global, body: &[Line]) -> Result<(), Fault>
-    ensures { MatchResult result (λ _. read_part nothing_read (part_before body.now)
-        ≡ Some nothing_read) (Refuses (read_part nothing_read (part_before body.now))) }
+    ensures { ReadsAs (λ _. nothing_read) result (read_part nothing_read (part_before body.now)) }
 {
     if !all_sound(body) {
         return Err(Fault::NoReading);
@@ -239,8 +231,7 @@ fn read_part<'t>(
     head: &'t Line,
     body: &'t [Line],
 ) -> Result<State<'t>, Fault>
-    ensures { MatchResult result (λ next. read_part state.entry (part_of head.now body.now)
-        ≡ Some next) (Refuses (read_part state.entry (part_of head.now body.now))) }
+    ensures { Reads result (read_part state.entry (part_of head.now body.now)) }
 {
     if !is_sound(head) || !all_sound(body) {
         return Err(Fault::NoReading);

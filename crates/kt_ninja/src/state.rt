@@ -6,7 +6,7 @@ ghost use Rattle.kt_ninja.specs.NinjaRead.{add_defaults, add_statement, are_new,
 ghost use Rattle.kt_ninja.specs.Scopes.{expanded, find_in, refers_to, value_in, value_within};
 ghost use Rattle.kt_ninja.specs.inner.Holding.{Fails, block_with, made_as, making_as, path_in};
 ghost use Rattle.kt_ninja.specs.inner.Wording.{binding_told, build_told};
-ghost use Rattle.kt_ninja.specs.inner.Refusals.{Refuses};
+ghost use Rattle.kt_ninja.specs.inner.Refusals.{Reads, ReadsAs};
 ghost use Rattle.kt_ninja.specs.Writable.{is_among};
 
 use crate::forms::{Binding, Build};
@@ -104,8 +104,7 @@ fn refers_to_command(alloc: Global, spelling: &Spelling) -> Result<bool, AllocEr
 
 // The command of a rule's block: its one binding.
 fn rule_command<'t>(alloc: Global, block: &[Binding<'t>]) -> Result<Spelling<'t>, Fault>
-    ensures { MatchResult result (λ command. rule_command (map binding_told block.now)
-        ≡ Some command) (Refuses (rule_command (map binding_told block.now))) }
+    ensures { Reads result (rule_command (map binding_told block.now)) }
 {
     let [binding] = block else {
         return Err(Fault::NoReading);
@@ -148,8 +147,7 @@ fn add_to_block(
     block: &mut Scope,
     binding: &Binding,
 ) -> Result<(), Fault>
-    ensures { MatchResult result (λ _. block_with file.now block.old (binding_told binding.now)
-        ≡ Some block.new) (Refuses (block_with file.now block.old (binding_told binding.now))) }
+    ensures { ReadsAs (λ _. block.new) result (block_with file.now block.old (binding_told binding.now)) }
 {
     if block.has(binding.key) || refers_to_key(alloc, block, &binding.value)? {
         return Err(Fault::NoReading);
@@ -162,8 +160,7 @@ fn add_to_block(
 
 // The scope of a statement's block.
 fn block_scope(alloc: Global, file: &Scope, bindings: &[Binding]) -> Result<Scope, Fault>
-    ensures { MatchResult result (λ block. block_scope file.now [] (map binding_told bindings.now)
-        ≡ Some block) (Refuses (block_scope file.now [] (map binding_told bindings.now))) }
+    ensures { Reads result (block_scope file.now [] (map binding_told bindings.now)) }
 {
     let mut block = Table::new(alloc);
     for binding in bindings {
@@ -174,9 +171,7 @@ fn block_scope(alloc: Global, file: &Scope, bindings: &[Binding]) -> Result<Scop
 
 // The value of a path, which isn't empty.
 fn path(alloc: Global, path: &Spelling, scopes: Scopes) -> Result<Name, Fault>
-    ensures { MatchResult result (λ name. path_in (value_within scopes.entry.block.now scopes.entry.file.now)
-        path.now ≡ Some name) (Refuses
-        (path_in (value_within scopes.entry.block.now scopes.entry.file.now) path.now)) }
+    ensures { Reads result (path_in (value_within scopes.entry.block.now scopes.entry.file.now) path.now) }
 {
     let name = expanded(alloc, path, scopes)?;
     if name.is_empty() {
@@ -187,9 +182,7 @@ fn path(alloc: Global, path: &Spelling, scopes: Scopes) -> Result<Name, Fault>
 
 // Paths, none of which is empty.
 fn paths(alloc: Global, paths: &[Spelling], scopes: Scopes) -> Result<Sequence<Name>, Fault>
-    ensures { MatchResult result (λ names. paths_in (value_within scopes.entry.block.now scopes.entry.file.now)
-        paths.now ≡ Some names)
-        (Refuses (paths_in (value_within scopes.entry.block.now scopes.entry.file.now) paths.now)) }
+    ensures { Reads result (paths_in (value_within scopes.entry.block.now scopes.entry.file.now) paths.now) }
 {
     let mut names = Vec::with_capacity(alloc, paths.len())?;
     for spelling in paths {
@@ -200,8 +193,7 @@ fn paths(alloc: Global, paths: &[Spelling], scopes: Scopes) -> Result<Sequence<N
 
 // Paths by the variables of the file alone.
 fn paths_of_file(alloc: Global, targets: &[Spelling], file: &Scope) -> Result<Sequence<Name>, Fault>
-    ensures { MatchResult result (λ names. paths_in (value_in file.now) targets.now
-        ≡ Some names) (Refuses (paths_in (value_in file.now) targets.now)) }
+    ensures { Reads result (paths_in (value_in file.now) targets.now) }
 {
     let none = Table::new(alloc);
     paths(alloc, targets, Scopes { block: &none, file })
@@ -215,9 +207,8 @@ fn with_paths<'t>(
     block: Scope,
     file: &Scope,
 ) -> Result<Stated<'t>, Fault>
-    ensures { MatchResult result (λ s. stated_with (value_within block file.now) (making_as block making.entry)
-        (build_told build.now) ≡ Some s)
-        (Refuses (stated_with (value_within block file.now) (making_as block making.entry) (build_told build.now))) }
+    ensures { Reads result
+        (stated_with (value_within block file.now) (making_as block making.entry) (build_told build.now)) }
 {
     let scopes = Scopes {
         block: &block,
@@ -344,8 +335,7 @@ impl<'t> State<'t> {
         name: &[u8],
         block: &[Binding<'t>],
     ) -> Result<State<'t>, Fault>
-        ensures { MatchResult result (λ state. read_rule self.entry name.now (map binding_told block.now)
-            ≡ Some state) (Refuses (read_rule self.entry name.now (map binding_told block.now))) }
+        ensures { Reads result (read_rule self.entry name.now (map binding_told block.now)) }
     {
         if is_phony(name) || self.rules.has(name) {
             return Err(Fault::NoReading);
@@ -358,8 +348,7 @@ impl<'t> State<'t> {
 
     #[tactic(auto, unfolding(crate::specs::NinjaRead::making_of))]
     fn making(&self, rule: &[u8], block: &Scope) -> Result<Making<'t>, Fault>
-        ensures { MatchResult result (λ making. making_of self.now rule.now block.now
-            ≡ Some (making_as block.now making)) (Refuses (making_of self.now rule.now block.now)) }
+        ensures { ReadsAs (λ making. making_as block.now making) result (making_of self.now rule.now block.now) }
     {
         if is_phony(rule) {
             return Ok(Making::ByNothing);
@@ -378,8 +367,7 @@ impl<'t> State<'t> {
 
     // The scope of a block.
     fn block(&self, bindings: &[Binding]) -> Result<Scope, Fault>
-        ensures { MatchResult result (λ block. block_scope self.now.file [] (map binding_told bindings.now)
-            ≡ Some block) (Refuses (block_scope self.now.file [] (map binding_told bindings.now))) }
+        ensures { Reads result (block_scope self.now.file [] (map binding_told bindings.now)) }
     {
         block_scope(self.alloc, &self.file, bindings)
     }
@@ -391,10 +379,8 @@ impl<'t> State<'t> {
         making: Making<'t>,
         block: Scope,
     ) -> Result<Stated<'t>, Fault>
-        ensures { MatchResult result (λ s. stated_with (value_within block self.now.file) (making_as block making.entry)
-            (build_told build.now) ≡ Some s)
-            (Refuses (stated_with (value_within block self.now.file) (making_as block making.entry)
-            (build_told build.now))) }
+        ensures { Reads result
+            (stated_with (value_within block self.now.file) (making_as block making.entry) (build_told build.now)) }
     {
         with_paths(self.alloc, build, making, block, &self.file)
     }
@@ -402,8 +388,7 @@ impl<'t> State<'t> {
     /// A build line with its block.
     #[tactic(auto, unfolding(crate::specs::NinjaRead::read_build))]
     pub(crate) fn read_build(self, build: &Build, block: &[Binding]) -> Result<State<'t>, Fault>
-        ensures { MatchResult result (λ state. read_build self.entry (build_told build.now) (map binding_told block.now)
-            ≡ Some state) (Refuses (read_build self.entry (build_told build.now) (map binding_told block.now))) }
+        ensures { Reads result (read_build self.entry (build_told build.now) (map binding_told block.now)) }
     {
         let block = self.block(block)?;
         let making = self.making(build.rule, &block)?;
@@ -413,8 +398,7 @@ impl<'t> State<'t> {
 
     // One more statement, if its outputs are new.
     fn with_statement(self, statement: Stated<'t>) -> Result<State<'t>, Fault>
-        ensures { MatchResult result (λ state. add_statement self.entry statement.entry
-            ≡ Some state) (Refuses (add_statement self.entry statement.entry)) }
+        ensures { Reads result (add_statement self.entry statement.entry) }
     {
         let State {
             alloc,
@@ -438,8 +422,7 @@ impl<'t> State<'t> {
 
     // The names of default targets.
     fn targets(&self, targets: &[Spelling]) -> Result<Sequence<Name>, Fault>
-        ensures { MatchResult result (λ names. paths_in (value_in self.now.file) targets.now
-            ≡ Some names) (Refuses (paths_in (value_in self.now.file) targets.now)) }
+        ensures { Reads result (paths_in (value_in self.now.file) targets.now) }
     {
         paths_of_file(self.alloc, targets, &self.file)
     }
@@ -447,8 +430,7 @@ impl<'t> State<'t> {
     /// Default targets.
     #[tactic(auto, unfolding(crate::specs::NinjaRead::read_default))]
     pub(crate) fn read_default(self, targets: &[Spelling]) -> Result<State<'t>, Fault>
-        ensures { MatchResult result (λ state. read_default self.entry targets.now
-            ≡ Some state) (Refuses (read_default self.entry targets.now)) }
+        ensures { Reads result (read_default self.entry targets.now) }
     {
         let names = self.targets(targets)?;
         self.with_defaults(names)
@@ -456,8 +438,7 @@ impl<'t> State<'t> {
 
     // More default targets, each an output of a statement above.
     fn with_defaults(mut self, names: Sequence<Name>) -> Result<State<'t>, Fault>
-        ensures { MatchResult result (λ state. add_defaults self.entry names
-            ≡ Some state) (Refuses (add_defaults self.entry names)) }
+        ensures { Reads result (add_defaults self.entry names) }
     {
         if !all_among(&self.outs, names.as_slice()) {
             return Err(Fault::NoReading);

@@ -1,5 +1,5 @@
 -- What a refusal within the reading says (the reader's own).
-use Rattle.std.specs.Prelude.{◌≡◌, Option, None}
+use Rattle.std.specs.Prelude.{◌≡◌, Option, Result, Some, None, MatchResult}
 use Rattle.kt_ninja.specs.declared.read_fault.Fault.{Fault}
 use Rattle.kt_ninja.specs.declared.read_fault.Fault.TheVariants.{NoReading, Memory}
 
@@ -7,3 +7,10 @@ use Rattle.kt_ninja.specs.declared.read_fault.Fault.TheVariants.{NoReading, Memo
 abbrev pub Refuses : {X : Type 0} → Option X → Fault → Type 0
 Refuses expected NoReading = expected ≡ None
 Refuses expected Memory = Unit {0}
+
+-- what a step of the reading returns: what is there, or why there is nothing; and the same where it tells what is there
+abbrev pub ReadsAs : {X Y : Type 0} → (X → Y) → Result X Fault → Option Y → Type 0
+ReadsAs told result expected = MatchResult result (λ value. expected ≡ Some (told value)) (Refuses expected)
+
+abbrev pub Reads : {X : Type 0} → Result X Fault → Option X → Type 0
+Reads result expected = ReadsAs (λ value. value) result expected
