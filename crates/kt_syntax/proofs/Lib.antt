@@ -10,6 +10,7 @@ pub mod NestingLemmas
 pub mod OwnSymbols
 pub mod ReadingOn
 pub mod RecipeLemmas
+pub mod RecipeTextLemmas
 pub mod RoleLemmas
 pub mod Runs
 pub mod SignLemmas

@@ -11,6 +11,7 @@ pub mod Masked
 pub mod Parts
 pub mod Reading
 pub mod Recipes
+pub mod RecipeTexts
 pub mod Roles
 pub mod Rows
 pub mod Signs

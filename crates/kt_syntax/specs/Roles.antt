@@ -1,6 +1,6 @@
 -- What lines are to the blocks round them (GNU make manual, "Syntax of Conditionals" and "Defining Multi-Line
 -- Variables"), by their kinds alone.
-use Rattle.std.specs.Prelude.{ℕ, Bool, true, false, ◌&&◌, ◌||◌, ◌==◌, List, [], ◌∷◌, length, take, map, Option, Some, None, leb, if◌then◌else◌}
+use Rattle.std.specs.Prelude.{Bool, true, false, ◌&&◌, ◌||◌, ◌==◌, List, [], ◌∷◌, length, take, map, Option, Some, None, leb, if◌then◌else◌}
 use Rattle.std.specs.List.{slice_range}
 use Rattle.kt_text.specs.declared.line.Line.{Line}
 use Rattle.kt_syntax.specs.declared.form.Directive.{Directive}

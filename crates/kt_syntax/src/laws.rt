@@ -8,6 +8,7 @@ ghost use Rattle.kt_syntax.specs.Blocks.{Items, blocks_of, tree_of};
 ghost use Rattle.kt_syntax.specs.Condensed.{LineLaw};
 ghost use Rattle.kt_syntax.specs.Grammar.{IsTreeOf};
 ghost use Rattle.kt_syntax.specs.Masked.{MaskLaw};
+ghost use Rattle.kt_syntax.specs.RecipeTexts.{RecipeLaw};
 ghost use Rattle.kt_syntax.specs.Rows.{RowsOfKinds, RowsOfRules, RowsOfTerms, RowsOfTexts};
 ghost use Rattle.kt_syntax.specs.Signs.{SignLaw};
 
@@ -66,4 +67,10 @@ pub fn law_of_signs()
 /// target-specific macro, and the head of a rule line.
 pub fn law_of_lines()
     ensures { LineLaw }
+{}
+
+/// The text of a recipe line without newline is the line itself. Its newlines are those of physical lines that aren't
+/// continued; but for blanks, backslashes and carriage returns it has the bytes of the line, in order.
+pub fn law_of_recipe_texts()
+    ensures { RecipeLaw }
 {}

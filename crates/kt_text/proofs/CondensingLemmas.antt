@@ -14,7 +14,7 @@ use Rattle.kt_text.proofs.GroupLemmas.{groups-ended, groups-continued, groups-be
 -- ---- the pieces of a text
 
 -- each piece but the last has one newline, at its end; the last has none
-ArePieces : List Text → Type 0
+unfoldable pub ArePieces : List Text → Type 0
 ArePieces [] = ⊥
 ArePieces (piece ∷ []) = IsFree piece
 ArePieces (piece ∷ next ∷ pieces) = (front : Text) × (piece ≡ front ++ 10 ∷ []) × IsFree front × ArePieces (next ∷ pieces)
@@ -30,7 +30,7 @@ unfolding ArePieces IsFree
 newline_before [] a = absurd a
 newline_before (piece ∷ pieces) a = ([], refl, tt, a)
 
-are_pieces : (text : Text) → ArePieces (pieces_of text)
+pub are_pieces : (text : Text) → ArePieces (pieces_of text)
 unfolding ArePieces IsFree pieces_of
 are_pieces [] = tt
 are_pieces (byte ∷ text) =
@@ -44,7 +44,7 @@ free_either : (test : Bool) (first second : Text) → IsFree first → IsFree se
 free_either true first second a b = a
 free_either false first second a b = b
 
-free_no_cr : (text : Text) → IsFree text → IsFree (no_cr text)
+pub free_no_cr : (text : Text) → IsFree text → IsFree (no_cr text)
 free_no_cr text a = free_either _ (take (length text - 1) text) text (free_take (length text - 1) text a) a
 
 -- the last piece
@@ -53,10 +53,10 @@ free_content line a =
     free_either _ (no_cr (take (length line - 1) line)) line (free_no_cr (take (length line - 1) line) (free_take (length line - 1) line a)) a
 
 -- any other
-front_content : (front : Text) → IsFree front → IsFree (without_terminator (front ++ 10 ∷ []))
+pub front_content : (front : Text) → IsFree front → IsFree (without_terminator (front ++ 10 ∷ []))
 front_content front a = subst IsFree (sym (content_ended front)) (free_no_cr front a)
 
-free_backslash : (front : Text) → IsFree front → IsFree (before_backslash (front ++ 10 ∷ []))
+pub free_backslash : (front : Text) → IsFree front → IsFree (before_backslash (front ++ 10 ∷ []))
 free_backslash front a = free_take _ (without_terminator (front ++ 10 ∷ [])) (front_content front a)
 
 free_space_before : (continued continues : Bool) (text : Text) → IsFree (space_before continued continues text)
@@ -65,10 +65,10 @@ free_space_before true false text = free_space
 free_space_before true true [] = free_nil
 free_space_before true true (byte ∷ text) = free_space
 
-free_start : (text : Text) → IsFree text → IsFree (trimmed_start text)
+pub free_start : (text : Text) → IsFree text → IsFree (trimmed_start text)
 free_start text a = free_drop _ text a
 
-free_end : (text : Text) → IsFree text → IsFree (trimmed_end text)
+pub free_end : (text : Text) → IsFree text → IsFree (trimmed_end text)
 free_end text a = free_take _ text a
 
 free_more : (continued : Bool) (front : Text) → IsFree front → IsFree (trimmed_line continued true (front ++ 10 ∷ []))

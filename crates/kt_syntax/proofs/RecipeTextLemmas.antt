@@ -1,0 +1,333 @@
+-- The text of a recipe line, by its physical lines.
+use Rattle.std.proofs.Common.{◌≡◌, ◌<◌, ◌-◌, ◌+◌, ◌==◌, ◌%◌, ◌&&◌, ℕ, ◌≤◌, suc, zero, Bool, true, false, not, List, [], ◌∷◌, ◌++◌, length, length-append, take, drop, filter, refl, sym, ap, subst, ◌∙◌, arith, append-nil, cond, ⊎_elim}
+use Rattle.std.proofs.lemmas.Bool.{and_parts, cases_Bool, eqb-true, false≢true}
+use Rattle.std.proofs.lemmas.List.{reverse-append, take-append-le}
+use Rattle.std.proofs.lemmas.List.Elements.{filter-append}
+use Rattle.std.proofs.lemmas.List.Sums.{sum_by-append, sum_by-cons}
+use Rattle.std.proofs.Math.Seq.{get_or-append_seam, take-append_seam, take-length}
+use Rattle.std.specs.Prelude.{count_by, nat_lt, slice_index}
+use Rattle.std.specs.List.{concat, onto_first, prefix_len, suffix_len}
+use Rattle.bstr.specs.Text.{no_cr, without_terminator}
+use Rattle.kt_text.specs.Words.{Text, is_blank, trimmed_end, trimmed_start}
+use Rattle.kt_text.specs.Lines.{before_backslash, is_continued, is_continued_text, pieces_of}
+use Rattle.kt_text.proofs.NewlineLemmas.{IsFree, free_nil, free_space}
+use Rattle.kt_text.proofs.CondensedLemmas.{one_piece}
+use Rattle.kt_text.proofs.CondensingLemmas.{ArePieces, are_pieces, free_backslash, free_end, free_start, front_content}
+use Rattle.kt_text.proofs.LineTextLemmas.{content_ended}
+use Rattle.kt_syntax.specs.declared.recipe.Joint.{Joint}
+use Rattle.kt_syntax.specs.declared.recipe.Joint.TheVariants.{Edge, Newline, Outside, Inside}
+use Rattle.kt_syntax.specs.Mask.{inside, mask_of}
+use Rattle.kt_syntax.specs.Recipes.{begun, content, ended, joint_of, newline_after, recipe_line, recipe_lines, recipe_of, space_before, without_tab}
+use Rattle.kt_syntax.specs.RecipeTexts.{RecipeLaw, is_shown}
+
+-- how many newlines a text has
+abbrev count : Text → ℕ
+count text = count_by (λ byte. byte == 10) text
+
+count-append : (xs ys : Text) → count (xs ++ ys) ≡ count xs + count ys
+count-append xs ys = sum_by-append (λ byte. cond (byte == 10) 1 0) xs ys
+
+count-free : (text : Text) → IsFree text → count text ≡ 0
+unfolding IsFree
+count-free [] free = refl
+count-free (x ∷ xs) free = rw free.0 (count-free xs free.1)
+
+-- what is shown of a text
+abbrev shown : Text → Text
+shown text = filter is_shown text
+
+shown-append : (xs ys : Text) → shown (xs ++ ys) ≡ shown xs ++ shown ys
+shown-append xs ys = filter-append is_shown xs ys
+
+hidden : (byte : ℕ) (text : Text) → is_shown byte ≡ false → shown (byte ∷ text) ≡ shown text
+hidden byte text h = rw h refl
+
+blank_hidden : (byte : ℕ) → is_blank byte ≡ true → is_shown byte ≡ false
+blank_hidden byte h = rw h refl
+
+shown_before : (front : Text) (byte : ℕ) → is_shown byte ≡ false → shown (front ++ byte ∷ []) ≡ shown front
+shown_before front byte h = shown-append front (byte ∷ []) ∙ ap (λ l. shown front ++ l) (hidden byte [] h) ∙ append-nil (shown front)
+
+-- a text by its last byte
+record HasLast (text : Text) : Type 0 where
+  pub front : Text
+  pub last : ℕ
+  pub whole : text ≡ front ++ last ∷ []
+
+last_of : (byte : ℕ) (text : Text) → HasLast (byte ∷ text)
+last_of byte [] = record { front = []; last = byte; whole = refl }
+last_of byte (next ∷ text) = let later = last_of next text in record { front = byte ∷ later.front; last = later.last; whole = ap (λ l. byte ∷ l) later.whole }
+
+suffix-yes : (p : ℕ → Bool) (front : Text) (byte : ℕ) → p byte ≡ true → suffix_len p (front ++ byte ∷ []) ≡ 1 + suffix_len p front
+suffix-yes p front byte h = ap (prefix_len p) (reverse-append front (byte ∷ [])) ∙ rw h refl
+
+suffix-no : (p : ℕ → Bool) (front : Text) (byte : ℕ) → p byte ≡ false → suffix_len p (front ++ byte ∷ []) ≡ 0
+suffix-no p front byte h = ap (prefix_len p) (reverse-append front (byte ∷ [])) ∙ rw h refl
+
+long : (front : Text) (byte : ℕ) → length (front ++ byte ∷ []) ≡ length front + 1
+long front byte = length-append front (byte ∷ [])
+
+-- without the blanks at its end
+shown_end : (n : ℕ) (text : Text) → length text ≤ n → shown (trimmed_end text) ≡ shown text
+shown_end n [] low = refl
+shown_end zero (byte ∷ text) low = absurd (omega (arith, low))
+shown_end (suc n) (byte ∷ text) low =
+    let view = last_of byte text in
+    let size : length (byte ∷ text) ≡ length view.front + 1 = ap length view.whole ∙ long view.front view.last in
+    ⊎_elim
+    (λ h. let suffix : suffix_len is_blank (byte ∷ text) ≡ 1 + suffix_len is_blank view.front = ap (suffix_len is_blank) view.whole ∙ suffix-yes is_blank view.front view.last h in
+    let kept : length (byte ∷ text) - suffix_len is_blank (byte ∷ text) ≡ length view.front - suffix_len is_blank view.front = omega (arith, size, suffix) in
+    let same : trimmed_end (byte ∷ text) ≡ trimmed_end view.front =
+    ap (λ k. take k (byte ∷ text)) kept ∙ ap (take (length view.front - suffix_len is_blank view.front)) view.whole
+    ∙ take-append-le (length view.front - suffix_len is_blank view.front) view.front (view.last ∷ []) (omega arith) in
+    ap shown same ∙ shown_end n view.front (omega (arith, low, size)) ∙ sym (shown_before view.front view.last (blank_hidden view.last h)) ∙ ap shown (sym view.whole))
+    (λ h. let suffix : suffix_len is_blank (byte ∷ text) ≡ 0 = ap (suffix_len is_blank) view.whole ∙ suffix-no is_blank view.front view.last h in
+    let kept : length (byte ∷ text) - suffix_len is_blank (byte ∷ text) ≡ length (byte ∷ text) = omega (arith, suffix) in
+    ap (λ k. shown (take k (byte ∷ text))) kept ∙ ap shown (take-length (byte ∷ text)))
+    (cases_Bool (is_blank view.last))
+
+-- without those at its begin
+shown_start : (text : Text) → shown (trimmed_start text) ≡ shown text
+shown_start [] = refl
+shown_start (byte ∷ text) =
+    ⊎_elim
+    (λ h. let more : prefix_len is_blank (byte ∷ text) ≡ suc (prefix_len is_blank text) = rw h (omega arith) in
+    ap (λ k. shown (drop k (byte ∷ text))) more ∙ shown_start text ∙ sym (hidden byte text (blank_hidden byte h)))
+    (λ h. let none : prefix_len is_blank (byte ∷ text) ≡ 0 = rw h refl in ap (λ k. shown (drop k (byte ∷ text))) none)
+    (cases_Bool (is_blank byte))
+
+shown_tab : (text : Text) → shown (without_tab text) ≡ shown text
+unfolding is_blank
+shown_tab [] = refl
+shown_tab (byte ∷ text) =
+    ⊎_elim
+    (λ h. let tab : byte ≡ 9 = eqb-true _ _ h in
+    let same : without_tab (byte ∷ text) ≡ text = rw h refl in
+    let blank : is_blank byte ≡ true = rw tab refl in ap shown same ∙ sym (hidden byte text (blank_hidden byte blank)))
+    (λ h. let same : without_tab (byte ∷ text) ≡ byte ∷ text = rw h refl in ap shown same)
+    (cases_Bool (byte == 9))
+
+-- a physical line without what joins it to the next
+front_is : (front : Text) (last : ℕ) → take (length (front ++ last ∷ []) - 1) (front ++ last ∷ []) ≡ front
+front_is front last =
+    let n : length (front ++ last ∷ []) - 1 ≡ length front = omega (arith, long front last) in
+    ap (λ k. take k (front ++ last ∷ [])) n ∙ take-append_seam front (last ∷ [])
+
+last_at : (front : Text) (last : ℕ) → slice_index (front ++ last ∷ []) (length (front ++ last ∷ []) - 1) ≡ last
+last_at front last =
+    let n : length (front ++ last ∷ []) - 1 ≡ length front = omega (arith, long front last) in
+    ap (slice_index (front ++ last ∷ [])) n ∙ get_or-append_seam front last [] 0
+
+cr_hidden : (byte : ℕ) → byte ≡ 13 → is_shown byte ≡ false
+unfolding is_blank
+cr_hidden byte h = rw h refl
+
+backslash_hidden : (byte : ℕ) → byte ≡ 92 → is_shown byte ≡ false
+unfolding is_blank
+backslash_hidden byte h = rw h refl
+
+newline_hidden : is_shown 10 ≡ false
+unfolding is_blank
+newline_hidden = refl
+
+-- without a last byte that isn't shown
+shown_front : (byte : ℕ) (text : Text) (view : HasLast (byte ∷ text)) → is_shown view.last ≡ false → shown (take (length (byte ∷ text) - 1) (byte ∷ text)) ≡ shown (byte ∷ text)
+shown_front byte text view h =
+    ap (λ l. shown (take (length l - 1) l)) view.whole ∙ ap shown (front_is view.front view.last) ∙ sym (shown_before view.front view.last h) ∙ ap shown (sym view.whole)
+
+shown_cr : (front : Text) → shown (no_cr front) ≡ shown front
+shown_cr [] = refl
+shown_cr (byte ∷ text) =
+    let view = last_of byte text in
+    ⊎_elim
+    (λ h. rw h (shown_front byte text view (cr_hidden view.last
+    (sym (last_at view.front view.last) ∙ sym (ap (λ l. slice_index l (length l - 1)) view.whole) ∙ eqb-true _ _ (and_parts _ _ h).1))))
+    (λ h. rw h refl)
+    (cases_Bool (nat_lt 0 (length (byte ∷ text)) && slice_index (byte ∷ text) (length (byte ∷ text) - 1) == 13))
+
+-- a continued line ends in a backslash
+ends_odd : (text : Text) → is_continued_text text ≡ true → shown (take (length text - 1) text) ≡ shown text
+ends_odd [] odd = refl
+ends_odd (byte ∷ text) odd =
+    let view = last_of byte text in
+    ⊎_elim
+    (λ h. shown_front byte text view (backslash_hidden view.last (eqb-true _ _ h)))
+    (λ h. absurd (let none : suffix_len (λ b. b == 92) (byte ∷ text) ≡ 0 = ap (suffix_len (λ b. b == 92)) view.whole ∙ suffix-no (λ b. b == 92) view.front view.last h in
+    let even : is_continued_text (byte ∷ text) ≡ false = ap (λ n. n % 2 == 1) none in false≢true (sym even ∙ odd)))
+    (cases_Bool (view.last == 92))
+
+line_shown : (front : Text) → shown (front ++ 10 ∷ []) ≡ shown front
+line_shown front = shown_before front 10 newline_hidden
+
+-- what is left of a line that a newline ends
+content_shown : (front : Text) → shown (without_terminator (front ++ 10 ∷ [])) ≡ shown (front ++ 10 ∷ [])
+content_shown front = ap shown (content_ended front) ∙ shown_cr front ∙ sym (line_shown front)
+
+continued_shown : (front : Text) → is_continued (front ++ 10 ∷ []) ≡ true → shown (before_backslash (front ++ 10 ∷ [])) ≡ shown (front ++ 10 ∷ [])
+unfolding is_continued
+continued_shown front odd = ends_odd (without_terminator (front ++ 10 ∷ [])) odd ∙ content_shown front
+
+space_shown : (before after : Joint) (text : Text) → shown (space_before before after text) ≡ []
+unfolding is_blank
+space_shown Edge after text = refl
+space_shown Newline after text = refl
+space_shown Outside after text = refl
+space_shown Inside Edge text = refl
+space_shown Inside Newline text = refl
+space_shown Inside Outside text = refl
+space_shown Inside Inside [] = refl
+space_shown Inside Inside (byte ∷ text) = refl
+
+newline_shown : (after : Joint) → shown (newline_after after) ≡ []
+unfolding is_blank
+newline_shown Edge = refl
+newline_shown Newline = refl
+newline_shown Outside = refl
+newline_shown Inside = refl
+
+begun_shown : (before : Joint) (text : Text) → shown (begun before text) ≡ shown text
+begun_shown Edge text = refl
+begun_shown Newline text = refl
+begun_shown Outside text = shown_tab text
+begun_shown Inside text = shown_start text
+
+ended_shown : (after : Joint) (text : Text) → shown (ended after text) ≡ shown text
+ended_shown Edge text = refl
+ended_shown Newline text = refl
+ended_shown Outside text = refl
+ended_shown Inside text = shown_end (length text) text (omega arith)
+
+-- a line between two joints shows what its content shows
+between : (before after : Joint) (line : Text) → shown (recipe_line before after line) ≡ shown (content after line)
+unfolding recipe_line
+between before after line =
+    let text = ended after (begun before (content after line)) in
+    shown-append (space_before before after text) (text ++ newline_after after)
+    ∙ ap (λ l. l ++ shown (text ++ newline_after after)) (space_shown before after text)
+    ∙ shown-append text (newline_after after) ∙ ap (λ l. shown text ++ l) (newline_shown after) ∙ append-nil (shown text)
+    ∙ ended_shown after (begun before (content after line)) ∙ begun_shown before (content after line)
+
+joined_shown : (symbol : ℕ) (front : Text) → shown (content (joint_of symbol (front ++ 10 ∷ [])) (front ++ 10 ∷ [])) ≡ shown (front ++ 10 ∷ [])
+unfolding joint_of
+joined_shown symbol front =
+    ⊎_elim
+    (λ h. rw h (⊎_elim (λ i. rw i (continued_shown front h)) (λ i. rw i (continued_shown front h)) (cases_Bool (symbol == inside))))
+    (λ h. rw h (content_shown front))
+    (cases_Bool (is_continued (front ++ 10 ∷ [])))
+
+-- physical lines put together
+lines_shown : (before : Joint) (mask : List ℕ) (lines : List Text) → ArePieces lines → shown (recipe_lines before mask lines) ≡ shown (concat lines)
+unfolding ArePieces recipe_lines
+lines_shown before mask [] are = absurd are
+lines_shown before mask (line ∷ []) are = between before Edge line ∙ ap shown (sym (append-nil line))
+lines_shown before mask (line ∷ next ∷ lines) are =
+    let symbol = slice_index mask (length line - 1) in
+    let after = joint_of symbol line in
+    let here : shown (content after line) ≡ shown line =
+    subst (λ (l : Text). shown (content (joint_of symbol l) l) ≡ shown l) (sym are.1) (joined_shown symbol are.0) in
+    shown-append (recipe_line before after line) (recipe_lines after (drop (length line) mask) (next ∷ lines))
+    ∙ ap (λ l. l ++ shown (recipe_lines after (drop (length line) mask) (next ∷ lines))) (between before after line ∙ here)
+    ∙ ap (λ l. shown line ++ l) (lines_shown after (drop (length line) mask) (next ∷ lines) are.3)
+    ∙ sym (shown-append line (concat (next ∷ lines)))
+
+onto_whole : (byte : ℕ) (pieces : List Text) → ArePieces pieces → concat (onto_first byte pieces) ≡ byte ∷ concat pieces
+unfolding ArePieces
+onto_whole byte [] are = absurd are
+onto_whole byte (piece ∷ pieces) are = refl
+
+pieces_whole : (text : Text) → concat (pieces_of text) ≡ text
+unfolding pieces_of
+pieces_whole [] = refl
+pieces_whole (byte ∷ text) =
+    ⊎_elim (λ h. rw h (ap (λ l. byte ∷ l) (pieces_whole text))) (λ h. rw h (onto_whole byte (pieces_of text) (are_pieces text) ∙ ap (λ l. byte ∷ l) (pieces_whole text))) (cases_Bool (byte == 10))
+
+-- newlines
+tab_free : (text : Text) → IsFree text → IsFree (without_tab text)
+unfolding IsFree
+tab_free [] free = tt
+tab_free (byte ∷ text) free = ⊎_elim (λ h. rw h free.1) (λ h. rw h free) (cases_Bool (byte == 9))
+
+begun_free : (before : Joint) (text : Text) → IsFree text → IsFree (begun before text)
+begun_free Edge text free = free
+begun_free Newline text free = free
+begun_free Outside text free = tab_free text free
+begun_free Inside text free = free_start text free
+
+ended_free : (after : Joint) (text : Text) → IsFree text → IsFree (ended after text)
+ended_free Edge text free = free
+ended_free Newline text free = free
+ended_free Outside text free = free
+ended_free Inside text free = free_end text free
+
+space_free : (before after : Joint) (text : Text) → IsFree (space_before before after text)
+space_free Edge after text = free_nil
+space_free Newline after text = free_nil
+space_free Outside after text = free_nil
+space_free Inside Edge text = free_space
+space_free Inside Newline text = free_space
+space_free Inside Outside text = free_space
+space_free Inside Inside [] = free_nil
+space_free Inside Inside (byte ∷ text) = free_space
+
+line_count : (before after : Joint) (line : Text) → IsFree (content after line) → count (recipe_line before after line) ≡ count (newline_after after)
+unfolding recipe_line
+line_count before after line free =
+    let text = ended after (begun before (content after line)) in
+    let none : count (space_before before after text) ≡ 0 = count-free (space_before before after text) (space_free before after text) in
+    let still : count text ≡ 0 = count-free text (ended_free after (begun before (content after line)) (begun_free before (content after line) free)) in
+    let both = count-append (space_before before after text) (text ++ newline_after after) in
+    let more = count-append text (newline_after after) in
+    omega (arith, none, still, both, more)
+
+joined_count : (before : Joint) (symbol : ℕ) (front : Text) → IsFree front
+    → count (recipe_line before (joint_of symbol (front ++ 10 ∷ [])) (front ++ 10 ∷ [])) ≡ cond (not (is_continued (front ++ 10 ∷ []))) 1 0
+unfolding joint_of
+joined_count before symbol front free =
+    ⊎_elim
+    (λ h. rw h (⊎_elim
+    (λ i. rw i (line_count before Inside (front ++ 10 ∷ []) (free_backslash front free)))
+    (λ i. rw i (line_count before Outside (front ++ 10 ∷ []) (free_backslash front free)))
+    (cases_Bool (symbol == inside))))
+    (λ h. rw h (line_count before Newline (front ++ 10 ∷ []) (front_content front free)))
+    (cases_Bool (is_continued (front ++ 10 ∷ [])))
+
+abbrev ended_lines : List Text → ℕ
+ended_lines lines = count_by (λ line. not (is_continued line)) (take (length lines - 1) lines)
+
+ended_more : (line next : Text) (lines : List Text) → ended_lines (line ∷ next ∷ lines) ≡ cond (not (is_continued line)) 1 0 + ended_lines (next ∷ lines)
+ended_more line next lines =
+    let one : length (line ∷ next ∷ lines) - 1 ≡ suc (length lines) = omega arith in
+    let two : length (next ∷ lines) - 1 ≡ length lines = omega arith in
+    ap (λ n. count_by (λ l. not (is_continued l)) (take n (line ∷ next ∷ lines))) one
+    ∙ sum_by-cons (λ l. cond (not (is_continued l)) 1 0) line (take (length lines) (next ∷ lines))
+    ∙ ap (λ n. cond (not (is_continued line)) 1 0 + count_by (λ l. not (is_continued l)) (take n (next ∷ lines))) (sym two)
+
+lines_count : (before : Joint) (mask : List ℕ) (lines : List Text) → ArePieces lines → count (recipe_lines before mask lines) ≡ ended_lines lines
+unfolding ArePieces recipe_lines
+lines_count before mask [] are = absurd are
+lines_count before mask (line ∷ []) are = line_count before Edge line are
+lines_count before mask (line ∷ next ∷ lines) are =
+    let symbol = slice_index mask (length line - 1) in
+    let after = joint_of symbol line in
+    let here : count (recipe_line before after line) ≡ cond (not (is_continued line)) 1 0 =
+    subst (λ (l : Text). count (recipe_line before (joint_of symbol l) l) ≡ cond (not (is_continued l)) 1 0) (sym are.1) (joined_count before symbol are.0 are.2) in
+    let rest = recipe_lines after (drop (length line) mask) (next ∷ lines) in
+    let later : count rest ≡ ended_lines (next ∷ lines) = lines_count after (drop (length line) mask) (next ∷ lines) are.3 in
+    let both = count-append (recipe_line before after line) rest in
+    let more = ended_more line next lines in
+    both ∙ ap (λ n. n + count rest) here ∙ ap (λ n. cond (not (is_continued line)) 1 0 + n) later ∙ sym more
+
+stays : (text : Text) → ((k : ℕ) → k < length text → slice_index text k ≡ 10 → ⊥) → recipe_of text ≡ text
+unfolding recipe_of recipe_lines recipe_line
+stays text none = ap (recipe_lines Edge (mask_of text)) (one_piece text none) ∙ append-nil text
+
+counted : (text : Text) → count (recipe_of text) ≡ ended_lines (pieces_of text)
+unfolding recipe_of
+counted text = lines_count Edge (mask_of text) (pieces_of text) (are_pieces text)
+
+kept : (text : Text) → shown (recipe_of text) ≡ shown text
+unfolding recipe_of
+kept text = lines_shown Edge (mask_of text) (pieces_of text) (are_pieces text) ∙ ap shown (pieces_whole text)
+
+pub recipe_law : RecipeLaw
+recipe_law = record { stays = stays; newlines = counted; shown = kept }
