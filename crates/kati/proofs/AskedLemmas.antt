@@ -1,6 +1,5 @@
 -- The names that are asked for up to the end of a step, or until it was stopped.
 use Rattle.std.proofs.Common.{◌≡◌, ℕ, List, [], ◌∷◌, ◌++◌, Option, Some, None, Result, Ok, Err, Bool, true, false, refl, sym, ap, ◌∙◌, subst, inl, inr}
-use Rattle.std.specs.Prelude.{IfSome}
 use Rattle.kt_text.specs.Words.{Text}
 use Rattle.kt_text.specs.Lines.{nul_line}
 use Rattle.kt_rules.specs.Entry.{Rule}
@@ -16,7 +15,7 @@ use Rattle.kt_graph.specs.Goals.{default_goals}
 use Rattle.kt_graph.specs.Groups.{groups_of}
 use Rattle.kt_graph.specs.Node.{Node}
 use Rattle.kt_ninja.specs.declared.plan.Plan.{Plan}
-use Rattle.kt_eval.proofs.GrowingLemmas.{front_more, front_next, front_same}
+use Rattle.kt_eval.proofs.GrowingLemmas.{front_next, front_same}
 use Rattle.kt_eval.proofs.MachineLemmas.{before_reading}
 use Rattle.kati_args.specs.declared.args.Args.{Args}
 use Rattle.kati.specs.Asked.{NamesAreAsked, names_after_list, names_asked, names_of}

@@ -9,7 +9,7 @@ use Rattle.kati.specs.declared.faults.RunFault.{RunFault}
 use Rattle.kati.specs.declared.faults.RunFault.TheVariants as faults
 use Rattle.kati.specs.declared.status.Status.{Status}
 use Rattle.kati.specs.Headline.{Blames as RunBlames}
-use Rattle.kati.specs.Course.{Course, Computes, Comes, ComesTo, Follows}
+use Rattle.kati.specs.Course.{Course, Computes, Follows}
 
 pub computes_blames : {A B : Type 0} (see : A → B) (result : Result A Stop) (said asked : List Text) (course : Course B) (old new : ℕ) (names : List Text)
     → new ≡ old → Computes see result said asked course → Blames result old new names

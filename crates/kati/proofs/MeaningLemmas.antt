@@ -1,21 +1,18 @@
 -- A step that goes on means what comes after it, and one that stops means its fault.
-use Rattle.std.proofs.Common.{◌≡◌, ℕ, List, [], Option, Some, None, Result, Ok, Err, refl, sym, ap, ◌∙◌, subst, inl, inr}
+use Rattle.std.proofs.Common.{◌≡◌, ℕ, List, None, Result, Ok, Err, refl, sym, ap, ◌∙◌, subst, inl, inr}
 use Rattle.std.specs.Prelude.{IfSome}
 use Rattle.kt_text.specs.Words.{Text}
-use Rattle.kt_rules.specs.Entry.{Rule}
 use Rattle.kt_eval.specs.declared.fault.Fault.{Fault}
 use Rattle.kt_eval.specs.declared.stop.Stop.{Stop}
 use Rattle.kt_eval.specs.declared.stop.Stop.TheVariants as stops
 use Rattle.kt_eval.specs.Step.{Blames, fault_at}
 use Rattle.kt_graph.specs.declared.fault.GraphFault.{GraphFault}
 use Rattle.kt_graph.specs.declared.fault.GraphFault.TheVariants as graphs
-use Rattle.kt_graph.specs.Faults.{IsSoundGraph, TellsFirst, fault_number, fault_words}
+use Rattle.kt_graph.specs.Faults.{IsSoundGraph, TellsFirst, fault_number}
 use Rattle.kt_graph.specs.Node.{Node}
-use Rattle.kt_graph.specs.Reach.{ComesFirst}
 use Rattle.kt_ninja.specs.declared.plan.Plan.{Plan}
-use Rattle.kati.specs.declared.faults.RunFault.{RunFault}
 use Rattle.kati.specs.declared.outcome.Outcome.{Outcome}
-use Rattle.kati.specs.Course.{Course, on_course, off_course, Computes, Comes, ComesTo, Follows}
+use Rattle.kati.specs.Course.{Course, Computes, Comes, ComesTo, Follows}
 use Rattle.kati.specs.Headline.{ReadBlames}
 use Rattle.kati.specs.Makefile.{Read}
 use Rattle.kati.specs.Meaning.{EndsAs, Meaning, MeansGoals, meaning_of}

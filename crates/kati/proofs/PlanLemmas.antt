@@ -1,5 +1,5 @@
 -- The plan of what goals need can be written, where its names and commands can.
-use Rattle.std.proofs.Common.{◌≡◌, ◌≢◌, ℕ, ◌+◌, Bool, true, false, not, ◌&&◌, if◌then◌else◌, cond, List, [], ◌∷◌, ◌++◌, length, map, filter, find, flat_map, Option, Some, None, refl, sym, ap, ◌∙◌, subst, ⊎_elim, append-nil, arith, ◌||◌}
+use Rattle.std.proofs.Common.{◌≡◌, ◌≢◌, ℕ, ◌+◌, Bool, true, false, not, ◌&&◌, if◌then◌else◌, cond, List, [], ◌∷◌, ◌++◌, map, filter, find, flat_map, Option, Some, None, refl, sym, ap, ◌∙◌, subst, ⊎_elim, append-nil, arith, ◌||◌}
 use Rattle.std.specs.Prelude.{IfOk, MatchOption, Result, Ok, Err, nat_eq}
 use Rattle.std.specs.Option.{option_and_then}
 use Rattle.std.specs.List.{All, AllPairs, Contains, list_all, list_any}
@@ -28,7 +28,7 @@ use Rattle.kt_graph.specs.Faults.{IsSoundGraph}
 use Rattle.kt_graph.specs.Groups.{AreGroups, are_together, groups_among, groups_of, is_leading, leader_name, made_nodes}
 use Rattle.kt_graph.specs.Node.{Node, is_leaf, node_of}
 use Rattle.kt_graph.specs.Paths.{canon_of, is_reserved, parts_of}
-use Rattle.kt_graph.specs.Reach.{IsGraph, IsReached, IsSound, unmade_goal}
+use Rattle.kt_graph.specs.Reach.{IsGraph, IsReached, unmade_goal}
 use Rattle.kt_graph.proofs.GroupLaw.{are_groups}
 use Rattle.kt_graph.proofs.MemberLemmas.{Contains-cases, Contains-from_map, Contains-here, Contains-map, Contains-none, Contains-there}
 use Rattle.kt_graph.proofs.TroubleLemmas.{filter_there, found_nowhere, from_filter}
@@ -36,9 +36,8 @@ use Rattle.kt_graph.proofs.WholeLemmas.{mapped_itself}
 use Rattle.kt_ninja.specs.declared.plan.Plan.{Plan}
 use Rattle.kt_ninja.specs.declared.plan.Statement.{Statement}
 use Rattle.kt_ninja.specs.Plan.{outputs}
-use Rattle.kt_ninja.specs.declared.plan.Made.{Made}
 use Rattle.kt_ninja.specs.Plan as plans
-use Rattle.kt_ninja.specs.Writable.{IsWritable, HasWritableTexts, Trouble, no_output, bad_name, bad_command, repeated, not_an_output, is_empty, is_made, is_name, trouble_of_statements}
+use Rattle.kt_ninja.specs.Writable.{IsWritable, HasWritableTexts, Trouble, bad_name, bad_command, is_empty, is_made, is_name, trouble_of_statements}
 use Rattle.kt_recipe.specs.Shell.{Progress, goes_on, ends}
 use Rattle.kati.specs.Planned.{Planning, planned, at_fault, after_command, always_build, always_built, command_for, has_implicit, outs_of, plan_groups, plan_of, statement_of, text_fault, unwritable_in, with_always_built}
 use Rattle.kati.specs.inner.Stops.{IsFaultOf}

@@ -1,5 +1,5 @@
 -- How a run ends that has a plan.
-use Rattle.std.proofs.Common.{◌≡◌, ℕ, List, [], ◌∷◌, ◌++◌, Option, Some, None, Result, Ok, Err, refl, sym, ap, ◌∙◌, append-nil, inl, inr}
+use Rattle.std.proofs.Common.{◌≡◌, List, [], Option, Some, None, Result, Ok, Err, refl, sym, ap, ◌∙◌, append-nil, inr}
 use Rattle.kt_text.specs.Words.{Text}
 use Rattle.kt_eval.specs.Files.{Store}
 use Rattle.kt_ninja.specs.declared.plan.Plan.{Plan}
@@ -11,7 +11,7 @@ use Rattle.kati.specs.declared.status.Status.{Status}
 use Rattle.kati.specs.Checked.{HasStatus, names_with_check}
 use Rattle.kati.specs.inner.Delivered.{Delivers}
 use Rattle.kati.specs.Headline.{IsKept, Leaves}
-use Rattle.kati.specs.Meaning.{Meaning, Means}
+use Rattle.kati.specs.Meaning.{Means}
 use Rattle.kati.specs.Messages.{err_text, out_text}
 use Rattle.kati.proofs.MeaningLemmas.{meant}
 

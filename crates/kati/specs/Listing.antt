@@ -2,7 +2,6 @@
 use Rattle.std.specs.Prelude.{ℕ, List, [], ◌∷◌, ◌++◌, length, Bool, true, false, nat_lt, Option, Some, None}
 use Rattle.kt_text.specs.Words.{Text}
 use Rattle.kt_text.specs.Lines.{nul_line}
-use Rattle.kt_rules.specs.declared.place.Place.{Place}
 use Rattle.kt_eval.specs.declared.fault.Fault.{Fault}
 use Rattle.kt_eval.specs.declared.kind.FaultKind.TheVariants.{FileTooLarge, NoFile, NulByte}
 use Rattle.kt_eval.specs.Faults.{number_of, wording}

@@ -1,6 +1,6 @@
 -- The makefile that is read, and the macros of the command line (POSIX.1-2024 make, "Makefile Syntax", "Macros"; GNU
 -- make manual, "Overriding Variables").
-use Rattle.std.specs.Prelude.{ℕ, List, [], ◌∷◌, fold, Option, Some, None, codes}
+use Rattle.std.specs.Prelude.{List, [], ◌∷◌, fold, Option, Some, None, codes}
 use Rattle.kt_text.specs.Words.{Text, trimmed_start}
 use Rattle.kt_rules.specs.Entry.{Rule}
 use Rattle.kt_eval.specs.Files.{Store}

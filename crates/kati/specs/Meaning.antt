@@ -1,5 +1,5 @@
 -- What a run means: its messages, its plan or its first fault, and the names that it asks for (kati's own).
-use Rattle.std.specs.Prelude.{◌≡◌, ℕ, List, ◌∷◌, Option, Some, None, ◌⊎◌, Result, Ok, Err}
+use Rattle.std.specs.Prelude.{◌≡◌, ℕ, List, Some, None, ◌⊎◌, Result, Ok, Err}
 use Rattle.kt_text.specs.Words.{Text}
 use Rattle.kt_eval.specs.declared.fault.Fault.{Fault}
 use Rattle.kt_eval.specs.Files.{Store}

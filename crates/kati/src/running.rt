@@ -17,6 +17,7 @@ use kt_eval::{Fault, Files};
 use kt_list::Sequence;
 use kt_ninja::{Plan, Sink, put, write_plan};
 use std::alloc::{AllocError, Global};
+use std::mem;
 
 fn append_fault_of(text: &mut Vec<u8>, outcome: &Result<Plan, Fault>) -> Result<(), AllocError>
     ensures { OnOk result (text.new.items ≡ text.old.items ++ fault_text outcome.now) }
@@ -77,9 +78,17 @@ pub fn run<F: Files, O: Sink, E: Sink>(
     if put(err, text.as_slice()).is_err() {
         return Err(RunFault::WriteErr);
     }
-    match &outcome.result {
-        Ok(plan) => deliver(alloc, plan, &args.check, files, out),
-        Err(_) => Ok(Status::Fault),
+    let Outcome {
+        messages: _messages,
+        result,
+    } = outcome;
+    match result {
+        Ok(plan) => {
+            let delivered = deliver(alloc, &plan, &args.check, files, out);
+            mem::forget(plan);
+            delivered
+        }
+        Err(_fault) => Ok(Status::Fault),
     }
 }
 

@@ -1,4 +1,4 @@
-use Rattle.std.proofs.Common.{ap, sym, rules, ◌∙◌}
+use Rattle.std.proofs.Common.{ap, sym, ◌∙◌}
 use Rattle.kt_eval.specs.declared.kind.FaultKind.TheVariants.{CommandNotWritable, NameNotWritable}
 use Rattle.kt_ninja.specs.Writable.{told_trouble}
 use Rattle.kati.specs.Course.{fault_nowhere}

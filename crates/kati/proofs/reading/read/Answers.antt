@@ -1,4 +1,3 @@
-use Rattle.std.proofs.Common.{sym, subst}
 use Rattle.kati.proofs.AskedLemmas.{reads_asked}
 use Rattle.kati.proofs.BlameLemmas.{if_some-weaker}
 use Rattle.kati.proofs.reading.read.Goals as goal
