@@ -1,5 +1,5 @@
 -- Joined lines, line by line of the file.
-use Rattle.std.proofs.Common.{◌≡◌, ℕ, suc, zero, ◌+◌, ◌-◌, ◌<◌, ◌≤◌, Bool, true, false, not, ◌==◌, ◌&&◌, unwrap_or, List, [], ◌∷◌, ◌++◌, refl, sym, ◌∙◌, ap, append_assoc, length, length-append, take, drop, get_or, subst, Result, Ok, Err, is_ok, OnOk, arith, Option, Some, None, find, if◌then◌else◌, ⊎_elim}
+use Rattle.std.proofs.Common.{◌≡◌, ℕ, suc, zero, ◌+◌, ◌-◌, ◌<◌, ◌≤◌, Bool, true, false, not, ◌==◌, ◌&&◌, unwrap_or, List, [], ◌∷◌, ◌++◌, refl, sym, ◌∙◌, ap, append_assoc, length, length-append, take, drop, get_or, slice_index_or, subst, Result, Ok, Err, is_ok, OnOk, arith, Option, Some, None, find, if◌then◌else◌, ⊎_elim}
 use Rattle.std.proofs.lemmas.Bool.{cases_Bool, false≢true, false_from_ne_true, eqb-true, and_parts}
 use Rattle.std.proofs.lemmas.List.Folds.{list_all-append}
 use Rattle.std.proofs.Math.Seq.{take-append-add, drop-cons}
@@ -233,3 +233,21 @@ over g number lines begun rest whole is none before =
 pub ok_items : {T E : Type 0} (r : Result T E) (new more same : Text) → new ≡ (if is_ok r then more else same) → OnOk r (new ≡ more)
 ok_items (Ok x) new more same h = h
 ok_items (Err e) new more same h = tt
+
+-- a text that ends in another byte
+and_false : (pending : Bool) → (not pending && false) ≡ false
+and_false true = refl
+and_false false = refl
+
+pub other_end : (pending : Bool) (text : Text) → 1 ≤ length text → (slice_index_or text (length text - 1) 0 ≡ 36 → ⊥) → ends_in_dollar pending text ≡ false
+unfolding ends_in_dollar
+other_end pending [] some other = absurd (omega (arith, some))
+other_end pending (b ∷ []) some other = ⊎_elim (λ h. absurd (other (eqb-true _ _ h))) (λ h. rw h (and_false pending)) (cases_Bool (b == 36))
+other_end pending (b ∷ c ∷ bs) some other =
+    let long : length (b ∷ c ∷ bs) - 1 ≡ suc (length (c ∷ bs) - 1) = omega arith in
+    other_end (not pending && b == 36) (c ∷ bs) (omega arith) (λ e. other (ap (λ n. slice_index_or (b ∷ c ∷ bs) n 0) long ∙ e))
+
+pub no_end : (text : Text) → length text < 1 → ends_in_dollar false text ≡ false
+unfolding ends_in_dollar
+no_end [] none = refl
+no_end (b ∷ bs) none = absurd (omega (arith, none))

@@ -94,9 +94,19 @@ pub(crate) fn is_blank(text: &[u8]) -> bool
     text.iter().all(|byte| *byte == b' ')
 }
 
-// Whether the text ends in a dollar that no other dollar escapes.
-#[tactic(auto, using(crate::proofs::JoinedLemmas::dollar_step), unfolding(crate::specs::JoinedLines::ends_in_dollar))]
+// Whether the text ends in a dollar that no other dollar escapes. Most texts end in another byte.
 fn ends_in_dollar(text: &[u8]) -> bool
+    ensures { result ≡ ends_in_dollar false text.now }
+{
+    match text {
+        [.., last] if *last == b'$' => is_dollar_open(text),
+        _ => false,
+    }
+}
+
+// Whether the last of the dollars is escaped by none before it.
+#[tactic(auto, using(crate::proofs::JoinedLemmas::dollar_step), unfolding(crate::specs::JoinedLines::ends_in_dollar))]
+fn is_dollar_open(text: &[u8]) -> bool
     ensures { result ≡ ends_in_dollar false text.now }
 {
     let mut pending = false;
