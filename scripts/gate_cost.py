@@ -48,7 +48,12 @@ class Sampler(threading.Thread):
         if "--crate-name" not in words:
             return
         crate = words[words.index("--crate-name") + 1]
-        part = "edits" if not where.startswith(self.folder) else "tests" if "--test" in words else "proof"
+        if where.startswith(self.folder):
+            part = "tests" if "--test" in words else "proof"
+        elif "/rt-edit-" in where:
+            part = "edits"
+        else:
+            return
         self.seen[process.name, fields[19]] = crate, part, (int(fields[11]) + int(fields[12])) / TICKS
 
     def table(self):
