@@ -30,8 +30,8 @@ use std::mem;
 
 /// Translates the makefile that the arguments name, or else the first of `makefile` and `Makefile` that is there.
 ///
-/// Its rules, known names and graph are never given back: a run translates once and ends, and giving back a million
-/// texts one by one took a tenth of its time.
+/// Its rules, known names and graph are never given back: a run translates once and ends, and would spend much of its
+/// time on giving back a million texts one by one.
 pub fn translate<F: Files>(alloc: Global, args: &Args, files: &mut F) -> Result<Outcome, RunFault>
     ensures means { IfSome (F.known files.old)
         (λ store. IfOk result (λ outcome. Translates args.now store outcome (F.names files.old) (F.names files.new))) }
