@@ -14,7 +14,7 @@ use Rattle.kt_eval.specs.Reading.{read_first}
 use Rattle.kt_eval.specs.State.{World, frozen_world}
 use Rattle.kt_eval.specs.Step.{Outcome, Gave, Stopped, ending}
 use Rattle.kt_eval.specs.Table.{Table}
-use Rattle.kt_eval.proofs.GrowingLemmas.{expanding_stays, reading_stays}
+use Rattle.kt_eval.proofs.GrowingReads.{expanding_stays, reading_stays}
 use Rattle.kt_graph.specs.Groups.{groups_of}
 use Rattle.kt_graph.specs.Known.{known_names}
 use Rattle.kt_graph.specs.Node.{Node}

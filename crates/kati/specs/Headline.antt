@@ -1,5 +1,6 @@
 -- What a run leaves on its outputs (kati's own).
-use Rattle.std.specs.Prelude.{◌≡◌, ◌⊎◌, ℕ, List, Option, Some, None, Result, Ok, Err, IfErr, IfSome, IsOk, OnOk, string_bytes}
+use Rattle.std.specs.Prelude.{◌≡◌, ◌⊎◌, ℕ, List, Option, Some, None, Result, Ok, Err, IfErr, IfSome, IsOk, OnOk}
+use Rattle.std.specs.Prelude.{string_bytes}
 use Rattle.kt_list.specs.Counters.{Rises}
 use Rattle.kt_text.specs.Words.{Text}
 use Rattle.kt_ninja.specs.Written.{appended, GrowsByFront}

@@ -1,6 +1,7 @@
 -- The plan of what goals need (Ninja manual, "Build statements", "Build dependencies", "Default target statements";
 -- which statements there are, their order and the name that is always built are kati's own).
-use Rattle.std.specs.Prelude.{ℕ, Bool, not, ◌&&◌, List, [], ◌∷◌, ◌++◌, map, filter, flat_map, Option, Some, None, is_some, slice_get, if◌then◌else◌}
+use Rattle.std.specs.Prelude.{ℕ, Bool, not, ◌&&◌, List, [], ◌∷◌, ◌++◌, map, filter, flat_map, Option, Some, None}
+use Rattle.std.specs.Prelude.{is_some, slice_get, if◌then◌else◌}
 use Rattle.std.specs.List.{list_any}
 use Rattle.std.specs.Option.{option_and_then, option_map_or}
 use Rattle.kt_text.specs.Words.{Text}
@@ -18,7 +19,8 @@ use Rattle.kt_ninja.specs.declared.plan.Made.{Made}
 use Rattle.kt_ninja.specs.declared.plan.Made.TheVariants.{Command, Phony}
 use Rattle.kt_ninja.specs.declared.plan.Statement.{Statement}
 use Rattle.kt_ninja.specs.declared.plan.Plan.{Plan}
-use Rattle.kt_ninja.specs.Writable.{Trouble, is_empty, no_output, bad_name, bad_command, repeated, not_an_output, trouble_of_statements}
+use Rattle.kt_ninja.specs.Writable.{Trouble, is_empty, no_output, bad_name, bad_command, repeated, not_an_output}
+use Rattle.kt_ninja.specs.Writable.{trouble_of_statements}
 use Rattle.kati.specs.Course.{Course, on_course, off_course, fault_nowhere}
 
 -- the target that is never there, so that what needs it is always made

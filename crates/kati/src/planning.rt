@@ -7,7 +7,9 @@ ghost use Rattle.kt_graph.specs.Faults.{IsSoundGraph};
 ghost use Rattle.kt_ninja.specs.Writable.{HasWritableTexts, IsWritable, told_trouble};
 ghost use Rattle.kt_recipe.specs.Views.{Tells};
 ghost use Rattle.kati.specs.Course.{Computes};
-ghost use Rattle.kati.specs.Planned.{after_command, command_for, first_output, has_implicit, least_output, plan_course, plan_groups, plan_of, planned, statement_of, text_fault, unwritable_in, with_always_built, written};
+ghost use Rattle.kati.specs.Planned.{after_command, command_for, first_output, has_implicit, least_output, plan_course};
+ghost use Rattle.kati.specs.Planned.{plan_groups, plan_of, planned, statement_of, text_fault, unwritable_in};
+ghost use Rattle.kati.specs.Planned.{with_always_built, written};
 ghost use Rattle.kati.specs.inner.Stops.{IsFaultOf};
 ghost use Rattle.kati.specs.inner.Views.{Plans, is_text_trouble};
 

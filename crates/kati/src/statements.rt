@@ -1,10 +1,12 @@
 //! The statements of groups.
-ghost use Rattle.std.specs.Prelude.{◌≡◌, ◌&&◌, ◌++◌, ◌∷◌, [], Bool, filter, flat_map, fold, is_some, map, not, option_map, IfOk, IfSome, OnOk, if◌then◌else◌};
+ghost use Rattle.std.specs.Prelude.{◌≡◌, ◌&&◌, ◌++◌, ◌∷◌, [], Bool, filter, flat_map, fold, is_some, map, not};
+ghost use Rattle.std.specs.Prelude.{option_map, IfOk, IfSome, OnOk, if◌then◌else◌};
 ghost use Rattle.std.specs.List.{list_any};
 ghost use Rattle.kt_rules.specs.Book.{is_phony};
 ghost use Rattle.kt_rules.specs.Names.{is_among, with_name, without_repeats};
 ghost use Rattle.kt_graph.specs.Node.{inputs_of, order_only_of};
-ghost use Rattle.kati.specs.Planned.{always_built, has_phony, implicit_of, joined_inputs, joined_order_only, made_by, outs_of, statement_of};
+ghost use Rattle.kati.specs.Planned.{always_built, has_phony, implicit_of, joined_inputs, joined_order_only, made_by};
+ghost use Rattle.kati.specs.Planned.{outs_of, statement_of};
 
 use indexmap::IndexSet;
 use kt_graph::{Inputs, Node};

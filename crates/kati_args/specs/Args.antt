@@ -1,11 +1,14 @@
 -- What the words of the command line ask for (kati's own). Which words are options and which are their values is
 -- clap's.
-use Rattle.std.specs.Prelude.{◌≡◌, ◌≢◌, ℕ, ◌-◌, ◌==◌, ◌&&◌, ◌||◌, ⊤, Bool, true, false, not, List, [], ◌∷◌, map, filter, find, codes, length, slice_get, Some, None, option_map, unwrap_or, Result, Ok, Err, string_bytes, Option}
+use Rattle.std.specs.Prelude.{◌≡◌, ◌≢◌, ℕ, ◌-◌, ◌==◌, ◌&&◌, ◌||◌, ⊤, Bool, true, false, not, List, [], ◌∷◌, map, filter}
+use Rattle.std.specs.Prelude.{find, codes, length, slice_get, Some, None, option_map, unwrap_or, Result, Ok, Err}
+use Rattle.std.specs.Prelude.{string_bytes, Option}
 use Rattle.std.specs.List.{list_any, before_first, after_first}
 use Rattle.std.specs.Option.{option_map_or}
 use Rattle.std.specs.Str.Parse.{digits_value, without_leading_plus}
 use Rattle.kt_text.specs.Words.{Text, is_separator}
-use Rattle.clap.specs.Words.{App, IsAmong, Row, Rule, all_of, fault_of, first_of, kind_of, matches_of, new_app, new_rule, takes, with_rule}
+use Rattle.clap.specs.Words.{App, IsAmong, Row, Rule, all_of, fault_of, first_of, kind_of, matches_of, new_app}
+use Rattle.clap.specs.Words.{new_rule, takes, with_rule}
 use Rattle.clap.specs.declared.builder.action.ArgAction.TheVariants.{Append, Set, SetTrue}
 use Rattle.clap.specs.declared.builder.value_parser.ValueParser.TheVariants as parser
 use Rattle.clap.specs.declared.error.kind.ErrorKind.{ErrorKind}

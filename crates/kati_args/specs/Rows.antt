@@ -2,7 +2,8 @@
 use Rattle.std.specs.Prelude.{◌≡◌, ⊤, List, [], ◌∷◌, Option, Some, None, Result, Ok, Err, if◌then◌else◌, codes}
 use Rattle.kt_text.specs.Words.{Text}
 use Rattle.clap.specs.Words.{fault_of, matches_of, takes}
-use Rattle.clap.specs.declared.error.kind.ErrorKind.TheVariants.{ArgumentConflict, DisplayHelp, InvalidValue, TooManyValues, UnknownArgument, ValueValidation}
+use Rattle.clap.specs.declared.error.kind.ErrorKind.TheVariants.{ArgumentConflict, DisplayHelp, InvalidValue}
+use Rattle.clap.specs.declared.error.kind.ErrorKind.TheVariants.{TooManyValues, UnknownArgument, ValueValidation}
 use Rattle.kati_args.specs.declared.args.Args.{Args}
 use Rattle.kati_args.specs.declared.args.Macro.{Macro}
 use Rattle.kati_args.specs.declared.fault.ArgFault.{ArgFault}

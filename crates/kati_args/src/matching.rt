@@ -1,6 +1,7 @@
 //! The words, as clap matches them.
 ghost use Rattle.std.specs.Prelude.{◌≡◌, IfErr, IfOk, IfSome, codes, map, string_bytes};
-ghost use Rattle.clap.specs.Words.{HasKind, IsUnsignedIn, fault_of, first_value, found_of, kind_of, matches_of, rows_of};
+ghost use Rattle.clap.specs.Words.{HasKind, IsUnsignedIn, fault_of, first_value, found_of, kind_of, matches_of};
+ghost use Rattle.clap.specs.Words.{rows_of};
 ghost use Rattle.kati_args.specs.Args.{IsTaken, kati_app};
 
 use crate::command::command;

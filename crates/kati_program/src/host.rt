@@ -1,5 +1,6 @@
 //! The host's files and outputs. No contract tells what they hold.
-ghost use Rattle.std.specs.Prelude.{◌≡◌, ◌<◌, ◌≤◌, ◌↔◌, [], None, map, string_bytes, IfErr, IfOk, IfSome, IsNone, IsOk, length, vec_len};
+ghost use Rattle.std.specs.Prelude.{◌≡◌, ◌<◌, ◌≤◌, ◌↔◌, [], None, map, string_bytes, IfErr, IfOk, IfSome, IsNone, IsOk};
+ghost use Rattle.std.specs.Prelude.{length, vec_len};
 
 use kt_eval::{FileFault, Files};
 use kt_ninja::{Sink, SinkFault};

@@ -3,6 +3,11 @@ use Rattle.std.proofs.Common.{◌≡◌, ℕ, zero, suc, ◌-◌, ◌<◌, Bool,
 use Rattle.kt_eval.specs.Files.{Store}
 use Rattle.kt_eval.specs.Levels.{evaluator, above, none_left}
 
+-- what the levels are made of, opened under one name
+unfoldable pub opened : Unit {0}
+unfolding evaluator none_left above
+opened = tt
+
 -- a level is the one above that below it
 pub evaluator_above : (reads : Bool) (store : Store) (n : ℕ) → 0 < n → evaluator reads store n ≡ above store (evaluator reads store (n - 1))
 unfolding evaluator

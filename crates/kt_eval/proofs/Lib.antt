@@ -6,7 +6,8 @@ pub mod RowLemmas
 pub mod BodyLemmas
 pub mod ReadingLemmas
 pub mod GrowingLemmas
-pub mod FrontLemmas
+pub mod GrowingReads
+pub mod Steps
 pub mod EarlyLemmas
 pub mod RootLemmas
 pub mod TextLemmas

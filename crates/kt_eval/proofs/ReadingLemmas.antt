@@ -172,3 +172,5 @@ module _ (e : Evaluator) (sheet : Sheet) where
         → ((condition : Bool) (next : ℕ) → slice_get steps at ≡ Some (step.Branch condition next after) → ⊥)
         → whole ≡ left steps after w
     all_passed t none_there = tried_in t.others t.tried t.rest none_there
+
+pub ruleset branch_steps = (first_taken, first_passed, first_halted, branch_taken, branch_passed, branch_stopped, all_passed)

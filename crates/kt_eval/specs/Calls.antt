@@ -1,14 +1,20 @@
 -- What a reference asks for (GNU make manual, "Basics of Variable References", "Substitution References" and
 -- "Function Call Syntax").
-use Rattle.std.specs.Prelude.{ℕ, zero, suc, ◌+◌, ◌-◌, Bool, true, false, ◌==◌, ◌&&◌, ◌||◌, List, [], ◌∷◌, ◌++◌, length, take, drop, Option, Some, None, codes, bytes_eq, is_some, if◌then◌else◌}
+use Rattle.std.specs.Prelude.{ℕ, zero, suc, ◌+◌, ◌-◌, Bool, true, false, ◌==◌, ◌&&◌, ◌||◌, List, [], ◌∷◌, ◌++◌, length}
+use Rattle.std.specs.Prelude.{take, drop, Option, Some, None, codes, bytes_eq, is_some, if◌then◌else◌}
 use Rattle.std.specs.List.{position_or_len, before_first, after_first, list_any}
 use Rattle.kt_text.specs.Words.{Text, is_separator, stripped_start}
 use Rattle.kt_text.specs.Match.{has_percent}
-use Rattle.kt_text.specs.Functions.{subst_of, patsubst_of, strip_of, findstring_of, filter_of, filter_out_of, sort_of, word_of, wordlist_of, words_count_of, firstword_of, lastword_of, dir_of, notdir_of, suffix_of, basename_of, addsuffix_of, addprefix_of, join_of}
+use Rattle.kt_text.specs.Functions.{subst_of, patsubst_of, strip_of, findstring_of, filter_of, filter_out_of, sort_of}
+use Rattle.kt_text.specs.Functions.{word_of, wordlist_of, words_count_of, firstword_of, lastword_of, dir_of, notdir_of}
+use Rattle.kt_text.specs.Functions.{suffix_of, basename_of, addsuffix_of, addprefix_of, join_of}
 use Rattle.kt_syntax.specs.declared.term.Mark.{Mark}
 use Rattle.kt_syntax.specs.declared.term.Mark.TheVariants.{Byte, Parentheses, Braces}
 use Rattle.kt_eval.specs.declared.function.TextFunction.{TextFunction}
-use Rattle.kt_eval.specs.declared.function.TextFunction.TheVariants.{Subst, Patsubst, Strip, Findstring, Filter, FilterOut, Sort, Word, Wordlist, Words, Firstword, Lastword, Dir, Notdir, Suffix, Basename, Addsuffix, Addprefix, Join}
+use Rattle.kt_eval.specs.declared.function.TextFunction.TheVariants.{Subst, Patsubst, Strip, Findstring, Filter}
+use Rattle.kt_eval.specs.declared.function.TextFunction.TheVariants.{FilterOut, Sort, Word, Wordlist, Words, Firstword}
+use Rattle.kt_eval.specs.declared.function.TextFunction.TheVariants.{Lastword, Dir, Notdir, Suffix, Basename, Addsuffix}
+use Rattle.kt_eval.specs.declared.function.TextFunction.TheVariants.{Addprefix, Join}
 use Rattle.kt_eval.specs.declared.function.Function.{Function}
 use Rattle.kt_eval.specs.declared.function.Function.TheVariants as function
 

@@ -1,6 +1,7 @@
 -- The conditions of `ifeq` and `ifneq` (GNU make manual, "Syntax of Conditionals"), found in the text as it stands in
 -- the file, byte by byte (kati's own).
-use Rattle.std.specs.Prelude.{ℕ, ◌+◌, ◌-◌, ◌==◌, ◌&&◌, ◌||◌, [], ◌∷◌, take, drop, Option, Some, None, option_map, position, if◌then◌else◌}
+use Rattle.std.specs.Prelude.{ℕ, ◌+◌, ◌-◌, ◌==◌, ◌&&◌, ◌||◌, [], ◌∷◌, take, drop, Option, Some, None, option_map}
+use Rattle.std.specs.Prelude.{position, if◌then◌else◌}
 use Rattle.std.specs.Option.{option_and_then}
 use Rattle.kt_text.specs.Words.{Text, trimmed_start, trimmed_end}
 

@@ -1,13 +1,15 @@
 -- What the lines of a makefile do, one after another (POSIX.1-2024 make, "Makefile Syntax"; GNU make manual, "Writing
 -- Makefiles" and "Conditional Parts of Makefiles").
-use Rattle.std.specs.Prelude.{ℕ, ◌+◌, Bool, true, false, nat_lt, List, [], ◌∷◌, ◌++◌, length, map, Option, Some, None, codes, unwrap_or, if◌then◌else◌}
+use Rattle.std.specs.Prelude.{ℕ, ◌+◌, Bool, true, false, nat_lt, List, [], ◌∷◌, ◌++◌, length, map, Option, Some, None}
+use Rattle.std.specs.Prelude.{codes, unwrap_or, if◌then◌else◌}
 use Rattle.std.specs.List.{slice_get, slice_range}
 use Rattle.kt_text.specs.declared.line.Line.{Line}
 use Rattle.kt_text.specs.Words.{Text}
 use Rattle.kt_text.specs.Lines.{logical_lines_of, nul_line}
 use Rattle.kt_syntax.specs.declared.form.Directive.TheVariants as word
 use Rattle.kt_syntax.specs.Kinds.{Kind, blank, assignment, directive, refused, rule, kind_of, line_kind}
-use Rattle.kt_syntax.specs.Blocks.{Items, Branches, Flat, none, line, fault, definition, conditional, no_branch, branch, late, blocks_of, tree_of}
+use Rattle.kt_syntax.specs.Blocks.{Items, Branches, Flat, none, line, fault, definition, conditional, no_branch, branch}
+use Rattle.kt_syntax.specs.Blocks.{late, blocks_of, tree_of}
 use Rattle.kt_syntax.specs.Comments.{plain_of}
 use Rattle.kt_syntax.specs.Roles.{line_text, heads_of}
 use Rattle.kt_syntax.specs.declared.part.Missing.{Missing}

@@ -1,5 +1,6 @@
 -- A step takes a world and gives a value, or stops at a fault; both leave a world.
-use Rattle.std.specs.Prelude.{◌≡◌, ℕ, ◌≤◌, true, Option, Some, is_some, unwrap_or, List, [], length, take, Result, Ok, Err, Vec, string_bytes}
+use Rattle.std.specs.Prelude.{◌≡◌, ℕ, ◌≤◌, true, Option, Some, is_some, unwrap_or, List, [], length, take, Result, Ok}
+use Rattle.std.specs.Prelude.{Err, Vec, string_bytes}
 use Rattle.std.specs.declared.alloc.Global.{Global}
 use Rattle.kt_list.specs.Counters.{Rises}
 use Rattle.kt_text.specs.Words.{Text}

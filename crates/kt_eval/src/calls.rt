@@ -1,9 +1,13 @@
 //! What references ask for.
-ghost use Rattle.std.specs.Prelude.{◌≡◌, ◌≤◌, ◌+◌, ◌-◌, ◌==◌, ◌∷◌, [], IfOk, OnOk, ◌++◌, length, map, not, option_map, drop, take, Some, position, MatchOption, true, false, ◌<◌, ◌^◌};
+ghost use Rattle.std.specs.Prelude.{◌≡◌, ◌≤◌, ◌+◌, ◌-◌, ◌==◌, ◌∷◌, [], IfOk, OnOk, ◌++◌, length, map, not, option_map};
+ghost use Rattle.std.specs.Prelude.{drop, take, Some, position, MatchOption, true, false, ◌<◌, ◌^◌};
 ghost use Rattle.std.specs.List.{after_first, before_first, list_any, position_or_len};
 ghost use Rattle.std.specs.Str.{bytes_eq};
 ghost use Rattle.kt_text.specs.Words.{is_separator};
-ghost use Rattle.kt_eval.specs.Calls.{arguments_of, arity, asked_by, asked_of, byte_name, closer, commas, cuts, function_of, is_function_name, is_refused_function, may_cut, name_function, naming_of, nested, one_less, opener, other_function, string_function, text_function_name};
+ghost use Rattle.kt_eval.specs.Calls.{arguments_of, arity, asked_by, asked_of, byte_name, closer, commas, cuts};
+ghost use Rattle.kt_eval.specs.Calls.{function_of, is_function_name, is_refused_function, may_cut, name_function};
+ghost use Rattle.kt_eval.specs.Calls.{naming_of, nested, one_less, opener, other_function, string_function};
+ghost use Rattle.kt_eval.specs.Calls.{text_function_name};
 ghost use Rattle.kt_eval.specs.inner.Views.{asked_told, naming_told};
 
 use crate::function::{Function, TextFunction};

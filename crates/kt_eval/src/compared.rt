@@ -3,7 +3,8 @@ ghost use Rattle.std.specs.Prelude.{◌≡◌, ◌<◌, ◌≤◌, ◌==◌, ◌
 ghost use Rattle.std.specs.List.{prefix_len};
 ghost use Rattle.kt_text.specs.Words.{is_blank};
 ghost use Rattle.kt_eval.specs.Conditionals.{text_after_word, word_before_blank};
-ghost use Rattle.kt_eval.specs.Conditions.{bare_place, compared_of, in_parentheses, in_quotes, quoted, quoted_by, second_in, trimmed};
+ghost use Rattle.kt_eval.specs.Conditions.{bare_place, compared_of, in_parentheses, in_quotes, quoted, quoted_by};
+ghost use Rattle.kt_eval.specs.Conditions.{second_in, trimmed};
 ghost use Rattle.kt_eval.specs.inner.Views.{compared_told};
 
 use kt_text::{is_blank, trim_end, trim_start};

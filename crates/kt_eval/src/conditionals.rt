@@ -2,7 +2,8 @@
 ghost use Rattle.std.specs.Prelude.{◌≡◌, option_map, bytes_eq, true};
 ghost use Rattle.kt_text.specs.Words.{is_nonempty, words_of};
 ghost use Rattle.kt_syntax.specs.Kinds.{kind_told};
-ghost use Rattle.kt_eval.specs.Conditionals.{are_equal, bad_conditional, else_holds, holds, is_defined, is_set, line_holds, text_holds, worded_holds};
+ghost use Rattle.kt_eval.specs.Conditionals.{are_equal, bad_conditional, else_holds, holds, is_defined, is_set};
+ghost use Rattle.kt_eval.specs.Conditionals.{line_holds, text_holds, worded_holds};
 ghost use Rattle.kt_eval.specs.State.{lookup, raw_value};
 ghost use Rattle.kt_eval.specs.inner.Doing.{Does};
 ghost use Rattle.kt_eval.specs.Step.{Blames, Gives};
@@ -45,7 +46,7 @@ impl<'a, M: Scope, F: Files> Evaluation<'a, M, F> {
     }
 
     #[cycle(evaluate)]
-    #[tactic(auto, using(crate::proofs::FrontLemmas::is_set_longer, crate::proofs::FrontLemmas::is_set_same), unfolding(crate::specs::Conditionals::is_defined))]
+    #[tactic(auto, using(crate::proofs::Steps::is_set_goes), unfolding(crate::specs::Conditionals::is_defined))]
     pub(crate) fn is_defined(&mut self, below: u64, text: &[u8]) -> Result<bool, Stop>
         requires { M.writable ≡ true }
         ensures { Does (λ b. b) M.writable below (λ e. is_defined e text.now) result self.old self.new }
@@ -55,7 +56,7 @@ impl<'a, M: Scope, F: Files> Evaluation<'a, M, F> {
     }
 
     #[cycle(evaluate)]
-    #[tactic(auto, using(crate::proofs::FrontLemmas::expanded_longer, crate::proofs::FrontLemmas::expanded_same), unfolding(crate::specs::Conditionals::are_equal))]
+    #[tactic(auto, using(crate::proofs::Steps::expanded_goes), unfolding(crate::specs::Conditionals::are_equal))]
     pub(crate) fn are_equal(
         &mut self,
         below: u64,
@@ -121,7 +122,7 @@ impl<'a, M: Scope, F: Files> Evaluation<'a, M, F> {
 
     // An `else` without a condition is always taken.
     #[cycle(evaluate)]
-    #[tactic(auto, using(crate::proofs::FrontLemmas::text_holds_longer, crate::proofs::FrontLemmas::text_holds_same), unfolding(crate::specs::Conditionals::else_holds))]
+    #[tactic(auto, using(crate::proofs::Steps::text_holds_goes), unfolding(crate::specs::Conditionals::else_holds))]
     pub(crate) fn else_holds(
         &mut self,
         below: u64,
@@ -139,7 +140,7 @@ impl<'a, M: Scope, F: Files> Evaluation<'a, M, F> {
     }
 
     #[cycle(evaluate)]
-    #[tactic(auto, using(crate::proofs::FrontLemmas::holds_longer, crate::proofs::FrontLemmas::holds_same), unfolding(crate::specs::Conditionals::line_holds))]
+    #[tactic(auto, using(crate::proofs::Steps::holds_goes), unfolding(crate::specs::Conditionals::line_holds))]
     pub(crate) fn line_holds(
         &mut self,
         below: u64,

@@ -144,7 +144,7 @@ impl<'a, M: Scope, F: Files> Evaluation<'a, M, F> {
     }
 
     // What a function of texts answered.
-    #[tactic(auto, using(crate::proofs::FrontLemmas::accepted_longer, crate::proofs::FrontLemmas::accepted_same))]
+    #[tactic(auto, using(crate::proofs::Steps::accepted_goes))]
     pub(crate) fn accept(
         &self,
         name: &[u8],
@@ -300,7 +300,7 @@ impl<'a, M: Scope, F: Files> Evaluation<'a, M, F> {
     }
 
     // Puts a rule into the book.
-    #[tactic(auto, using(crate::proofs::FrontLemmas::enter_rule_longer, crate::proofs::FrontLemmas::enter_rule_same), unfolding(crate::specs::Rules::enter_rule))]
+    #[tactic(auto, using(crate::proofs::Steps::enter_rule_goes), unfolding(crate::specs::Rules::enter_rule))]
     fn enter_rule(&mut self, rule: Entry) -> Result<(), Stop>
         requires { M.writable ≡ true }
         ensures gives { Gives (λ u. u) result self.new.world (enter_rule rule self.old.world) }
@@ -318,7 +318,7 @@ impl<'a, M: Scope, F: Files> Evaluation<'a, M, F> {
     }
 
     // Opens the rule of an expanded head.
-    #[tactic(auto, using(crate::proofs::FrontLemmas::open_rule_longer, crate::proofs::FrontLemmas::open_rule_same), unfolding(crate::specs::Rules::open_rule))]
+    #[tactic(auto, using(crate::proofs::Steps::open_rule_goes), unfolding(crate::specs::Rules::open_rule))]
     pub(crate) fn open_rule(
         &mut self,
         recipe: Option<Sequence<u8>>,
@@ -357,7 +357,7 @@ impl<'a, M: Scope, F: Files> Evaluation<'a, M, F> {
 
     // Reads the bytes of a file, if it is there. Its name is copied first, so that no failure of the device ends in
     // want of memory.
-    #[tactic(auto, using(crate::proofs::FrontLemmas::asked_longer, crate::proofs::FrontLemmas::asked_same, crate::proofs::LastLemmas::last_behind), unfolding(crate::specs::Reading::read_bytes))]
+    #[tactic(auto, using(crate::proofs::Steps::read_bytes_steps), unfolding(crate::specs::Reading::read_bytes))]
     pub(crate) fn read_bytes(&mut self, name: &str) -> Result<Option<Vec<u8>>, Stop>
         ensures gives { AreKnown self.old.known → Gives (λ found. option_map
             (λ v. v.items) found) result self.new.world (read_bytes (store_of self.old.known) name.now self.old.world) }

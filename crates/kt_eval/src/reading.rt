@@ -7,7 +7,9 @@ ghost use Rattle.kt_syntax.specs.Blocks.{tree_of};
 ghost use Rattle.kt_syntax.specs.Reading.{IsAhead, IsConditional, ReadsOn, left_at};
 ghost use Rattle.kt_syntax.specs.declared.step.Step.TheVariants as step;
 ghost use Rattle.kt_eval.specs.Levels.{evaluator};
-ghost use Rattle.kt_eval.specs.Reading.{branch_holds, line_at, read_bare_tab, read_define, read_end, read_held, read_include, read_items, read_kind, read_line, read_sheet, read_stray, read_tab, read_text};
+ghost use Rattle.kt_eval.specs.Reading.{branch_holds, line_at, read_bare_tab, read_define, read_end, read_held};
+ghost use Rattle.kt_eval.specs.Reading.{read_include, read_items, read_kind, read_line, read_sheet, read_stray};
+ghost use Rattle.kt_eval.specs.Reading.{read_tab, read_text};
 ghost use Rattle.kt_eval.specs.Assignments.{assign_line};
 ghost use Rattle.kt_eval.specs.Rules.{rule_line, rule_of_parts};
 ghost use Rattle.kt_syntax.specs.Comments.{plain_of};
@@ -33,7 +35,7 @@ use std::alloc::{AllocError, Global};
 
 impl<'a, M: Scope, F: Files> Evaluation<'a, M, F> {
     // The end that is missing.
-    #[tactic(auto, using(crate::proofs::FrontLemmas::read_end_longer, crate::proofs::FrontLemmas::read_end_same), unfolding(crate::specs::Reading::read_end))]
+    #[tactic(auto, using(crate::proofs::Steps::read_end_goes), unfolding(crate::specs::Reading::read_end))]
     fn read_end(&mut self, source: &Source, missing: Option<Missing>) -> Result<(), Stop>
         ensures gives { Gives (λ u. u) result self.new.world (read_end source.now missing self.old.world) }
         ensures kept { Keeps self.old self.new }
@@ -79,7 +81,7 @@ impl<'a, M: Scope, F: Files> Evaluation<'a, M, F> {
     }
 
     #[cycle(evaluate)]
-    #[tactic(auto, using(crate::proofs::FrontLemmas::read_sheet_longer, crate::proofs::FrontLemmas::read_sheet_same, crate::proofs::FrontLemmas::read_without_nul_longer, crate::proofs::FrontLemmas::read_without_nul_same), unfolding(crate::specs::Reading::read_text))]
+    #[tactic(auto, using(crate::proofs::Steps::read_text_steps), unfolding(crate::specs::Reading::read_text))]
     pub(crate) fn read_text(&mut self, below: u64, source: &Source, text: &[u8]) -> Result<(), Stop>
         requires { M.writable ≡ true }
         ensures { Does (λ u. u) M.writable below (λ e. read_text e source.now text.now) result self.old self.new }
@@ -98,7 +100,7 @@ impl<'a, M: Scope, F: Files> Evaluation<'a, M, F> {
     }
 
     #[cycle(evaluate)]
-    #[tactic(auto, using(crate::proofs::FrontLemmas::close_rule_longer, crate::proofs::FrontLemmas::close_rule_same, crate::proofs::FrontLemmas::read_end_longer, crate::proofs::FrontLemmas::read_end_same), unfolding(crate::specs::Reading::read_sheet))]
+    #[tactic(auto, using(crate::proofs::Steps::read_page_steps), unfolding(crate::specs::Reading::read_sheet))]
     pub(crate) fn read_page(&mut self, below: u64, page: &Page<'_>) -> Result<(), Stop>
         requires { M.writable ≡ true }
         ensures { Does (λ u. u) M.writable below (λ e. read_sheet e page.now) result self.old self.new }
@@ -124,7 +126,7 @@ impl<'a, M: Scope, F: Files> Evaluation<'a, M, F> {
 
     // Reads the line of a place, or tests a conditional, and gives the place to go on from.
     #[cycle(evaluate)]
-    #[tactic(auto, using(crate::proofs::FrontLemmas::read_items_longer, crate::proofs::FrontLemmas::read_items_same), unfolding(crate::specs::Reading::read_items))]
+    #[tactic(auto, using(crate::proofs::Steps::read_items_goes), unfolding(crate::specs::Reading::read_items))]
     pub(crate) fn read_step(
         &mut self,
         below: u64,
@@ -171,7 +173,7 @@ impl<'a, M: Scope, F: Files> Evaluation<'a, M, F> {
 
     // Finds the branch of a conditional that is read.
     #[cycle(evaluate)]
-    #[tactic(auto, using(crate::proofs::ReadingLemmas::first_taken, crate::proofs::ReadingLemmas::first_passed, crate::proofs::ReadingLemmas::first_halted, crate::proofs::ReadingLemmas::branch_taken, crate::proofs::ReadingLemmas::branch_passed, crate::proofs::ReadingLemmas::branch_stopped, crate::proofs::ReadingLemmas::all_passed))]
+    #[tactic(auto, using(crate::proofs::ReadingLemmas::branch_steps))]
     pub(crate) fn read_conditional(
         &mut self,
         below: u64,
@@ -205,7 +207,7 @@ impl<'a, M: Scope, F: Files> Evaluation<'a, M, F> {
     }
 
     #[cycle(evaluate)]
-    #[tactic(auto, using(crate::proofs::FrontLemmas::branch_holds_longer, crate::proofs::FrontLemmas::branch_holds_same), unfolding(crate::specs::Reading::branch_holds))]
+    #[tactic(auto, using(crate::proofs::Steps::branch_holds_goes), unfolding(crate::specs::Reading::branch_holds))]
     pub(crate) fn branch_holds(
         &mut self,
         below: u64,
@@ -223,7 +225,7 @@ impl<'a, M: Scope, F: Files> Evaluation<'a, M, F> {
     }
 
     #[cycle(evaluate)]
-    #[tactic(auto, using(crate::proofs::FrontLemmas::read_kind_longer, crate::proofs::FrontLemmas::read_kind_same), unfolding(crate::specs::Reading::read_line))]
+    #[tactic(auto, using(crate::proofs::Steps::read_kind_goes), unfolding(crate::specs::Reading::read_line))]
     pub(crate) fn read_line(&mut self, below: u64, line: RawLine<'_>) -> Result<(), Stop>
         requires { M.writable ≡ true }
         ensures { Does (λ u. u) M.writable below (λ e. read_line e (raw_told line.entry)) result self.old self.new }
@@ -255,7 +257,7 @@ impl<'a, M: Scope, F: Files> Evaluation<'a, M, F> {
 
     // A line that begins with a tab while no rule is open.
     #[cycle(evaluate)]
-    #[tactic(auto, using(crate::proofs::FrontLemmas::read_bare_tab_longer, crate::proofs::FrontLemmas::read_bare_tab_same))]
+    #[tactic(auto, using(crate::proofs::Steps::read_bare_tab_goes))]
     pub(crate) fn read_bare_tab(&mut self, below: u64, line: &[u8]) -> Result<(), Stop>
         requires { M.writable ≡ true }
         ensures { Does (λ u. u) M.writable below
@@ -282,7 +284,7 @@ impl<'a, M: Scope, F: Files> Evaluation<'a, M, F> {
     }
 
     #[cycle(evaluate)]
-    #[tactic(auto, using(crate::proofs::FrontLemmas::assign_line_longer, crate::proofs::FrontLemmas::assign_line_same))]
+    #[tactic(auto, using(crate::proofs::Steps::assign_line_goes))]
     pub(crate) fn read_assignment(
         &mut self,
         below: u64,
@@ -301,7 +303,7 @@ impl<'a, M: Scope, F: Files> Evaluation<'a, M, F> {
 
     // A line by its kind; an assignment, an include and a rule line close the rule that is open.
     #[cycle(evaluate)]
-    #[tactic(auto, using(crate::proofs::FrontLemmas::assign_line_longer, crate::proofs::FrontLemmas::assign_line_same, crate::proofs::FrontLemmas::rule_line_longer, crate::proofs::FrontLemmas::rule_line_same), unfolding(crate::specs::Reading::read_kind))]
+    #[tactic(auto, using(crate::proofs::Steps::read_kind_steps), unfolding(crate::specs::Reading::read_kind))]
     pub(crate) fn read_kind(
         &mut self,
         below: u64,
@@ -334,7 +336,7 @@ impl<'a, M: Scope, F: Files> Evaluation<'a, M, F> {
     }
 
     #[cycle(evaluate)]
-    #[tactic(auto, using(crate::proofs::FrontLemmas::include_line_longer, crate::proofs::FrontLemmas::include_line_same), unfolding(crate::specs::Reading::read_include))]
+    #[tactic(auto, using(crate::proofs::Steps::include_line_goes), unfolding(crate::specs::Reading::read_include))]
     pub(crate) fn read_include(
         &mut self,
         below: u64,
@@ -351,7 +353,7 @@ impl<'a, M: Scope, F: Files> Evaluation<'a, M, F> {
 
     // The first line of a define, and its body.
     #[cycle(evaluate)]
-    #[tactic(auto, using(crate::proofs::FrontLemmas::read_define_longer, crate::proofs::FrontLemmas::read_define_same))]
+    #[tactic(auto, using(crate::proofs::Steps::read_define_goes))]
     pub(crate) fn read_define(&mut self, below: u64, line: &[u8], body: &[u8]) -> Result<(), Stop>
         requires { M.writable ≡ true }
         ensures { Does (λ u. u) M.writable below
@@ -362,7 +364,7 @@ impl<'a, M: Scope, F: Files> Evaluation<'a, M, F> {
     }
 
     #[cycle(evaluate)]
-    #[tactic(auto, using(crate::proofs::FrontLemmas::define_longer, crate::proofs::FrontLemmas::define_same), unfolding(crate::specs::Reading::read_define))]
+    #[tactic(auto, using(crate::proofs::Steps::define_goes), unfolding(crate::specs::Reading::read_define))]
     pub(crate) fn read_define_form(
         &mut self,
         below: u64,
@@ -400,7 +402,7 @@ impl<'a, M: Scope, F: Files> Evaluation<'a, M, F> {
 
     // A rule line by its parts.
     #[cycle(evaluate)]
-    #[tactic(auto, using(crate::proofs::FrontLemmas::rule_of_parts_longer, crate::proofs::FrontLemmas::rule_of_parts_same, crate::proofs::FrontLemmas::open_rule_longer, crate::proofs::FrontLemmas::open_rule_same), unfolding(crate::specs::Rules::rule_of_parts))]
+    #[tactic(auto, using(crate::proofs::Steps::read_rule_steps), unfolding(crate::specs::Rules::rule_of_parts))]
     pub(crate) fn read_rule(
         &mut self,
         below: u64,

@@ -4,8 +4,14 @@ use Rattle.std.specs.Str.{bytes_eq}
 use Rattle.std.specs.List.{list_any}
 use Rattle.std.proofs.lemmas.List.{map-append, drop_more}
 use Rattle.kt_text.specs.Words.{Text}
-use Rattle.kt_rules.specs.Names.{with_name, without_dots}
+use Rattle.kt_rules.specs.Names.{with_name, without_dots, without_repeats}
 use Rattle.kt_rules.proofs.NameSetLemmas.{among_keys}
+use Rattle.kt_graph.specs.Goals.{named_goals}
+
+-- what the definition of the named goals is made of, opened under one name
+unfoldable pub goals_open : Unit {0}
+unfolding named_goals without_repeats
+goals_open = tt
 
 map-either : (b : Bool) (old : List (Vec ℕ Global)) (key : Vec ℕ Global)
     → map (λ (k : Vec ℕ Global). k.items) (if b then old else old ++ key ∷ [])

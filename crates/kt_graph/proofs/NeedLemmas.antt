@@ -1,5 +1,5 @@
 -- A prerequisite with a stem put in: how long it is.
-use Rattle.std.proofs.Common.{◌≡◌, ℕ, ◌+◌, ◌-◌, ◌<◌, ◌∷◌, ◌++◌, length, drop, take, refl, sym, ◌∙◌, ap, arith, Some, None, length-append}
+use Rattle.std.proofs.Common.{◌≡◌, ℕ, ◌+◌, ◌-◌, ◌<◌, ◌∷◌, ◌++◌, length, refl, ◌∙◌, ap, arith, Some, None, length-append}
 use Rattle.memchr.specs.Find.{IsFirstByte, is_byte}
 use Rattle.kt_text.specs.Words.{Text}
 use Rattle.kt_text.specs.Match.{pattern_front, pattern_back}

@@ -1,15 +1,12 @@
 -- The numbers of ends, through changes of the map that holds them.
-use Rattle.std.proofs.Common.{◌≡◌, ℕ, ◌+◌, ◌-◌, ◌<◌, ◌≤◌, Bool, true, false, ⊎_elim, nat_eq, if◌then◌else◌, List, [], ◌∷◌, ◌++◌, length, drop, take, get_or, Option, Some, option_map, slice_get, Vec, Global, refl, sym, ap, ◌∙◌, subst, arith}
+use Rattle.std.proofs.Common.{◌≡◌, ℕ, ◌+◌, ◌-◌, ◌<◌, ◌≤◌, Bool, true, false, ⊎_elim, nat_eq, if◌then◌else◌, List, [], ◌∷◌, ◌++◌, length, drop, take, get_or, Some, slice_get, refl, sym, ap, ◌∙◌, subst, arith}
 use Rattle.std.specs.List.{Contains, list_any}
-use Rattle.std.specs.Map.{lookup, KeepsOthers}
-use Rattle.std.specs.Option.{unwrap_or}
 use Rattle.std.specs.Str.{bytes_eq}
 use Rattle.std.proofs.lemmas.Bool.{cases_eq, cases_lt, eqb-true}
 use Rattle.std.proofs.lemmas.Cmp.{nat_list_eq_equiv}
 use Rattle.std.proofs.lemmas.List.{append-nil, take_more}
 use Rattle.std.proofs.lemmas.List.Elements.{All-push, All-weaker, Contains-append_left, Contains-append_right, Contains-append_cases}
 use Rattle.std.proofs.lemmas.Option.{same_Some, slice_get_read, slice_get_within}
-use Rattle.std.proofs.lemmas.Slice.Eq.{bytes_eq-Decides}
 use Rattle.indexmap.specs.IndexSet.{insert_key}
 use Rattle.indexmap.proofs.CallerLemmas.{Contains-insert_key}
 use Rattle.kt_text.specs.Words.{Text}
@@ -17,40 +14,8 @@ use Rattle.kt_text.specs.Match.{pattern_back}
 use Rattle.kt_rules.specs.declared.entry.Target.{Target}
 use Rattle.kt_rules.specs.Entry.{Rule}
 use Rattle.kt_graph.specs.declared.ends.Ends.{Ends}
-use Rattle.kt_graph.specs.inner.Ends.{AreAllNoted, AreNoted, HasAll, IsNoted, KeepsNoted, Notes, NotesAll, numbers_at, numbers_in}
+use Rattle.kt_graph.specs.inner.Ends.{AreAllNoted, AreNoted, HasAll, IsNoted, KeepsNoted, Notes, NotesAll, numbers_at}
 use Rattle.kt_graph.proofs.MemberLemmas.{Contains-cases, Contains-here, Contains-none}
-
--- the numbers that a look-up found
-abbrev pub items_of : Option (Vec ℕ Global) → List ℕ
-items_of found = unwrap_or (option_map (λ (numbers : Vec ℕ Global). numbers.items) found) []
-
--- where two ends are two, no key is both
-apart : (end other : Text) → bytes_eq other end ≡ false → (key : Vec ℕ Global) → bytes_eq end key.items ≡ true → bytes_eq other key.items ≡ false
-apart end other differ key is =
-    nat_list_eq_equiv.symm other key.items
-    ∙ sym (nat_list_eq_equiv.congr end key.items other is)
-    ∙ nat_list_eq_equiv.symm end other ∙ differ
-
--- one end got more numbers, and all others keep theirs
-pub noted : (old new : List (Vec ℕ Global × Vec ℕ Global)) (end : Text) (numbers : Vec ℕ Global) (more : List ℕ)
-    → KeepsOthers (λ (x y : Vec ℕ Global). bytes_eq x.items y.items) (λ (key : Vec ℕ Global). bytes_eq end key.items) old new
-    → lookup (λ (key : Vec ℕ Global). bytes_eq end key.items) new ≡ Some numbers
-    → numbers.items ≡ numbers_in old end ++ more
-    → (other : Text) → numbers_in new other ≡ numbers_in old other ++ (if bytes_eq other end then more else [])
-unfolding KeepsOthers
-noted old new end numbers more others found grown other = by (bytes_eq other end) refl
-  where
-    by : (b : Bool) → bytes_eq other end ≡ b → numbers_in new other ≡ numbers_in old other ++ (if b then more else [])
-    by true e =
-        let same : other ≡ end = (bytes_eq-Decides other end).0 e in
-        let P : Text → Type 0 = λ n. numbers_in new n ≡ numbers_in old n ++ more in
-        subst P (sym same) (ap (λ o. unwrap_or (option_map (λ (s : Vec ℕ Global). s.items) o) []) found ∙ grown)
-    by false e =
-        ap (λ o. unwrap_or (option_map (λ (s : Vec ℕ Global). s.items) o) [])
-        (others (λ (key : Vec ℕ Global). bytes_eq other key.items)
-        (λ x y h. nat_list_eq_equiv.congr other x.items y.items h)
-        (λ key h. apart end other e key h))
-        ∙ sym (append-nil _)
 
 -- ---- one more number
 

@@ -1,6 +1,8 @@
 -- Which pattern rules may make a name, and in which order they are tried (GNU make manual, "How Patterns Match",
 -- "Match-Anything Pattern Rules", "Implicit Rule Search Algorithm").
-use Rattle.std.specs.Prelude.{ℕ, ◌+◌, Bool, not, ◌||◌, ◌==◌, nat_le, List, [], ◌∷◌, ◌++◌, length, map, take, filter, flat_map, filter_map, fold, bytes_eq, Option, Some, None, option_map, option_to_list, if◌then◌else◌}
+use Rattle.std.specs.Prelude.{ℕ, ◌+◌, Bool, not, ◌||◌, ◌==◌, nat_le, List, [], ◌∷◌, ◌++◌, length, map, take, filter}
+use Rattle.std.specs.Prelude.{flat_map, filter_map, fold, bytes_eq, Option, Some, None, option_map, option_to_list}
+use Rattle.std.specs.Prelude.{if◌then◌else◌}
 use Rattle.std.specs.List.{list_all, list_any, range_with_len, slice_range}
 use Rattle.std.specs.Option.{option_and_then}
 use Rattle.kt_text.specs.Words.{Text, is_nonempty}

@@ -5,7 +5,8 @@ use Rattle.kt_rules.specs.Entry.{Rule}
 use Rattle.kt_graph.specs.declared.fault.GraphFault.{GraphFault}
 use Rattle.kt_graph.specs.declared.fault.GraphFault.TheVariants.{Memory, Refused}
 use Rattle.kt_graph.specs.Node.{Node}
-use Rattle.kt_graph.specs.Reach.{Trouble, no_rule, circular, reserved_name, one_file, ComesFirst, IsDoubled, IsFirst, IsGraph, IsReserved}
+use Rattle.kt_graph.specs.Reach.{Trouble, no_rule, circular, reserved_name, one_file, ComesFirst, IsDoubled, IsFirst}
+use Rattle.kt_graph.specs.Reach.{IsGraph, IsReserved}
 
 -- the number of its fault
 abbrev pub fault_number : Trouble → ℕ

@@ -1,5 +1,6 @@
 -- Which made nodes one making makes (GNU make manual, "Multiple Targets in a Rule", "Introduction to Pattern Rules").
-use Rattle.std.specs.Prelude.{◌≡◌, ◌↔◌, Bool, false, not, ◌&&◌, ◌||◌, nat_eq, List, [], ◌∷◌, All, map, filter, find, bytes_eq, Option, Some, None}
+use Rattle.std.specs.Prelude.{◌≡◌, ◌↔◌, Bool, false, not, ◌&&◌, ◌||◌, nat_eq, List, [], ◌∷◌, All, map, filter, find}
+use Rattle.std.specs.Prelude.{bytes_eq, Option, Some, None}
 use Rattle.std.specs.List.{Contains}
 use Rattle.std.specs.List.Sorted.{IsStrictlySortedBy}
 use Rattle.std.specs.Option.{option_map_or}

@@ -1,6 +1,7 @@
 -- What makes a name and what it needs (POSIX.1-2024 make, "Target Rules"; GNU make manual, "Multiple Rules for One
 -- Target", "Double-Colon Rules", "Using Implicit Rules", "Phony Targets").
-use Rattle.std.specs.Prelude.{ℕ, ◌-◌, Bool, true, false, not, nat_eq, nat_lt, List, [], ◌∷◌, ◌++◌, length, map, filter, flat_map, find, take, Option, Some, None, option_map, slice_get, if◌then◌else◌}
+use Rattle.std.specs.Prelude.{ℕ, ◌-◌, Bool, true, false, not, nat_eq, nat_lt, List, [], ◌∷◌, ◌++◌, length, map, filter}
+use Rattle.std.specs.Prelude.{flat_map, find, take, Option, Some, None, option_map, slice_get, if◌then◌else◌}
 use Rattle.std.specs.List.{list_any, before_last, after_last, last_or, ends_with}
 use Rattle.std.specs.Option.{option_map_or, option_and_then}
 use Rattle.kt_text.specs.Words.{Text}

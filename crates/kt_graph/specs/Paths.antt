@@ -1,5 +1,6 @@
 -- Which names are names of one file, and which name is kati's own.
-use Rattle.std.specs.Prelude.{Bool, true, false, not, ◌||◌, ◌==◌, List, [], ◌∷◌, ◌++◌, fold, reverse, codes, bytes_eq, if◌then◌else◌}
+use Rattle.std.specs.Prelude.{Bool, true, false, not, ◌||◌, ◌==◌, List, [], ◌∷◌, ◌++◌, fold, reverse, codes, bytes_eq}
+use Rattle.std.specs.Prelude.{if◌then◌else◌}
 use Rattle.std.specs.List.{slice_split, join_with_byte}
 use Rattle.kt_text.specs.Words.{Text}
 

@@ -1,6 +1,7 @@
 -- The search for a pattern rule that makes a name (GNU make manual, "Implicit Rule Search Algorithm", "Chains of
 -- Implicit Rules"). Which rules are numbered are those that `patterns_of` leaves of a makefile.
-use Rattle.std.specs.Prelude.{◌≡◌, ℕ, zero, suc, ◌↔◌, Bool, true, false, not, ◌&&◌, nat_eq, nat_lt, List, [], ◌∷◌, ◌++◌, filter, find, fold, bytes_eq, All, Option, None, is_some, if◌then◌else◌}
+use Rattle.std.specs.Prelude.{◌≡◌, ℕ, zero, suc, ◌↔◌, Bool, true, false, not, ◌&&◌, nat_eq, nat_lt, List, [], ◌∷◌, ◌++◌}
+use Rattle.std.specs.Prelude.{filter, find, fold, bytes_eq, All, Option, None, is_some, if◌then◌else◌}
 use Rattle.std.specs.List.{Contains, list_all, list_any}
 use Rattle.std.specs.Option.{option_or}
 use Rattle.std.specs.Cmp.Lexicographic.{pointwise}

@@ -1,5 +1,6 @@
 //! The nodes of names by their explicit rules.
-ghost use Rattle.std.specs.Prelude.{◌≡◌, ◌++◌, ◌∷◌, None, Some, List, MatchOption, find, map, nat_eq, option_map, IfOk, OnOk};
+ghost use Rattle.std.specs.Prelude.{◌≡◌, ◌++◌, ◌∷◌, None, Some, List, MatchOption, find, map, nat_eq, option_map, IfOk};
+ghost use Rattle.std.specs.Prelude.{OnOk};
 ghost use Rattle.std.specs.List.{ends_with, list_any};
 ghost use Rattle.kt_text.specs.Words.{Text};
 ghost use Rattle.kt_rules.specs.Book.{is_double};
@@ -7,7 +8,8 @@ ghost use Rattle.kt_rules.specs.Entry.{Rule};
 ghost use Rattle.kt_rules.specs.declared.entry.Target.{Target as HeldTarget};
 ghost use Rattle.kt_rules.specs.Slots.{rule_told};
 ghost use Rattle.kt_graph.specs.inner.Building.{IsCut};
-ghost use Rattle.kt_graph.specs.Node.{double_node, explicit_node, first_name, group_of, kind_without, part_of, plain_node, stem_for, suffix_stem, used_rule};
+ghost use Rattle.kt_graph.specs.Node.{double_node, explicit_node, first_name, group_of, kind_without, part_of};
+ghost use Rattle.kt_graph.specs.Node.{plain_node, stem_for, suffix_stem, used_rule};
 ghost use Rattle.kt_graph.specs.inner.Named.{named_told, needs_of_each, part_named, put_together};
 ghost use Rattle.kt_graph.specs.Views.{instance_told};
 

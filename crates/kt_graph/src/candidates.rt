@@ -1,12 +1,14 @@
 //! The pattern rules that may make a name, in the order in which they are tried.
-ghost use Rattle.std.specs.Prelude.{◌≡◌, ◌<◌, ◌≤◌, ◌||◌, ◌++◌, ℕ, All, not, slice_get, option_map, option_to_list, filter_map, length, IfOk, IfSome, OnOk};
+ghost use Rattle.std.specs.Prelude.{◌≡◌, ◌<◌, ◌≤◌, ◌||◌, ◌++◌, ℕ, All, not, slice_get, option_map, option_to_list};
+ghost use Rattle.std.specs.Prelude.{filter_map, length, IfOk, IfSome, OnOk};
 ghost use Rattle.std.specs.List.{list_any};
 ghost use Rattle.std.specs.List.Sorted.{IsPermutation};
 ghost use Rattle.kt_rules.specs.Entry.{Rule};
 ghost use Rattle.kt_rules.specs.Patterns.{is_terminal};
 ghost use Rattle.kt_graph.specs.Candidates.{candidate_by, candidate_of, candidates_for, matching_from, shortest};
 ghost use Rattle.kt_graph.specs.inner.Ends.{candidate_numbered, candidates_numbered};
-ghost use Rattle.kt_graph.specs.Views.{AreWithin, IsWithin, candidate_at, candidates_told, fit_size, found_told, held_by_size, held_without_any, is_last_at, shorter_of, stays};
+ghost use Rattle.kt_graph.specs.Views.{AreWithin, IsWithin, candidate_at, candidates_told, fit_size, found_told};
+ghost use Rattle.kt_graph.specs.Views.{held_by_size, held_without_any, is_last_at, shorter_of, stays};
 
 use crate::candidate::{Candidate, fit_of};
 use crate::needed::Stemming;

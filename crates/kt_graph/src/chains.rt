@@ -1,12 +1,15 @@
 //! The chains of pattern rules that a search tries.
-ghost use Rattle.std.specs.Prelude.{◌≡◌, ◌+◌, [], ◌∷◌, find, fold, length, map, nat_le, is_some, option_map, IfOk, IfSome, OnOk};
+ghost use Rattle.std.specs.Prelude.{◌≡◌, ◌+◌, [], ◌∷◌, find, fold, length, map, nat_le, is_some, option_map, IfOk};
+ghost use Rattle.std.specs.Prelude.{IfSome, OnOk};
 ghost use Rattle.std.specs.List.{list_all, prefix_len};
 ghost use Rattle.kt_rules.specs.Names.{with_name, without_repeats};
 ghost use Rattle.kt_rules.specs.Suffixes.{all_needs};
 ghost use Rattle.kt_graph.specs.Candidates.{needed_names, needs_with};
 ghost use Rattle.kt_graph.specs.inner.Chaining.{IsFound, IsRightFor, Keeps, Leaves, asked_behind};
 ghost use Rattle.kt_graph.specs.Known.{unknown_of};
-ghost use Rattle.kt_graph.specs.Search.{asked_among, asked_by, asked_for, asked_inside, asking, chain_limit, choice_of, chosen_of, fitting, is_inferred, is_met, is_used, open_candidates, unknown_needs, with_rule};
+ghost use Rattle.kt_graph.specs.Search.{asked_among, asked_by, asked_for, asked_inside, asking, chain_limit, choice_of};
+ghost use Rattle.kt_graph.specs.Search.{chosen_of, fitting, is_inferred, is_met, is_used, open_candidates};
+ghost use Rattle.kt_graph.specs.Search.{unknown_needs, with_rule};
 ghost use Rattle.kt_graph.specs.Views.{AreWithin, IsWithin, candidate_told, candidates_told, choice_told, fit_told};
 
 use crate::candidate::Candidate;

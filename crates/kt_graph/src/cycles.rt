@@ -1,7 +1,9 @@
 //! Names that need themselves.
-ghost use Rattle.std.specs.Prelude.{◌≡◌, ◌↔◌, ◌+◌, ◌≤◌, ℕ, All, IsTrue, MatchOption, false, get_or, length, replicate, set, take, true, IfOk, OnOk};
+ghost use Rattle.std.specs.Prelude.{◌≡◌, ◌↔◌, ◌+◌, ◌≤◌, ℕ, All, IsTrue, MatchOption, false, get_or, length, replicate};
+ghost use Rattle.std.specs.Prelude.{set, take, true, IfOk, OnOk};
 ghost use Rattle.std.specs.List.{Contains};
-ghost use Rattle.kt_graph.specs.inner.Edges.{ArePassed, AreWithin, HasNext, HoldsCircular, IsFirstBack, IsKept, LeadsBack, Visits, count_held, holds_in, work_with};
+ghost use Rattle.kt_graph.specs.inner.Edges.{ArePassed, AreWithin, HasNext, HoldsCircular, IsFirstBack, IsKept};
+ghost use Rattle.kt_graph.specs.inner.Edges.{LeadsBack, Visits, count_held, holds_in, work_with};
 
 use crate::edges::Edges;
 use std::alloc::{AllocError, Global};

@@ -1,6 +1,8 @@
 //! Which names lead to which.
 ghost use Rattle.std.specs.Prelude.{◌≡◌, ◌+◌, ◌<◌, length, IfOk, IfSome, OnOk};
-ghost use Rattle.kt_graph.specs.inner.Edges.{AreEdgesOf, AreMadeBelow, AreNeededBelow, AreReversed, AreWithin, bare_rows, edges_from, edges_to, making_edges, needing, next_of, node_edges, rows_of, with_edge, with_edges};
+ghost use Rattle.kt_graph.specs.inner.Edges.{AreEdgesOf, AreMadeBelow, AreNeededBelow, AreReversed, AreWithin};
+ghost use Rattle.kt_graph.specs.inner.Edges.{bare_rows, edges_from, edges_to, making_edges, needing, next_of};
+ghost use Rattle.kt_graph.specs.inner.Edges.{node_edges, rows_of, with_edge, with_edges};
 
 use crate::settled::Settled;
 use std::alloc::{AllocError, Global};

@@ -1,11 +1,10 @@
 //! Pattern rules by what stands behind the percent signs of their targets.
-ghost use Rattle.std.specs.Prelude.{◌≡◌, ◌++◌, ◌∷◌, [], ℕ, List, IfOk, OnOk, bytes_eq, if◌then◌else◌};
-ghost use Rattle.kt_text.specs.Words.{Text};
+ghost use Rattle.std.specs.Prelude.{◌≡◌, ◌++◌, ◌∷◌, [], ℕ, List, IfOk, OnOk};
 ghost use Rattle.kt_text.specs.Match.{pattern_back};
-ghost use Rattle.kt_graph.specs.inner.Ends.{HasAll, IsNoted, Notes, NotesAll, numbers_at};
+ghost use Rattle.kt_graph.specs.inner.Ends.{HasAll, Notes, NotesAll};
 
-use indexmap::{IndexMap, IndexSet};
-use kt_rules::Target;
+use indexmap::IndexSet;
+use kt_rules::{Index, Target};
 use memchr::memchr;
 use std::alloc::{AllocError, Global};
 
@@ -15,7 +14,7 @@ pub(crate) struct Ends {
     alloc: Global,
     // How long ends are: a name is looked up once for each length, and not once for each end.
     lengths: IndexSet<usize>,
-    numbers: IndexMap<Vec<u8>, Vec<usize>>,
+    numbers: Index<usize>,
 }
 
 impl Ends {
@@ -23,7 +22,7 @@ impl Ends {
         Ends {
             alloc,
             lengths: IndexSet::new(alloc),
-            numbers: IndexMap::new(alloc),
+            numbers: Index::new(alloc),
         }
     }
 
@@ -45,25 +44,7 @@ impl Ends {
         ensures { OnOk result (Notes self.old self.new end.now number) }
     {
         self.lengths.insert(end.len())?;
-        self.note_number(end, number)
-    }
-
-    fn note_number(&mut self, end: &[u8], number: usize) -> Result<(), AllocError>
-        ensures noted { OnOk result ((other : Text) → numbers_at self.new other ≡ numbers_at self.old other
-            ++ (if bytes_eq other end.now then number ∷ [] else [])) }
-        ensures lengths { self.new.lengths ≡ self.old.lengths }
-    {
-        match self.numbers.get_mut(end) {
-            Some(numbers) => {
-                numbers.push(number)?;
-            }
-            None => {
-                let key = Vec::from_slice(self.alloc, end)?;
-                self.numbers
-                    .insert(key, Vec::from_array(self.alloc, [number])?)?;
-            }
-        }
-        Ok(())
+        self.numbers.note(end, number)
     }
 
     /// The numbers that were noted at ends of a name, in no order.
@@ -88,18 +69,9 @@ impl Ends {
             → HasAll self.now name.now (lengths ++ length ∷ []) found.new.items) }
     {
         if length <= name.len() {
-            found.extend_from_slice(self.numbers(&name[name.len() - length..]))?;
+            found.extend_from_slice(self.numbers.noted(&name[name.len() - length..]))?;
         }
         Ok(())
-    }
-
-    fn numbers(&self, end: &[u8]) -> &[usize]
-        ensures { result.now ≡ numbers_at self.now end.now }
-    {
-        match self.numbers.get(end) {
-            Some(numbers) => numbers.as_slice(),
-            None => &[],
-        }
     }
 }
 

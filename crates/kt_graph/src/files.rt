@@ -1,5 +1,6 @@
 //! The files that the names of a graph stand for.
-ghost use Rattle.std.specs.Prelude.{◌≡◌, ◌++◌, ◌∷◌, ◌||◌, ◌&&◌, [], List, Some, false, bytes_eq, find, is_some, map, not, option_map, unwrap_or, IfOk, OnOk, if◌then◌else◌};
+ghost use Rattle.std.specs.Prelude.{◌≡◌, ◌++◌, ◌∷◌, ◌||◌, ◌&&◌, [], List, Some, false, bytes_eq, find, is_some, map};
+ghost use Rattle.std.specs.Prelude.{not, option_map, unwrap_or, IfOk, OnOk, if◌then◌else◌};
 ghost use Rattle.std.specs.List.{list_any};
 ghost use Rattle.kt_text.specs.Words.{Text};
 ghost use Rattle.kt_graph.specs.inner.Files.{HasFiles, held_for, is_repeated, made_names};

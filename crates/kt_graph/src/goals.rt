@@ -10,7 +10,7 @@ use std::alloc::{AllocError, Global};
 
 /// The goals that the words of a command line name, each once (GNU make manual, "Arguments to
 /// Specify the Goals").
-#[tactic(auto, using(crate::proofs::NameKeys::key_added), unfolding(crate::specs::Goals::named_goals, kt_rules::specs::Names::without_repeats))]
+#[tactic(auto, using(crate::proofs::NameKeys::key_added), unfolding(crate::proofs::NameKeys::goals_open))]
 pub fn named_goals(alloc: Global, words: &[Name]) -> Result<Vec<Name>, AllocError>
     ensures { IfOk result (λ goals. goals.items ≡ named_goals words.now) }
 {

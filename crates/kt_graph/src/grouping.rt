@@ -1,7 +1,8 @@
 //! The nodes of each making together.
 ghost use Rattle.std.specs.Prelude.{◌≡◌, ◌∷◌, ◌++◌, [], IfOk, List, None, OnOk, length, map, replicate, ℕ};
 ghost use Rattle.kt_graph.specs.declared.node.Instance.{Instance as Held};
-ghost use Rattle.kt_graph.specs.inner.Grouping.{IsAfter, IsGrouping, IsGroupingOf, MayFollow, groups_held, place_of, places_with, with_member};
+ghost use Rattle.kt_graph.specs.inner.Grouping.{IsAfter, IsGrouping, IsGroupingOf, MayFollow, groups_held, place_of};
+ghost use Rattle.kt_graph.specs.inner.Grouping.{places_with, with_member};
 ghost use Rattle.kt_graph.specs.Groups.{groups_of, made_nodes};
 ghost use Rattle.kt_graph.specs.Node.{Node as Told};
 ghost use Rattle.kt_graph.specs.Views.{nodes_told};

@@ -7,7 +7,8 @@ ghost use Rattle.kt_graph.specs.Groups.{AreGroups, groups_of};
 ghost use Rattle.kt_graph.specs.Node.{Node};
 ghost use Rattle.kt_graph.specs.Reach.{IsGraph};
 ghost use Rattle.kt_graph.specs.Resolution.{IsResolution};
-ghost use Rattle.kt_graph.specs.Rows.{RowsOfChoices, RowsOfGoals, RowsOfKnown, RowsOfNodes, RowsOfPaths, RowsOfQuestions};
+ghost use Rattle.kt_graph.specs.Rows.{RowsOfChoices, RowsOfGoals, RowsOfKnown, RowsOfNodes, RowsOfPaths};
+ghost use Rattle.kt_graph.specs.Rows.{RowsOfQuestions};
 ghost use Rattle.kt_graph.specs.declared.fault.GraphFault.TheVariants.{Memory};
 
 /// Worked known names.

@@ -1,5 +1,6 @@
 //! What makes each name that goals need, as the crates above see it.
-ghost use Rattle.std.specs.Prelude.{◌≡◌, ◌∷◌, [], All, List, MatchOption, bytes_eq, find, length, map, not, option_map, IfOk};
+ghost use Rattle.std.specs.Prelude.{◌≡◌, ◌∷◌, [], All, List, MatchOption, bytes_eq, find, length, map, not, option_map};
+ghost use Rattle.std.specs.Prelude.{IfOk};
 ghost use Rattle.std.specs.Iterator.{YieldsFirstBy, item_count};
 ghost use Rattle.kt_text.specs.Words.{Text};
 ghost use Rattle.kt_rules.specs.Entry.{Rule};

@@ -1,5 +1,6 @@
 //! Names by numbers.
-ghost use Rattle.std.specs.Prelude.{◌≡◌, ◌^◌, ◌<◌, ◌++◌, [], List, Some, flat_map, fold, length, map, option_map, slice_get, IfOk, OnOk};
+ghost use Rattle.std.specs.Prelude.{◌≡◌, ◌^◌, ◌<◌, ◌++◌, [], List, Some, flat_map, fold, length, map, option_map};
+ghost use Rattle.std.specs.Prelude.{slice_get, IfOk, OnOk};
 ghost use Rattle.kt_text.specs.Words.{Text};
 ghost use Rattle.kt_rules.specs.Names.{with_name};
 ghost use Rattle.kt_rules.specs.Suffixes.{all_needs};

@@ -1,5 +1,6 @@
 //! Which names are names of one file.
-ghost use Rattle.std.specs.Prelude.{◌≡◌, ◌++◌, ◌∷◌, ◌==◌, [], bytes_eq, flat_map, map, reverse, IfOk, OnOk, if◌then◌else◌};
+ghost use Rattle.std.specs.Prelude.{◌≡◌, ◌++◌, ◌∷◌, ◌==◌, [], bytes_eq, flat_map, map, reverse, IfOk, OnOk};
+ghost use Rattle.std.specs.Prelude.{if◌then◌else◌};
 ghost use Rattle.std.specs.List.{join_with_byte, slice_split};
 ghost use Rattle.kt_graph.specs.Paths.{above_name, always_name, canon_of, ends_in_name, is_rooted, step_up, with_part};
 

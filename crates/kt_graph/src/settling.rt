@@ -1,5 +1,6 @@
 //! Settles what makes each name that goals need, by a list of work.
-ghost use Rattle.std.specs.Prelude.{◌≡◌, ◌<◌, ◌^◌, [], List, None, fold, length, map, option_map, slice_get, take, IfOk, OnOk};
+ghost use Rattle.std.specs.Prelude.{◌≡◌, ◌<◌, ◌^◌, [], List, None, fold, length, map, option_map, slice_get, take};
+ghost use Rattle.std.specs.Prelude.{IfOk, OnOk};
 ghost use Rattle.kt_text.specs.Words.{Text};
 ghost use Rattle.kt_rules.specs.Book.{explicit_rules, is_phony};
 ghost use Rattle.kt_rules.specs.Entry.{Rule};

@@ -1,6 +1,7 @@
 -- The forms of a line (Ninja manual, "Ninja file reference", "Top-level variables", "Build statements", "Default target
 -- statements"; which bytes a name has, which keywords are taken, and what is refused, is kati's own).
-use Rattle.std.specs.Prelude.{ℕ, Bool, false, not, ◌==◌, ◌||◌, nat_eq, List, [], ◌∷◌, drop, filter, Option, Some, None, option_map, codes, if◌then◌else◌}
+use Rattle.std.specs.Prelude.{ℕ, Bool, false, not, ◌==◌, ◌||◌, nat_eq, List, [], ◌∷◌, drop, filter, Option, Some, None}
+use Rattle.std.specs.Prelude.{option_map, codes, if◌then◌else◌}
 use Rattle.std.specs.Option.{option_and_then}
 use Rattle.std.specs.List.{list_any, slice_split, prefix_len, before_first, after_first, starts_with}
 use Rattle.kt_ninja.specs.JoinedLines.{Text}

@@ -1,6 +1,7 @@
 -- The plan that a Ninja file says, or the line of its first fault (Ninja manual, "Ninja file reference"; what has no
 -- reading here though Ninja takes it is kati's own).
-use Rattle.std.specs.Prelude.{ℕ, Bool, true, false, not, ◌==◌, ◌&&◌, ◌||◌, List, [], ◌∷◌, ◌++◌, map, Option, Some, None, option_map, is_some, is_none, Result, Ok, Err, codes, if◌then◌else◌}
+use Rattle.std.specs.Prelude.{ℕ, Bool, true, false, not, ◌==◌, ◌&&◌, ◌||◌, List, [], ◌∷◌, ◌++◌, map, Option, Some, None}
+use Rattle.std.specs.Prelude.{option_map, is_some, is_none, Result, Ok, Err, codes, if◌then◌else◌}
 use Rattle.std.specs.Option.{option_and_then}
 use Rattle.std.specs.List.{list_all, flat_map}
 use Rattle.std.specs.Str.{bytes_eq}
@@ -11,8 +12,10 @@ use Rattle.kt_ninja.specs.declared.plan.Statement.{Statement}
 use Rattle.kt_ninja.specs.declared.plan.Plan.{Plan}
 use Rattle.kt_ninja.specs.JoinedLines.{Text, is_blank, is_comment, joined_lines}
 use Rattle.kt_ninja.specs.Pieces.{pieces}
-use Rattle.kt_ninja.specs.Forms.{Binding, Build, Form, Pieces, binding_of, rule_form, build_form, default_form, binding_form, form_of}
-use Rattle.kt_ninja.specs.Scopes.{Scope, Table, command_value, expanded, find_in, put_in, refers_to, value_in, value_within}
+use Rattle.kt_ninja.specs.Forms.{Binding, Build, Form, Pieces, binding_of, rule_form, build_form, default_form}
+use Rattle.kt_ninja.specs.Forms.{binding_form, form_of}
+use Rattle.kt_ninja.specs.Scopes.{Scope, Table, command_value, expanded, find_in, put_in, refers_to, value_in}
+use Rattle.kt_ninja.specs.Scopes.{value_within}
 use Rattle.kt_ninja.specs.Writable.{is_among, is_empty}
 
 -- a part of the file: a line at the margin, if it has one, with the lines up to the next such line

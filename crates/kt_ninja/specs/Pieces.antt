@@ -1,5 +1,6 @@
 -- Values and paths as pieces (Ninja manual, "Lexical syntax": the escapes `$$`, `$ `, `$:`, `$name` and `${name}`).
-use Rattle.std.specs.Prelude.{ℕ, Bool, ◌==◌, ◌&&◌, ◌||◌, nat_le, List, [], ◌∷◌, ◌++◌, Option, Some, None, option_map, if◌then◌else◌}
+use Rattle.std.specs.Prelude.{ℕ, Bool, ◌==◌, ◌&&◌, ◌||◌, nat_le, List, [], ◌∷◌, ◌++◌, Option, Some, None, option_map}
+use Rattle.std.specs.Prelude.{if◌then◌else◌}
 use Rattle.std.specs.Option.{option_and_then}
 use Rattle.kt_ninja.specs.JoinedLines.{Text}
 use Rattle.kt_ninja.specs.Writable.{is_empty}

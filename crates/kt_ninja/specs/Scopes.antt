@@ -1,6 +1,7 @@
 -- Variables and what they stand for (Ninja manual, "Variables", "Evaluation and scoping", and "Rule variables" for
 -- `in`, `in_newline` and `out`; how paths are quoted for the shell is kati's own).
-use Rattle.std.specs.Prelude.{ℕ, Bool, false, ◌==◌, ◌||◌, List, [], ◌∷◌, ◌++◌, map, Option, Some, None, unwrap_or, codes, if◌then◌else◌}
+use Rattle.std.specs.Prelude.{ℕ, Bool, false, ◌==◌, ◌||◌, List, [], ◌∷◌, ◌++◌, map, Option, Some, None, unwrap_or}
+use Rattle.std.specs.Prelude.{codes, if◌then◌else◌}
 use Rattle.std.specs.List.{list_all, list_any, flat_map, join_with_byte}
 use Rattle.std.specs.Str.{bytes_eq}
 use Rattle.kt_ninja.specs.JoinedLines.{Text}

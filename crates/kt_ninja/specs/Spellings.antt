@@ -3,7 +3,8 @@ use Rattle.std.specs.Prelude.{◌≡◌, ◌⊎◌, ℕ, Bool, true, false, ◌=
 use Rattle.std.specs.List.{concat, list_all}
 use Rattle.kt_ninja.specs.JoinedLines.{Text}
 use Rattle.kt_ninja.specs.Writable.{is_empty}
-use Rattle.kt_ninja.specs.Pieces.{Piece, Plain, Escaped, Variable, is_escapable, is_long_name_byte, is_short_name_byte, pieces}
+use Rattle.kt_ninja.specs.Pieces.{Piece, Plain, Escaped, Variable, is_escapable, is_long_name_byte, is_short_name_byte}
+use Rattle.kt_ninja.specs.Pieces.{pieces}
 
 -- a name: at least one byte, and all of this kind
 abbrev pub IsName : (ℕ → Bool) → Text → Type 0

@@ -1,6 +1,8 @@
 -- Which plans can be written (Ninja manual, "Lexical syntax", and for defaults "Default target statements"; which bytes
 -- are refused, and that no output stands twice, is kati's own).
-use Rattle.std.specs.Prelude.{◌≡◌, ◌≢◌, ℕ, ◌+◌, Bool, true, false, not, ◌==◌, ◌&&◌, ◌||◌, nat_eq, List, [], ◌∷◌, ◌++◌, All, AllPairs, Contains, Option, Some, None, option_map, Result, Ok, Err, find, if◌then◌else◌}
+use Rattle.std.specs.Prelude.{◌≡◌, ◌≢◌, ℕ, ◌+◌, Bool, true, false, not, ◌==◌, ◌&&◌, ◌||◌, nat_eq, List, [], ◌∷◌, ◌++◌}
+use Rattle.std.specs.Prelude.{All, AllPairs, Contains, Option, Some, None, option_map, Result, Ok, Err, find}
+use Rattle.std.specs.Prelude.{if◌then◌else◌}
 use Rattle.std.specs.List.{list_all, list_any, position_from}
 use Rattle.std.specs.Option.{option_or}
 use Rattle.std.specs.Cmp.Lexicographic.{pointwise}

@@ -1,9 +1,11 @@
 //! The forms of a line.
 ghost use Rattle.std.specs.Prelude.{◌≡◌, ◌++◌, ◌∷◌, [], IfOk, OnOk, MatchOption, Some, None};
 ghost use Rattle.std.specs.List.{list_any, slice_split};
-ghost use Rattle.kt_ninja.specs.Forms.{binding_of, build_behind, build_of, build_with, defaults_of, inputs_of, is_keyword, is_plain, name_in, paths_of, rule_of, words_of};
+ghost use Rattle.kt_ninja.specs.Forms.{binding_of, build_behind, build_of, build_with, defaults_of, inputs_of};
+ghost use Rattle.kt_ninja.specs.Forms.{is_keyword, is_plain, name_in, paths_of, rule_of, words_of};
 ghost use Rattle.kt_ninja.specs.inner.Cutting.{is_mark};
-ghost use Rattle.kt_ninja.specs.inner.Wording.{bars_cut, binding_told, build_told, inputs_told, key_of, some_word, two_bars, two_of};
+ghost use Rattle.kt_ninja.specs.inner.Wording.{bars_cut, binding_told, build_told, inputs_told, key_of, some_word};
+ghost use Rattle.kt_ninja.specs.inner.Wording.{two_bars, two_of};
 ghost use Rattle.kt_ninja.specs.inner.Refusals.{Reads, ReadsAs};
 ghost use Rattle.std.specs.Prelude.{true};
 

@@ -1,8 +1,10 @@
 //! The joined lines of a Ninja file.
-ghost use Rattle.std.specs.Prelude.{◌≡◌, ◌+◌, ◌-◌, ◌<◌, ◌≤◌, ◌∷◌, ◌==◌, ◌&&◌, not, false, true, [], find, length, take, IfOk, OnOk};
+ghost use Rattle.std.specs.Prelude.{◌≡◌, ◌+◌, ◌-◌, ◌<◌, ◌≤◌, ◌∷◌, ◌==◌, ◌&&◌, not, false, true, [], find, length, take};
+ghost use Rattle.std.specs.Prelude.{IfOk, OnOk};
 ghost use Rattle.std.specs.Option.{option_copied};
 ghost use Rattle.std.specs.List.{position_or_len, prefix_len};
-ghost use Rattle.kt_ninja.specs.JoinedLines.{ends_in_dollar, file_lines, is_blank, is_comment, joined_lines, without_indent};
+ghost use Rattle.kt_ninja.specs.JoinedLines.{ends_in_dollar, file_lines, is_blank, is_comment, joined_lines};
+ghost use Rattle.kt_ninja.specs.JoinedLines.{without_indent};
 ghost use Rattle.kt_ninja.specs.inner.Joining.{Joins, added_text, file_line, kept_text};
 
 use crate::bytes::first_byte;

@@ -2,7 +2,9 @@
 ghost use Rattle.std.specs.Prelude.{◌≡◌, ◌≤◌, OnOk, OnErr, false};
 ghost use Rattle.kt_list.specs.Counters.{Rises};
 ghost use Rattle.kt_ninja.specs.Blocks.{Prints, Puts};
-ghost use Rattle.kt_ninja.specs.Text.{build_text, command_text, defaults_text, lead_text, marked_text, names_text, number_text, plan_text, rule_count, rule_name_text, rule_text, statement_text, statements_text};
+ghost use Rattle.kt_ninja.specs.Text.{build_text, command_text, defaults_text, lead_text, marked_text, names_text};
+ghost use Rattle.kt_ninja.specs.Text.{number_text, plan_text, rule_count, rule_name_text, rule_text, statement_text};
+ghost use Rattle.kt_ninja.specs.Text.{statements_text};
 ghost use Rattle.kt_ninja.specs.Writable.{IsWritable};
 ghost use Rattle.kt_ninja.specs.Written.{appended, GrowsByFront};
 

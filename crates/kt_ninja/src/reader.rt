@@ -1,10 +1,13 @@
 //! Reading a Ninja file.
-ghost use Rattle.std.specs.Prelude.{◌≡◌, ◌≤◌, [], true, false, not, nat_eq, drop, length, map, MatchOption, MatchResult, Ok, Some};
+ghost use Rattle.std.specs.Prelude.{◌≡◌, ◌≤◌, [], true, false, not, nat_eq, drop, length, map, MatchOption};
+ghost use Rattle.std.specs.Prelude.{MatchResult, Ok, Some};
 ghost use Rattle.std.specs.List.{list_all, prefix_len, starts_with};
 ghost use Rattle.kt_ninja.specs.declared.plan.Plan.{Plan as PlanRead};
 ghost use Rattle.kt_ninja.specs.declared.read_fault.ReadFault.TheVariants.{Memory as MemoryRefused};
-ghost use Rattle.kt_ninja.specs.NinjaRead.{all_parts, begins_part, block_of, cut_lines, is_file_byte, is_sound, ninja_read, nothing_read, read_part, read_parts};
-ghost use Rattle.kt_ninja.specs.Reading.{Adds, Misreads, Stops, build_line, default_line, fault_at, line_binding, margin_line, part_before, part_of, read_text, rule_line};
+ghost use Rattle.kt_ninja.specs.NinjaRead.{all_parts, begins_part, block_of, cut_lines, is_file_byte, is_sound};
+ghost use Rattle.kt_ninja.specs.NinjaRead.{ninja_read, nothing_read, read_part, read_parts};
+ghost use Rattle.kt_ninja.specs.Reading.{Adds, Misreads, Stops, build_line, default_line, fault_at, line_binding};
+ghost use Rattle.kt_ninja.specs.Reading.{margin_line, part_before, part_of, read_text, rule_line};
 ghost use Rattle.kt_ninja.specs.inner.Refusals.{Reads, ReadsAs};
 ghost use Rattle.kt_ninja.specs.Pieces.{pieces};
 ghost use Rattle.kt_ninja.specs.Text.{plan_text};

@@ -2,7 +2,8 @@
 ghost use Rattle.std.specs.Prelude.{◌≡◌, ◌∷◌, ◌++◌, IfOk, OnOk, map};
 ghost use Rattle.std.specs.List.{list_all, flat_map};
 ghost use Rattle.kt_ninja.specs.inner.Cutting.{dollar_piece};
-ghost use Rattle.kt_ninja.specs.Scopes.{byte_in_quotes, command_value, expanded, is_shell_safe, piece_text, shell_word, shell_words, value_in, value_within};
+ghost use Rattle.kt_ninja.specs.Scopes.{byte_in_quotes, command_value, expanded, is_shell_safe, piece_text, shell_word};
+ghost use Rattle.kt_ninja.specs.Scopes.{shell_words, value_in, value_within};
 
 use crate::plan::Name;
 use crate::spelling::{Dollar, Spelling};

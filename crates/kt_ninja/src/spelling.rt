@@ -1,12 +1,15 @@
 //! Paths and values as a Ninja file spells them.
-ghost use Rattle.std.specs.Prelude.{◌≡◌, ◌≤◌, ◌<◌, ◌++◌, ◌∷◌, [], false, true, is_some, length, map, IfNone, IfOk, MatchOption, None, OnOk, Some};
+ghost use Rattle.std.specs.Prelude.{◌≡◌, ◌≤◌, ◌<◌, ◌++◌, ◌∷◌, [], false, true, is_some, length, map, IfNone, IfOk};
+ghost use Rattle.std.specs.Prelude.{MatchOption, None, OnOk, Some};
 ghost use Rattle.std.specs.List.{list_any, prefix_len};
 ghost use Rattle.memchr.specs.Find.{is_byte2};
 ghost use Rattle.kt_ninja.specs.Forms.{begins_with_at, is_plain, name_bytes, without_lead};
-ghost use Rattle.kt_ninja.specs.Pieces.{Plain, behind_dollar, in_braces, is_escapable, is_long_name_byte, is_short_name_byte, pieces, pieces_from};
+ghost use Rattle.kt_ninja.specs.Pieces.{Plain, behind_dollar, in_braces, is_escapable, is_long_name_byte};
+ghost use Rattle.kt_ninja.specs.Pieces.{is_short_name_byte, pieces, pieces_from};
 ghost use Rattle.kt_ninja.specs.inner.Spelled.{is_spelled, pieces_in};
 ghost use Rattle.kt_ninja.specs.Writable.{is_empty};
-ghost use Rattle.kt_ninja.specs.inner.Cutting.{AreSides, CutsOff, CutsShort, begins_short, dollar_piece, dollar_pieces, is_mark, stops_at, variable_names};
+ghost use Rattle.kt_ninja.specs.inner.Cutting.{AreSides, CutsOff, CutsShort, begins_short, dollar_piece, dollar_pieces};
+ghost use Rattle.kt_ninja.specs.inner.Cutting.{is_mark, stops_at, variable_names};
 
 use crate::bytes::first_byte;
 use crate::joined::without_indent;

@@ -2,7 +2,9 @@
 ghost use Rattle.std.specs.Prelude.{◌≡◌, ◌++◌, [], true, codes, is_some, map, IfOk, MatchResult, Some};
 ghost use Rattle.std.specs.List.{list_all, list_any};
 ghost use Rattle.std.specs.Str.{bytes_eq};
-ghost use Rattle.kt_ninja.specs.NinjaRead.{add_defaults, add_statement, are_new, bind, block_scope, making_of, nothing_read, paths_in, plan_of, read_build, read_default, read_rule, rule_command, statement_of, stated_with};
+ghost use Rattle.kt_ninja.specs.NinjaRead.{add_defaults, add_statement, are_new, bind, block_scope, making_of};
+ghost use Rattle.kt_ninja.specs.NinjaRead.{nothing_read, paths_in, plan_of, read_build, read_default, read_rule};
+ghost use Rattle.kt_ninja.specs.NinjaRead.{rule_command, statement_of, stated_with};
 ghost use Rattle.kt_ninja.specs.Scopes.{expanded, find_in, refers_to, value_in, value_within};
 ghost use Rattle.kt_ninja.specs.inner.Holding.{Fails, block_with, made_as, making_as, path_in};
 ghost use Rattle.kt_ninja.specs.inner.Wording.{binding_told, build_told};

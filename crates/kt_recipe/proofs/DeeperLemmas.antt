@@ -11,7 +11,7 @@ use Rattle.kt_eval.specs.Levels.{evaluator}
 use Rattle.kt_eval.specs.State.{frozen_world}
 use Rattle.kt_eval.specs.Step.{Outcome, Gave, Stopped, Ending, with_text, with_fault, ending}
 use Rattle.kt_eval.specs.Table.{Table}
-use Rattle.kt_eval.proofs.GrowingLemmas.{expanding_stays}
+use Rattle.kt_eval.proofs.GrowingReads.{expanding_stays}
 use Rattle.kt_graph.specs.Node.{Node}
 use Rattle.kt_graph.specs.Views.{part_lines}
 use Rattle.kt_recipe.specs.Auto.{automatic_in}

@@ -11,7 +11,8 @@ use Rattle.kt_eval.specs.Expansion.{expanded}
 use Rattle.kt_eval.specs.Levels.{evaluator}
 use Rattle.kt_eval.specs.Step.{Outcome, Gave, Stopped, world_of, Ending, with_text, with_fault, ending, messages_of, Ends}
 use Rattle.kt_eval.specs.Table.{Table}
-use Rattle.kt_eval.proofs.GrowingLemmas.{expanding_grows, front_same, front_next}
+use Rattle.kt_eval.proofs.GrowingLemmas.{front_same, front_next}
+use Rattle.kt_eval.proofs.GrowingReads.{expanding_grows}
 use Rattle.kt_graph.specs.Node.{Node}
 use Rattle.kt_graph.specs.Views.{part_lines}
 use Rattle.kt_recipe.specs.Auto.{automatic_in}

@@ -1,7 +1,8 @@
 -- The command of a node: the pieces of its recipes, each for a shell of its own (GNU make manual, "Recipe Execution",
 -- "Choosing the Shell", "Errors in Recipes", "Defining Canned Recipes"; how they are joined to one command is kati's
 -- own).
-use Rattle.std.specs.Prelude.{ℕ, Bool, true, false, ◌||◌, List, [], ◌∷◌, ◌++◌, length, Option, Some, None, unwrap_or, slice_get, codes, if◌then◌else◌}
+use Rattle.std.specs.Prelude.{ℕ, Bool, true, false, ◌||◌, List, [], ◌∷◌, ◌++◌, length, Option, Some, None, unwrap_or}
+use Rattle.std.specs.Prelude.{slice_get, codes, if◌then◌else◌}
 use Rattle.std.specs.List.{range_with_len}
 use Rattle.kt_text.specs.Words.{Text, is_nonempty}
 use Rattle.kt_rules.specs.declared.entry.RecipeLine.{RecipeLine}

@@ -6,7 +6,8 @@ ghost use Rattle.kt_eval.specs.Step.{Ends};
 ghost use Rattle.kt_graph.specs.Views.{part_lines};
 ghost use Rattle.kt_recipe.specs.Auto.{automatic_in};
 ghost use Rattle.kt_recipe.specs.Lines.{pieces_of};
-ghost use Rattle.kt_recipe.specs.Shell.{expansion, put_line, put_lines, put_part, put_parts, put_piece, put_pieces, shell_of};
+ghost use Rattle.kt_recipe.specs.Shell.{expansion, put_line, put_lines, put_part, put_parts, put_piece, put_pieces};
+ghost use Rattle.kt_recipe.specs.Shell.{shell_of};
 ghost use Rattle.kt_recipe.specs.Views.{Tells, command_in, setting_at};
 
 use crate::automatic::auto_of;

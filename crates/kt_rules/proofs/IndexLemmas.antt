@@ -1,4 +1,4 @@
--- Spots of names, through changes of the map that holds them.
+-- As of names, through changes of the map that holds them.
 use Rattle.std.proofs.Common.{◌≡◌, ℕ, Bool, true, false, if◌then◌else◌, List, [], ◌++◌, Option, Some, Vec, Global, refl, sym, ap, ◌∙◌, subst}
 use Rattle.std.specs.Str.{bytes_eq}
 use Rattle.std.specs.Option.{unwrap_or, option_map}
@@ -7,16 +7,15 @@ use Rattle.std.proofs.lemmas.Cmp.{nat_list_eq_equiv}
 use Rattle.std.proofs.lemmas.Slice.Eq.{bytes_eq-Decides}
 use Rattle.std.proofs.lemmas.List.{append-nil}
 use Rattle.kt_text.specs.Words.{Text}
-use Rattle.kt_rules.specs.declared.book.index.Spot.{Spot}
-use Rattle.kt_rules.specs.Indexes.{spots_in}
+use Rattle.kt_rules.specs.Indexes.{noted_in}
 
 -- the entries of a map of names
-abbrev Entries : Type 0
-Entries = List (Vec ℕ Global × Vec Spot Global)
+abbrev Entries : Type 0 → Type 0
+Entries A = List (Vec ℕ Global × Vec A Global)
 
--- the spots that a look-up found
-abbrev pub items_of : Option (Vec Spot Global) → List Spot
-items_of found = unwrap_or (option_map (λ (spots : Vec Spot Global). spots.items) found) []
+-- what a look-up found
+abbrev pub items_of : {A : Type 0} → Option (Vec A Global) → List A
+items_of {A} found = unwrap_or (option_map (λ (items : Vec A Global). items.items) found) []
 
 -- where two names are two, no key is both
 apart : (name other : Text) → bytes_eq other name ≡ false → (key : Vec ℕ Global) → bytes_eq name key.items ≡ true → bytes_eq other key.items ≡ false
@@ -25,36 +24,36 @@ apart name other differ key is =
     ∙ sym (nat_list_eq_equiv.congr name key.items other is)
     ∙ nat_list_eq_equiv.symm name other ∙ differ
 
--- one name got more spots, and all others keep theirs
-pub noted : (old new : Entries) (name : Text) (spots : Vec Spot Global) (more : List Spot)
+-- more was noted at one name, and all others keep theirs
+pub noted : {A : Type 0} (old new : Entries A) (name : Text) (items : Vec A Global) (more : List A)
     → KeepsOthers (λ (x y : Vec ℕ Global). bytes_eq x.items y.items) (λ (key : Vec ℕ Global). bytes_eq name key.items) old new
-    → lookup (λ (key : Vec ℕ Global). bytes_eq name key.items) new ≡ Some spots
-    → spots.items ≡ spots_in old name ++ more
-    → (other : Text) → spots_in new other ≡ spots_in old other ++ (if bytes_eq other name then more else [])
+    → lookup (λ (key : Vec ℕ Global). bytes_eq name key.items) new ≡ Some items
+    → items.items ≡ noted_in old name ++ more
+    → (other : Text) → noted_in new other ≡ noted_in old other ++ (if bytes_eq other name then more else [])
 unfolding KeepsOthers
-noted old new name spots more others found grown other = by (bytes_eq other name) refl
+noted {A} old new name items more others found grown other = by (bytes_eq other name) refl
   where
-    by : (b : Bool) → bytes_eq other name ≡ b → spots_in new other ≡ spots_in old other ++ (if b then more else [])
+    by : (b : Bool) → bytes_eq other name ≡ b → noted_in new other ≡ noted_in old other ++ (if b then more else [])
     by true e =
         let same : other ≡ name = (bytes_eq-Decides other name).0 e in
-        let P : Text → Type 0 = λ n. spots_in new n ≡ spots_in old n ++ more in
-        subst P (sym same) (ap (λ o. unwrap_or (option_map (λ (s : Vec Spot Global). s.items) o) []) found ∙ grown)
+        let P : Text → Type 0 = λ n. noted_in new n ≡ noted_in old n ++ more in
+        subst P (sym same) (ap (λ o. unwrap_or (option_map (λ (s : Vec A Global). s.items) o) []) found ∙ grown)
     by false e =
-        ap (λ o. unwrap_or (option_map (λ (s : Vec Spot Global). s.items) o) [])
+        ap (λ o. unwrap_or (option_map (λ (s : Vec A Global). s.items) o) [])
         (others (λ (key : Vec ℕ Global). bytes_eq other key.items)
         (λ x y h. nat_list_eq_equiv.congr other x.items y.items h)
         (λ key h. apart name other e key h))
         ∙ sym (append-nil _)
 
--- a name got no more spots, and all others keep theirs
-pub kept : (old new : Entries) (name : Text) (spots : Vec Spot Global)
+-- nothing more was noted at a name, and all others keep theirs
+pub kept : {A : Type 0} (old new : Entries A) (name : Text) (items : Vec A Global)
     → KeepsOthers (λ (x y : Vec ℕ Global). bytes_eq x.items y.items) (λ (key : Vec ℕ Global). bytes_eq name key.items) old new
-    → lookup (λ (key : Vec ℕ Global). bytes_eq name key.items) new ≡ Some spots
-    → spots.items ≡ spots_in old name
-    → (other : Text) → spots_in new other ≡ spots_in old other
-kept old new name spots others found same other =
-    noted old new name spots [] others found (same ∙ sym (append-nil _)) other ∙ none (bytes_eq other name) (spots_in old other)
+    → lookup (λ (key : Vec ℕ Global). bytes_eq name key.items) new ≡ Some items
+    → items.items ≡ noted_in old name
+    → (other : Text) → noted_in new other ≡ noted_in old other
+kept {A} old new name items others found same other =
+    noted old new name items [] others found (same ∙ sym (append-nil _)) other ∙ none (bytes_eq other name) (noted_in old other)
   where
-    none : (b : Bool) (xs : List Spot) → xs ++ (if b then [] else []) ≡ xs
+    none : (b : Bool) (xs : List A) → xs ++ (if b then [] else []) ≡ xs
     none true xs = append-nil xs
     none false xs = append-nil xs

@@ -1,7 +1,7 @@
 mod WrittenLemmas
 mod DotLemmas
 mod ReadingLemmas
-mod SeparationLemmas
+mod NeedsLemmas
 mod TestingLemmas
 pub mod IndexLemmas
 pub mod NameSetLemmas

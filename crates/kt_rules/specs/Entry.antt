@@ -1,5 +1,6 @@
 -- What an entry of the book says (POSIX.1-2024 make, "Target Rules"; GNU make manual, "Rule Syntax").
-use Rattle.std.specs.Prelude.{Bool, true, false, ◌==◌, List, [], ◌∷◌, ◌++◌, length, map, Option, Some, None, option_map, Result, Ok, Err, if◌then◌else◌}
+use Rattle.std.specs.Prelude.{Bool, true, false, ◌==◌, List, [], ◌∷◌, ◌++◌, length, map, Option, Some, None, option_map}
+use Rattle.std.specs.Prelude.{Result, Ok, Err, if◌then◌else◌}
 use Rattle.std.specs.List.{list_any, slice_range}
 use Rattle.std.specs.Option.{option_and_then}
 use Rattle.kt_text.specs.Words.{Text, words_of}

@@ -1,7 +1,8 @@
 -- How the head of a rule line is cut into words, trimmed and unquoted, as facts about the parts of a text (POSIX.1-2024
 -- make, "Target Rules": names separated by blanks). That a backslash quotes only a space or colon directly behind it is
 -- kati's own.
-use Rattle.std.specs.Prelude.{◌≡◌, ℕ, Bool, true, false, not, ◌-◌, ◌==◌, ◌&&◌, List, [], ◌∷◌, ◌++◌, length, take, map, flat_map, All}
+use Rattle.std.specs.Prelude.{◌≡◌, ℕ, Bool, true, false, not, ◌-◌, ◌==◌, ◌&&◌, List, [], ◌∷◌, ◌++◌, length, take, map}
+use Rattle.std.specs.Prelude.{flat_map, All}
 use Rattle.std.specs.List.{list_all}
 use Rattle.kt_text.specs.Words.{Text, is_nonempty, is_separator}
 use Rattle.kt_rules.specs.Names.{is_quotable, begins_quotable, written_words, without_outer_separators, unquoted}

@@ -1,6 +1,7 @@
 -- The names of a rule line: how they are cut, quoted and spelled, and which are refused (POSIX.1-2024 make, "Target
 -- Rules"; GNU make manual, "Using Wildcard Characters in File Names" on quoting).
-use Rattle.std.specs.Prelude.{ℕ, suc, ◌+◌, ◌-◌, Bool, true, false, not, ◌==◌, ◌&&◌, ◌||◌, nat_eq, List, [], ◌∷◌, ◌++◌, length, take, drop, filter, fold, codes, slice_index, if◌then◌else◌}
+use Rattle.std.specs.Prelude.{ℕ, suc, ◌+◌, ◌-◌, Bool, true, false, not, ◌==◌, ◌&&◌, ◌||◌, nat_eq, List, [], ◌∷◌, ◌++◌}
+use Rattle.std.specs.Prelude.{length, take, drop, filter, fold, codes, slice_index, if◌then◌else◌}
 use Rattle.std.specs.List.{list_any, onto_first, suffix_len, starts_with, ends_with}
 use Rattle.std.specs.Cmp.Lexicographic.{pointwise}
 use Rattle.kt_text.specs.Words.{Text, is_nonempty, is_separator, stripped_start}

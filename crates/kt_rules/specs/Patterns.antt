@@ -1,5 +1,6 @@
 -- Pattern rules as the program holds them (kati's own).
-use Rattle.std.specs.Prelude.{ℕ, Bool, true, false, map, List, [], ◌++◌, Option, Some, None, filter_map, option_to_list, ◌≡◌, reverse, is_some, not, ◌&&◌, if◌then◌else◌}
+use Rattle.std.specs.Prelude.{ℕ, Bool, true, false, map, List, [], ◌++◌, Option, Some, None, filter_map, option_to_list}
+use Rattle.std.specs.Prelude.{◌≡◌, reverse, is_some, not, ◌&&◌, if◌then◌else◌}
 use Rattle.std.specs.List.{list_any}
 use Rattle.std.specs.declared.vec.Vec.{Vec}
 use Rattle.std.specs.declared.alloc.Global.{Global}
@@ -11,7 +12,8 @@ use Rattle.kt_rules.specs.declared.book.pattern.SuffixForm.{SuffixForm}
 use Rattle.kt_rules.specs.Entry.{Rule}
 use Rattle.kt_rules.specs.declared.book.pattern_set.PatternKey.{PatternKey}
 use Rattle.kt_rules.specs.declared.book.pattern_set.PatternSet.{PatternSet}
-use Rattle.kt_rules.specs.Book.{is_made, target_rules, target_names, names_eq, patterns_in, suffix_rule_as_pattern, repeats, unrepeated}
+use Rattle.kt_rules.specs.Book.{is_made, target_rules, target_names, names_eq, patterns_in, suffix_rule_as_pattern}
+use Rattle.kt_rules.specs.Book.{repeats, unrepeated}
 
 -- a suffix rule with what it makes and needs as a pattern rule
 abbrev pub form_told : Rule → SuffixForm → Rule

@@ -1,7 +1,9 @@
 -- The expanded head of a rule line: its parts, what is refused of it, and in which order (POSIX.1-2024 make, "Target
 -- Rules"; GNU make manual, "Rule Syntax", "Double-Colon Rules", "Multiple Targets in a Rule", "Syntax of Static Pattern
 -- Rules"). The order of the tests is kati's own.
-use Rattle.std.specs.Prelude.{◌+◌, ◌-◌, Bool, true, false, not, ◌==◌, ◌&&◌, ◌||◌, nat_eq, List, [], ◌∷◌, ◌++◌, length, take, drop, map, find, Option, Some, None, option_map, is_some, Result, Ok, Err, if◌then◌else◌}
+use Rattle.std.specs.Prelude.{◌+◌, ◌-◌, Bool, true, false, not, ◌==◌, ◌&&◌, ◌||◌, nat_eq, List, [], ◌∷◌, ◌++◌, length}
+use Rattle.std.specs.Prelude.{take, drop, map, find, Option, Some, None, option_map, is_some, Result, Ok, Err}
+use Rattle.std.specs.Prelude.{if◌then◌else◌}
 use Rattle.std.specs.List.{list_all, list_any, starts_with, ends_with, before_first, after_first}
 use Rattle.std.specs.Option.{option_or}
 use Rattle.std.specs.Cmp.Lexicographic.{pointwise}
@@ -13,9 +15,11 @@ use Rattle.kt_rules.specs.declared.head.Head.{Head as HeadTold}
 use Rattle.kt_rules.specs.declared.line.Line.{Line}
 use Rattle.kt_rules.specs.declared.entry.Needs.{Needs}
 use Rattle.kt_rules.specs.declared.refusal.Refusal.{Refusal as RefusalTold}
-use Rattle.kt_rules.specs.Refusals.{Refusal, refusal_told, missing_separator, refused_name, bad_static_pattern, refused_target, bad_group}
+use Rattle.kt_rules.specs.Refusals.{Refusal, refusal_told, missing_separator, refused_name, bad_static_pattern}
+use Rattle.kt_rules.specs.Refusals.{refused_target, bad_group}
 use Rattle.kt_rules.specs.declared.cutting.Cut.TheVariants.{Colon}
-use Rattle.kt_rules.specs.Names.{cut_place, written_words, without_outer_separators, name_of, without_repeats, is_among, is_refused_name, is_without_effect, is_special, is_refused_target, wait_name}
+use Rattle.kt_rules.specs.Names.{cut_place, written_words, without_outer_separators, name_of, without_repeats, is_among}
+use Rattle.kt_rules.specs.Names.{is_refused_name, is_without_effect, is_special, is_refused_target, wait_name}
 
 -- the parts of a head, as they are written
 pub record Head : Type 0 where

@@ -1,6 +1,7 @@
 -- Suffixes, and the pattern rules that suffix rules are (POSIX.1-2024 make, "Inference Rules"; GNU make manual,
 -- "Old-Fashioned Suffix Rules").
-use Rattle.std.specs.Prelude.{ℕ, Bool, true, false, ◌&&◌, List, [], ◌∷◌, ◌++◌, length, take, drop, fold, find, codes, bytes_eq, Option, Some, option_map, is_some, if◌then◌else◌}
+use Rattle.std.specs.Prelude.{ℕ, Bool, true, false, ◌&&◌, List, [], ◌∷◌, ◌++◌, length, take, drop, fold, find, codes}
+use Rattle.std.specs.Prelude.{bytes_eq, Option, Some, option_map, is_some, if◌then◌else◌}
 use Rattle.std.specs.List.{range_with_len}
 use Rattle.std.specs.Option.{option_map_or}
 use Rattle.kt_text.specs.Words.{Text, words_of}

@@ -1,6 +1,7 @@
 //! The rules of a makefile, as a list of entries.
 ghost use Rattle.std.specs.Prelude.{◌≡◌, ◌++◌, ◌∷◌, [], IfOk, OnErr, OnOk, None, map, option_map};
-ghost use Rattle.kt_rules.specs.Book.{GroupsStandAlone, added, explicit_rules, first_goal_of, is_explicit, is_phony, override_messages, patterns_of, refusal_of};
+ghost use Rattle.kt_rules.specs.Book.{GroupsStandAlone, added, explicit_rules, first_goal_of, is_explicit, is_phony};
+ghost use Rattle.kt_rules.specs.Book.{override_messages, patterns_of, refusal_of};
 ghost use Rattle.kt_rules.specs.Refusals.{Answers};
 ghost use Rattle.kt_rules.specs.Slots.{rule_told};
 ghost use Rattle.kt_rules.specs.Suffixes.{suffixes_of};
@@ -8,7 +9,6 @@ ghost use Rattle.kt_rules.specs.Suffixes.{suffixes_of};
 mod entries;
 mod explicit;
 mod goal;
-mod index;
 mod matching;
 mod name_set;
 mod noting;
@@ -17,15 +17,16 @@ mod pattern;
 mod pattern_set;
 mod refusing;
 mod special;
+mod spot;
 mod suffix;
 mod target_rule;
 
 use crate::entry::Entry;
 use crate::fault::RuleFault;
+use crate::index::Index;
 pub use entries::Entries;
 pub use explicit::Explicit;
 use explicit::skips_bare;
-use index::Index;
 use kt_list::Sequence;
 use matching::{candidates, unrepeated};
 use name_set::NameSet;
@@ -33,6 +34,7 @@ use noting::learn;
 pub use pattern::Pattern;
 use refusing::fault_of;
 use special::start_suffixes;
+use spot::Spot;
 use std::alloc::{AllocError, Global};
 use std::marker::Model;
 use suffix::is_suffix_name;
@@ -51,8 +53,8 @@ pub struct Book {
     // A slot stays empty where its entry couldn't be noted for want of memory.
     slots: Vec<Option<Entry>>,
     // The targets that are made by their names, and those of them whose rule has a recipe.
-    targets: Index,
-    recipes: Index,
+    targets: Index<Spot>,
+    recipes: Index<Spot>,
     phony: NameSet,
     suffixes: NameSet,
 }
@@ -133,7 +135,7 @@ impl Book {
         ensures { result ≡ explicit_rules self.now name.now }
     {
         let slots = self.slots.as_slice();
-        let spots = self.targets.spots(name);
+        let spots = self.targets.noted(name);
         Explicit::new(slots, spots, skips_bare(&self.suffixes, slots, spots, name))
     }
 

@@ -4,7 +4,8 @@ ghost use Rattle.std.specs.List.{list_all, list_any};
 ghost use Rattle.std.specs.Option.{option_or};
 ghost use Rattle.kt_text.specs.Match.{has_percent};
 ghost use Rattle.kt_rules.specs.Names.{is_among, is_refused_name, is_special, is_without_effect, wait_name};
-ghost use Rattle.kt_rules.specs.RuleLine.{first_refusal, fits, is_bad_group, line_refusal, mixes_patterns, name_refusal, option_list, refusal_in, target_refusal, tested_needs};
+ghost use Rattle.kt_rules.specs.RuleLine.{first_refusal, fits, is_bad_group, line_refusal, mixes_patterns};
+ghost use Rattle.kt_rules.specs.RuleLine.{name_refusal, option_list, refusal_in, target_refusal, tested_needs};
 
 use crate::entry::Name;
 use crate::head::Separator;

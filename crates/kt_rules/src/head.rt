@@ -1,11 +1,12 @@
 //! The expanded head of a rule line, cut into its parts.
 ghost use Rattle.std.specs.Prelude.{◌≡◌, List, ℕ, option_map};
 ghost use Rattle.kt_rules.specs.Names.{written_words};
-ghost use Rattle.kt_rules.specs.RuleLine.{behind_double, colon_cut, group_head, group_targets, head_behind, head_of, head_round, heads_told, pattern_word};
+ghost use Rattle.kt_rules.specs.RuleLine.{behind_double, colon_cut, group_head, group_targets, head_behind, head_of};
+ghost use Rattle.kt_rules.specs.RuleLine.{head_round, heads_told, pattern_word};
 
 use crate::cutting::colon_cut;
 use crate::refusal::Refusal;
-use crate::written::{WrittenWords, without_outer_separators};
+use crate::written::{first_word, without_outer_separators};
 use kt_text::has_percent;
 
 /// What stands between the targets of a rule line and what they need.
@@ -125,9 +126,9 @@ fn head_behind<'a>(
 fn pattern_word(part: &[u8]) -> Option<&[u8]>
     ensures { option_map (λ word. word.now) result ≡ pattern_word (written_words part.now) }
 {
-    let mut words = WrittenWords::of(part);
-    match (words.next(), words.next()) {
-        (Some(word), None) if has_percent(word) => Some(word),
+    let (word, after) = first_word(part)?;
+    match first_word(after) {
+        None if has_percent(word) => Some(word),
         _ => None,
     }
 }

@@ -8,7 +8,7 @@ use crate::entry::{Name, Needs};
 use crate::head::{Head, Separator};
 use crate::name::name_of;
 use crate::refused::are_same;
-use crate::written::WrittenWords;
+use crate::written::first_word;
 use indexmap::IndexSet;
 use kt_list::Sequence;
 use std::alloc::{AllocError, Global};
@@ -51,13 +51,15 @@ impl Line {
 }
 
 // The names of words, each at its first place.
-#[tactic(auto, using(crate::proofs::SeparationLemmas::insert_key_items), unfolding(crate::specs::Names::without_repeats))]
+#[tactic(auto, using(crate::proofs::NeedsLemmas::insert_key_items), unfolding(crate::specs::Names::without_repeats))]
 fn targets(alloc: Global, text: &[u8]) -> Result<Sequence<Name>, AllocError>
     ensures { IfOk result (λ names. names ≡ without_repeats (map name_of (written_words text.now))) }
 {
     let mut names = IndexSet::new(alloc);
-    for word in WrittenWords::of(text) {
+    let mut rest = text;
+    while let Some((word, after)) = first_word(rest) {
         names.insert(name_of(alloc, word)?)?;
+        rest = after;
     }
     listed(alloc, names)
 }
@@ -80,14 +82,15 @@ fn pattern(alloc: Global, word: Option<&[u8]>) -> Result<Option<Name>, AllocErro
 }
 
 // The names of prerequisites, those behind the first word `|` order-only.
-#[tactic(auto, using(crate::proofs::SeparationLemmas::needs_from_start), unfolding(crate::proofs::SeparationLemmas::needs_from))]
+#[tactic(auto, using(crate::proofs::NeedsLemmas::needs_from_start), unfolding(crate::proofs::NeedsLemmas::needs_from))]
 fn needs(alloc: Global, text: &[u8]) -> Result<Needs, AllocError>
     ensures { IfOk result (λ needs. needs ≡ needs_of (written_words text.now)) }
 {
     let mut prerequisites = Vec::new(alloc);
     let mut order_only = Vec::new(alloc);
     let mut behind_bar = false;
-    for word in WrittenWords::of(text) {
+    let mut rest = text;
+    while let Some((word, after)) = first_word(rest) {
         if behind_bar {
             order_only.push(Sequence::from(name_of(alloc, word)?))?;
         } else if is_bar(word) {
@@ -95,6 +98,7 @@ fn needs(alloc: Global, text: &[u8]) -> Result<Needs, AllocError>
         } else {
             prerequisites.push(Sequence::from(name_of(alloc, word)?))?;
         }
+        rest = after;
     }
     Ok(Needs {
         prerequisites: Sequence::from(prerequisites),

@@ -2,7 +2,8 @@
 ghost use Rattle.std.specs.Prelude.{◌≡◌, ◌==◌, false, true, map, option_map, IfOk};
 ghost use Rattle.kt_text.specs.Words.{words_of};
 ghost use Rattle.kt_rules.specs.Refusals.{Answers};
-ghost use Rattle.kt_rules.specs.Entry.{empty_line, is_nil, kind_of, recipe_of, rule_of, rule_with, shared_needs, stemmed, stemmed_names, stemmed_of, target_of};
+ghost use Rattle.kt_rules.specs.Entry.{empty_line, is_nil, kind_of, recipe_of, rule_of, rule_with, shared_needs};
+ghost use Rattle.kt_rules.specs.Entry.{stemmed, stemmed_names, stemmed_of, target_of};
 
 use crate::checking::{any_percent, line_refusal};
 use crate::entry::{Entry, Kind, Name, Needs, RecipeLine, Stemmed, Target, first_line};

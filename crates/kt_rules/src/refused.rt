@@ -3,7 +3,8 @@ ghost use Rattle.std.specs.Prelude.{◌≡◌, ◌==◌, nat_eq};
 ghost use Rattle.std.specs.List.{list_any};
 ghost use Rattle.std.specs.Cmp.Lexicographic.{pointwise};
 ghost use Rattle.kt_text.specs.Functions.{quotes_percent};
-ghost use Rattle.kt_rules.specs.Names.{is_member, is_refused_name, is_refused_target, is_special, is_wildcard, is_without_effect};
+ghost use Rattle.kt_rules.specs.Names.{is_member, is_refused_name, is_refused_target, is_special, is_wildcard};
+ghost use Rattle.kt_rules.specs.Names.{is_without_effect};
 
 use memchr::memmem;
 

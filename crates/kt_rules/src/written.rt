@@ -1,49 +1,12 @@
 //! The words of a rule line as they are written.
-ghost use Rattle.std.specs.Prelude.{◌≡◌, List, ℕ, [], ◌∷◌, MatchOption, ◌≤◌, length};
-ghost use Rattle.std.specs.Iterator.{YieldsFirstRef};
+ghost use Rattle.std.specs.Prelude.{◌≡◌, [], ◌∷◌, MatchOption, ◌≤◌, length};
 ghost use Rattle.kt_rules.specs.Names.{end_place, without_outer_separators, written_words};
-ghost use Rattle.std.specs.Iterator.{item_count};
 
 use crate::cutting::{Cut, cut_place};
 use kt_text::{stripped_start, trailing_separators};
-use std::marker::Model;
 
-/// The words of a text, cut at separators that aren't quoted. Each borrows the text.
-#[derive(Drop)]
-pub(crate) struct WrittenWords<'a> {
-    rest: &'a [u8],
-}
-
-impl<'a> Model for WrittenWords<'a> {
-    ghost Value = { List (List ℕ) };
-
-    ghost view = { λ words. written_words words.rest.now };
-}
-
-impl<'a> WrittenWords<'a> {
-    pub(crate) fn of(text: &'a [u8]) -> WrittenWords<'a>
-        ensures { result ≡ written_words text.now }
-    {
-        WrittenWords { rest: text }
-    }
-}
-
-impl<'a> Iterator for WrittenWords<'a> {
-    type Item = &'a [u8];
-
-    ghost next_gives = { YieldsFirstRef (λ rest. rest) };
-
-    ghost remaining = { item_count (λ rest. rest) };
-
-    fn next(&mut self) -> Option<&'a [u8]> {
-        let (word, rest) = first_word(self.rest)?;
-        self.rest = rest;
-        Some(word)
-    }
-}
-
-// The first word and what stands after it.
-fn first_word(text: &[u8]) -> Option<(&[u8], &[u8])>
+/// The first word of a text that is cut at separators which aren't quoted, and what stands after it.
+pub(crate) fn first_word(text: &[u8]) -> Option<(&[u8], &[u8])>
     ensures { MatchOption result (written_words text.now ≡ [])
         (λ cut. written_words text.now ≡ cut.0.now ∷ written_words cut.1.now) }
 {

@@ -6,7 +6,7 @@ use Rattle.kt_syntax.specs.Mask.{mask_of}
 use Rattle.std.specs.Prelude.{option_map, is_some, ◌==◌}
 use Rattle.std.proofs.lemmas.List.{take_rest}
 use Rattle.kt_syntax.specs.Kinds.{Parts, assignment_parts, comment_place, past_blanks}
-use Rattle.kt_syntax.specs.Heads.{after_modifier, after_modifiers, found_or, head_end, colon_place, after_colon, assigns_after, is_target_specific, head_text, first_recipe, RuleTexts, rule_texts}
+use Rattle.kt_syntax.specs.Heads.{after_modifier, after_modifiers, found_or, head_end, colon_place, after_colon, assigns_after, is_target_specific, head_text, first_recipe, rule_texts}
 use Rattle.kt_syntax.proofs.Masking.{length-front}
 
 -- one more word

@@ -3,6 +3,7 @@ pub mod Closing
 pub mod CondensedLines
 pub mod HeadLemmas
 pub mod Kinding
+pub mod MaskRuns
 pub mod MaskLaw
 pub mod Masking
 pub mod ModifierLemmas

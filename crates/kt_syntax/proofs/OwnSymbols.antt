@@ -1,11 +1,11 @@
 -- Bytes before the first dollar and backslash of a line are their own symbols.
-use Rattle.std.proofs.Common.{◌≡◌, ◌==◌, ◌||◌, ◌≤◌, ◌-◌, ◌+◌, ℕ, zero, suc, Bool, true, false, List, [], ◌∷◌, ◌++◌, length, take, drop, refl, sym, ap, ◌∙◌, arith, ⊎_elim, true≢false, length-take-le}
+use Rattle.std.proofs.Common.{◌≡◌, ◌==◌, ◌||◌, ◌≤◌, ◌-◌, ℕ, zero, suc, Bool, true, false, List, [], ◌∷◌, ◌++◌, length, take, drop, refl, sym, ap, ◌∙◌, arith, ⊎_elim, true≢false, length-take-le}
 use Rattle.std.proofs.lemmas.Bool.{cases_Bool}
 use Rattle.std.proofs.Math.Seq.{drop-append_seam}
 use Rattle.std.specs.List.{position_or_len}
 use Rattle.kt_text.specs.Words.{Text}
 use Rattle.kt_syntax.proofs.Masking.{step-outside, take_nil}
-use Rattle.kt_syntax.specs.Mask.{mask_from, mask_of, more_masked, goes_odd, mask_byte}
+use Rattle.kt_syntax.specs.Mask.{mask_from, mask_of, more_masked, goes_odd}
 
 -- a dollar or a backslash
 abbrev pub is_mark : ℕ → Bool

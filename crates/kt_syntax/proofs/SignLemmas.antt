@@ -7,7 +7,7 @@ use Rattle.kt_syntax.specs.Mask.{goes_odd}
 use Rattle.kt_syntax.specs.Kinds.{before_comment}
 use Rattle.kt_syntax.specs.Heads.{colon_place}
 use Rattle.kt_syntax.specs.Signs.{BeginsComment, IsCommentPlace, IsColon, IsFirstColon, SignLaw}
-use Rattle.kt_syntax.proofs.MaskLaw.{less_or_more, odd_at, odd-next}
+use Rattle.kt_syntax.proofs.MaskRuns.{less_or_more, odd_at, odd-next}
 
 -- the symbol at a place, and what follows it
 at_place : (whole mask : List ℕ) (place symbol : ℕ) → drop place whole ≡ symbol ∷ mask → slice_index whole place ≡ symbol

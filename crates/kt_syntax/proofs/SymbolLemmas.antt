@@ -1,6 +1,6 @@
 -- A byte that doesn't stand in a line doesn't stand in its mask either, unless as what stands for others.
-use Rattle.std.proofs.Common.{◌≡◌, ◌==◌, ◌≤◌, ◌<◌, ◌+◌, ℕ, zero, suc, Bool, true, false, List, [], ◌∷◌, ◌++◌, None, length, take, replicate, refl, sym, ap, ◌∙◌, arith, ⊎_elim, ◌⊎◌, inl, inr, append_assoc}
-use Rattle.std.proofs.lemmas.Bool.{cases_Bool, eqb-true, eq-eqb, false_from_ne_true}
+use Rattle.std.proofs.Common.{◌≡◌, ◌==◌, ◌≤◌, ◌<◌, ◌+◌, ℕ, zero, suc, Bool, true, false, List, [], ◌∷◌, ◌++◌, None, length, take, refl, sym, ap, ◌∙◌, arith, ⊎_elim, ◌⊎◌, inl, inr, append_assoc}
+use Rattle.std.proofs.lemmas.Bool.{cases_Bool, eqb-true, false_from_ne_true}
 use Rattle.std.proofs.lemmas.List.{append-nil, replicate-append-replicate}
 use Rattle.std.specs.List.{position_or_len}
 use Rattle.memchr.specs.Find.{IsFirstByte}
@@ -9,7 +9,6 @@ use Rattle.kt_syntax.specs.Mask.{inside, goes_odd, mask_byte, more_masked, mask_
 use Rattle.kt_syntax.specs.Kinds.{before_comment, comment_place}
 use Rattle.kt_syntax.specs.Heads.{head_end}
 use Rattle.kt_syntax.specs.Comments.{backslashes, uncommented, uncommented_of}
-use Rattle.kt_syntax.proofs.Masking.{length-mask_of}
 use Rattle.kt_syntax.proofs.Runs.{first_byte_place}
 
 -- what stands for other bytes

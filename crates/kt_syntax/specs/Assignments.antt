@@ -1,7 +1,8 @@
 -- What an assignment is, as a relation between a line and the places of its parts (POSIX.1-2024 make, "Macros"; GNU
 -- make manual, "Setting Variables"): a name, then blanks, then an operator. The line is given by its text and by its
 -- mask up to the comment.
-use Rattle.std.specs.Prelude.{◌≡◌, ℕ, ◌+◌, ◌<◌, ◌≤◌, Bool, true, false, not, ◌==◌, ◌&&◌, List, length, drop, slice_index, Some, MatchOption}
+use Rattle.std.specs.Prelude.{◌≡◌, ℕ, ◌+◌, ◌<◌, ◌≤◌, Bool, true, false, not, ◌==◌, ◌&&◌, List, length, drop}
+use Rattle.std.specs.Prelude.{slice_index, Some, MatchOption}
 use Rattle.kt_text.specs.Words.{Text, is_blank}
 use Rattle.kt_syntax.specs.Mask.{mask_of}
 use Rattle.kt_syntax.specs.Kinds.{Parts, assignment_parts, ends_name, operator_of}

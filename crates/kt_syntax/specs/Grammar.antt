@@ -1,7 +1,8 @@
 -- The grammar of blocks (GNU make manual, "Syntax of Conditionals" and "Defining Multi-Line Variables"; faults are
 -- kati's own): whether the lines from a place on begin with those of a tree, and what follows these is as a rest must
 -- be. With it goes the missing end that was found so far: that of the innermost block which the text doesn't end.
-use Rattle.std.specs.Prelude.{◌≡◌, ℕ, zero, suc, ◌+◌, Bool, true, false, not, List, [], ◌∷◌, Option, Some, None, MatchOption}
+use Rattle.std.specs.Prelude.{◌≡◌, ℕ, zero, suc, ◌+◌, Bool, true, false, not, List, [], ◌∷◌, Option, Some, None}
+use Rattle.std.specs.Prelude.{MatchOption}
 use Rattle.kt_syntax.specs.declared.part.Missing.{Missing}
 use Rattle.kt_syntax.specs.declared.part.Missing.TheVariants as missing
 use Rattle.kt_syntax.specs.declared.part.Stray.{Stray}

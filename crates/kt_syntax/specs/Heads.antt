@@ -1,7 +1,9 @@
 -- The parts of a rule line (POSIX.1-2024 make, "Target Rules") and target-specific macros, which are refused (GNU
 -- make manual, "Target-specific Variable Values"). The head is that of the line's text, in which continuations are
 -- condensed; the recipe is cut from the line as it stands in the file.
-use Rattle.std.specs.Prelude.{ℕ, zero, suc, ◌+◌, Bool, false, not, ◌==◌, ◌&&◌, ◌||◌, nat_eq, nat_lt, List, [], ◌∷◌, length, take, drop, codes, Option, Some, None, option_map, Result, Ok, Err, is_some, if◌then◌else◌}
+use Rattle.std.specs.Prelude.{ℕ, zero, suc, ◌+◌, Bool, false, not, ◌==◌, ◌&&◌, ◌||◌, nat_eq, nat_lt, List, [], ◌∷◌}
+use Rattle.std.specs.Prelude.{length, take, drop, codes, Option, Some, None, option_map, Result, Ok, Err, is_some}
+use Rattle.std.specs.Prelude.{if◌then◌else◌}
 use Rattle.std.specs.List.{starts_with, position_or_len, slice_range}
 use Rattle.std.specs.Str.{bytes_eq}
 use Rattle.kt_text.specs.Words.{Text}

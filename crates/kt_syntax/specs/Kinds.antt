@@ -1,7 +1,8 @@
 -- The kinds of lines (POSIX.1-2024 make, "Makefile Syntax"; GNU make manual, "What Makefiles Contain" and "Splitting
 -- Long Lines"): what a line says is what its text says once its continuations are condensed. The order of the tests
 -- is kati's own.
-use Rattle.std.specs.Prelude.{ℕ, suc, ◌+◌, Bool, false, not, ◌==◌, ◌&&◌, ◌||◌, nat_eq, List, [], ◌∷◌, length, take, drop, codes, Option, Some, None, is_some, if◌then◌else◌}
+use Rattle.std.specs.Prelude.{ℕ, suc, ◌+◌, Bool, false, not, ◌==◌, ◌&&◌, ◌||◌, nat_eq, List, [], ◌∷◌, length, take}
+use Rattle.std.specs.Prelude.{drop, codes, Option, Some, None, is_some, if◌then◌else◌}
 use Rattle.std.specs.List.{starts_with, prefix_len, slice_range}
 use Rattle.std.specs.Str.{bytes_eq}
 use Rattle.kt_text.specs.Words.{Text, is_blank}
@@ -9,7 +10,8 @@ use Rattle.kt_text.specs.Lines.{condensed_of}
 use Rattle.kt_syntax.specs.declared.form.Operator.{Operator}
 use Rattle.kt_syntax.specs.declared.form.Operator.TheVariants.{Deferred, Immediate, Escaped, Conditional, Append, Shell}
 use Rattle.kt_syntax.specs.declared.form.Directive.{Directive}
-use Rattle.kt_syntax.specs.declared.form.Directive.TheVariants.{Ifdef, Ifndef, Ifeq, Ifneq, Else, Endif, Define, Endef, Include, OptionalInclude}
+use Rattle.kt_syntax.specs.declared.form.Directive.TheVariants.{Ifdef, Ifndef, Ifeq, Ifneq, Else, Endif, Define, Endef}
+use Rattle.kt_syntax.specs.declared.form.Directive.TheVariants.{Include, OptionalInclude}
 use Rattle.kt_syntax.specs.declared.form.Form.{Form}
 use Rattle.kt_syntax.specs.declared.form.Form.TheVariants as told
 use Rattle.kt_syntax.specs.Mask.{inside, goes_odd, mask_of}

@@ -1,6 +1,7 @@
 -- A line byte by byte: what is outside references (POSIX.1-2024 make, "Macros"), with each continuation that it still
 -- has as blanks (kati's own).
-use Rattle.std.specs.Prelude.{ℕ, zero, suc, Bool, false, not, ◌==◌, ◌&&◌, nat_eq, List, [], ◌∷◌, Option, None, Some, if◌then◌else◌}
+use Rattle.std.specs.Prelude.{ℕ, zero, suc, Bool, false, not, ◌==◌, ◌&&◌, nat_eq, List, [], ◌∷◌, Option, None, Some}
+use Rattle.std.specs.Prelude.{if◌then◌else◌}
 use Rattle.std.specs.List.{starts_with}
 use Rattle.kt_text.specs.Words.{Text}
 use Rattle.kt_syntax.specs.Terms.{kept, behind_dollar}

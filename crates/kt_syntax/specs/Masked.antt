@@ -1,7 +1,8 @@
 -- What the mask of a line is, as a relation between the line, its terms and the mask (POSIX.1-2024 make, "Macros";
 -- GNU make manual, "Splitting Long Lines"): each byte is inside a reference, or of a continuation, or stands for
 -- itself.
-use Rattle.std.specs.Prelude.{◌≡◌, ℕ, ◌+◌, ◌<◌, ◌≤◌, Bool, true, false, List, [], ◌∷◌, ◌++◌, length, take, drop, slice_index}
+use Rattle.std.specs.Prelude.{◌≡◌, ℕ, ◌+◌, ◌<◌, ◌≤◌, Bool, true, false, List, [], ◌∷◌, ◌++◌, length, take, drop}
+use Rattle.std.specs.Prelude.{slice_index}
 use Rattle.kt_text.specs.Words.{Text}
 use Rattle.kt_text.specs.Lines.{is_continued_text}
 use Rattle.kt_syntax.specs.Terms.{Piece, literal, dollar, reference, unclosed, kept, unit_length, IsTerm}

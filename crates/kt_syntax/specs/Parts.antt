@@ -1,6 +1,7 @@
 -- The parts of lines in the blocks of a text, from its first line on (GNU make manual, "Syntax of Conditionals" and
 -- "Defining Multi-Line Variables"; faults are kati's own).
-use Rattle.std.specs.Prelude.{ℕ, zero, suc, ◌+◌, Bool, false, not, ◌||◌, List, [], ◌∷◌, Option, Some, None, if◌then◌else◌}
+use Rattle.std.specs.Prelude.{ℕ, zero, suc, ◌+◌, Bool, false, not, ◌||◌, List, [], ◌∷◌, Option, Some, None}
+use Rattle.std.specs.Prelude.{if◌then◌else◌}
 use Rattle.kt_syntax.specs.declared.part.Missing.{Missing}
 use Rattle.kt_syntax.specs.declared.part.Missing.TheVariants as missing
 use Rattle.kt_syntax.specs.declared.part.OpenConditional.{OpenConditional}

@@ -1,6 +1,7 @@
 -- What lines are to the blocks round them (GNU make manual, "Syntax of Conditionals" and "Defining Multi-Line
 -- Variables"), by their kinds alone.
-use Rattle.std.specs.Prelude.{Bool, true, false, ◌&&◌, ◌||◌, ◌==◌, List, [], ◌∷◌, length, take, map, Option, Some, None, leb, if◌then◌else◌}
+use Rattle.std.specs.Prelude.{Bool, true, false, ◌&&◌, ◌||◌, ◌==◌, List, [], ◌∷◌, length, take, map, Option, Some, None}
+use Rattle.std.specs.Prelude.{leb, if◌then◌else◌}
 use Rattle.std.specs.List.{slice_range}
 use Rattle.kt_text.specs.declared.line.Line.{Line}
 use Rattle.kt_syntax.specs.declared.form.Directive.{Directive}
@@ -10,7 +11,8 @@ use Rattle.kt_syntax.specs.declared.role.Role.{Role}
 use Rattle.kt_syntax.specs.declared.role.Role.TheVariants.{Ordinary, Conditional, Else, Endif, Define, Endef}
 use Rattle.kt_text.specs.Words.{Text}
 use Rattle.kt_syntax.specs.Mask.{mask_of}
-use Rattle.kt_syntax.specs.Kinds.{Kind, blank, assignment, directive, refused, rule, block_word, comment_place, line_kind, past_blanks, past_word}
+use Rattle.kt_syntax.specs.Kinds.{Kind, blank, assignment, directive, refused, rule, block_word, comment_place}
+use Rattle.kt_syntax.specs.Kinds.{line_kind, past_blanks, past_word}
 
 -- whether a line begins with a blank, with a backslash, which may be that of a continuation, or with a letter that
 -- words of blocks begin with

@@ -1,7 +1,8 @@
 //! Lines told apart.
 ghost use Rattle.std.specs.Prelude.{◌≡◌, ◌≤◌, ◌+◌, drop, length, take, true, is_some, IfSome, option_map, MatchOption};
 ghost use Rattle.std.specs.Str.{bytes_eq};
-ghost use Rattle.kt_syntax.specs.Kinds.{assignment_parts, block_word, directive_of, ends_name, include_word, is_refused_word, kind_of, kind_told, name_end, operator_of, worded};
+ghost use Rattle.kt_syntax.specs.Kinds.{assignment_parts, block_word, directive_of, ends_name, include_word};
+ghost use Rattle.kt_syntax.specs.Kinds.{is_refused_word, kind_of, kind_told, name_end, operator_of, worded};
 ghost use Rattle.kt_syntax.specs.Mask.{mask_of};
 
 use crate::form::{Directive, Form, Operator};

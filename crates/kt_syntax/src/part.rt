@@ -1,6 +1,7 @@
 //! The parts of lines in blocks, found from the first line to the last.
 ghost use Rattle.std.specs.Prelude.{◌≡◌, ◌≤◌, ◌<◌, ◌^◌, None, IfOk};
-ghost use Rattle.kt_syntax.specs.Parts.{after, after_else, body_part, define_after, depth_of, else_part, missing_in, nothing_open, part_of};
+ghost use Rattle.kt_syntax.specs.Parts.{after, after_else, body_part, define_after, depth_of, else_part, missing_in};
+ghost use Rattle.kt_syntax.specs.Parts.{nothing_open, part_of};
 
 use crate::role::{Head, Role};
 use std::alloc::{AllocError, Global};

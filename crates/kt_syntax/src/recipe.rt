@@ -1,7 +1,8 @@
 //! Recipe lines without their continuations.
 ghost use Rattle.std.specs.Prelude.{◌≡◌, ◌++◌, IfOk, OnOk};
 ghost use Rattle.kt_text.specs.Lines.{before_backslash};
-ghost use Rattle.kt_syntax.specs.Recipes.{begun, content, ended, joint_of, newline_after, recipe_line, recipe_of, space_before, without_tab};
+ghost use Rattle.kt_syntax.specs.Recipes.{begun, content, ended, joint_of, newline_after, recipe_line, recipe_of};
+ghost use Rattle.kt_syntax.specs.Recipes.{space_before, without_tab};
 
 use crate::mask::Mask;
 use crate::symbol::Symbol;

@@ -2,7 +2,8 @@
 ghost use Rattle.std.specs.Prelude.{◌≡◌, ◌≤◌, false, length, IfOk};
 ghost use Rattle.std.specs.List.{slice_range};
 ghost use Rattle.kt_syntax.specs.Kinds.{block_word, kind_of, line_kind};
-ghost use Rattle.kt_syntax.specs.Roles.{first_word, head_of, line_text, line_word, may_open, opens_conditional, role_by_word, role_of, starts_condition};
+ghost use Rattle.kt_syntax.specs.Roles.{first_word, head_of, line_text, line_word, may_open, opens_conditional};
+ghost use Rattle.kt_syntax.specs.Roles.{role_by_word, role_of, starts_condition};
 
 use crate::form::{Directive, Form};
 use crate::kind::{block_word, classify};

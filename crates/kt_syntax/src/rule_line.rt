@@ -1,8 +1,10 @@
 //! Rule lines cut into head and recipe.
-ghost use Rattle.std.specs.Prelude.{◌≡◌, ◌≤◌, ◌<◌, ◌+◌, ◌==◌, ◌||◌, drop, length, option_map, take, true, IfSome, MatchOption};
+ghost use Rattle.std.specs.Prelude.{◌≡◌, ◌≤◌, ◌<◌, ◌+◌, ◌==◌, ◌||◌, drop, length, option_map, take, true, IfSome};
+ghost use Rattle.std.specs.Prelude.{MatchOption};
 ghost use Rattle.std.specs.List.{position_or_len};
 ghost use Rattle.kt_syntax.specs.Kinds.{comment_place};
-ghost use Rattle.kt_syntax.specs.Heads.{after_colon, after_modifiers, colon_place, first_recipe, head_end, head_text, is_modifier, is_target_specific, rule_texts, texts_told};
+ghost use Rattle.kt_syntax.specs.Heads.{after_colon, after_modifiers, colon_place, first_recipe, head_end, head_text};
+ghost use Rattle.kt_syntax.specs.Heads.{is_modifier, is_target_specific, rule_texts, texts_told};
 ghost use Rattle.kt_syntax.specs.Mask.{mask_of};
 
 use crate::kind::{assignment, is_word};

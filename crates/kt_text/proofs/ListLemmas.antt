@@ -80,3 +80,5 @@ pairs_alone [] = refl
 pairs_alone (first ∷ firsts) = refl
 
 pub ruleset pair_steps = (pairs_none, pairs_both, pairs_alone, append-nil)
+
+pub ruleset join_steps = (put_words_is, pair_steps)

@@ -2,7 +2,9 @@
 -- Each is called as in the GNU make manual, "Functions for String Substitution and Analysis" and, from `dir` on,
 -- "Functions for File Names". That results without bytes are left out of a list is kati's own.
 -- Notes of the form [Section] name that manual's section.
-use Rattle.std.specs.Prelude.{◌≡◌, ℕ, ◌-◌, Bool, ◌||◌, ◌&&◌, ◌==◌, nat_le, not, List, [], ◌∷◌, ◌++◌, length, map, filter, fold, take, drop, Option, Some, None, Result, unwrap_or, is_some, MatchResult, if◌then◌else◌}
+use Rattle.std.specs.Prelude.{◌≡◌, ℕ, ◌-◌, Bool, ◌||◌, ◌&&◌, ◌==◌, nat_le, not, List, [], ◌∷◌, ◌++◌, length, map}
+use Rattle.std.specs.Prelude.{filter, fold, take, drop, Option, Some, None, Result, unwrap_or, is_some, MatchResult}
+use Rattle.std.specs.Prelude.{if◌then◌else◌}
 use Rattle.std.specs.List.{list_any, list_all, slice_get, slice_range, suffix_len}
 use Rattle.std.specs.Option.{option_and_then}
 use Rattle.std.specs.Char.{is_ascii_digit}

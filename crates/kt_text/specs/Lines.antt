@@ -1,5 +1,6 @@
 -- The logical lines of a text (POSIX.1-2024 make, "Makefile Syntax"; GNU make manual, "Splitting Long Lines").
-use Rattle.std.specs.Prelude.{◌≡◌, ◌≤◌, ℕ, ◌+◌, ◌-◌, ◌%◌, Bool, true, false, ◌==◌, List, [], ◌∷◌, ◌++◌, length, take, count_by, Option, Some, None, slice_index, if◌then◌else◌}
+use Rattle.std.specs.Prelude.{◌≡◌, ◌≤◌, ℕ, ◌+◌, ◌-◌, ◌%◌, Bool, true, false, ◌==◌, List, [], ◌∷◌, ◌++◌, length, take}
+use Rattle.std.specs.Prelude.{count_by, Option, Some, None, slice_index, if◌then◌else◌}
 use Rattle.std.specs.List.{All, AllAdjacentBelow, list_any, before_first, suffix_len, onto_first, flat_map, concat}
 use Rattle.bstr.specs.Text.{lines_of, without_terminator}
 use Rattle.kt_text.specs.declared.line.Line.{Line}

@@ -1,6 +1,7 @@
 -- Patterns with a percent sign (GNU make manual, "Introduction to Pattern Rules"; "Functions for String Substitution
 -- and Analysis", on `patsubst`). Only the first percent sign of a pattern counts.
-use Rattle.std.specs.Prelude.{◌≡◌, ℕ, ◌+◌, ◌-◌, Bool, false, ◌&&◌, ◌==◌, nat_eq, nat_le, ◌∷◌, ◌++◌, length, All, Option, Some, None, if◌then◌else◌}
+use Rattle.std.specs.Prelude.{◌≡◌, ℕ, ◌+◌, ◌-◌, Bool, false, ◌&&◌, ◌==◌, nat_eq, nat_le, ◌∷◌, ◌++◌, length, All, Option}
+use Rattle.std.specs.Prelude.{Some, None, if◌then◌else◌}
 use Rattle.std.specs.List.{list_any, before_first, after_first, starts_with, ends_with}
 use Rattle.kt_text.specs.Words.{Text}
 

@@ -5,7 +5,8 @@ use Rattle.kt_text.specs.declared.line.Line.{Line}
 use Rattle.kt_text.specs.Words.{words_of}
 use Rattle.kt_text.specs.Match.{stem_span}
 use Rattle.kt_text.specs.Lines.{logical_lines_of, nul_line, condensed_of}
-use Rattle.kt_text.specs.Functions.{subst_of, patsubst_of, findstring_of, sort_of, word_of, wordlist_of, words_count_of, dir_of, basename_of, join_of}
+use Rattle.kt_text.specs.Functions.{subst_of, patsubst_of, findstring_of, sort_of, word_of, wordlist_of, words_count_of}
+use Rattle.kt_text.specs.Functions.{dir_of, basename_of, join_of}
 
 abbrev pub line : ℕ → ℕ → ℕ → Line
 line start end number = record { span = record { start = start; end = end }; number = number; tab = false }

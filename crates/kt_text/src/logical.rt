@@ -1,5 +1,6 @@
 //! A text cut into logical lines.
-ghost use Rattle.std.specs.Prelude.{◌≡◌, ◌+◌, ◌==◌, None, Some, MatchResult, IfOk, count_by, if◌then◌else◌, ◌≤◌, length};
+ghost use Rattle.std.specs.Prelude.{◌≡◌, ◌+◌, ◌==◌, None, Some, MatchResult, IfOk, count_by, if◌then◌else◌, ◌≤◌};
+ghost use Rattle.std.specs.Prelude.{length};
 ghost use Rattle.kt_text.specs.Lines.{AreInOrder, NulFault, kept_of_last, logical_lines_of, nul_line};
 
 use crate::line::{Line, LineFault};

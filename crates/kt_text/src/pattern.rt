@@ -1,5 +1,6 @@
 //! Patterns with a percent sign.
-ghost use Rattle.std.specs.Prelude.{◌≡◌, ◌++◌, ◌+◌, ◌-◌, ◌≤◌, ℕ, false, length, true, IfNone, IfSome, MatchOption, OnOk, option_map};
+ghost use Rattle.std.specs.Prelude.{◌≡◌, ◌++◌, ◌+◌, ◌-◌, ◌≤◌, ℕ, false, length, true, IfNone, IfSome, MatchOption};
+ghost use Rattle.std.specs.Prelude.{OnOk, option_map};
 ghost use Rattle.std.specs.List.{slice_range};
 ghost use Rattle.kt_text.specs.Functions.{with_stem};
 ghost use Rattle.kt_text.specs.Words.{Text};

@@ -1,5 +1,5 @@
 -- What each method of an evaluation that expands or reads promises (kati's own).
-use Rattle.std.specs.Prelude.{◌≡◌, ℕ, Bool, Result}
+use Rattle.std.specs.Prelude.{ℕ, Bool, Result}
 use Rattle.kt_eval.specs.declared.stop.Stop.{Stop}
 use Rattle.kt_eval.specs.Step.{AreKnown, Blames, Gives, Keeps, Seen, Step, store_of}
 use Rattle.kt_eval.specs.Expansion.{Evaluator}

@@ -1,5 +1,6 @@
 -- The questions of a search with their answers, as the code holds them (kati's own).
-use Rattle.std.specs.Prelude.{◌≡◌, ℕ, zero, suc, ◌-◌, ◌<◌, ◌≤◌, true, false, List, [], ◌∷◌, ◌++◌, length, map, take, fold, Option, Some, None, IfSome, unwrap_or, slice_get}
+use Rattle.std.specs.Prelude.{◌≡◌, ℕ, zero, suc, ◌-◌, ◌<◌, ◌≤◌, true, false, List, [], ◌∷◌, ◌++◌, length, map, take}
+use Rattle.std.specs.Prelude.{fold, Option, Some, None, IfSome, unwrap_or, slice_get}
 use Rattle.std.specs.List.{Contains, list_any}
 use Rattle.kt_text.specs.Words.{Text}
 use Rattle.kt_rules.specs.Entry.{Rule}
@@ -9,7 +10,8 @@ use Rattle.kt_graph.specs.declared.tried.Tried.{Tried}
 use Rattle.kt_graph.specs.declared.tried.Placed.{Placed}
 use Rattle.kt_graph.specs.declared.tried.Placed.TheVariants.{Before, Last}
 use Rattle.kt_graph.specs.Candidates.{Candidate}
-use Rattle.kt_graph.specs.Search.{Asked, asked_eq, asked_inside, asking, chain_limit, fitting, open_candidates, with_question}
+use Rattle.kt_graph.specs.Search.{Asked, asked_eq, asked_inside, asking, chain_limit, fitting, open_candidates}
+use Rattle.kt_graph.specs.Search.{with_question}
 use Rattle.kt_graph.specs.Views.{IsWithin, asked_told, found_told}
 
 -- what was found for a name is this candidate; it is one of a rule, and its places lie in the name

@@ -1,6 +1,8 @@
 -- Vertices and where they lead, as the code finds cycles among them (kati's own). A vertex of a name has its number;
 -- behind the names stand the makings of several names.
-use Rattle.std.specs.Prelude.{◌≡◌, ◌↔◌, ℕ, suc, ◌+◌, ◌<◌, true, false, Bool, ◌⊎◌, List, [], ◌∷◌, ◌++◌, length, get_or, set, take, replicate, fold, map, All, IfSome, if◌then◌else◌, Option, Some, None, slice_get}
+use Rattle.std.specs.Prelude.{◌≡◌, ◌↔◌, ℕ, suc, ◌+◌, ◌<◌, true, false, Bool, ◌⊎◌, List, [], ◌∷◌, ◌++◌, length, get_or}
+use Rattle.std.specs.Prelude.{set, take, replicate, fold, map, All, IfSome, if◌then◌else◌, Option, Some, None}
+use Rattle.std.specs.Prelude.{slice_get}
 use Rattle.std.specs.List.{Contains, count_by}
 use Rattle.kt_graph.specs.declared.settled.Settled.{Settled}
 use Rattle.kt_graph.specs.declared.edges.Edges.{Edges}

@@ -1,25 +1,18 @@
 -- Rules by the ends of their targets, as the code holds them (kati's own).
-use Rattle.std.specs.Prelude.{◌≡◌, ℕ, ◌-◌, ◌≤◌, All, List, [], drop, length, filter_map, unwrap_or, option_map, slice_get, bytes_eq, Option, Some}
+use Rattle.std.specs.Prelude.{◌≡◌, ℕ, ◌-◌, ◌≤◌, All, List, drop, length, filter_map, slice_get, Option, Some}
 use Rattle.std.specs.List.{Contains}
 use Rattle.std.specs.Option.{option_and_then}
-use Rattle.std.specs.Map.{lookup}
-use Rattle.std.specs.declared.vec.Vec.{Vec}
-use Rattle.std.specs.declared.alloc.Global.{Global}
 use Rattle.kt_text.specs.Words.{Text}
 use Rattle.kt_text.specs.Match.{pattern_back}
 use Rattle.kt_rules.specs.declared.entry.Target.{Target}
 use Rattle.kt_rules.specs.Entry.{Rule}
+use Rattle.kt_rules.specs.Indexes.{noted_at}
 use Rattle.kt_graph.specs.declared.ends.Ends.{Ends}
 use Rattle.kt_graph.specs.Candidates.{Candidate, candidate_of}
 
--- the numbers of an end in the entries of a map
-abbrev pub numbers_in : List (Vec ℕ Global × Vec ℕ Global) → Text → List ℕ
-numbers_in entries end =
-    unwrap_or (option_map (λ numbers. numbers.items) (lookup (λ key. bytes_eq end key.items) entries)) []
-
 -- the numbers of an end
 abbrev pub numbers_at : Ends → Text → List ℕ
-numbers_at ends end = numbers_in ends.numbers.entries end
+numbers_at ends end = noted_at ends.numbers end
 
 -- a number is there at an end, and the end's length
 abbrev pub IsNoted : Ends → Text → ℕ → Type 0

@@ -1,5 +1,6 @@
 -- The files of made names, as the code counts them, and the order of names (kati's own).
-use Rattle.std.specs.Prelude.{◌≡◌, ◌↔◌, ℕ, ◌<◌, Bool, nat_eq, nat_lt, List, length, map, filter, bytes_eq, Option, None, Some, if◌then◌else◌}
+use Rattle.std.specs.Prelude.{◌≡◌, ◌↔◌, ℕ, ◌<◌, Bool, nat_eq, nat_lt, List, length, map, filter, bytes_eq, Option, None}
+use Rattle.std.specs.Prelude.{Some, if◌then◌else◌}
 use Rattle.std.specs.List.{Contains}
 use Rattle.std.specs.Map.{lookup}
 use Rattle.std.specs.List.Sorted.{IsStrictlySortedBy}

@@ -1,5 +1,6 @@
 -- Groups of nodes, while nodes are put into them one by one (kati's own).
-use Rattle.std.specs.Prelude.{◌≡◌, ◌↔◌, ℕ, ◌<◌, false, List, [], ◌∷◌, ◌++◌, bytes_eq, filter, get_or, length, map, set, IfSome, Option, Some, None, if◌then◌else◌}
+use Rattle.std.specs.Prelude.{◌≡◌, ◌↔◌, ℕ, ◌<◌, false, List, [], ◌∷◌, ◌++◌, bytes_eq, filter, get_or, length, map, set}
+use Rattle.std.specs.Prelude.{IfSome, Option, Some, None, if◌then◌else◌}
 use Rattle.std.specs.List.{list_any}
 use Rattle.std.specs.declared.vec.Vec.{Vec}
 use Rattle.std.specs.declared.alloc.Global.{Global}

@@ -1,10 +1,12 @@
 -- Pieces that are cut off a text one after another (the reader's own).
-use Rattle.std.specs.Prelude.{◌≡◌, ◌≤◌, ℕ, Bool, true, false, not, ◌==◌, ◌&&◌, List, [], ◌∷◌, ◌++◌, length, Option, Some, None, option_map}
+use Rattle.std.specs.Prelude.{◌≡◌, ◌≤◌, ℕ, Bool, true, false, not, ◌==◌, ◌&&◌, List, [], ◌∷◌, ◌++◌, length, Option}
+use Rattle.std.specs.Prelude.{Some, None, option_map}
 use Rattle.kt_ninja.specs.declared.spelling.Cut.{Cut}
 use Rattle.kt_ninja.specs.declared.spelling.Dollar.{Dollar}
 use Rattle.kt_ninja.specs.declared.spelling.Dollar.TheVariants.{Byte, Variable as Named}
 use Rattle.kt_ninja.specs.JoinedLines.{Text}
-use Rattle.kt_ninja.specs.Pieces.{Piece, Plain, Escaped, Variable, Where, in_name, is_long_name_byte, is_short_name_byte, outside, pieces_from}
+use Rattle.kt_ninja.specs.Pieces.{Piece, Plain, Escaped, Variable, Where, in_name, is_long_name_byte}
+use Rattle.kt_ninja.specs.Pieces.{is_short_name_byte, outside, pieces_from}
 use Rattle.kt_ninja.specs.inner.Spelled.{is_spelled, pieces_in}
 use Rattle.kt_ninja.specs.Forms.{is_plain}
 use Rattle.std.specs.List.{list_any}

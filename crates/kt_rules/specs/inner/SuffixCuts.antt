@@ -1,10 +1,11 @@
 -- How the program finds names of suffix rules without looking at each beginning of a name (kati's own).
-use Rattle.std.specs.Prelude.{ℕ, min, nat_eq, nat_lt, Bool, false, ◌&&◌, List, length, take, drop, find, Option, Some, None}
+use Rattle.std.specs.Prelude.{ℕ, min, nat_eq, nat_lt, Bool, false, ◌&&◌, List, length, take, drop, find, Option, Some}
+use Rattle.std.specs.Prelude.{None}
 use Rattle.std.specs.Cmp.Lexicographic.{pointwise}
 use Rattle.std.specs.List.{range_with_len}
 use Rattle.std.specs.Option.{option_map_or}
 use Rattle.kt_text.specs.Words.{Text}
-use Rattle.kt_rules.specs.declared.book.index.Spot.{Spot}
+use Rattle.kt_rules.specs.declared.book.spot.Spot.{Spot}
 use Rattle.kt_rules.specs.Entry.{Rule}
 use Rattle.kt_rules.specs.Names.{is_among}
 use Rattle.kt_rules.specs.Slots.{spot_rule}

@@ -6,8 +6,8 @@ ghost use Rattle.kt_rules.specs.Slots.{explicit_left, explicit_rule, rule_told};
 ghost use Rattle.kt_rules.specs.inner.SuffixCuts.{is_bare_at};
 ghost use Rattle.kt_rules.specs.Suffixes.{suffix_patterns};
 
-use super::index::Spot;
 use super::name_set::NameSet;
+use super::spot::Spot;
 use super::suffix::is_suffix_name;
 use super::target_rule::{TargetRule, has_bare, is_bare, rule_at};
 use crate::entry::Entry;

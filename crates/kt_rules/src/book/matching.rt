@@ -2,7 +2,8 @@
 ghost use Rattle.std.specs.Prelude.{◌≡◌, ◌++◌, ◌||◌, ◌∷◌, [], IfOk, OnOk, flat_map, option_map, if◌then◌else◌};
 ghost use Rattle.kt_rules.specs.Book.{pattern_rule, patterns_in, repeats, unrepeated};
 ghost use Rattle.kt_rules.specs.Entry.{Rule};
-ghost use Rattle.kt_rules.specs.Patterns.{form_told, has_pattern, slot_patterns, stays_before, suffix_rules_at, suffix_rules_in};
+ghost use Rattle.kt_rules.specs.Patterns.{form_told, has_pattern, slot_patterns, stays_before, suffix_rules_at};
+ghost use Rattle.kt_rules.specs.Patterns.{suffix_rules_in};
 ghost use Rattle.kt_rules.specs.Slots.{rules_in};
 ghost use Rattle.kt_rules.specs.Suffixes.{percent, suffix_patterns};
 

@@ -1,24 +1,25 @@
 //! Notes the targets of an entry.
 ghost use Rattle.std.specs.Prelude.{◌≡◌, ◌++◌, OnErr, OnOk, fold};
 ghost use Rattle.kt_text.specs.Words.{Text};
-ghost use Rattle.kt_rules.specs.Indexes.{spots_at};
+ghost use Rattle.kt_rules.specs.Indexes.{noted_at};
 ghost use Rattle.kt_rules.specs.Book.{phony_of};
 ghost use Rattle.kt_rules.specs.Names.{with_name};
 ghost use Rattle.kt_rules.specs.Slots.{GotRecipes, GotSpots, GrewIn, target_spots};
 ghost use Rattle.kt_rules.specs.Suffixes.{suffixes_after};
 
-use super::index::{Index, Spot};
 use super::name_set::NameSet;
 use super::special::{learn_phony, learn_suffixes};
+use super::spot::Spot;
 use super::target_rule::{has_recipe, is_made};
 use crate::entry::{Entry, Target};
+use crate::index::Index;
 use std::alloc::AllocError;
 
 /// Notes what the entry in a slot says. Where memory is refused, some targets may be noted, and the
 /// names are as they were.
 pub(crate) fn learn(
-    targets: &mut Index,
-    recipes: &mut Index,
+    targets: &mut Index<Spot>,
+    recipes: &mut Index<Spot>,
     phony: &mut NameSet,
     suffixes: &mut NameSet,
     entry: &Entry,
@@ -39,7 +40,7 @@ pub(crate) fn learn(
 }
 
 // Notes each target that the entry in a slot makes, if it has a recipe.
-fn note_recipes(recipes: &mut Index, entry: &Entry, place: usize) -> Result<(), AllocError>
+fn note_recipes(recipes: &mut Index<Spot>, entry: &Entry, place: usize) -> Result<(), AllocError>
     ensures noted { OnOk result (GotRecipes entry.now place recipes.old recipes.new) }
     ensures refused { OnErr result (GrewIn place recipes.old recipes.new) }
 {
@@ -68,7 +69,11 @@ fn learn_names(phony: &mut NameSet, suffixes: &mut NameSet, entry: &Entry) -> Re
 }
 
 /// Notes each target that the entry in a slot makes. Where memory is refused, some may be noted.
-pub(crate) fn note_targets(index: &mut Index, entry: &Entry, place: usize) -> Result<(), AllocError>
+pub(crate) fn note_targets(
+    index: &mut Index<Spot>,
+    entry: &Entry,
+    place: usize,
+) -> Result<(), AllocError>
     ensures noted { OnOk result (GotSpots entry.now place index.old index.new) }
     ensures refused { OnErr result (GrewIn place index.old index.new) }
 {
@@ -84,14 +89,14 @@ pub(crate) fn note_targets(index: &mut Index, entry: &Entry, place: usize) -> Re
 
 // Notes the target, if the entry makes it.
 fn note_target(
-    index: &mut Index,
+    index: &mut Index<Spot>,
     entry: &Entry,
     target: &Target,
     spot: Spot,
 ) -> Result<(), AllocError>
-    ensures noted { OnOk result ((name : Text) → spots_at index.new name ≡ spots_at index.old name
+    ensures noted { OnOk result ((name : Text) → noted_at index.new name ≡ noted_at index.old name
         ++ target_spots entry.now target.now spot name) }
-    ensures refused { OnErr result ((name : Text) → spots_at index.new name ≡ spots_at index.old name) }
+    ensures refused { OnErr result ((name : Text) → noted_at index.new name ≡ noted_at index.old name) }
 {
     if !is_made(entry, target) {
         return Ok(());

@@ -1,7 +1,8 @@
 //! What is refused of one more entry.
 ghost use Rattle.std.specs.Prelude.{◌≡◌, ◌||◌, option_map, is_none, ◌&&◌};
 ghost use Rattle.std.specs.List.{list_any};
-ghost use Rattle.kt_rules.specs.Book.{beside_group_in, both_colons_in, differ_in_colons, is_beside_group, is_double, is_group, is_made, recipes_of, refusal_of, rules_of, two_recipes_in, xor};
+ghost use Rattle.kt_rules.specs.Book.{beside_group_in, both_colons_in, differ_in_colons, is_beside_group, is_double};
+ghost use Rattle.kt_rules.specs.Book.{is_group, is_made, recipes_of, refusal_of, rules_of, two_recipes_in, xor};
 ghost use Rattle.kt_rules.specs.Refusals.{Tells, fault_at, refusal_told};
 
 use super::Book;
@@ -83,7 +84,7 @@ impl Book {
     fn has_other_colons(&self, entry: &Entry, name: &[u8]) -> bool
         ensures { result ≡ list_any (differ_in_colons entry.now) (rules_of self.now name.now) }
     {
-        match first_rule(self.slots.as_slice(), self.targets.spots(name)) {
+        match first_rule(self.slots.as_slice(), self.targets.noted(name)) {
             Some(rule) => differ_in_colons(entry, rule.entry),
             None => false,
         }
@@ -93,7 +94,7 @@ impl Book {
     fn has_group(&self, entry: &Entry, name: &[u8]) -> bool
         ensures { result ≡ list_any (is_beside_group entry.now) (recipes_of self.now name.now) }
     {
-        match first_rule(self.slots.as_slice(), self.recipes.spots(name)) {
+        match first_rule(self.slots.as_slice(), self.recipes.noted(name)) {
             Some(rule) => either_is_group(entry, rule.entry),
             None => false,
         }

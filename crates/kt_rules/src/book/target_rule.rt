@@ -6,7 +6,7 @@ ghost use Rattle.kt_rules.specs.Slots.{first_found, rule_told, spot_rule, target
 ghost use Rattle.kt_rules.specs.inner.SuffixCuts.{is_bare_at};
 ghost use Rattle.kt_rules.specs.Suffixes.{is_bare, is_empty, is_single, needs_nothing};
 
-use super::index::Spot;
+use super::spot::Spot;
 use crate::entry::{Entry, Kind, Name, Needs, Target};
 use crate::refused::is_special;
 

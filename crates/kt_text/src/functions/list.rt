@@ -2,7 +2,8 @@
 ghost use Rattle.std.specs.Prelude.{◌≡◌, ◌∷◌, ◌++◌, ◌-◌, List, length, Some};
 ghost use Rattle.std.specs.List.{slice_range};
 ghost use Rattle.kt_text.specs.Words.{Text, list_text, words_of};
-ghost use Rattle.kt_text.specs.Functions.{Answers, joined_pairs, word_at, strip_of, word_of, wordlist_of, words_count_of, firstword_of, lastword_of, join_of};
+ghost use Rattle.kt_text.specs.Functions.{Answers, joined_pairs, word_at, strip_of, word_of, wordlist_of};
+ghost use Rattle.kt_text.specs.Functions.{words_count_of, firstword_of, lastword_of, join_of};
 
 use crate::cut::words as words_of_text;
 use crate::fault::TextFault;
@@ -117,7 +118,7 @@ fn last_word(text: &[u8]) -> &[u8]
 }
 
 /// `$(join LIST,LIST)`.
-#[tactic(auto, using(crate::proofs::ListLemmas::put_words_is, crate::proofs::ListLemmas::pair_steps), unfolding(crate::specs::Functions::join_of))]
+#[tactic(auto, using(crate::proofs::ListLemmas::join_steps), unfolding(crate::specs::Functions::join_of))]
 pub fn join(alloc: Global, first: &[u8], second: &[u8]) -> Result<Vec<u8>, TextFault>
     ensures { Answers result (Some (join_of first.now second.now)) }
 {

@@ -2,7 +2,8 @@
 ghost use Rattle.std.specs.Prelude.{◌≡◌, ◌<◌, All, Some, IfOk, List, ℕ, nat_eq, refl, slice_index};
 ghost use Rattle.std.specs.Ordering.{nat_cmp};
 ghost use Rattle.std.specs.Cmp.{partial_equiv_from_equiv};
-ghost use Rattle.std.specs.Cmp.Lexicographic.{slice_cmp, pointwise, nat_list_cmp_total, nat_list_eq_equiv, texts_po, texts_ties};
+ghost use Rattle.std.specs.Cmp.Lexicographic.{slice_cmp, pointwise, nat_list_cmp_total, nat_list_eq_equiv, texts_po};
+ghost use Rattle.std.specs.Cmp.Lexicographic.{texts_ties};
 ghost use Rattle.kt_text.specs.Words.{words_of};
 ghost use Rattle.kt_text.specs.Functions.{Answers, word_set, sort_of};
 ghost use Rattle.kt_text.specs.Sorted.{IsHead, front_number};

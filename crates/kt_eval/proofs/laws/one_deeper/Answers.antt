@@ -1,4 +1,4 @@
-use Rattle.kt_eval.proofs.GrowingLemmas.{expanding_stays, applying_stays, reading_stays}
+use Rattle.kt_eval.proofs.GrowingReads.{expanding_stays, applying_stays, reading_stays}
 use Rattle.kt_eval.proofs.laws.one_deeper.Goals as goal
 
 pub returns-clause-expanding : goal.returns-clause-expanding

@@ -1,9 +1,12 @@
-use Rattle.std.proofs.Common.{◌≡◌}
+use Rattle.std.proofs.Common.{◌≡◌, length}
 use Rattle.kt_rules.specs.Names.{written_words}
 use Rattle.kt_rules.specs.RuleLine.{needs_of}
-use Rattle.kt_rules.proofs.SeparationLemmas.{needs_from}
+use Rattle.kt_rules.proofs.NeedsLemmas.{needs_from}
 use Rattle.kt_rules.proofs.line.needs.Given as goal
 
 abbrev pub invariant-loop-word : goal.invariant-loop-word
 invariant-loop-word l =
-    needs_from l.behind_bar l.prerequisites.items l.order_only.items l.word-iterator ≡ needs_of (written_words l.text)
+    needs_from l.behind_bar l.prerequisites.items l.order_only.items (written_words l.rest) ≡ needs_of (written_words l.text)
+
+abbrev pub decreases-loop-word : goal.decreases-loop-word
+decreases-loop-word l = length (written_words l.rest)

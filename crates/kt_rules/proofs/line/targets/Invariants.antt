@@ -1,8 +1,11 @@
-use Rattle.std.proofs.Common.{◌≡◌, [], map}
+use Rattle.std.proofs.Common.{◌≡◌, [], length, map}
 use Rattle.std.specs.Prelude.{fold}
 use Rattle.kt_rules.specs.Names.{name_of, with_name, written_words}
 use Rattle.kt_rules.proofs.line.targets.Given as goal
 
 abbrev pub invariant-loop-word : goal.invariant-loop-word
 invariant-loop-word l =
-    fold with_name (map (λ name. name.items) l.names.keys) (map name_of l.word-iterator) ≡ fold with_name [] (map name_of (written_words l.text))
+    fold with_name (map (λ name. name.items) l.names.keys) (map name_of (written_words l.rest)) ≡ fold with_name [] (map name_of (written_words l.text))
+
+abbrev pub decreases-loop-word : goal.decreases-loop-word
+decreases-loop-word l = length (written_words l.rest)

@@ -1,4 +1,3 @@
-use Rattle.std.proofs.Common.{sym, ◌∙◌}
 use Rattle.kt_syntax.proofs.HeadLemmas.{recipe_none, recipe_some}
 use Rattle.kt_syntax.proofs.rule_line.first_recipe.Goals as goal
 

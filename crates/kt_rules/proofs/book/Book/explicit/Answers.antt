@@ -7,4 +7,4 @@ returns c =
     c.new.ensures
     ∙ explicit_by_spots c.self.inside.slots.items c.self.inside.targets c.self.inside.recipes c.self.inside.phony c.self.inside.suffixes c.self.invariant
     c.args.self.now c.self.view_is c.args.name.now
-    c.skips_bare.result c.as_slice-slots.result.now c.spots-spots.result.now c.skips_bare.ensures c.as_slice-slots.ensures.value c.spots-spots.ensures
+    c.skips_bare.result c.as_slice-slots.result.now c.noted-spots.result.now c.skips_bare.ensures c.as_slice-slots.ensures.value c.noted-spots.ensures

@@ -8,4 +8,4 @@ returns-in-Some c =
     c.differ_in_colons.ensures
     ∙ colons_by_first c.self.inside.slots.items c.self.inside.targets c.self.inside.recipes c.self.inside.phony c.self.inside.suffixes c.self.invariant
     c.args.self.now c.self.view_is c.args.entry.now c.args.name.now (Some (rule_told c.in-Some.rule))
-    (c.in-Some.ensures ∙ ap (λ slots. first_found slots c.spots.result.now) c.as_slice.ensures.value ∙ ap (first_found c.self.inside.slots.items) c.spots.ensures)
+    (c.in-Some.ensures ∙ ap (λ slots. first_found slots c.noted.result.now) c.as_slice.ensures.value ∙ ap (first_found c.self.inside.slots.items) c.noted.ensures)

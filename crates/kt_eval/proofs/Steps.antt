@@ -17,7 +17,7 @@ use Rattle.kt_eval.specs.Files.{Store}
 use Rattle.kt_eval.specs.State.{World}
 use Rattle.kt_eval.specs.Step.{Outcome, Trail, told, asked_for, one_of, trail, GoesOn, world_of}
 use Rattle.kt_eval.specs.Calls.{Asked, Naming}
-use Rattle.kt_eval.specs.Expansion.{value_of, each_argument, accepted, apply_or, apply_and, each_word, called, call_by_name, value_named, referred, each_term, expanded}
+use Rattle.kt_eval.specs.Expansion.{value_of, each_argument, accepted, apply_or, apply_and, each_word, called, call_by_name, value_named, referred, body_of, each_term, expanded, term_of}
 use Rattle.kt_eval.specs.Assignments.{assign, assign_named, assign_line, define}
 use Rattle.kt_eval.specs.Conditionals.{is_set, holds, text_holds}
 use Rattle.kt_eval.specs.Including.{each_include, include_line}
@@ -25,7 +25,10 @@ use Rattle.kt_eval.specs.Rules.{enter_rule, close_rule, open_rule, rule_of_parts
 use Rattle.kt_eval.specs.Reading.{Sheet, branch_holds, read_bare_tab, read_define, read_kind, read_items, read_end, read_sheet, read_without_nul, read_text, read_file, read_included, read_first}
 use Rattle.kt_eval.specs.Levels.{evaluator}
 use Rattle.kt_eval.specs.Growing.{Grows}
-use Rattle.kt_eval.proofs.GrowingLemmas.{front_more, one_more_level, read_bare_tab_related, read_define_related, read_kind_related, value_of_related, each_argument_related, accepted_related, apply_or_related, apply_and_related, each_word_related, called_related, call_by_name_related, value_named_related, referred_related, each_term_related, expanded_related, assign_related, assign_named_related, assign_line_related, define_related, holds_related, text_holds_related, each_include_related, include_line_related, rule_of_parts_related, rule_line_related, read_sheet_related, read_text_related, read_without_nul_related, read_file_related, read_included_related, read_items_related, branch_holds_related, read_first_related, is_set_grows, close_rule_grows, open_rule_grows, read_end_grows, enter_rule_grows}
+use Rattle.kt_eval.proofs.LevelLemmas.{evaluator_reads}
+use Rattle.kt_eval.proofs.LastLemmas.{last_behind}
+use Rattle.kt_eval.proofs.GrowingLemmas.{front_more, value_of_related, each_argument_related, accepted_related, apply_or_related, apply_and_related, each_word_related, called_related, call_by_name_related, value_named_related, referred_related, each_term_related, expanded_related, assign_related, assign_named_related, assign_line_related, define_related}
+use Rattle.kt_eval.proofs.GrowingReads.{read_items_related, branch_holds_related, read_first_related, one_more_level, read_bare_tab_related, read_define_related, read_kind_related, holds_related, text_holds_related, each_include_related, include_line_related, rule_of_parts_related, rule_line_related, read_sheet_related, read_text_related, read_without_nul_related, read_file_related, read_included_related, is_set_grows, close_rule_grows, open_rule_grows, read_end_grows, enter_rule_grows}
 
 on_longer : (of : Trail) (v w : World) → Grows v w → length (trail of v) ≤ length (trail of w)
 on_longer told v w g = g.0.0
@@ -411,3 +414,118 @@ module _ (reads : Bool) (store : Store) (levels : ℕ) where
 
   pub eval_same : (of : Trail) (text : Text) (w : World) (count : ℕ) → count ≤ length (trail of w) → take count (trail of (world_of ((evaluator reads store levels).eval text w))) ≡ take count (trail of w)
   eval_same of text w count le = (eval_front text w).1 of count le
+
+-- the two lemmas of a step under one name
+pub ruleset assign_goes = (assign_longer, assign_same)
+
+pub ruleset assign_named_goes = (assign_named_longer, assign_named_same)
+
+pub ruleset assign_line_goes = (assign_line_longer, assign_line_same)
+
+pub ruleset is_set_goes = (is_set_longer, is_set_same)
+
+pub ruleset expanded_goes = (expanded_longer, expanded_same)
+
+pub ruleset text_holds_goes = (text_holds_longer, text_holds_same)
+
+pub ruleset holds_goes = (holds_longer, holds_same)
+
+pub ruleset each_term_goes = (each_term_longer, each_term_same)
+
+pub ruleset referred_goes = (referred_longer, referred_same)
+
+pub ruleset value_named_goes = (value_named_longer, value_named_same)
+
+pub ruleset value_of_goes = (value_of_longer, value_of_same)
+
+pub ruleset accepted_goes = (accepted_longer, accepted_same)
+
+pub ruleset each_argument_goes = (each_argument_longer, each_argument_same)
+
+pub ruleset expand_goes = (expand_longer, expand_same)
+
+pub ruleset apply_or_goes = (apply_or_longer, apply_or_same)
+
+pub ruleset apply_and_goes = (apply_and_longer, apply_and_same)
+
+pub ruleset each_word_goes = (each_word_longer, each_word_same)
+
+pub ruleset call_by_name_goes = (call_by_name_longer, call_by_name_same)
+
+pub ruleset enter_rule_goes = (enter_rule_longer, enter_rule_same)
+
+pub ruleset open_rule_goes = (open_rule_longer, open_rule_same)
+
+pub ruleset each_include_goes = (each_include_longer, each_include_same)
+
+pub ruleset read_included_goes = (read_included_longer, read_included_same)
+
+pub ruleset read_text_goes = (read_text_longer, read_text_same)
+
+pub ruleset read_first_goes = (read_first_longer, read_first_same)
+
+pub ruleset read_end_goes = (read_end_longer, read_end_same)
+
+pub ruleset read_items_goes = (read_items_longer, read_items_same)
+
+pub ruleset branch_holds_goes = (branch_holds_longer, branch_holds_same)
+
+pub ruleset read_kind_goes = (read_kind_longer, read_kind_same)
+
+pub ruleset read_bare_tab_goes = (read_bare_tab_longer, read_bare_tab_same)
+
+pub ruleset include_line_goes = (include_line_longer, include_line_same)
+
+pub ruleset read_define_goes = (read_define_longer, read_define_same)
+
+pub ruleset define_goes = (define_longer, define_same)
+
+pub ruleset called_goes = (called_longer, called_same)
+
+pub ruleset eval_goes = (eval_longer, eval_same)
+
+pub ruleset asked_goes = (asked_longer, asked_same)
+
+pub ruleset read_file_goes = (read_file_longer, read_file_same)
+
+pub ruleset read_sheet_goes = (read_sheet_longer, read_sheet_same)
+
+pub ruleset read_without_nul_goes = (read_without_nul_longer, read_without_nul_same)
+
+pub ruleset close_rule_goes = (close_rule_longer, close_rule_same)
+
+pub ruleset rule_line_goes = (rule_line_longer, rule_line_same)
+
+pub ruleset rule_of_parts_goes = (rule_of_parts_longer, rule_of_parts_same)
+
+-- those of the steps of one function
+pub ruleset value_named_steps = (value_named_goes, accepted_goes)
+
+pub ruleset apply_foreach_steps = (expand_goes, each_word_goes)
+
+pub ruleset call_by_name_steps = (call_by_name_goes, called_goes)
+
+pub ruleset call_steps = (called_goes, value_of_goes)
+
+pub ruleset apply_eval_steps = (eval_goes, evaluator_reads)
+
+pub ruleset read_bytes_steps = (asked_goes, last_behind)
+
+pub ruleset read_included_steps = (read_included_goes, read_file_goes)
+
+pub ruleset read_text_steps = (read_sheet_goes, read_without_nul_goes)
+
+pub ruleset read_page_steps = (close_rule_goes, read_end_goes)
+
+pub ruleset read_kind_steps = (assign_line_goes, rule_line_goes)
+
+pub ruleset read_rule_steps = (rule_of_parts_goes, open_rule_goes)
+
+-- the definitions that a function opens, under one name
+unfoldable pub each_term_open : Unit {0}
+unfolding each_term expanded term_of
+each_term_open = tt
+
+unfoldable pub referred_open : Unit {0}
+unfolding referred body_of
+referred_open = tt

@@ -1,0 +1,56 @@
+//! What was noted at names.
+ghost use Rattle.std.specs.Prelude.{◌≡◌, ◌++◌, ◌∷◌, [], OnErr, OnOk, bytes_eq, if◌then◌else◌};
+ghost use Rattle.kt_text.specs.Words.{Text};
+ghost use Rattle.kt_rules.specs.Indexes.{noted_at};
+
+use indexmap::IndexMap;
+use std::alloc::{AllocError, Global};
+
+/// What was noted at each name, in the order in which it was noted.
+#[derive(Drop)]
+pub struct Index<T: Copy> {
+    alloc: Global,
+    lists: IndexMap<Vec<u8>, Vec<T>>,
+}
+
+impl<T: Copy> Index<T> {
+    /// Nothing is noted at any name.
+    pub fn new(alloc: Global) -> Index<T>
+        ensures { (name : Text) → noted_at result name ≡ [] }
+    {
+        Index {
+            alloc,
+            lists: IndexMap::new(alloc),
+        }
+    }
+
+    /// What was noted at a name.
+    pub fn noted(&self, name: &[u8]) -> &[T]
+        ensures { result.now ≡ noted_at self.now name.now }
+    {
+        match self.lists.get(name) {
+            Some(noted) => noted.as_slice(),
+            None => &[],
+        }
+    }
+
+    /// Notes one thing more at a name. An `Err` is out of memory, and leaves the index as it was.
+    pub fn note(&mut self, name: &[u8], item: T) -> Result<(), AllocError>
+        ensures noted { OnOk result ((other : Text) → noted_at self.new other ≡ noted_at self.old other
+            ++ (if bytes_eq other name.now then item ∷ [] else [])) }
+        ensures refused { OnErr result ((other : Text) → noted_at self.new other ≡ noted_at self.old other) }
+    {
+        match self.lists.get_mut(name) {
+            Some(noted) => {
+                noted.push(item)?;
+            }
+            None => {
+                let key = Vec::from_slice(self.alloc, name)?;
+                let mut first = Vec::with_capacity(self.alloc, 1)?;
+                first.push(item)?;
+                self.lists.insert(key, first)?;
+            }
+        }
+        Ok(())
+    }
+}
