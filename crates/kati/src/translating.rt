@@ -30,8 +30,8 @@ use std::mem;
 
 /// Translates the makefile that the arguments name, or else the first of `makefile` and `Makefile` that is there.
 ///
-/// Its rules, known names and graph are never given back: a run translates once and ends, and would spend much of its
-/// time on giving back a million texts one by one.
+/// Its rules, known names and graph are given back only where a check is asked for, which wants their memory: else a run
+/// translates once and ends, and would spend much of its time on giving back a million texts one by one.
 pub fn translate<F: Files>(alloc: Global, args: &Args, files: &mut F) -> Result<Outcome, RunFault>
     ensures means { IfSome (F.known files.old)
         (λ store. IfOk result (λ outcome. Translates args.now store outcome (F.names files.old) (F.names files.new))) }
@@ -129,7 +129,7 @@ fn planned_if_read(
     match read {
         Ok(makefile) => {
             let planned = planned_read(alloc, args, list, &makefile, messages);
-            mem::forget(makefile);
+            leave(makefile, args);
             planned
         }
         Err(stop) => Err(stop),
@@ -150,7 +150,7 @@ fn planned_read(
     ensures writable { IfOk result IsWritable }
 {
     match chosen_goals(alloc, args.goals.as_slice(), args.limit, makefile, messages) {
-        Ok(goals) => planned_goals(alloc, args.limit, list, makefile, goals, messages),
+        Ok(goals) => planned_goals(alloc, args, list, makefile, goals, messages),
         Err(stop) => Err(stop),
     }
 }
@@ -158,43 +158,51 @@ fn planned_read(
 // The plan of these goals.
 fn planned_goals(
     alloc: Global,
-    limit: u64,
+    args: &Args,
     list: &[u8],
     makefile: &Makefile,
     goals: Vec<Name>,
     messages: &mut Vec<Sequence<u8>>,
 ) -> Result<Plan, Stop>
     ensures means { (asked : List Text)
-        → ComesTo result (λ r. MeansGoals limit (read_of makefile.now) (known_names makefile.now.book list.now)
-        messages.old.items asked goals.items (record { messages = messages.new.items; result = r; asked = asked })) }
+        → ComesTo result (λ r. MeansGoals args.now.limit (read_of makefile.now)
+        (known_names makefile.now.book list.now) messages.old.items asked goals.items (record { messages = messages.new.items; result = r; asked = asked })) }
     ensures writable { IfOk result IsWritable }
 {
     let known = Known::of(alloc, &makefile.book, list)?;
-    let planned = planned_known(alloc, limit, &known, makefile, goals, messages);
-    mem::forget(known);
+    let planned = planned_known(alloc, args, &known, makefile, goals, messages);
+    leave(known, args);
     planned
 }
 
 // The plan of these goals, where these names are known.
 fn planned_known(
     alloc: Global,
-    limit: u64,
+    args: &Args,
     known: &Known,
     makefile: &Makefile,
     goals: Vec<Name>,
     messages: &mut Vec<Sequence<u8>>,
 ) -> Result<Plan, Stop>
-    ensures means { (asked : List Text) → ComesTo result (λ r. MeansGoals limit (read_of makefile.now) known.now
-        messages.old.items asked goals.items (record { messages = messages.new.items; result = r; asked = asked })) }
+    ensures means { (asked : List Text) → ComesTo result (λ r. MeansGoals args.now.limit (read_of makefile.now)
+        known.now messages.old.items asked goals.items (record { messages = messages.new.items; result = r; asked = asked })) }
     ensures writable { IfOk result IsWritable }
 {
     match graph(alloc, &makefile.book, known, goals.as_slice()) {
         Ok(graph) => {
-            let planned = plan(alloc, makefile, limit, &graph, goals, messages);
-            mem::forget(graph);
+            let planned = plan(alloc, makefile, args.limit, &graph, goals, messages);
+            leave(graph, args);
             planned
         }
         Err(fault) => Err(stop_of(fault)),
+    }
+}
+
+// Leaves a value to the end of the process, or gives it back, where a check will want its memory.
+fn leave<T: Drop>(value: T, args: &Args) {
+    match &args.check {
+        None => mem::forget(value),
+        Some(_name) => drop(value),
     }
 }
 

@@ -3,7 +3,7 @@ use Rattle.kati.proofs.MeaningLemmas.{plan_means}
 use Rattle.kati.proofs.translating.planned_known.Goals as goal
 
 pub returns-in-Ok-clause-means : goal.returns-in-Ok-clause-means
-returns-in-Ok-clause-means c = λ asked. plan_means c.args.limit _ _ _ asked _ _ _ _ (search rules) (c.plan-planned.ensures.means asked)
+returns-in-Ok-clause-means c = λ asked. plan_means c.args.args.now.limit _ _ _ asked _ _ _ _ (search rules) (c.plan-planned.ensures.means asked)
 
 pub returns-in-Ok-clause-writable : goal.returns-in-Ok-clause-writable
 returns-in-Ok-clause-writable c = c.plan-planned.ensures.writable c.args.known.now (search rules)
