@@ -30,8 +30,8 @@ use std::mem;
 
 /// Translates the makefile that the arguments name, or else the first of `makefile` and `Makefile` that is there.
 ///
-/// Its rules, known names and graph are given back only where a check is asked for, which wants their memory: else a run
-/// translates once and ends, and would spend much of its time on giving back a million texts one by one.
+/// Its rules, known names and graph are given back only where a check is asked for, which wants their memory: else a
+/// run translates once and ends, and would spend much of its time on giving back a million texts one by one.
 pub fn translate<F: Files>(alloc: Global, args: &Args, files: &mut F) -> Result<Outcome, RunFault>
     ensures means { IfSome (F.known files.old)
         (λ store. IfOk result (λ outcome. Translates args.now store outcome (F.names files.old) (F.names files.new))) }
@@ -166,7 +166,8 @@ fn planned_goals(
 ) -> Result<Plan, Stop>
     ensures means { (asked : List Text)
         → ComesTo result (λ r. MeansGoals args.now.limit (read_of makefile.now)
-        (known_names makefile.now.book list.now) messages.old.items asked goals.items (record { messages = messages.new.items; result = r; asked = asked })) }
+        (known_names makefile.now.book list.now) messages.old.items asked goals.items
+        (record { messages = messages.new.items; result = r; asked = asked })) }
     ensures writable { IfOk result IsWritable }
 {
     let known = Known::of(alloc, &makefile.book, list)?;
@@ -185,7 +186,8 @@ fn planned_known(
     messages: &mut Vec<Sequence<u8>>,
 ) -> Result<Plan, Stop>
     ensures means { (asked : List Text) → ComesTo result (λ r. MeansGoals args.now.limit (read_of makefile.now)
-        known.now messages.old.items asked goals.items (record { messages = messages.new.items; result = r; asked = asked })) }
+        known.now messages.old.items asked goals.items
+        (record { messages = messages.new.items; result = r; asked = asked })) }
     ensures writable { IfOk result IsWritable }
 {
     match graph(alloc, &makefile.book, known, goals.as_slice()) {

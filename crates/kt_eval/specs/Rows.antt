@@ -36,29 +36,39 @@ immediate name value = (name, set_by_makefile Immediate value)
 -- references
 pub record RowsOfReferences : Type 0 where
   pub undefined : comes_to [] 9 (codes "[$(A)]$$") ≡ with_text [] (codes "[]$")
-  pub nested : comes_to (deferred (codes "A") (codes "B") ∷ deferred (codes "B") (codes "x") ∷ []) 9 (codes "$($(A))$A") ≡ with_text [] (codes "xB")
-  pub substituted : comes_to (deferred (codes "S") (codes "a.c b") ∷ []) 9 (codes "$(S:.c=.o)") ≡ with_text [] (codes "a.o b")
-  pub immediate_kept : comes_to (immediate (codes "A") (codes "$(B)") ∷ []) 1 (codes "$(A)") ≡ with_text [] (codes "$(B)")
+  pub nested : comes_to (deferred (codes "A") (codes "B") ∷ deferred (codes "B") (codes "x") ∷ []) 9 (codes "$($(A))$A")
+      ≡ with_text [] (codes "xB")
+  pub substituted : comes_to (deferred (codes "S") (codes "a.c b") ∷ []) 9 (codes "$(S:.c=.o)")
+      ≡ with_text [] (codes "a.o b")
+  pub immediate_kept : comes_to (immediate (codes "A") (codes "$(B)") ∷ []) 1 (codes "$(A)")
+      ≡ with_text [] (codes "$(B)")
   pub unterminated : comes_to [] 9 (codes "x$(a") ≡ with_fault [] (fault_at None 7 (codes "unterminated reference"))
-  pub recursive : comes_to (deferred (codes "A") (codes "$(A)") ∷ []) 5 (codes "$(A)") ≡ with_fault [] (fault_at None 8 (codes "nesting too deep"))
-  pub empty_level : comes_to (deferred (codes "A") [] ∷ []) 0 (codes "$(A)") ≡ with_fault [] (fault_at None 8 (codes "nesting too deep"))
-  pub automatic_first : comes_to_at (deferred (codes "@") (codes "table") ∷ []) 9 (codes "$@ $(value @)") ≡ with_text [] (codes "t t")
+  pub recursive : comes_to (deferred (codes "A") (codes "$(A)") ∷ []) 5 (codes "$(A)")
+      ≡ with_fault [] (fault_at None 8 (codes "nesting too deep"))
+  pub empty_level : comes_to (deferred (codes "A") [] ∷ []) 0 (codes "$(A)")
+      ≡ with_fault [] (fault_at None 8 (codes "nesting too deep"))
+  pub automatic_first : comes_to_at (deferred (codes "@") (codes "table") ∷ []) 9 (codes "$@ $(value @)")
+      ≡ with_text [] (codes "t t")
   pub binding_first : comes_to_at [] 9 (codes "$(foreach @,a b,$@)$@") ≡ with_text [] (codes "a bt")
   pub dollar_level : comes_to [] 0 (codes "[$(A$$)]") ≡ with_fault [] (fault_at None 8 (codes "nesting too deep"))
 
 -- functions
 pub record RowsOfCalls : Type 0 where
   pub joined : comes_to [] 9 (codes "$(join a b,1 2 3)") ≡ with_text [] (codes "a1 b2 3")
-  pub blank_condition : comes_to (deferred (codes "s") (codes " ") ∷ []) 9 (codes "[$(if $(s),y,n)]") ≡ with_text [] (codes "[y]")
-  pub argument : comes_to (deferred (codes "f") (codes "[$(1):$(2)]") ∷ deferred (codes "g") (codes "$(call f,x)$(2)") ∷ []) 9 (codes "$(call g,a,b)") ≡ with_text [] (codes "[x:]b")
-  pub stopped : comes_to [] 9 (codes "$(info a)$(error no)") ≡ with_fault (codes "a" ∷ []) (fault_at None 19 (codes "no"))
+  pub blank_condition : comes_to (deferred (codes "s") (codes " ") ∷ []) 9 (codes "[$(if $(s),y,n)]")
+      ≡ with_text [] (codes "[y]")
+  pub argument : comes_to (deferred (codes "f") (codes "[$(1):$(2)]") ∷ deferred (codes "g") (codes "$(call f,x)$(2)") ∷ []) 9 (codes "$(call g,a,b)")
+      ≡ with_text [] (codes "[x:]b")
+  pub stopped : comes_to [] 9 (codes "$(info a)$(error no)")
+      ≡ with_fault (codes "a" ∷ []) (fault_at None 19 (codes "no"))
   pub refused : comes_to [] 9 (codes "$(shell ls)") ≡ with_fault [] (fault_at None 16 (codes "refused function shell"))
   pub bad : comes_to [] 9 (codes "$(word 0,a)") ≡ with_fault [] (fault_at None 18 (codes "bad argument of word"))
   pub few : comes_to [] 0 (codes "$(subst a)") ≡ with_fault [] (fault_at None 18 (codes "bad argument of subst"))
   pub in_recipe : comes_to [] 0 (codes "$(eval A = 1)") ≡ with_fault [] (fault_at None 32 (codes "eval in a recipe"))
   pub not_called : comes_to [] 9 (codes "$( info x)") ≡ with_text [] []
   pub cut_by_bytes : comes_to [] 9 (codes "$(subst a$,b,a)") ≡ with_text [] (codes "b")
-  pub other_marks : comes_to [] 9 (codes "[$(subst a,${b,c},a)]") ≡ with_fault [] (fault_at None 7 (codes "unterminated reference"))
+  pub other_marks : comes_to [] 9 (codes "[$(subst a,${b,c},a)]")
+      ≡ with_fault [] (fault_at None 7 (codes "unterminated reference"))
 
 -- assignments and conditions
 pub record RowsOfAssignments : Type 0 where
@@ -66,7 +76,8 @@ pub record RowsOfAssignments : Type 0 where
   pub appended_at_once : assigning operator.Append (Some (set_by_makefile Immediate (codes "x"))) ≡ expands (codes "x ")
   pub appended_new : assigning operator.Append None ≡ defers []
   pub kept : assigning operator.Conditional (Some (set_by_makefile Immediate [])) ≡ keeps
-  pub command_line : assigning operator.Deferred (Some (record { flavour = Deferred; origin = CommandLine; value = codes "1" })) ≡ keeps
+  pub command_line : assigning operator.Deferred (Some (record { flavour = Deferred; origin = CommandLine; value = codes "1" }))
+      ≡ keeps
   pub parentheses : compared_of (codes "( a , (b,c) ) x") ≡ Some (record { first = codes "a"; second = codes "(b,c)" })
   pub quotes : compared_of (codes "\" a\"'a'") ≡ Some (record { first = codes " a"; second = codes "a" })
   pub unclosed : compared_of (codes "($(a,b)") ≡ None
@@ -89,16 +100,29 @@ at_m number = Some (record { file = codes "m"; line = number })
 -- makefiles
 pub record RowsOfReading : Type 0 where
   pub no_makefile : heard [] 9 ≡ ([], ((codes "m" ∷ []), Some (fault_at None 3 (codes "no makefile"))))
-  pub stray_end : heard (makefile (codes "endif")) 9 ≡ ([], ((codes "m" ∷ []), Some (fault_at (at_m 1) 11 (codes "stray endif"))))
-  pub appended : heard (makefile (codes "A = x\nA += y\nB := $(info $(A))")) 9 ≡ ((codes "x y" ∷ []), ((codes "m" ∷ []), None))
-  pub condition : heard (makefile (codes "ifeq (a,b)\nelse ifdef A\nelse\nB := $(info c)\nendif")) 9 ≡ ((codes "c" ∷ []), ((codes "m" ∷ []), None))
-  pub missing_end : heard (makefile (codes "B := $(info c)\n\nifdef A")) 9 ≡ ((codes "c" ∷ []), ((codes "m" ∷ []), Some (fault_at (at_m 3) 12 (codes "missing endif"))))
-  pub defined : heard (makefile (codes "define A\nx\nendef\nB := $(info $(A))")) 9 ≡ ((codes "x" ∷ []), ((codes "m" ∷ []), None))
-  pub deep : heard (makefile (codes "A =\nB := $(A)")) 0 ≡ ([], ((codes "m" ∷ []), Some (fault_at (at_m 2) 8 (codes "nesting too deep"))))
-  pub absent : heard (makefile (codes "include n")) 9 ≡ ([], ((codes "m" ∷ codes "n" ∷ []), Some (fault_at (at_m 1) 4 (codes "no file n"))))
-  pub includes_itself : heard (makefile (codes "include m")) 2 ≡ ([], ((codes "m" ∷ codes "m" ∷ codes "m" ∷ []), Some (fault_at (at_m 1) 8 (codes "nesting too deep"))))
-  pub included_twice : heard ((codes "m", codes "include n n") ∷ (codes "n", codes "B := $(info $(A))\nA := x") ∷ []) 9 ≡ ((codes "" ∷ codes "x" ∷ []), ((codes "m" ∷ codes "n" ∷ codes "n" ∷ []), None))
-  pub bare_tab : heard (makefile (codes "\tx")) 9 ≡ ([], ((codes "m" ∷ []), Some (fault_at (at_m 1) 6 (codes "recipe before a target"))))
-  pub refused_form : heard (makefile (codes "A != x")) 9 ≡ ([], ((codes "m" ∷ []), Some (fault_at (at_m 1) 17 (codes "refused form !="))))
-  pub pattern : heard (makefile (codes "include *")) 9 ≡ ([], ((codes "m" ∷ []), Some (fault_at (at_m 1) 20 (codes "refused name *"))))
-  pub end_in_eval : heard (makefile (codes "\nB := $(eval endif)")) 2 ≡ ([], ((codes "m" ∷ []), Some (fault_at (at_m 2) 11 (codes "stray endif"))))
+  pub stray_end : heard (makefile (codes "endif")) 9
+      ≡ ([], ((codes "m" ∷ []), Some (fault_at (at_m 1) 11 (codes "stray endif"))))
+  pub appended : heard (makefile (codes "A = x\nA += y\nB := $(info $(A))")) 9
+      ≡ ((codes "x y" ∷ []), ((codes "m" ∷ []), None))
+  pub condition : heard (makefile (codes "ifeq (a,b)\nelse ifdef A\nelse\nB := $(info c)\nendif")) 9
+      ≡ ((codes "c" ∷ []), ((codes "m" ∷ []), None))
+  pub missing_end : heard (makefile (codes "B := $(info c)\n\nifdef A")) 9
+      ≡ ((codes "c" ∷ []), ((codes "m" ∷ []), Some (fault_at (at_m 3) 12 (codes "missing endif"))))
+  pub defined : heard (makefile (codes "define A\nx\nendef\nB := $(info $(A))")) 9
+      ≡ ((codes "x" ∷ []), ((codes "m" ∷ []), None))
+  pub deep : heard (makefile (codes "A =\nB := $(A)")) 0
+      ≡ ([], ((codes "m" ∷ []), Some (fault_at (at_m 2) 8 (codes "nesting too deep"))))
+  pub absent : heard (makefile (codes "include n")) 9
+      ≡ ([], ((codes "m" ∷ codes "n" ∷ []), Some (fault_at (at_m 1) 4 (codes "no file n"))))
+  pub includes_itself : heard (makefile (codes "include m")) 2
+      ≡ ([], ((codes "m" ∷ codes "m" ∷ codes "m" ∷ []), Some (fault_at (at_m 1) 8 (codes "nesting too deep"))))
+  pub included_twice : heard ((codes "m", codes "include n n") ∷ (codes "n", codes "B := $(info $(A))\nA := x") ∷ []) 9
+      ≡ ((codes "" ∷ codes "x" ∷ []), ((codes "m" ∷ codes "n" ∷ codes "n" ∷ []), None))
+  pub bare_tab : heard (makefile (codes "\tx")) 9
+      ≡ ([], ((codes "m" ∷ []), Some (fault_at (at_m 1) 6 (codes "recipe before a target"))))
+  pub refused_form : heard (makefile (codes "A != x")) 9
+      ≡ ([], ((codes "m" ∷ []), Some (fault_at (at_m 1) 17 (codes "refused form !="))))
+  pub pattern : heard (makefile (codes "include *")) 9
+      ≡ ([], ((codes "m" ∷ []), Some (fault_at (at_m 1) 20 (codes "refused name *"))))
+  pub end_in_eval : heard (makefile (codes "\nB := $(eval endif)")) 2
+      ≡ ([], ((codes "m" ∷ []), Some (fault_at (at_m 2) 11 (codes "stray endif"))))

@@ -65,7 +65,7 @@ impl<'a, M: Scope, F: Files> Evaluation<'a, M, F> {
     }
 
     #[cycle(evaluate)]
-    #[tactic(auto, unfolding(crate::specs::Assignments::assign_named))]
+    #[tactic(auto, using(crate::proofs::Steps::assign_goes), unfolding(crate::specs::Assignments::assign_named))]
     pub(crate) fn assign_named(
         &mut self,
         below: u64,
@@ -86,7 +86,7 @@ impl<'a, M: Scope, F: Files> Evaluation<'a, M, F> {
 
     // `!=` is refused before the name is expanded.
     #[cycle(evaluate)]
-    #[tactic(auto, unfolding(crate::specs::Assignments::assign_line))]
+    #[tactic(auto, using(crate::proofs::Steps::assign_named_goes), unfolding(crate::specs::Assignments::assign_line))]
     pub(crate) fn assign_line(
         &mut self,
         below: u64,
@@ -107,7 +107,7 @@ impl<'a, M: Scope, F: Files> Evaluation<'a, M, F> {
 
     // What follows the operator of a define is ignored.
     #[cycle(evaluate)]
-    #[tactic(auto, unfolding(crate::specs::Assignments::define))]
+    #[tactic(auto, using(crate::proofs::Steps::assign_line_goes), unfolding(crate::specs::Assignments::define))]
     pub(crate) fn define(
         &mut self,
         below: u64,

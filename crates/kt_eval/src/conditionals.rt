@@ -46,7 +46,7 @@ impl<'a, M: Scope, F: Files> Evaluation<'a, M, F> {
     }
 
     #[cycle(evaluate)]
-    #[tactic(auto, unfolding(crate::specs::Conditionals::is_defined))]
+    #[tactic(auto, using(crate::proofs::Steps::is_set_goes), unfolding(crate::specs::Conditionals::is_defined))]
     pub(crate) fn is_defined(&mut self, below: u64, text: &[u8]) -> Result<bool, Stop>
         requires { M.writable ≡ true }
         ensures { Does (λ b. b) M.writable below (λ e. is_defined e text.now) result self.old self.new }
@@ -56,7 +56,7 @@ impl<'a, M: Scope, F: Files> Evaluation<'a, M, F> {
     }
 
     #[cycle(evaluate)]
-    #[tactic(auto, unfolding(crate::specs::Conditionals::are_equal))]
+    #[tactic(auto, using(crate::proofs::Steps::expanded_goes), unfolding(crate::specs::Conditionals::are_equal))]
     pub(crate) fn are_equal(
         &mut self,
         below: u64,
@@ -122,7 +122,7 @@ impl<'a, M: Scope, F: Files> Evaluation<'a, M, F> {
 
     // An `else` without a condition is always taken.
     #[cycle(evaluate)]
-    #[tactic(auto, unfolding(crate::specs::Conditionals::else_holds))]
+    #[tactic(auto, using(crate::proofs::Steps::text_holds_goes), unfolding(crate::specs::Conditionals::else_holds))]
     pub(crate) fn else_holds(
         &mut self,
         below: u64,
@@ -140,7 +140,7 @@ impl<'a, M: Scope, F: Files> Evaluation<'a, M, F> {
     }
 
     #[cycle(evaluate)]
-    #[tactic(auto, unfolding(crate::specs::Conditionals::line_holds))]
+    #[tactic(auto, using(crate::proofs::Steps::holds_goes), unfolding(crate::specs::Conditionals::line_holds))]
     pub(crate) fn line_holds(
         &mut self,
         below: u64,

@@ -38,7 +38,7 @@ fn has_dollar(text: &[u8]) -> bool
 impl<'a, M: Scope, F: Files> Evaluation<'a, M, F> {
     // Expands a text one level deeper than what asks for it.
     #[cycle(evaluate)]
-    #[tactic(auto, unfolding(crate::proofs::LevelLemmas::opened))]
+    #[tactic(auto, using(crate::proofs::LevelLemmas::evaluator_above), unfolding(crate::proofs::LevelLemmas::opened))]
     pub(crate) fn expand(&mut self, levels: u64, text: &[u8]) -> Result<Vec<u8>, Stop>
         ensures { Does (λ v. v.items) M.writable levels (λ e. e.expand text.now) result self.old self.new }
     {
@@ -50,7 +50,7 @@ impl<'a, M: Scope, F: Files> Evaluation<'a, M, F> {
 
     // Expands a text at the level where it stands.
     #[cycle(evaluate)]
-    #[tactic(auto, unfolding(crate::proofs::Steps::each_term_open))]
+    #[tactic(auto, using(crate::proofs::Steps::each_term_goes), unfolding(crate::proofs::Steps::each_term_open))]
     pub(crate) fn expand_here(&mut self, below: u64, text: &[u8]) -> Result<Vec<u8>, Stop>
         ensures { Does (λ v. v.items) M.writable below (λ e. expanded e text.now) result self.old self.new }
     {
@@ -68,7 +68,7 @@ impl<'a, M: Scope, F: Files> Evaluation<'a, M, F> {
     }
 
     #[cycle(evaluate)]
-    #[tactic(auto, unfolding(crate::specs::Expansion::term_of))]
+    #[tactic(auto, using(crate::proofs::Steps::referred_goes), unfolding(crate::specs::Expansion::term_of))]
     pub(crate) fn expand_term(
         &mut self,
         below: u64,
@@ -90,7 +90,7 @@ impl<'a, M: Scope, F: Files> Evaluation<'a, M, F> {
     }
 
     #[cycle(evaluate)]
-    #[tactic(auto, unfolding(crate::proofs::Steps::referred_open))]
+    #[tactic(auto, using(crate::proofs::Steps::value_named_goes), unfolding(crate::proofs::Steps::referred_open))]
     pub(crate) fn refer(&mut self, below: u64, asked: Asked<'_>) -> Result<Vec<u8>, Stop>
         ensures { Does (λ v. v.items) M.writable below
             (λ e. referred e (asked_told asked.entry)) result self.old self.new }
@@ -111,7 +111,7 @@ impl<'a, M: Scope, F: Files> Evaluation<'a, M, F> {
     }
 
     #[cycle(evaluate)]
-    #[tactic(auto, unfolding(crate::specs::Expansion::value_named))]
+    #[tactic(auto, using(crate::proofs::Steps::value_named_steps), unfolding(crate::specs::Expansion::value_named))]
     pub(crate) fn value_named(&mut self, below: u64, body: &[u8]) -> Result<Vec<u8>, Stop>
         ensures { Does (λ v. v.items) M.writable below
             (λ e. value_named e (naming_of body.now)) result self.old self.new }
@@ -127,7 +127,7 @@ impl<'a, M: Scope, F: Files> Evaluation<'a, M, F> {
     }
 
     #[cycle(evaluate)]
-    #[tactic(auto, unfolding(crate::specs::Expansion::value_of))]
+    #[tactic(auto, using(crate::proofs::Steps::value_of_goes), unfolding(crate::specs::Expansion::value_of))]
     pub(crate) fn value_of(&mut self, below: u64, name: &[u8]) -> Result<Vec<u8>, Stop>
         ensures { Does (λ v. v.items) M.writable below
             (λ e. value_of e (lookup name.now self.old.world)) result self.old self.new }
@@ -197,7 +197,7 @@ impl<'a, M: Scope, F: Files> Evaluation<'a, M, F> {
 
     // A function of texts; too few arguments are refused before one is expanded.
     #[cycle(evaluate)]
-    #[tactic(auto, unfolding(crate::specs::Expansion::apply_text))]
+    #[tactic(auto, using(crate::proofs::Steps::accepted_goes), unfolding(crate::specs::Expansion::apply_text))]
     pub(crate) fn apply_text(
         &mut self,
         below: u64,
@@ -217,7 +217,7 @@ impl<'a, M: Scope, F: Files> Evaluation<'a, M, F> {
 
     // Expands each argument in turn, behind what is given.
     #[cycle(evaluate)]
-    #[tactic(auto, unfolding(crate::specs::Expansion::each_argument))]
+    #[tactic(auto, using(crate::proofs::Steps::each_argument_goes), unfolding(crate::specs::Expansion::each_argument))]
     pub(crate) fn each_argument(
         &mut self,
         below: u64,
@@ -238,7 +238,7 @@ impl<'a, M: Scope, F: Files> Evaluation<'a, M, F> {
     }
 
     #[cycle(evaluate)]
-    #[tactic(auto, unfolding(crate::specs::Expansion::apply_if))]
+    #[tactic(auto, using(crate::proofs::Steps::expand_goes), unfolding(crate::specs::Expansion::apply_if))]
     pub(crate) fn apply_if(
         &mut self,
         below: u64,
@@ -260,7 +260,7 @@ impl<'a, M: Scope, F: Files> Evaluation<'a, M, F> {
     }
 
     #[cycle(evaluate)]
-    #[tactic(auto, unfolding(crate::specs::Expansion::apply_or))]
+    #[tactic(auto, using(crate::proofs::Steps::apply_or_goes), unfolding(crate::specs::Expansion::apply_or))]
     pub(crate) fn apply_or(&mut self, below: u64, texts: &[&[u8]]) -> Result<Vec<u8>, Stop>
         ensures { Does (λ v. v.items) M.writable below
             (λ e. apply_or e (map (λ a. a.now) texts.now)) result self.old self.new }
@@ -277,7 +277,7 @@ impl<'a, M: Scope, F: Files> Evaluation<'a, M, F> {
     }
 
     #[cycle(evaluate)]
-    #[tactic(auto, unfolding(crate::specs::Expansion::apply_and))]
+    #[tactic(auto, using(crate::proofs::Steps::apply_and_goes), unfolding(crate::specs::Expansion::apply_and))]
     pub(crate) fn apply_and(&mut self, below: u64, texts: &[&[u8]]) -> Result<Vec<u8>, Stop>
         ensures { Does (λ v. v.items) M.writable below
             (λ e. apply_and e (map (λ a. a.now) texts.now)) result self.old self.new }
@@ -294,7 +294,7 @@ impl<'a, M: Scope, F: Files> Evaluation<'a, M, F> {
     }
 
     #[cycle(evaluate)]
-    #[tactic(auto, unfolding(crate::specs::Expansion::apply_foreach))]
+    #[tactic(auto, using(crate::proofs::Steps::apply_foreach_steps), unfolding(crate::specs::Expansion::apply_foreach))]
     pub(crate) fn apply_foreach(
         &mut self,
         below: u64,
@@ -313,7 +313,7 @@ impl<'a, M: Scope, F: Files> Evaluation<'a, M, F> {
 
     // The body for each word in turn.
     #[cycle(evaluate)]
-    #[tactic(auto, unfolding(crate::specs::Expansion::each_word))]
+    #[tactic(auto, using(crate::proofs::Steps::each_word_goes), unfolding(crate::specs::Expansion::each_word))]
     pub(crate) fn each_word(
         &mut self,
         below: u64,
@@ -340,7 +340,7 @@ impl<'a, M: Scope, F: Files> Evaluation<'a, M, F> {
     }
 
     #[cycle(evaluate)]
-    #[tactic(auto, unfolding(crate::specs::Expansion::apply_call))]
+    #[tactic(auto, using(crate::proofs::Steps::call_by_name_goes), unfolding(crate::specs::Expansion::apply_call))]
     pub(crate) fn apply_call(&mut self, below: u64, texts: &[&[u8]]) -> Result<Vec<u8>, Stop>
         ensures { Does (λ v. v.items) M.writable below
             (λ e. apply_call e (map (λ a. a.now) texts.now)) result self.old self.new }
@@ -353,7 +353,7 @@ impl<'a, M: Scope, F: Files> Evaluation<'a, M, F> {
     }
 
     #[cycle(evaluate)]
-    #[tactic(auto, unfolding(crate::specs::Expansion::call_by_name))]
+    #[tactic(auto, using(crate::proofs::Steps::call_by_name_steps), unfolding(crate::specs::Expansion::call_by_name))]
     pub(crate) fn call_by_name(
         &mut self,
         below: u64,
@@ -374,7 +374,7 @@ impl<'a, M: Scope, F: Files> Evaluation<'a, M, F> {
 
     // The value of a macro with its name and arguments bound.
     #[cycle(evaluate)]
-    #[tactic(auto, unfolding(crate::specs::Expansion::called))]
+    #[tactic(auto, using(crate::proofs::Steps::call_steps), unfolding(crate::specs::Expansion::called))]
     pub(crate) fn call(
         &mut self,
         below: u64,
@@ -403,7 +403,7 @@ impl<'a, M: Scope, F: Files> Evaluation<'a, M, F> {
     }
 
     #[cycle(evaluate)]
-    #[tactic(auto, unfolding(crate::specs::Expansion::apply_eval))]
+    #[tactic(auto, using(crate::proofs::Steps::apply_eval_steps), unfolding(crate::specs::Expansion::apply_eval))]
     pub(crate) fn apply_eval(&mut self, below: u64, text: &[u8]) -> Result<Vec<u8>, Stop>
         ensures { Does (λ v. v.items) M.writable below (λ e. apply_eval e text.now) result self.old self.new }
     {
@@ -446,7 +446,7 @@ impl<'a, M: Scope, F: Files> Evaluation<'a, M, F> {
 
     // Reads the text of an `eval`.
     #[cycle(evaluate)]
-    #[tactic(auto, unfolding(crate::proofs::LevelLemmas::opened))]
+    #[tactic(auto, using(crate::proofs::LevelLemmas::evaluator_above), unfolding(crate::proofs::LevelLemmas::opened))]
     pub(crate) fn eval(&mut self, levels: u64, text: &[u8]) -> Result<(), Stop>
         requires { M.writable ≡ true }
         ensures { Does (λ u. u) M.writable levels (λ e. e.eval text.now) result self.old self.new }

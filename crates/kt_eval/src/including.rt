@@ -54,7 +54,7 @@ fn has_wildcard(name: &[u8]) -> bool
 
 impl<'a, M: Scope, F: Files> Evaluation<'a, M, F> {
     #[cycle(evaluate)]
-    #[tactic(auto, unfolding(crate::specs::Including::include_line))]
+    #[tactic(auto, using(crate::proofs::Steps::each_include_goes), unfolding(crate::specs::Including::include_line))]
     pub(crate) fn include_line(
         &mut self,
         below: u64,
@@ -69,7 +69,7 @@ impl<'a, M: Scope, F: Files> Evaluation<'a, M, F> {
     }
 
     #[cycle(evaluate)]
-    #[tactic(auto, unfolding(crate::specs::Including::each_include))]
+    #[tactic(auto, using(crate::proofs::Steps::each_include_goes), unfolding(crate::specs::Including::each_include))]
     pub(crate) fn each_include(
         &mut self,
         below: u64,
@@ -109,7 +109,7 @@ impl<'a, M: Scope, F: Files> Evaluation<'a, M, F> {
 
     // Reads a file one level deeper than what asks for it.
     #[cycle(evaluate)]
-    #[tactic(auto, unfolding(crate::proofs::LevelLemmas::opened))]
+    #[tactic(auto, using(crate::proofs::LevelLemmas::evaluator_above), unfolding(crate::proofs::LevelLemmas::opened))]
     pub(crate) fn include(&mut self, levels: u64, optional: bool, name: &str) -> Result<(), Stop>
         requires { M.writable ≡ true }
         ensures { Does (λ u. u) M.writable levels (λ e. e.include optional name.now) result self.old self.new }
@@ -121,7 +121,7 @@ impl<'a, M: Scope, F: Files> Evaluation<'a, M, F> {
     }
 
     #[cycle(evaluate)]
-    #[tactic(auto, unfolding(crate::specs::Reading::included))]
+    #[tactic(auto, using(crate::proofs::Steps::read_included_goes), unfolding(crate::specs::Reading::included))]
     pub(crate) fn included(&mut self, below: u64, optional: bool, name: &str) -> Result<(), Stop>
         requires { M.writable ≡ true }
         ensures { Does (λ u. u) M.writable below
@@ -133,6 +133,7 @@ impl<'a, M: Scope, F: Files> Evaluation<'a, M, F> {
 
     // The place is then that of the include again.
     #[cycle(evaluate)]
+    #[tactic(auto, using(crate::proofs::Steps::read_included_steps))]
     pub(crate) fn read_included(
         &mut self,
         below: u64,
@@ -161,7 +162,7 @@ impl<'a, M: Scope, F: Files> Evaluation<'a, M, F> {
     }
 
     #[cycle(evaluate)]
-    #[tactic(auto, unfolding(crate::specs::Reading::read_file))]
+    #[tactic(auto, using(crate::proofs::Steps::read_text_goes), unfolding(crate::specs::Reading::read_file))]
     pub(crate) fn read_file(&mut self, below: u64, name: &str, text: &[u8]) -> Result<(), Stop>
         requires { M.writable ≡ true }
         ensures { Does (λ u. u) M.writable below (λ e. read_file e name.now text.now) result self.old self.new }

@@ -81,7 +81,7 @@ impl<'a, M: Scope, F: Files> Evaluation<'a, M, F> {
     }
 
     #[cycle(evaluate)]
-    #[tactic(auto, unfolding(crate::specs::Reading::read_text))]
+    #[tactic(auto, using(crate::proofs::Steps::read_text_steps), unfolding(crate::specs::Reading::read_text))]
     pub(crate) fn read_text(&mut self, below: u64, source: &Source, text: &[u8]) -> Result<(), Stop>
         requires { M.writable ≡ true }
         ensures { Does (λ u. u) M.writable below (λ e. read_text e source.now text.now) result self.old self.new }
@@ -100,7 +100,7 @@ impl<'a, M: Scope, F: Files> Evaluation<'a, M, F> {
     }
 
     #[cycle(evaluate)]
-    #[tactic(auto, unfolding(crate::specs::Reading::read_sheet))]
+    #[tactic(auto, using(crate::proofs::Steps::read_page_steps), unfolding(crate::specs::Reading::read_sheet))]
     pub(crate) fn read_page(&mut self, below: u64, page: &Page<'_>) -> Result<(), Stop>
         requires { M.writable ≡ true }
         ensures { Does (λ u. u) M.writable below (λ e. read_sheet e page.now) result self.old self.new }
@@ -126,7 +126,7 @@ impl<'a, M: Scope, F: Files> Evaluation<'a, M, F> {
 
     // Reads the line of a place, or tests a conditional, and gives the place to go on from.
     #[cycle(evaluate)]
-    #[tactic(auto, unfolding(crate::specs::Reading::read_items))]
+    #[tactic(auto, using(crate::proofs::Steps::read_items_goes), unfolding(crate::specs::Reading::read_items))]
     pub(crate) fn read_step(
         &mut self,
         below: u64,
@@ -173,6 +173,7 @@ impl<'a, M: Scope, F: Files> Evaluation<'a, M, F> {
 
     // Finds the branch of a conditional that is read.
     #[cycle(evaluate)]
+    #[tactic(auto, using(crate::proofs::ReadingLemmas::branch_steps))]
     pub(crate) fn read_conditional(
         &mut self,
         below: u64,
@@ -206,7 +207,7 @@ impl<'a, M: Scope, F: Files> Evaluation<'a, M, F> {
     }
 
     #[cycle(evaluate)]
-    #[tactic(auto, unfolding(crate::specs::Reading::branch_holds))]
+    #[tactic(auto, using(crate::proofs::Steps::branch_holds_goes), unfolding(crate::specs::Reading::branch_holds))]
     pub(crate) fn branch_holds(
         &mut self,
         below: u64,
@@ -224,7 +225,7 @@ impl<'a, M: Scope, F: Files> Evaluation<'a, M, F> {
     }
 
     #[cycle(evaluate)]
-    #[tactic(auto, unfolding(crate::specs::Reading::read_line))]
+    #[tactic(auto, using(crate::proofs::Steps::read_kind_goes), unfolding(crate::specs::Reading::read_line))]
     pub(crate) fn read_line(&mut self, below: u64, line: RawLine<'_>) -> Result<(), Stop>
         requires { M.writable ≡ true }
         ensures { Does (λ u. u) M.writable below (λ e. read_line e (raw_told line.entry)) result self.old self.new }
@@ -256,6 +257,7 @@ impl<'a, M: Scope, F: Files> Evaluation<'a, M, F> {
 
     // A line that begins with a tab while no rule is open.
     #[cycle(evaluate)]
+    #[tactic(auto, using(crate::proofs::Steps::read_bare_tab_goes))]
     pub(crate) fn read_bare_tab(&mut self, below: u64, line: &[u8]) -> Result<(), Stop>
         requires { M.writable ≡ true }
         ensures { Does (λ u. u) M.writable below
@@ -282,6 +284,7 @@ impl<'a, M: Scope, F: Files> Evaluation<'a, M, F> {
     }
 
     #[cycle(evaluate)]
+    #[tactic(auto, using(crate::proofs::Steps::assign_line_goes))]
     pub(crate) fn read_assignment(
         &mut self,
         below: u64,
@@ -300,7 +303,7 @@ impl<'a, M: Scope, F: Files> Evaluation<'a, M, F> {
 
     // A line by its kind; an assignment, an include and a rule line close the rule that is open.
     #[cycle(evaluate)]
-    #[tactic(auto, unfolding(crate::specs::Reading::read_kind))]
+    #[tactic(auto, using(crate::proofs::Steps::read_kind_steps), unfolding(crate::specs::Reading::read_kind))]
     pub(crate) fn read_kind(
         &mut self,
         below: u64,
@@ -333,7 +336,7 @@ impl<'a, M: Scope, F: Files> Evaluation<'a, M, F> {
     }
 
     #[cycle(evaluate)]
-    #[tactic(auto, unfolding(crate::specs::Reading::read_include))]
+    #[tactic(auto, using(crate::proofs::Steps::include_line_goes), unfolding(crate::specs::Reading::read_include))]
     pub(crate) fn read_include(
         &mut self,
         below: u64,
@@ -350,6 +353,7 @@ impl<'a, M: Scope, F: Files> Evaluation<'a, M, F> {
 
     // The first line of a define, and its body.
     #[cycle(evaluate)]
+    #[tactic(auto, using(crate::proofs::Steps::read_define_goes))]
     pub(crate) fn read_define(&mut self, below: u64, line: &[u8], body: &[u8]) -> Result<(), Stop>
         requires { M.writable ≡ true }
         ensures { Does (λ u. u) M.writable below
@@ -360,7 +364,7 @@ impl<'a, M: Scope, F: Files> Evaluation<'a, M, F> {
     }
 
     #[cycle(evaluate)]
-    #[tactic(auto, unfolding(crate::specs::Reading::read_define))]
+    #[tactic(auto, using(crate::proofs::Steps::define_goes), unfolding(crate::specs::Reading::read_define))]
     pub(crate) fn read_define_form(
         &mut self,
         below: u64,
@@ -398,7 +402,7 @@ impl<'a, M: Scope, F: Files> Evaluation<'a, M, F> {
 
     // A rule line by its parts.
     #[cycle(evaluate)]
-    #[tactic(auto, unfolding(crate::specs::Rules::rule_of_parts))]
+    #[tactic(auto, using(crate::proofs::Steps::read_rule_steps), unfolding(crate::specs::Rules::rule_of_parts))]
     pub(crate) fn read_rule(
         &mut self,
         below: u64,

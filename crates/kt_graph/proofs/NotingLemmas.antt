@@ -1,4 +1,4 @@
--- The numbers of ends, through changes of the map that holds them.
+-- The numbers of ends, as more are noted and as they are found.
 use Rattle.std.proofs.Common.{◌≡◌, ℕ, ◌+◌, ◌-◌, ◌<◌, ◌≤◌, Bool, true, false, ⊎_elim, nat_eq, if◌then◌else◌, List, [], ◌∷◌, ◌++◌, length, drop, take, get_or, Some, slice_get, refl, sym, ap, ◌∙◌, subst, arith}
 use Rattle.std.specs.List.{Contains, list_any}
 use Rattle.std.specs.Str.{bytes_eq}

@@ -17,19 +17,32 @@ plan statements defaults = Ok (record { statements = statements; defaults = defa
 -- texts that say a plan
 pub record RowsOfPlans : Type 0 where
   pub no_statements : ninja_read ([]) ≡ plan ([]) []
-  pub quoted : ninja_read (codes "rule r\n command = cat $in\nbuild o: r a$ b\n") ≡ plan (statement (codes "o" ∷ []) (Command (codes "cat 'a b'")) (codes "a b" ∷ []) [] [] ∷ []) []
-  pub on_lines : ninja_read (codes "rule r\n command = cat $in_newline\nbuild o: r a b\n") ≡ plan (statement (codes "o" ∷ []) (Command (codes "cat a\nb")) (codes "a" ∷ codes "b" ∷ []) [] [] ∷ []) []
-  pub two_outputs : ninja_read (codes "rule r\n command = x >$out\nbuild a b: r\n") ≡ plan (statement (codes "a" ∷ codes "b" ∷ []) (Command (codes "x >a b")) [] [] [] ∷ []) []
-  pub compiled : ninja_read (codes "sh = /bin/sh -c\nrule c\n command = $sh 'cc -c $in -o $out'\nbuild a.o: c   a.c\ndefault a.o\n") ≡ plan (statement (codes "a.o" ∷ []) (Command (codes "/bin/sh -c 'cc -c a.c -o a.o'")) (codes "a.c" ∷ []) [] [] ∷ []) (codes "a.o" ∷ [])
-  pub joined_name : ninja_read (codes "name = x\nbuild $na$\n  me: phony\ndefault x\n") ≡ plan (statement (codes "x" ∷ []) Phony [] [] [] ∷ []) (codes "x" ∷ [])
-  pub joined_keyword : ninja_read (codes "$\nbuild t: phony\ndefault t\n") ≡ plan (statement (codes "t" ∷ []) Phony [] [] [] ∷ []) (codes "t" ∷ [])
-  pub joined_comment : ninja_read (codes "build t: phony\n$\n # c $\ndefault t\n") ≡ plan (statement (codes "t" ∷ []) Phony [] [] [] ∷ []) (codes "t" ∷ [])
-  pub at_behind_two_bars : ninja_read (codes "build t: phony ||@b\ndefault t\n") ≡ plan (statement (codes "t" ∷ []) Phony [] [] (codes "@b" ∷ []) ∷ []) (codes "t" ∷ [])
-  pub all_inputs : ninja_read (codes "build t:phony a|b||c\n") ≡ plan (statement (codes "t" ∷ []) Phony (codes "a" ∷ []) (codes "b" ∷ []) (codes "c" ∷ []) ∷ []) []
-  pub own_command : ninja_read (codes "rule r\n command = x $in\nbuild a: r b\n command = /bin/sh -c '$$^ $in'\ndefault a\n") ≡ plan (statement (codes "a" ∷ []) (Command (codes "/bin/sh -c '$^ '")) (codes "b" ∷ []) [] [] ∷ []) (codes "a" ∷ [])
-  pub command_of_phony : ninja_read (codes "build t: phony\n command = x\ndefault t\n") ≡ plan (statement (codes "t" ∷ []) Phony [] [] [] ∷ []) (codes "t" ∷ [])
-  pub equals_is_a_path : ninja_read (codes "build =: phony\ndefault =\n") ≡ plan (statement (codes "=" ∷ []) Phony [] [] [] ∷ []) (codes "=" ∷ [])
-  pub late_value : ninja_read (codes "rule r\n command = $x $y\nx = 1\nbuild $x: r\n y = $x\nx = 2\n") ≡ plan (statement (codes "1" ∷ []) (Command (codes "2 1")) [] [] [] ∷ []) []
+  pub quoted : ninja_read (codes "rule r\n command = cat $in\nbuild o: r a$ b\n")
+      ≡ plan (statement (codes "o" ∷ []) (Command (codes "cat 'a b'")) (codes "a b" ∷ []) [] [] ∷ []) []
+  pub on_lines : ninja_read (codes "rule r\n command = cat $in_newline\nbuild o: r a b\n")
+      ≡ plan (statement (codes "o" ∷ []) (Command (codes "cat a\nb")) (codes "a" ∷ codes "b" ∷ []) [] [] ∷ []) []
+  pub two_outputs : ninja_read (codes "rule r\n command = x >$out\nbuild a b: r\n")
+      ≡ plan (statement (codes "a" ∷ codes "b" ∷ []) (Command (codes "x >a b")) [] [] [] ∷ []) []
+  pub compiled : ninja_read (codes "sh = /bin/sh -c\nrule c\n command = $sh 'cc -c $in -o $out'\nbuild a.o: c   a.c\ndefault a.o\n")
+      ≡ plan (statement (codes "a.o" ∷ []) (Command (codes "/bin/sh -c 'cc -c a.c -o a.o'")) (codes "a.c" ∷ []) [] [] ∷ []) (codes "a.o" ∷ [])
+  pub joined_name : ninja_read (codes "name = x\nbuild $na$\n  me: phony\ndefault x\n")
+      ≡ plan (statement (codes "x" ∷ []) Phony [] [] [] ∷ []) (codes "x" ∷ [])
+  pub joined_keyword : ninja_read (codes "$\nbuild t: phony\ndefault t\n")
+      ≡ plan (statement (codes "t" ∷ []) Phony [] [] [] ∷ []) (codes "t" ∷ [])
+  pub joined_comment : ninja_read (codes "build t: phony\n$\n # c $\ndefault t\n")
+      ≡ plan (statement (codes "t" ∷ []) Phony [] [] [] ∷ []) (codes "t" ∷ [])
+  pub at_behind_two_bars : ninja_read (codes "build t: phony ||@b\ndefault t\n")
+      ≡ plan (statement (codes "t" ∷ []) Phony [] [] (codes "@b" ∷ []) ∷ []) (codes "t" ∷ [])
+  pub all_inputs : ninja_read (codes "build t:phony a|b||c\n")
+      ≡ plan (statement (codes "t" ∷ []) Phony (codes "a" ∷ []) (codes "b" ∷ []) (codes "c" ∷ []) ∷ []) []
+  pub own_command : ninja_read (codes "rule r\n command = x $in\nbuild a: r b\n command = /bin/sh -c '$$^ $in'\ndefault a\n")
+      ≡ plan (statement (codes "a" ∷ []) (Command (codes "/bin/sh -c '$^ '")) (codes "b" ∷ []) [] [] ∷ []) (codes "a" ∷ [])
+  pub command_of_phony : ninja_read (codes "build t: phony\n command = x\ndefault t\n")
+      ≡ plan (statement (codes "t" ∷ []) Phony [] [] [] ∷ []) (codes "t" ∷ [])
+  pub equals_is_a_path : ninja_read (codes "build =: phony\ndefault =\n")
+      ≡ plan (statement (codes "=" ∷ []) Phony [] [] [] ∷ []) (codes "=" ∷ [])
+  pub late_value : ninja_read (codes "rule r\n command = $x $y\nx = 1\nbuild $x: r\n y = $x\nx = 2\n")
+      ≡ plan (statement (codes "1" ∷ []) (Command (codes "2 1")) [] [] [] ∷ []) []
 
 -- texts that say none, with the line that begins the part at fault
 pub record RowsOfFaults : Type 0 where

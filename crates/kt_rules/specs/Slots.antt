@@ -118,7 +118,8 @@ pub record Tells (slots : List (Option Rule)) (index : Index Spot) (rules : Text
   pub before : (name : Text) → AreBefore (length slots) (noted_at index name)
 
 -- what a book keeps beside its rules is what they say
-pub record IsKept (slots : List (Option Rule)) (targets recipes : Index Spot) (phony suffixes : List Text) : Type 0 where
+pub record IsKept (slots : List (Option Rule)) (targets recipes : Index Spot) (phony suffixes : List Text)
+    : Type 0 where
   pub targets_told : Tells slots targets (rules_of (rules_in slots))
   pub recipes_told : Tells slots recipes (recipes_of (rules_in slots))
   pub phony_told : (name : Text) → is_among phony name ≡ is_phony (rules_in slots) name
