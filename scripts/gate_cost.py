@@ -2,14 +2,19 @@
 """Runs the gate on a clean checkout of HEAD and tells what it cost.
 
     scripts/gate_cost.py [REVISION [LOG]]
+    scripts/gate_cost.py --speed
 
 LOG gets what the gate prints. The script prints the gate's last line, the minutes that it took and the processor minutes, and then the
 processor seconds of each crate: its proof, its tests and its edits, told apart by the folder and the arguments of each process of the
 prover, and last the checks that its edits took, in order. A machine with more work than processors takes more processor time too.
+
+With --speed it proves one crate as it once stood, as the gate does, and tells what that took beside what it took on the machine that the
+gate's marks were set on: processor minutes of two machines can be compared by that alone.
 """
 
 import os
 import resource
+import shutil
 import subprocess
 import sys
 import tempfile
@@ -20,6 +25,9 @@ from pathlib import Path
 ROOT = Path(__file__).resolve().parent.parent
 TICKS = os.sysconf("SC_CLK_TCK")
 PARTS = ("proof", "tests", "edits")
+
+# A commit at which the whole gate was measured, one of its crates, and the processor seconds of that crate's proof there.
+MEASURED = "f18215d", "kt_text: memchr bstr thiserror", 60
 
 
 class Sampler(threading.Thread):
@@ -64,21 +72,52 @@ class Sampler(threading.Thread):
         return costs
 
 
+def processor_seconds():
+    used = resource.getrusage(resource.RUSAGE_CHILDREN)
+    return used.ru_utime + used.ru_stime
+
+
+def checkout(revision, folder):
+    subprocess.run(["git", "clone", "-q", str(ROOT), str(folder)], check=True)
+    subprocess.run(["git", "checkout", "-q", revision], cwd=folder, check=True)
+
+
+def tell_speed():
+    """Proves the measured crate alone, without its tests and edits."""
+    revision, line, wanted = MEASURED
+    with tempfile.TemporaryDirectory(prefix="gate_") as name:
+        folder = Path(name) / "checkout"
+        checkout(revision, folder)
+        crate = line.partition(":")[0]
+        for other in (folder / "crates").iterdir():
+            if other.name != crate:
+                shutil.rmtree(other)
+        shutil.rmtree(folder / "crates" / crate / "must-fail")
+        (folder / "crates.txt").write_text(line + "\n")
+        before = processor_seconds()
+        one_job = os.environ | {"RT_JOBS": "1"}
+        ran = subprocess.run(["rt", "ci"], cwd=folder, env=one_job, stdout=subprocess.PIPE, stderr=subprocess.STDOUT, text=True)
+        took = processor_seconds() - before
+    print(ran.stdout.rstrip().splitlines()[-1])
+    print(f"{took:.0f} processor seconds for {crate} of {revision}, {took / wanted:.1f} of the {wanted} that it took there")
+    sys.exit(ran.returncode)
+
+
 def main():
+    if sys.argv[1:] == ["--speed"]:
+        tell_speed()
     revision = sys.argv[1] if len(sys.argv) > 1 else "HEAD"
     with tempfile.TemporaryDirectory(prefix="gate_") as name:
         folder = Path(name) / "checkout"
-        subprocess.run(["git", "clone", "-q", str(ROOT), str(folder)], check=True)
-        subprocess.run(["git", "checkout", "-q", revision], cwd=folder, check=True)
+        checkout(revision, folder)
         sampler, started = Sampler(folder), time.time()
         sampler.start()
         path = Path(sys.argv[2] if len(sys.argv) > 2 else Path(name) / "log")
         with open(path, "wb") as log:
             status = subprocess.run([folder / ".ci/run"], stdout=log, stderr=subprocess.STDOUT).returncode
         sampler.ended = True
-        used = resource.getrusage(resource.RUSAGE_CHILDREN)
         print(path.read_text(errors="replace").rstrip().splitlines()[-1])
-        print(f"{(time.time() - started) / 60:.0f} minutes, {(used.ru_utime + used.ru_stime) / 60:.0f} processor minutes")
+        print(f"{(time.time() - started) / 60:.0f} minutes, {processor_seconds() / 60:.0f} processor minutes")
         print("| Crate | " + " | ".join(PARTS) + " | each edit |")
         for crate, row in sorted(sampler.table().items()):
             sums = " | ".join(f"{sum(row[part]):.0f}" for part in PARTS)

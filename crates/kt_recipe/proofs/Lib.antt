@@ -6,4 +6,5 @@ pub mod ShellLemmas
 pub mod LoopLemmas
 pub mod DeeperLemmas
 pub mod TermLemmas
+pub mod PlainLemmas
 mod RowLemmas

@@ -21,17 +21,12 @@ use Rattle.kt_recipe.specs.Lines.{is_prefix, is_marked, pieces_of}
 use Rattle.kt_recipe.specs.Quoting.{quoted}
 use Rattle.kt_recipe.specs.Shell.{goes_on, ends, wrapped, setting_of, shell_text, expansion, put_piece, put_pieces, put_line, put_lines, put_part, put_parts, shell_of}
 use Rattle.kt_recipe.specs.Rows.{at_m, line, sample, rooted, simple, doubled, told, deferred, with_shell, comes_to}
-use Rattle.kt_recipe.proofs.TermLemmas.{quick_closing, quick_behind, quick_first, quick_after, quick_terms, terms_are}
+use Rattle.kt_recipe.proofs.TermLemmas.{terms_are, splitting, shell_terms}
 
--- `unfolding listing` opens the automatic macros, `splitting` the terms of a text, `expanding` what it is expanded to, and `making` how
--- a command comes about
+-- `unfolding listing` opens the automatic macros, `expanding` what a text is expanded to, and `making` how a command comes about
 unfoldable listing : Unit {0}
 unfolding names_of automatic_in text_of list_text without_repeats
 listing = tt
-
-unfoldable splitting : Unit {0}
-unfolding quick_closing quick_behind quick_first quick_after quick_terms
-splitting = tt
 
 unfoldable expanding : Unit {0}
 unfolding listing splitting is_separator is_blank words_of find seen innermost lookup string_function name_function other_function function_of is_refused_function text_result arguments_from arguments_of asked_of asked_by naming_of value_of each_argument apply_foreach each_word apply_eval apply_error apply_info apply body_of value_named referred term_of each_term expanded above none_left evaluator expansion
@@ -112,10 +107,6 @@ unfolding listing
 no_macro = refl
 
 -- ---- texts that are expanded
-
-shell_terms : terms_of (codes "$(SHELL) $(.SHELLFLAGS)") ≡ reference Parentheses (codes "SHELL") ∷ literal (codes " ") ∷ reference Parentheses (codes ".SHELLFLAGS") ∷ []
-unfolding splitting
-shell_terms = terms_are (codes "$(SHELL) $(.SHELLFLAGS)")
 
 telling_terms : terms_of (codes "$(info s)sh") ≡ reference Parentheses (codes "info s") ∷ literal (codes "sh") ∷ []
 unfolding splitting

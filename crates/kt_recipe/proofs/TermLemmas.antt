@@ -1,9 +1,11 @@
 -- The terms of a text by functions that look only where they must: `if` has both its sides computed, so that what searches for a
 -- closing mark takes three times as long for each byte more.
 use Rattle.std.proofs.Common.{◌≡◌, ℕ, zero, suc, ◌+◌, ◌-◌, Bool, true, false, ◌==◌, if◌then◌else◌, List, [], ◌∷◌, Option, Some, None, refl, ap, ◌∙◌}
+use Rattle.std.specs.Prelude.{codes}
 use Rattle.kt_text.specs.Words.{Text}
 use Rattle.kt_syntax.specs.declared.term.Mark.TheVariants.{Parentheses, Braces}
-use Rattle.kt_syntax.specs.Terms.{Piece, literal, dollar, Continuations, dropped, closing, referred, single, behind_dollar, literal_run, first_term, terms_after, terms_of}
+use Rattle.kt_syntax.specs.Terms.{Piece, literal, dollar, reference, Continuations, dropped, closing, referred, single, behind_dollar, literal_run, first_term, terms_after, terms_of}
+use Rattle.kt_recipe.specs.Shell.{shell_text}
 
 unfoldable pub quick_closing : ℕ → ℕ → ℕ → ℕ → Text → Option ℕ
 quick_closing opener closer at depth [] = None
@@ -72,3 +74,14 @@ quick_terms text = quick_after dropped 0 text
 pub terms_are : (text : Text) → terms_of text ≡ quick_terms text
 unfolding terms_of quick_terms
 terms_are text = after_is dropped 0 text
+
+-- ---- the shell's text
+
+-- opens the terms of a text
+unfoldable pub splitting : Unit {0}
+unfolding quick_closing quick_behind quick_first quick_after quick_terms
+splitting = tt
+
+pub shell_terms : terms_of shell_text ≡ reference Parentheses (codes "SHELL") ∷ literal (codes " ") ∷ reference Parentheses (codes ".SHELLFLAGS") ∷ []
+unfolding splitting
+shell_terms = terms_are shell_text

@@ -6,6 +6,9 @@ ghost use Rattle.kt_recipe.specs.Views.{command_in, with_joint};
 use crate::quoting::put_quoted;
 use std::alloc::AllocError;
 
+// What stands round the shell and a piece without quotes takes at most so many bytes.
+const ROOM: usize = 16;
+
 /// Appends a call of the shell for a piece; where it is marked, its failure is passed over (GNU make
 /// manual, "Errors in Recipes").
 #[tactic(auto, using(crate::proofs::CallLemmas::call_joined))]
@@ -18,6 +21,7 @@ pub(crate) fn put_call(
     ensures { OnOk result (command_in command.new.items
         ≡ Some (joined (command_in command.old.items) (wrapped marked shell.now piece.now))) }
 {
+    command.reserve(shell.len().saturating_add(piece.len()).saturating_add(ROOM))?;
     put_joint(command)?;
     put_wrapped(command, marked, shell, piece)
 }

@@ -6,6 +6,7 @@ mod calls;
 mod forms;
 pub mod laws;
 mod lines;
+mod plain;
 mod quoting;
 mod shell;
 mod subjects;

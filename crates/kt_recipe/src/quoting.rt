@@ -1,7 +1,8 @@
 //! Texts between single quotes.
-ghost use Rattle.std.specs.Prelude.{◌≡◌, ◌++◌, OnOk, flat_map};
+ghost use Rattle.std.specs.Prelude.{◌≡◌, ◌++◌, ◌+◌, ◌<◌, OnOk, drop, flat_map, length};
 ghost use Rattle.kt_recipe.specs.Quoting.{quoted, quoted_byte};
 
+use memchr::memchr;
 use std::alloc::AllocError;
 
 /// Appends a text between single quotes, as a shell reads it back (POSIX.1-2024 Shell Command
@@ -16,21 +17,24 @@ pub(crate) fn put_quoted(command: &mut Vec<u8>, text: &[u8]) -> Result<(), Alloc
     Ok(())
 }
 
+// Appends a text, each single quote in it behind a backslash outside quotes.
+#[tactic(auto, using(crate::proofs::QuotingLemmas::no_quote))]
 fn put_between_quotes(command: &mut Vec<u8>, text: &[u8]) -> Result<(), AllocError>
     ensures { OnOk result (command.new.items ≡ command.old.items ++ flat_map quoted_byte text.now) }
 {
-    for byte in text {
-        put_byte(command, *byte)?;
+    let mut rest = text;
+    while let Some(at) = memchr(b'\'', rest) {
+        command.extend_from_slice(&rest[..at])?;
+        command.extend_from_slice(b"'\\''")?;
+        rest = behind(rest, at);
     }
-    Ok(())
+    command.extend_from_slice(rest)
 }
 
-fn put_byte(command: &mut Vec<u8>, byte: u8) -> Result<(), AllocError>
-    ensures { OnOk result (command.new.items ≡ command.old.items ++ quoted_byte byte) }
+// What stands behind a byte.
+fn behind(text: &[u8], at: usize) -> &[u8]
+    requires { at < length text.now }
+    ensures { result.now ≡ drop (at + 1) text.now }
 {
-    if byte == b'\'' {
-        command.extend_from_slice(b"'\\''")
-    } else {
-        command.extend_from_slice(&[byte])
-    }
+    &text[at + 1..]
 }

@@ -7,12 +7,13 @@ ghost use Rattle.kt_graph.specs.Views.{part_lines};
 ghost use Rattle.kt_recipe.specs.Auto.{automatic_in};
 ghost use Rattle.kt_recipe.specs.Lines.{pieces_of};
 ghost use Rattle.kt_recipe.specs.Shell.{expansion, put_line, put_lines, put_part, put_parts, put_piece, put_pieces};
-ghost use Rattle.kt_recipe.specs.Shell.{shell_of};
+ghost use Rattle.kt_recipe.specs.Shell.{shell_of, shell_text};
 ghost use Rattle.kt_recipe.specs.Views.{Tells, command_in, setting_at};
 
 use crate::automatic::auto_of;
 use crate::calls::put_call;
 use crate::lines::{after_run, is_marked, pieces};
+use crate::plain::plain_shell;
 use kt_eval::{Macros, Stop};
 use kt_graph::Node;
 use kt_list::Sequence;
@@ -197,9 +198,22 @@ impl<'a, 'g> Shell<'a, 'g> {
         if text.is_empty() {
             return Ok(());
         }
-        let shell = self.expand(place, b"$(SHELL) $(.SHELLFLAGS)", messages)?;
+        let shell = self.shell(place, messages)?;
         put_call(command, marked || is_marked(piece), shell.as_slice(), text)?;
         Ok(())
+    }
+
+    // The shell that a piece is for; it is expanded only where one of its values has to be.
+    #[tactic(auto, using(crate::proofs::PlainLemmas::shell_is))]
+    fn shell(&self, place: &Place, messages: &mut Vec<Sequence<u8>>) -> Result<Vec<u8>, Stop>
+        ensures appends { IsFront messages.old.items messages.new.items }
+        ensures ends { Ends result messages.new.items
+            (expansion (setting_at self.now place.now) messages.old.items shell_text) }
+    {
+        match plain_shell(self.alloc, self.macros, self.limit)? {
+            Some(shell) => Ok(shell),
+            None => self.expand(place, b"$(SHELL) $(.SHELLFLAGS)", messages),
+        }
     }
 
     #[tactic(auto, unfolding(crate::specs::Shell::expansion))]

@@ -31,6 +31,7 @@ fn quotes_and_joins(rt: HostRuntime) {
         ),
         ("t:\n\ta; \\\n\tb\n", "", "t", "/bin/sh -c 'a; b'\n"),
         ("SHELL = $() sh\nt: ; true\n", "", "t", " sh -c 'true'\n"),
+        ("SHELL := s$$h\nt: ; a\n", "", "t", "s$h -c 'a'\n"),
     ];
     tells(&rt, rt.alloc(), 100, ROWS);
 }

@@ -1,0 +1,107 @@
+-- A shell whose values stand for themselves is expanded to these values.
+use Rattle.std.proofs.Common.{◌≡◌, ℕ, zero, suc, Bool, true, false, not, ◌==◌, ◌&&◌, ◌||◌, ⊎_elim, List, [], ◌∷◌, ◌++◌, Option, Some, None, refl, sym, ap, ◌∙◌, append-nil, arith, true≢false}
+use Rattle.std.proofs.lemmas.Bool.{cases_Bool, eqb-true}
+use Rattle.std.specs.Prelude.{codes, is_some, option_map, unwrap_or}
+use Rattle.std.specs.List.{list_any}
+use Rattle.kt_text.specs.Words.{Text, is_separator, is_blank, list_text}
+use Rattle.kt_rules.specs.declared.place.Place.{Place}
+use Rattle.kt_rules.specs.Names.{without_repeats}
+use Rattle.kt_syntax.specs.Terms.{dropped, literal, count_of, terms_of}
+use Rattle.kt_syntax.proofs.Splitting.{terms_of-nil, term_first}
+use Rattle.kt_eval.specs.declared.macros.Flavour.{Flavour}
+use Rattle.kt_eval.specs.declared.macros.Flavour.TheVariants.{Deferred, Immediate}
+use Rattle.kt_eval.specs.declared.macros.Macro.{Macro}
+use Rattle.kt_eval.specs.Calls.{string_function, name_function, other_function, function_of, is_refused_function, asked_of, asked_by, naming_of}
+use Rattle.kt_eval.specs.Expansion.{Evaluator, flavoured, value_of, body_of, value_named, referred, term_of, each_term, expanded}
+use Rattle.kt_eval.specs.Files.{Store}
+use Rattle.kt_eval.specs.Levels.{above, evaluator}
+use Rattle.kt_eval.specs.State.{World, found_of, seen, innermost, lookup, frozen_world}
+use Rattle.kt_eval.specs.Step.{Gave, ending, with_text}
+use Rattle.kt_eval.specs.Table.{Table, find}
+use Rattle.kt_graph.specs.Node.{Node}
+use Rattle.kt_recipe.specs.Auto.{names_of, automatic_in}
+use Rattle.kt_recipe.specs.Forms.{text_of}
+use Rattle.kt_recipe.specs.Shell.{setting_of, shell_text, expansion}
+use Rattle.kt_recipe.specs.inner.Plain.{is_plain, if_plain, plain_value, spaced, plain_shell}
+use Rattle.kt_recipe.proofs.TermLemmas.{shell_terms}
+
+no_text : (text : Text) → None ≡ Some text → ⊥
+no_text text is = true≢false (sym (ap is_some is))
+
+-- ---- a value
+
+neither : (a b : Bool) → (a || b) ≡ false → (a ≡ false) × (b ≡ false)
+neither false b is = (refl, is)
+neither true b is = absurd (true≢false is)
+
+uncounted : (text : Text) → list_any (λ byte. byte == 36) text ≡ false → count_of 36 text ≡ 0
+unfolding count_of
+uncounted [] free = refl
+uncounted (byte ∷ text) free =
+    let parts = neither (byte == 36) (list_any (λ byte. byte == 36) text) free in
+    rw (parts.0, uncounted text parts.1) refl
+
+text_is : (e : Evaluator) (text : Text) (w : World) → list_any (λ byte. byte == 36) text ≡ false → expanded e text w ≡ Gave w text
+unfolding expanded terms_of each_term term_of
+text_is e [] w free = rw (terms_of-nil dropped) refl
+text_is e (byte ∷ text) w free =
+    rw (term_first dropped (literal (byte ∷ text)) (byte ∷ text) (byte ∷ text) [] (sym (append-nil (byte ∷ text))) (refl, uncounted (byte ∷ text) free, tt), terms_of-nil dropped) refl
+
+free_is : (e : Evaluator) (value text : Text) (w : World) (b : Bool) → list_any (λ byte. byte == 36) value ≡ b → if_plain (not b) value ≡ Some text
+    → expanded e value w ≡ Gave w text
+free_is e value text w true is found = absurd (no_text text found)
+free_is e value text w false is found = text_is e value w is ∙ ap (λ t. Gave w (unwrap_or t [])) found
+
+not_zero : (limit : ℕ) → (suc limit == 0) ≡ false
+not_zero limit = ⊎_elim (λ h. let e = eqb-true _ _ h in absurd (omega arith)) (λ h. h) (cases_Bool (suc limit == 0))
+
+flavoured_is : (reads : Bool) (store : Store) (limit : ℕ) (flavour : Flavour) (value text : Text) (w : World) → if_plain (is_plain limit flavour value) value ≡ Some text
+    → flavoured (evaluator reads store limit) flavour value w ≡ Gave w text
+unfolding evaluator above
+flavoured_is reads store limit Immediate value text w is = ap (λ t. Gave w (unwrap_or t [])) is
+flavoured_is reads store zero Deferred value text w is = absurd (no_text text is)
+flavoured_is reads store (suc limit) Deferred value text w is =
+    let free = list_any (λ byte. byte == 36) value in
+    free_is (evaluator reads store limit) value text w free refl (ap (λ zero. if_plain (not zero && not free) value) (sym (not_zero limit)) ∙ is)
+
+value_is : (reads : Bool) (store : Store) (limit : ℕ) (found : Option Macro) (text : Text) (w : World) → plain_value limit found ≡ Some text
+    → value_of (evaluator reads store limit) (option_map found_of found) w ≡ Gave w text
+unfolding plain_value value_of
+value_is reads store limit None text w is = absurd (no_text text is)
+value_is reads store limit (Some entry) text w is = flavoured_is reads store limit entry.flavour entry.value text w is
+
+-- ---- the shell
+
+-- opens the names of automatic macros, of which the shell's are none
+unfoldable listing : Unit {0}
+unfolding names_of automatic_in text_of list_text without_repeats
+listing = tt
+
+terms_are_values : (e : Evaluator) (node : Node) (part : ℕ) (table : Table) (place : Option Place) (said : List Text) (shell flags : Text)
+    → let w = frozen_world table (automatic_in node part) place said in
+    value_of e (option_map found_of (find (codes "SHELL") table)) w ≡ Gave w shell
+    → value_of e (option_map found_of (find (codes ".SHELLFLAGS") table)) w ≡ Gave w flags
+    → expanded e shell_text w ≡ Gave w ((shell ++ codes " ") ++ flags)
+unfolding listing is_separator is_blank seen innermost lookup string_function name_function other_function function_of is_refused_function asked_of asked_by naming_of body_of value_named referred term_of each_term expanded
+terms_are_values e node part table place said shell flags first second =
+    rw (shell_terms, first, second) refl
+
+both_are : (node : Node) (part : ℕ) (table : Table) (limit : ℕ) (place : Option Place) (said : List Text) (text : Text) (first second : Option Text)
+    → plain_value limit (find (codes "SHELL") table) ≡ first → plain_value limit (find (codes ".SHELLFLAGS") table) ≡ second
+    → Some text ≡ spaced first second
+    → expanded (evaluator false [] limit) shell_text (frozen_world table (automatic_in node part) place said)
+    ≡ Gave (frozen_world table (automatic_in node part) place said) text
+both_are node part table limit place said text None second is also found = absurd (no_text text (sym found))
+both_are node part table limit place said text (Some shell) None is also found = absurd (no_text text (sym found))
+both_are node part table limit place said text (Some shell) (Some flags) is also found =
+    let w = frozen_world table (automatic_in node part) place said in
+    terms_are_values (evaluator false [] limit) node part table place said shell flags
+    (value_is false [] limit (find (codes "SHELL") table) shell w is) (value_is false [] limit (find (codes ".SHELLFLAGS") table) flags w also)
+    ∙ ap (λ t. Gave w (unwrap_or t [])) (sym found)
+
+pub shell_is : (node : Node) (part : ℕ) (table : Table) (limit : ℕ) (place : Place) (said : List Text) (text : Text)
+    → Some text ≡ plain_shell table limit
+    → expansion (setting_of table (automatic_in node part) limit place) said shell_text ≡ with_text said text
+unfolding plain_shell expansion
+shell_is node part table limit place said text found =
+    ap ending (both_are node part table limit (Some place) said text _ _ refl refl found)
