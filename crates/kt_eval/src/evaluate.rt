@@ -54,7 +54,7 @@ impl<'a, M: Scope, F: Files> Evaluation<'a, M, F> {
     pub(crate) fn expand_here(&mut self, below: u64, text: &[u8]) -> Result<Vec<u8>, Stop>
         ensures { Does (λ v. v.items) M.writable below (λ e. expanded e text.now) result self.old self.new }
     {
-        let mut out = Vec::new(self.alloc);
+        let mut out = Vec::with_capacity(self.alloc, text.len())?;
         let mut rest = terms(text);
         'terms: while let Some(term) = rest.next() {
             if let Ok(Term::Lit(bytes)) = term {

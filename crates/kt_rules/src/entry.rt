@@ -189,7 +189,7 @@ impl Entry {
 pub(crate) fn first_line(alloc: Global, line: RecipeLine) -> Result<Vec<RecipeLine>, AllocError>
     ensures { IfOk result (λ lines. lines.items ≡ line ∷ []) }
 {
-    let mut lines = Vec::new(alloc);
+    let mut lines = Vec::with_capacity(alloc, 1)?;
     lines.push(line)?;
     Ok(lines)
 }

@@ -117,8 +117,9 @@ fn targets(
 ) -> Result<Vec<Target>, AllocError>
     ensures { IfOk result (λ targets. targets.items ≡ map (target_of pattern.now needs.now) names) }
 {
-    let mut targets = Vec::new(alloc);
-    for name in names.into_vec() {
+    let names = names.into_vec();
+    let mut targets = Vec::with_capacity(alloc, names.len())?;
+    for name in names {
         let stemmed = stemmed_of(alloc, pattern, needs, name.as_slice())?;
         targets.push(Target { name, stemmed })?;
     }
@@ -162,7 +163,7 @@ fn stemmed(alloc: Global, needs: &Needs, stem: &[u8]) -> Result<Stemmed, AllocEr
 fn stemmed_names(alloc: Global, stem: &[u8], names: &[Name]) -> Result<Sequence<Name>, AllocError>
     ensures { IfOk result (λ list. list ≡ stemmed_names stem.now names.now) }
 {
-    let mut list = Vec::new(alloc);
+    let mut list = Vec::with_capacity(alloc, names.len())?;
     for name in names {
         list.push(Sequence::from(stemmed_name(alloc, name.as_slice(), stem)?))?;
     }
