@@ -73,7 +73,7 @@ value_is reads store limit (Some entry) text w is = flavoured_is reads store lim
 -- ---- the shell
 
 -- opens the names of automatic macros, of which the shell's are none
-unfoldable listing : Unit {0}
+unfoldable pub listing : Unit {0}
 unfolding names_of automatic_in text_of list_text without_repeats
 listing = tt
 

@@ -1,10 +1,9 @@
 -- Worked values, one by one: each is found by computing, but for the terms of a text, which are found by the quick way.
 use Rattle.std.specs.Prelude.{◌≡◌, ℕ, List, [], ◌∷◌, ◌++◌, Some, None, codes}
 use Rattle.std.proofs.Common.{refl}
-use Rattle.kt_text.specs.Words.{Text, is_separator, is_blank, words_of, list_text}
+use Rattle.kt_text.specs.Words.{Text, is_separator, is_blank, words_of}
 use Rattle.kt_rules.specs.declared.place.Place.{Place}
 use Rattle.kt_rules.specs.declared.entry.RecipeLine.{RecipeLine}
-use Rattle.kt_rules.specs.Names.{without_repeats}
 use Rattle.kt_syntax.specs.declared.term.Mark.TheVariants.{Byte, Parentheses}
 use Rattle.kt_syntax.specs.Terms.{literal, reference, terms_of}
 use Rattle.kt_eval.specs.Files.{Store}
@@ -15,19 +14,15 @@ use Rattle.kt_eval.specs.Calls.{string_function, name_function, other_function, 
 use Rattle.kt_eval.specs.Expansion.{value_of, each_argument, each_word, apply_foreach, apply_eval, apply_error, apply_info, apply, body_of, value_named, referred, term_of, each_term, expanded}
 use Rattle.kt_eval.specs.Levels.{above, none_left, evaluator}
 use Rattle.kt_graph.specs.Node.{Node}
-use Rattle.kt_recipe.specs.Auto.{names_of, automatic_in}
-use Rattle.kt_recipe.specs.Forms.{text_of}
+use Rattle.kt_recipe.specs.Auto.{automatic_in}
 use Rattle.kt_recipe.specs.Lines.{is_prefix, is_marked, pieces_of}
 use Rattle.kt_recipe.specs.Quoting.{quoted}
 use Rattle.kt_recipe.specs.Shell.{goes_on, ends, wrapped, setting_of, shell_text, expansion, put_piece, put_pieces, put_line, put_lines, put_part, put_parts, shell_of}
 use Rattle.kt_recipe.specs.Rows.{at_m, line, sample, rooted, simple, doubled, told, deferred, with_shell, comes_to}
+use Rattle.kt_recipe.proofs.PlainLemmas.{listing}
 use Rattle.kt_recipe.proofs.TermLemmas.{terms_are, splitting, shell_terms}
 
--- `unfolding listing` opens the automatic macros, `expanding` what a text is expanded to, and `making` how a command comes about
-unfoldable listing : Unit {0}
-unfolding names_of automatic_in text_of list_text without_repeats
-listing = tt
-
+-- `unfolding expanding` opens what a text is expanded to, and `making` how a command comes about
 unfoldable expanding : Unit {0}
 unfolding listing splitting is_separator is_blank words_of find seen innermost lookup string_function name_function other_function function_of is_refused_function text_result arguments_from arguments_of asked_of asked_by naming_of value_of each_argument apply_foreach each_word apply_eval apply_error apply_info apply body_of value_named referred term_of each_term expanded above none_left evaluator expansion
 expanding = tt

@@ -6,8 +6,8 @@ ghost use Rattle.kt_recipe.specs.Views.{command_in, with_joint};
 use crate::quoting::put_quoted;
 use std::alloc::AllocError;
 
-// What stands round the shell and a piece without quotes takes at most so many bytes.
-const ROOM: usize = 16;
+// What stands round a shell and a piece takes at most so many bytes: ` && { `, a space, two quotes, ` || :; }`.
+const ROOM: usize = 17;
 
 /// Appends a call of the shell for a piece; where it is marked, its failure is passed over (GNU make
 /// manual, "Errors in Recipes").
