@@ -1,3 +1,4 @@
+mod BackslashLemmas
 mod WrittenLemmas
 mod DotLemmas
 mod ReadingLemmas

@@ -4,6 +4,7 @@ ghost use Rattle.kt_rules.specs.Names.{cut_place, is_cut, is_quotable};
 ghost use Rattle.kt_rules.specs.RuleLine.{colon_cut};
 
 use kt_text::is_separator;
+use memchr::memchr;
 
 /// What a text is cut at, where no backslash stands directly before it.
 #[derive(Clone, Copy, Debug, PartialEq, Eq)]
@@ -14,9 +15,19 @@ pub(crate) enum Cut {
     Separator,
 }
 
-// What stands before the first colon that isn't quoted, and after it.
-#[tactic(auto, unfolding(crate::specs::RuleLine::colon_cut))]
+// What stands before the first colon that isn't quoted, and after it. What follows a separator mostly has no colon.
 pub(crate) fn colon_cut(text: &[u8]) -> Option<(&[u8], &[u8])>
+    ensures { option_map (λ cut. (cut.0.now, cut.1.now)) result ≡ colon_cut text.now }
+{
+    match memchr(b':', text) {
+        None => None,
+        Some(_) => unquoted_colon_cut(text),
+    }
+}
+
+// The same, byte by byte.
+#[tactic(auto, unfolding(crate::specs::RuleLine::colon_cut))]
+fn unquoted_colon_cut(text: &[u8]) -> Option<(&[u8], &[u8])>
     ensures { option_map (λ cut. (cut.0.now, cut.1.now)) result ≡ colon_cut text.now }
 {
     let place = cut_place(text, Cut::Colon);

@@ -1,5 +1,5 @@
 //! The names of a rule line.
-ghost use Rattle.std.specs.Prelude.{◌≡◌, map, option_map, IfOk};
+ghost use Rattle.std.specs.Prelude.{◌≡◌, ◌∷◌, [], map, option_map, IfOk, IfSome};
 ghost use Rattle.kt_rules.specs.Names.{name_of, without_repeats, written_words};
 ghost use Rattle.kt_rules.specs.Entry.{empty_line};
 ghost use Rattle.kt_rules.specs.RuleLine.{head_told, is_bar, line_of, needs_of};
@@ -50,9 +50,38 @@ impl Line {
     }
 }
 
-// The names of words, each at its first place.
-#[tactic(auto, using(crate::proofs::NeedsLemmas::insert_key_items), unfolding(crate::specs::Names::without_repeats))]
+// The names of words, each at its first place. Most lines have one target.
 fn targets(alloc: Global, text: &[u8]) -> Result<Sequence<Name>, AllocError>
+    ensures { IfOk result (λ names. names ≡ without_repeats (map name_of (written_words text.now))) }
+{
+    match only_word(text) {
+        Some(word) => one_target(alloc, word),
+        None => several_targets(alloc, text),
+    }
+}
+
+// The word of a text that has just one.
+fn only_word(text: &[u8]) -> Option<&[u8]>
+    ensures { IfSome result (λ word. written_words text.now ≡ word.now ∷ []) }
+{
+    let (word, after) = first_word(text)?;
+    match first_word(after) {
+        None => Some(word),
+        Some(_) => None,
+    }
+}
+
+#[tactic(auto, unfolding(crate::specs::Names::without_repeats))]
+fn one_target(alloc: Global, word: &[u8]) -> Result<Sequence<Name>, AllocError>
+    ensures { IfOk result (λ names. names ≡ without_repeats (name_of word.now ∷ [])) }
+{
+    let mut names = Vec::new(alloc);
+    names.push(Sequence::from(name_of(alloc, word)?))?;
+    Ok(Sequence::from(names))
+}
+
+#[tactic(auto, using(crate::proofs::NeedsLemmas::insert_key_items), unfolding(crate::specs::Names::without_repeats))]
+fn several_targets(alloc: Global, text: &[u8]) -> Result<Sequence<Name>, AllocError>
     ensures { IfOk result (λ names. names ≡ without_repeats (map name_of (written_words text.now))) }
 {
     let mut names = IndexSet::new(alloc);

@@ -1,6 +1,6 @@
 //! Names as words spell them.
 ghost use Rattle.std.specs.Prelude.{◌≡◌, ◌≤◌, ◌<◌, ◌==◌, false, true, length, IfOk, MatchOption};
-ghost use Rattle.std.specs.List.{prefix_len};
+ghost use Rattle.std.specs.List.{list_any, prefix_len};
 ghost use Rattle.kt_text.specs.Functions.{with_stem};
 ghost use Rattle.kt_rules.specs.Names.{after_dots, begins_quotable, name_of, unquoted, without_dots};
 
@@ -72,9 +72,27 @@ pub fn dotless(alloc: Global, text: Vec<u8>) -> Result<Vec<u8>, AllocError>
     Vec::from_slice(alloc, without_dots(text.as_slice()))
 }
 
-// The word without the backslashes that quote a byte.
-#[tactic(auto, unfolding(crate::specs::Names::unquoted))]
+// The word without the backslashes that quote a byte. Few words have a backslash.
+#[tactic(auto, using(crate::proofs::BackslashLemmas::quotes_nothing))]
 fn unquoted(alloc: Global, word: &[u8]) -> Result<Vec<u8>, AllocError>
+    ensures { IfOk result (λ text. text.items ≡ unquoted word.now) }
+{
+    if has_backslash(word) {
+        without_quotes(alloc, word)
+    } else {
+        Vec::from_slice(alloc, word)
+    }
+}
+
+pub(crate) fn has_backslash(text: &[u8]) -> bool
+    ensures { result ≡ list_any (λ byte. byte == 92) text.now }
+{
+    text.iter().any(|byte| *byte == b'\\')
+}
+
+// The word without the backslashes that quote a byte, byte by byte.
+#[tactic(auto, unfolding(crate::specs::Names::unquoted))]
+fn without_quotes(alloc: Global, word: &[u8]) -> Result<Vec<u8>, AllocError>
     ensures { IfOk result (λ text. text.items ≡ unquoted word.now) }
 {
     let mut text = Vec::with_capacity(alloc, word.len())?;

@@ -6,6 +6,7 @@ ghost use Rattle.kt_text.specs.Functions.{quotes_percent};
 ghost use Rattle.kt_rules.specs.Names.{is_member, is_refused_name, is_refused_target, is_special, is_wildcard};
 ghost use Rattle.kt_rules.specs.Names.{is_without_effect};
 
+use crate::name::has_backslash;
 use memchr::memmem;
 
 /// The name that orders prerequisites in GNU make, which kati doesn't take.
@@ -32,8 +33,15 @@ fn is_wildcard(byte: u8) -> bool
     matches!(byte, b'*' | b'?' | b'[')
 }
 
-// Whether a quoted percent sign stands in the name.
+// Whether a quoted percent sign stands in the name. Few names have a backslash.
+#[tactic(auto, using(crate::proofs::BackslashLemmas::quotes_no_percent))]
 fn quotes_percent(name: &[u8]) -> bool
+    ensures { result ≡ quotes_percent name.now }
+{
+    has_backslash(name) && finds_quoted_percent(name)
+}
+
+fn finds_quoted_percent(name: &[u8]) -> bool
     ensures { result ≡ quotes_percent name.now }
 {
     memmem::find(name, b"\\%").is_some()

@@ -1,5 +1,5 @@
 use Rattle.kt_rules.proofs.NeedsLemmas.{insert_key_items}
-use Rattle.kt_rules.proofs.line.targets.Goals as goal
+use Rattle.kt_rules.proofs.line.several_targets.Goals as goal
 
 pub loop-word-preserved : goal.loop-word-preserved
 loop-word-preserved c =

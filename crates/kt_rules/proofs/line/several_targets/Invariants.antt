@@ -1,7 +1,7 @@
 use Rattle.std.proofs.Common.{◌≡◌, [], length, map}
 use Rattle.std.specs.Prelude.{fold}
 use Rattle.kt_rules.specs.Names.{name_of, with_name, written_words}
-use Rattle.kt_rules.proofs.line.targets.Given as goal
+use Rattle.kt_rules.proofs.line.several_targets.Given as goal
 
 abbrev pub invariant-loop-word : goal.invariant-loop-word
 invariant-loop-word l =

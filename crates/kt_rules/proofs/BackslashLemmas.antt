@@ -1,0 +1,73 @@
+-- Texts without a backslash, in which nothing is quoted, and texts without a colon, which aren't cut.
+use Rattle.std.proofs.Common.{◌≡◌, ℕ, suc, ◌+◌, ◌<◌, ◌≤◌, Bool, true, false, [], ◌∷◌, Option, None, Some, length, refl, sym, ◌∙◌, ap, arith, true≢false, get_or, take, drop}
+use Rattle.std.specs.Prelude.{◌==◌, ◌||◌, if◌then◌else◌}
+use Rattle.std.specs.List.{list_any, position_or_len}
+use Rattle.std.proofs.lemmas.Bool.{eq-eqb, le-ltb}
+use Rattle.std.proofs.lemmas.List.Folds.{list_any_at}
+use Rattle.memchr.specs.Find.{IsFirstByte, OccursAt, is_byte}
+use Rattle.kt_text.specs.Words.{Text}
+use Rattle.kt_text.specs.Functions.{quotes_percent}
+use Rattle.kt_text.proofs.MatchLemmas.{list_any-place}
+use Rattle.kt_text.proofs.PlaceLemmas.{first_byte_place, occurs_found}
+use Rattle.kt_rules.specs.declared.cutting.Cut.TheVariants.{Colon}
+use Rattle.kt_rules.specs.Names.{cut_place, unquoted}
+use Rattle.kt_rules.specs.RuleLine.{colon_cut}
+
+abbrev is_backslash : ℕ → Bool
+is_backslash byte = byte == 92
+
+first_false : (a b : Bool) → (a || b) ≡ false → a ≡ false
+first_false false b h = refl
+first_false true b h = h
+
+rest_false : (a b : Bool) → (a || b) ≡ false → b ≡ false
+rest_false false b h = h
+rest_false true b h = absurd (true≢false h)
+
+one_stays : (byte : ℕ) (text : Text) → is_backslash byte ≡ false → unquoted (byte ∷ text) ≡ byte ∷ unquoted text
+unfolding unquoted
+one_stays byte text h = rw h refl
+
+pub quotes_nothing : (text : Text) → list_any is_backslash text ≡ false → unquoted text ≡ text
+unfolding unquoted
+quotes_nothing [] none = refl
+quotes_nothing (byte ∷ text) none =
+    one_stays byte text (first_false (is_backslash byte) (list_any is_backslash text) none)
+    ∙ ap (λ (t : Text). byte ∷ t) (quotes_nothing text (rest_false (is_backslash byte) (list_any is_backslash text) none))
+
+stands_nowhere : (text : Text) → list_any is_backslash text ≡ false → (k : ℕ) → 0 ≤ k → k < length text + 1
+    → ¬ OccursAt text (92 ∷ 37 ∷ []) k
+stands_nowhere text none k low high stands =
+    let here : get_or text (k + 0) 0 ≡ 92 = stands.reads 0 (omega arith) in
+    let fits : k + 2 ≤ length text = stands.fits in
+    true≢false (sym (list_any_at is_backslash text (k + 0) 0 (omega (arith, fits)) (eq-eqb _ _ here)) ∙ none)
+
+pub quotes_no_percent : (text : Text) → list_any is_backslash text ≡ false → quotes_percent text ≡ false
+quotes_no_percent text none = sym (occurs_found text (92 ∷ 37 ∷ []) None (stands_nowhere text none))
+
+uncut : (behind : Bool) (byte : ℕ) (text : Text) → (byte == 58) ≡ false
+    → cut_place Colon behind (byte ∷ text) ≡ suc (cut_place Colon (byte == 92) text)
+unfolding cut_place
+uncut behind byte text h = rw h refl
+
+never_cut : (behind : Bool) (text : Text) → list_any (is_byte 58) text ≡ false → cut_place Colon behind text ≡ length text
+unfolding cut_place
+never_cut behind [] none = refl
+never_cut behind (byte ∷ text) none =
+    uncut behind byte text (first_false (byte == 58) (list_any (is_byte 58) text) none)
+    ∙ ap (λ n. suc n) (never_cut (byte == 92) text (rest_false (byte == 58) (list_any (is_byte 58) text) none))
+    ∙ omega arith
+
+not_found : (text : Text) → IsFirstByte (is_byte 58) text None → list_any (is_byte 58) text ≡ false
+not_found text found =
+    let same : length text ≡ position_or_len (is_byte 58) text = first_byte_place (is_byte 58) text None found in
+    list_any-place (is_byte 58) text ∙ le-ltb _ _ (omega arith)
+
+at_end : (place size : ℕ) (cut : Option (Text × Text)) → place ≡ size → (if place == size then None else cut) ≡ None
+at_end place size cut h = rw (eq-eqb place size h) refl
+
+pub no_colon : (text : Text) → IsFirstByte (is_byte 58) text None → colon_cut text ≡ None
+unfolding colon_cut
+no_colon text found =
+    let place = cut_place Colon false text in
+    at_end place (length text) (Some (take place text, drop (place + 1) text)) (never_cut false text (not_found text found))
