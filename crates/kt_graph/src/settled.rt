@@ -1,6 +1,8 @@
 //! Nodes as the graph holds them: names by their numbers.
-ghost use Rattle.std.specs.Prelude.{◌≡◌, [], flat_map, fold, IfOk, IfSome, OnOk};
-ghost use Rattle.kt_graph.specs.inner.Numbering.{input_numbers, numbers_without, order_only_numbers, with_number};
+ghost use Rattle.std.specs.Prelude.{◌≡◌, [], flat_map, fold, nat_eq, true, IfOk, IfSome, OnOk};
+ghost use Rattle.std.specs.List.{IsDistinct};
+ghost use Rattle.kt_graph.specs.inner.Numbering.{input_numbers, numbers_without, order_only_numbers, rise, rise_after};
+ghost use Rattle.kt_graph.specs.inner.Numbering.{with_number};
 
 use crate::node::NodeKind;
 use indexmap::IndexSet;
@@ -68,8 +70,8 @@ fn needed(alloc: Global, parts: &[Part]) -> Result<(Vec<usize>, Vec<usize>), All
     ensures inputs { IfOk result (λ needed. needed.0.items ≡ input_numbers parts.now) }
     ensures order_only { IfOk result (λ needed. needed.1.items ≡ order_only_numbers parts.now) }
 {
-    if let Some(few) = needed_few(parts) {
-        return Ok((distinct(alloc, few)?, Vec::new(alloc)));
+    if let Some(numbers) = prerequisites_alone(parts) {
+        return Ok((distinct(alloc, numbers)?, Vec::new(alloc)));
     }
     let inputs = inputs(alloc, parts)?;
     let order_only = order_only(alloc, parts, &inputs)?;
@@ -79,22 +81,35 @@ fn needed(alloc: Global, parts: &[Part]) -> Result<(Vec<usize>, Vec<usize>), All
     ))
 }
 
-// The prerequisites of the one part, where they are few and none is order-only, as with most nodes.
-fn needed_few<'p>(parts: &'p [Part]) -> Option<&'p [usize]>
+// The prerequisites of the one part, where none is order-only, as with most nodes.
+fn prerequisites_alone<'p>(parts: &'p [Part]) -> Option<&'p [usize]>
     ensures inputs { IfSome result (λ numbers. fold with_number [] numbers.now ≡ input_numbers parts.now) }
     ensures order_only { IfSome result (λ _. order_only_numbers parts.now ≡ []) }
 {
     let (part, others) = parts.split_first()?;
-    let numbers = part.needs.prerequisites.as_slice();
-    if others.is_empty() && numbers.len() <= FEW && part.needs.order_only.is_empty() {
-        Some(numbers)
+    if others.is_empty() && part.needs.order_only.is_empty() {
+        Some(part.needs.prerequisites.as_slice())
     } else {
         None
     }
 }
 
-// A few numbers, each once: they are compared with one another, which is cheaper than a set of them.
+// Numbers, each once. Most have no repeats.
+#[tactic(auto, using(crate::proofs::SettledLemmas::all_stay))]
 fn distinct(alloc: Global, numbers: &[usize]) -> Result<Vec<usize>, AllocError>
+    ensures { IfOk result (λ distinct. distinct.items ≡ fold with_number [] numbers.now) }
+{
+    if numbers.len() <= FEW {
+        return distinct_few(alloc, numbers);
+    }
+    if are_distinct(alloc, numbers)? {
+        return Vec::from_slice(alloc, numbers);
+    }
+    distinct_by_set(alloc, numbers)
+}
+
+// A few numbers, each once: they are compared with one another, which is cheaper than a set of them.
+fn distinct_few(alloc: Global, numbers: &[usize]) -> Result<Vec<usize>, AllocError>
     ensures { IfOk result (λ distinct. distinct.items ≡ fold with_number [] numbers.now) }
 {
     let mut distinct = Vec::with_capacity(alloc, numbers.len())?;
@@ -102,6 +117,52 @@ fn distinct(alloc: Global, numbers: &[usize]) -> Result<Vec<usize>, AllocError>
         add_if_new(&mut distinct, *number)?;
     }
     Ok(distinct)
+}
+
+fn distinct_by_set(alloc: Global, numbers: &[usize]) -> Result<Vec<usize>, AllocError>
+    ensures { IfOk result (λ distinct. distinct.items ≡ fold with_number [] numbers.now) }
+{
+    let mut set = IndexSet::new(alloc);
+    add_all(&mut set, numbers)?;
+    Vec::from_slice(alloc, set.as_slice())
+}
+
+// Whether no number stands twice: in order each is greater than the one before. Sorting is cheaper than a set.
+fn are_distinct(alloc: Global, numbers: &[usize]) -> Result<bool, AllocError>
+    ensures { IfOk result (λ distinct. distinct ≡ true → IsDistinct nat_eq numbers.now) }
+{
+    if rise(numbers) {
+        return Ok(true);
+    }
+    let mut sorted = Vec::from_slice(alloc, numbers)?;
+    sorted.sort_unstable();
+    Ok(rise(sorted.as_slice()))
+}
+
+// Whether each number is greater than the one before.
+#[tactic(auto, unfolding(crate::specs::inner::Numbering::rise))]
+fn rise(numbers: &[usize]) -> bool
+    ensures { result ≡ rise numbers.now }
+{
+    match numbers.split_first() {
+        None => true,
+        Some((first, later)) => rise_after(*first, later),
+    }
+}
+
+// Whether each number is greater than the one before, and the first than this one.
+#[tactic(auto, unfolding(crate::specs::inner::Numbering::rise_after))]
+fn rise_after(first: usize, numbers: &[usize]) -> bool
+    ensures { result ≡ rise_after first numbers.now }
+{
+    let mut last = first;
+    for number in numbers {
+        if *number <= last {
+            return false;
+        }
+        last = *number;
+    }
+    true
 }
 
 fn add_if_new(numbers: &mut Vec<usize>, number: usize) -> Result<(), AllocError>

@@ -1,6 +1,6 @@
 -- Names and nodes by numbers, as the code holds them (kati's own).
-use Rattle.std.specs.Prelude.{◌≡◌, ℕ, ◌<◌, not, List, [], ◌∷◌, ◌++◌, length, map, filter, flat_map, fold, nat_eq, All}
-use Rattle.std.specs.Prelude.{Option, Some, IfSome, option_map, slice_get, if◌then◌else◌}
+use Rattle.std.specs.Prelude.{◌≡◌, ℕ, ◌<◌, Bool, true, not, ◌&&◌, nat_eq, nat_lt, List, [], ◌∷◌, ◌++◌, length, map}
+use Rattle.std.specs.Prelude.{filter, flat_map, fold, All, Option, Some, IfSome, option_map, slice_get, if◌then◌else◌}
 use Rattle.std.specs.List.{AllZip, list_any}
 use Rattle.std.specs.declared.vec.Vec.{Vec}
 use Rattle.std.specs.declared.alloc.Global.{Global}
@@ -16,6 +16,16 @@ use Rattle.kt_graph.specs.Views.{instance_at, name_at, node_told}
 -- a number behind others, if it isn't among them
 abbrev pub with_number : List ℕ → ℕ → List ℕ
 with_number numbers number = if list_any (nat_eq number) numbers then numbers else numbers ++ number ∷ []
+
+-- each number is greater than the one before, the first than this one
+unfoldable pub rise_after : ℕ → List ℕ → Bool
+rise_after last [] = true
+rise_after last (number ∷ numbers) = nat_lt last number && rise_after number numbers
+
+-- each number is greater than the one before
+unfoldable pub rise : List ℕ → Bool
+rise [] = true
+rise (first ∷ numbers) = rise_after first numbers
 
 abbrev pub AreBelow : ℕ → List ℕ → Type 0
 AreBelow count numbers = All (λ number. number < count) numbers
