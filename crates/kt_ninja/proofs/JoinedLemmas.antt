@@ -134,16 +134,16 @@ not_from false h = refl
 
 -- a line of the file that is joined
 pub joins : (old : OpenLine) (line : CutLine) (new : OpenLine) (bytes kept : Text)
-    → old.blank ≡ is_blank old.text.items → is_comment old.text.items ≡ false
+    → old.blank ≡ is_blank old.text → is_comment old.text ≡ false
     → bytes ≡ added_text old.going_on line.bytes.now
     → new.going_on ≡ (line.ended && (ends_in_dollar false line.bytes.now && not (old.blank && is_comment bytes)))
     → kept ≡ kept_text new.going_on bytes
     → new.blank ≡ (old.blank && is_blank kept)
-    → new.text.items ≡ old.text.items ++ kept
+    → new.text ≡ old.text ++ kept
     → new.number ≡ old.number
     → Joins old line new
 joins old line new bytes kept blank plain is_added going is_kept is_blank_now text number =
-    let front = old.text.items in
+    let front = old.text in
     let joined = text_with old line in
     let whole : front ++ bytes ≡ joined = ap (λ b. front ++ b) is_added in
     let comment : is_comment joined ≡ (old.blank && is_comment bytes) =
@@ -152,7 +152,7 @@ joins old line new bytes kept blank plain is_added going is_kept is_blank_now te
     let on : new.going_on ≡ true → (ends_in_dollar false line.bytes.now ≡ true) × (is_comment joined ≡ false) = λ h.
     let parts = and_parts _ _ (sym goes ∙ h) in let inner = and_parts _ _ parts.1 in (inner.0, not_from _ inner.1) in
     let some : new.going_on ≡ true → 0 < length bytes = λ h. rw is_added (some-added old.going_on line.bytes.now (on h).0) in
-    let kept_is : new.text.items ≡ (if new.going_on then take (length joined - 1) joined else joined) =
+    let kept_is : new.text ≡ (if new.going_on then take (length joined - 1) joined else joined) =
     text ∙ ap (λ k. front ++ k) is_kept ∙ kept-append new.going_on front bytes some ∙ ap (λ j. if new.going_on then take (length j - 1) j else j) whole in
     record {
       going_on = goes;
@@ -163,8 +163,8 @@ joins old line new bytes kept blank plain is_added going is_kept is_blank_now te
     }
 
 -- the lines from a place on, by what was begun there
-joined_text-by : (g : Bool) (begun : OpenLine) (bytes : Text) → begun.going_on ≡ g → (g ≡ false → begun.text.items ≡ [])
-    → joined_text (begun_by g begun) bytes ≡ begun.text.items ++ added_text begun.going_on bytes
+joined_text-by : (g : Bool) (begun : OpenLine) (bytes : Text) → begun.going_on ≡ g → (g ≡ false → begun.text ≡ [])
+    → joined_text (begun_by g begun) bytes ≡ begun.text ++ added_text begun.going_on bytes
 joined_text-by true begun bytes h none = rw h refl
 joined_text-by false begun bytes h none = rw (h, none refl) refl
 
@@ -175,10 +175,10 @@ first_number-by false begun number h = sym (h refl)
 -- what a step leaves
 abbrev pub stepped : Bool → ℕ → OpenLine → CutLine → List FileLine → List Line
 stepped true number new line later = joined_from (number + 1) (begun_by true new) later
-stepped false number new line later = record { number = new.number; text = new.text.items; ended = line.ended } ∷ joined_from (number + 1) None later
+stepped false number new line later = record { number = new.number; text = new.text; ended = line.ended } ∷ joined_from (number + 1) None later
 
 step_by : (g : Bool) (number first : ℕ) (joined : Text) (new : OpenLine) (line : CutLine) (later : List FileLine)
-    → new.going_on ≡ g → new.number ≡ first → new.text.items ≡ (if g then take (length joined - 1) joined else joined)
+    → new.going_on ≡ g → new.number ≡ first → new.text ≡ (if g then take (length joined - 1) joined else joined)
     → (if g then joined_from (number + 1) (Some (record { first = first; front = take (length joined - 1) joined })) later
     else record { number = first; text = joined; ended = line.ended } ∷ joined_from (number + 1) None later)
     ≡ stepped g number new line later
@@ -186,7 +186,7 @@ step_by true number first joined new line later h n t = rw (n, t) refl
 step_by false number first joined new line later h n t = rw (n, t) refl
 
 pub joined_step : (number : ℕ) (begun : OpenLine) (line : CutLine) (later : List FileLine) (new : OpenLine)
-    → Joins begun line new → (begun.going_on ≡ false → begun.number ≡ number) → (begun.going_on ≡ false → begun.text.items ≡ [])
+    → Joins begun line new → (begun.going_on ≡ false → begun.number ≡ number) → (begun.going_on ≡ false → begun.text ≡ [])
     → joined_from number (begun_by begun.going_on begun) (file_line line ∷ later) ≡ stepped new.going_on number new line later
 unfolding joined_from
 joined_step number begun line later new joins numbered fresh =
@@ -203,11 +203,11 @@ pub pushed : (number : ℕ) (lines more : List Line) (begun new last : OpenLine)
     → joined_from number (begun_by begun.going_on begun) (file_line line ∷ later) ≡ stepped new.going_on number new line later
     → rest ≡ file_line line ∷ later
     → lines ++ joined_from number (begun_by begun.going_on begun) rest ≡ whole
-    → new.going_on ≡ false → ended ≡ record { number = new.number; text = new.text.items; ended = line.ended } → more ≡ lines ++ ended ∷ [] → last.going_on ≡ new.going_on
+    → new.going_on ≡ false → ended ≡ record { number = new.number; text = new.text; ended = line.ended } → more ≡ lines ++ ended ∷ [] → last.going_on ≡ new.going_on
     → more ++ joined_from (number + 1) (begun_by last.going_on last) later ≡ whole
 pushed number lines more begun new last line rest later whole ended step cut before off ends longer same =
     rw (same, off, longer, ends)
-    (append_assoc lines (record { number = new.number; text = new.text.items; ended = line.ended } ∷ []) (joined_from (number + 1) None later)
+    (append_assoc lines (record { number = new.number; text = new.text; ended = line.ended } ∷ []) (joined_from (number + 1) None later)
     ∙ ap (λ l. lines ++ l) (rw off at (sym step))
     ∙ rw cut at before)
 

@@ -1,6 +1,7 @@
 -- The parts of a file, one after another.
-use Rattle.std.proofs.Common.{◌≡◌, ℕ, suc, Bool, true, false, not, List, [], ◌∷◌, ◌++◌, refl, sym, ◌∙◌, ap, append_assoc, append-nil, subst, take, drop, map, arith, Option, Some, None, option_map, Result, Ok, Err, MatchResult, ⊎_elim}
+use Rattle.std.proofs.Common.{◌≡◌, ◌≤◌, ◌+◌, ◌-◌, ℕ, suc, Bool, true, false, not, List, [], ◌∷◌, ◌++◌, refl, sym, ◌∙◌, ap, append_assoc, append-nil, subst, length, take, drop, map, arith, Option, Some, None, option_map, Result, Ok, Err, MatchResult, ⊎_elim}
 use Rattle.std.proofs.lemmas.Bool.{cases_Bool}
+use Rattle.std.proofs.lemmas.List.{drop-drop, length-drop}
 use Rattle.std.specs.List.{prefix_len}
 use Rattle.kt_ninja.specs.declared.joined.Line.{Line}
 use Rattle.kt_ninja.specs.declared.plan.Plan.{Plan}
@@ -115,16 +116,30 @@ first_part head after none =
     (cases_Bool (begins_part head.text))
 
 -- the part that the first line begins, and those behind it
-pub parts_step : (state : State) (head : Line) (after rest body later : List Line) → rest ≡ head ∷ after → (cut_lines rest).before ≡ []
+pub parts_cut : (head : Line) (after rest body later : List Line) → rest ≡ head ∷ after → (cut_lines rest).before ≡ []
     → body ≡ take (length_before after) after → later ≡ drop (length_before after) after
+    → (cut_lines rest).parts ≡ part_of head body ∷ (cut_lines later).parts
+parts_cut head after rest body later is none front back =
+    let whole : (cut_lines (head ∷ after)).before ≡ [] = ap (λ l. (cut_lines l).before) (sym is) ∙ none in
+    ap (λ l. (cut_lines l).parts) is
+    ∙ first_part head after whole
+    ∙ ap (λ b. part_of head b ∷ (cut_lines after).parts) (before_is after ∙ sym front)
+    ∙ ap (λ ps. part_of head body ∷ ps) (parts_are after ∙ ap (λ l. (cut_lines l).parts) (sym back))
+
+pub left_behind : (head : Line) (after lines : List Line) (from n : ℕ) → drop from lines ≡ head ∷ after → drop (from + 1 + n) lines ≡ drop n after
+left_behind head after lines from n is =
+    let same : from + 1 + n ≡ from + suc n = omega arith in
+    ap (λ k. drop k lines) same ∙ sym (drop-drop (suc n) from lines) ∙ ap (drop (suc n)) is
+
+pub next_bound : (head : Line) (after lines : List Line) (from n : ℕ) → drop from lines ≡ head ∷ after → n ≤ length after → from + 1 + n ≤ length lines
+next_bound head after lines from n is bound =
+    let left : length lines - from ≡ suc (length after) = sym (length-drop from lines) ∙ ap length is in
+    omega (arith, left, bound)
+
+pub parts_step : (state : State) (head : Line) (rest body later : List Line) → (cut_lines rest).parts ≡ part_of head body ∷ (cut_lines later).parts
     → read_parts state (cut_lines rest).parts ≡ and_then_parts head.number (read_part state (part_of head body)) (λ s. read_parts s (cut_lines later).parts)
 unfolding read_parts
-parts_step state head after rest body later is none front back =
-    let whole : (cut_lines (head ∷ after)).before ≡ [] = ap (λ l. (cut_lines l).before) (sym is) ∙ none in
-    ap (λ l. read_parts state (cut_lines l).parts) is
-    ∙ ap (read_parts state) (first_part head after whole)
-    ∙ ap (λ b. and_then_parts head.number (read_part state (part_of head b)) (λ s. read_parts s (cut_lines after).parts)) (before_is after ∙ sym front)
-    ∙ ap (λ ps. and_then_parts head.number (read_part state (part_of head body)) (λ s. read_parts s ps)) (parts_are after ∙ ap (λ l. (cut_lines l).parts) (sym back))
+parts_step state head rest body later cut = ap (read_parts state) cut
 
 nothing_before : read_part nothing_read (part_before []) ≡ Some nothing_read
 unfolding read_part block_from

@@ -2,6 +2,7 @@
 pub mod Spelled
 pub mod Cutting
 pub mod Joining
+pub mod Parting
 pub mod Refusals
 pub mod Wording
 pub mod Holding

@@ -8,17 +8,17 @@ ghost use Rattle.kt_ninja.specs.JoinedLines.{without_indent};
 ghost use Rattle.kt_ninja.specs.inner.Joining.{Joins, added_text, file_line, kept_text};
 
 use crate::bytes::first_byte;
-use kt_list::Sequence;
+use crate::line_text::LineText;
 use memchr::memchr;
 use std::alloc::{AllocError, Global};
 use std::mem;
 
 /// A line with those that are joined to it, without newlines.
 #[derive(Debug, Drop)]
-pub(crate) struct Line {
+pub(crate) struct Line<'t> {
     /// The number of its first line in the file, from 1.
     pub(crate) number: u64,
-    pub(crate) text: Sequence<u8>,
+    pub(crate) text: LineText<'t>,
     /// Whether it ends with a newline.
     pub(crate) ended: bool,
 }
@@ -137,9 +137,9 @@ fn without_last(text: &[u8]) -> &[u8]
 
 // What was joined so far to a line: whether it goes on, and is blank so far.
 #[derive(Drop)]
-struct Begun {
+struct Begun<'t> {
     number: u64,
-    text: Vec<u8>,
+    text: LineText<'t>,
     blank: bool,
     going_on: bool,
 }
@@ -176,11 +176,11 @@ fn stays_blank(blank: bool, bytes: &[u8]) -> bool
     blank && is_blank(bytes)
 }
 
-impl Begun {
+impl<'t> Begun<'t> {
     // Joins a line of the file to it.
-    fn join(&mut self, line: &FileLine) -> Result<(), AllocError>
-        requires blank { self.old.blank ≡ is_blank self.old.text.items }
-        requires plain { is_comment self.old.text.items ≡ false }
+    fn join(&mut self, alloc: Global, line: &FileLine<'t>) -> Result<(), AllocError>
+        requires blank { self.old.blank ≡ is_blank self.old.text }
+        requires plain { is_comment self.old.text ≡ false }
         ensures joined { OnOk result (Joins self.old line.now self.new) }
     {
         let bytes = added(self.going_on, line.bytes);
@@ -189,18 +189,18 @@ impl Begun {
         let blank = stays_blank(self.blank, kept);
         self.going_on = going_on;
         self.blank = blank;
-        self.text.extend_from_slice(kept)
+        self.text.add(alloc, kept)
     }
 
     // The line, which ends, and what is begun behind it.
-    fn end(&mut self, alloc: Global, ended: bool, next: u64) -> Line
-        ensures line { result ≡ record { number = self.old.number; text = self.old.text.items; ended = ended } }
-        ensures empty { self.new.text.items ≡ [] }
+    fn end(&mut self, ended: bool, next: u64) -> Line<'t>
+        ensures line { result ≡ record { number = self.old.number; text = self.old.text; ended = ended } }
+        ensures empty { self.new.text ≡ [] }
         ensures begun { (self.new.number ≡ next) × (self.new.blank ≡ true) × (self.new.going_on ≡ self.old.going_on) }
     {
         let line = Line {
             number: self.number,
-            text: Sequence::from(mem::replace(&mut self.text, Vec::new(alloc))),
+            text: mem::replace(&mut self.text, LineText::empty()),
             ended,
         };
         self.number = next;
@@ -210,7 +210,7 @@ impl Begun {
 }
 
 /// The joined lines of the text (Ninja manual, "Lexical syntax").
-pub(crate) fn joined_lines(alloc: Global, text: &[u8]) -> Result<Vec<Line>, AllocError>
+pub(crate) fn joined_lines(alloc: Global, text: &[u8]) -> Result<Vec<Line<'_>>, AllocError>
     ensures { IfOk result (λ lines. lines.items ≡ joined_lines text.now) }
 {
     let mut lines = Vec::new(alloc);
@@ -218,21 +218,21 @@ pub(crate) fn joined_lines(alloc: Global, text: &[u8]) -> Result<Vec<Line>, Allo
     let mut next = 1;
     let mut begun = Begun {
         number: 1,
-        text: Vec::new(alloc),
+        text: LineText::empty(),
         blank: true,
         going_on: false,
     };
     while !rest.is_empty() {
         let line = first_line(rest);
         next += 1;
-        begun.join(&line)?;
+        begun.join(alloc, &line)?;
         if !begun.going_on {
-            lines.push(begun.end(alloc, line.ended, next))?;
+            lines.push(begun.end(line.ended, next))?;
         }
         rest = line.after;
     }
     if begun.going_on {
-        lines.push(begun.end(alloc, false, next))?;
+        lines.push(begun.end(false, next))?;
     }
     Ok(lines)
 }

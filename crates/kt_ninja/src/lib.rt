@@ -8,6 +8,7 @@ mod escapes;
 mod forms;
 mod joined;
 pub mod laws;
+mod line_text;
 mod memory;
 mod plan;
 mod printer;

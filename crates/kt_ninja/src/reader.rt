@@ -8,6 +8,7 @@ ghost use Rattle.kt_ninja.specs.NinjaRead.{all_parts, begins_part, block_of, cut
 ghost use Rattle.kt_ninja.specs.NinjaRead.{ninja_read, nothing_read, read_part, read_parts};
 ghost use Rattle.kt_ninja.specs.Reading.{Adds, Misreads, Stops, build_line, default_line, fault_at, line_binding};
 ghost use Rattle.kt_ninja.specs.Reading.{margin_line, part_before, part_of, read_text, rule_line};
+ghost use Rattle.kt_ninja.specs.inner.Parting.{CutsPart};
 ghost use Rattle.kt_ninja.specs.inner.Refusals.{Reads, ReadsAs};
 ghost use Rattle.kt_ninja.specs.Pieces.{pieces};
 ghost use Rattle.kt_ninja.specs.Text.{plan_text};
@@ -87,7 +88,7 @@ fn add_line<'t>(
     alloc: Global,
     closed: bool,
     bindings: &mut Vec<Binding<'t>>,
-    line: &'t Line,
+    line: &'t Line<'t>,
 ) -> Result<bool, Fault>
     ensures { MatchResult result (λ now. Adds closed (map binding_told bindings.old.items) line.now now
         (map binding_told bindings.new.items)) (Stops closed line.now) }
@@ -107,7 +108,7 @@ fn add_line<'t>(
 }
 
 // The bindings of a block.
-fn block(alloc: Global, body: &[Line]) -> Result<Vec<Binding<'_>>, Fault>
+fn block<'t>(alloc: Global, body: &'t [Line<'t>]) -> Result<Vec<Binding<'t>>, Fault>
     ensures { ReadsAs (λ block. map binding_told block.items) result (block_of body.now) }
 {
     let mut bindings = Vec::new(alloc);
@@ -212,7 +213,7 @@ fn read_text<'t>(
 
 // The lines before the first that begins a part.
 #[tactic(auto, unfolding(crate::specs::NinjaRead::read_part))]
-fn read_before(alloc: Global, body: &[Line]) -> Result<(), Fault>
+fn read_before<'t>(alloc: Global, body: &'t [Line<'t>]) -> Result<(), Fault>
     ensures { ReadsAs (λ _. nothing_read) result (read_part nothing_read (part_before body.now)) }
 {
     if !all_sound(body) {
@@ -231,8 +232,8 @@ fn read_before(alloc: Global, body: &[Line]) -> Result<(), Fault>
 fn read_part<'t>(
     alloc: Global,
     state: State<'t>,
-    head: &'t Line,
-    body: &'t [Line],
+    head: &'t Line<'t>,
+    body: &'t [Line<'t>],
 ) -> Result<State<'t>, Fault>
     ensures { Reads result (read_part state.entry (part_of head.now body.now)) }
 {
@@ -260,27 +261,59 @@ fn fault_at(number: u64, fault: Fault) -> ReadFault
     }
 }
 
+// A part of the file: the line that begins it, those below it, and where the next part begins.
+#[derive(Drop)]
+struct PartLines<'t> {
+    head: &'t Line<'t>,
+    body: &'t [Line<'t>],
+    next: usize,
+}
+
+fn lines_from<'t>(lines: &'t [Line<'t>], from: usize) -> &'t [Line<'t>]
+    requires { from ≤ length lines.now }
+    ensures { result.now ≡ drop from lines.now }
+{
+    &lines[from..]
+}
+
+// The part that begins at this line. The place is a number: the borrow checker loses a slice of such lines in a loop.
+fn part_at<'t>(lines: &'t [Line<'t>], from: usize) -> Option<PartLines<'t>>
+    requires bound { from ≤ length lines.now }
+    requires begun { (cut_lines (drop from lines.now)).before ≡ [] }
+    ensures { MatchOption result (drop from lines.now ≡ []) (CutsPart lines.now from) }
+{
+    let left = lines_from(lines, from);
+    match left.split_first() {
+        None => None,
+        Some((head, after)) => {
+            let length = body_length(after);
+            let body = &after[..length];
+            let next = from + 1 + length;
+            Some(PartLines { head, body, next })
+        }
+    }
+}
+
 // The parts of the file, where no line stands before the first.
-fn read_parts(alloc: Global, parts: &[Line]) -> Result<State<'_>, ReadFault>
+fn read_parts<'t>(alloc: Global, parts: &'t [Line<'t>]) -> Result<State<'t>, ReadFault>
     requires { (cut_lines parts.now).before ≡ [] }
     ensures { MatchResult result (λ state. read_parts nothing_read (cut_lines parts.now).parts
         ≡ Ok state) (Misreads (read_parts nothing_read (cut_lines parts.now).parts)) }
 {
     let mut state = State::new(alloc);
-    let mut rest = parts;
-    while let Some((head, after)) = rest.split_first() {
-        let (body, later) = after.split_at(body_length(after));
-        match read_part(alloc, state, head, body) {
+    let mut from = 0;
+    while let Some(part) = part_at(parts, from) {
+        match read_part(alloc, state, part.head, part.body) {
             Ok(next) => state = next,
-            Err(fault) => return Err(fault_at(head.number, fault)),
+            Err(fault) => return Err(fault_at(part.head.number, fault)),
         }
-        rest = later;
+        from = part.next;
     }
     Ok(state)
 }
 
 // All lines of the file.
-fn read_lines(alloc: Global, lines: &[Line]) -> Result<State<'_>, ReadFault>
+fn read_lines<'t>(alloc: Global, lines: &'t [Line<'t>]) -> Result<State<'t>, ReadFault>
     ensures { MatchResult result (λ state. read_parts nothing_read (all_parts (cut_lines lines.now))
         ≡ Ok state) (Misreads (read_parts nothing_read (all_parts (cut_lines lines.now)))) }
 {

@@ -10,7 +10,7 @@ file_line cut = record { bytes = cut.bytes.now; ended = cut.ended }
 
 -- what was begun, if a line goes on
 abbrev pub begun_by : Bool → OpenLine → Option Begun
-begun_by true begun = Some (record { first = begun.number; front = begun.text.items })
+begun_by true begun = Some (record { first = begun.number; front = begun.text })
 begun_by false begun = None
 
 -- what a line of the file adds to a joined one, or begins it with
@@ -20,16 +20,16 @@ added_text false bytes = bytes
 
 -- the text with a further line
 abbrev pub text_with : OpenLine → CutLine → Text
-text_with begun line = begun.text.items ++ added_text begun.going_on line.bytes.now
+text_with begun line = begun.text ++ added_text begun.going_on line.bytes.now
 
 -- the line was joined: where it goes on, without its last dollar
 pub record Joins (old : OpenLine) (line : CutLine) (new : OpenLine) : Type 0 where
   pub going_on : new.going_on ≡ goes_on (file_line line) (text_with old line)
-  pub kept : new.text.items ≡ (if new.going_on then take (length (text_with old line) - 1) (text_with old line)
+  pub kept : new.text ≡ (if new.going_on then take (length (text_with old line) - 1) (text_with old line)
       else text_with old line)
   pub same_number : new.number ≡ old.number
-  pub blank : new.blank ≡ is_blank new.text.items
-  pub plain : new.going_on ≡ true → is_comment new.text.items ≡ false
+  pub blank : new.blank ≡ is_blank new.text
+  pub plain : new.going_on ≡ true → is_comment new.text ≡ false
 
 -- what is kept of it: where the line goes on, all but its last dollar
 abbrev pub kept_text : Bool → Text → Text

@@ -12,9 +12,9 @@ unfolding joined_lines is_comment
 loop-rest-init c = record {
   cut = rw c.new-lines.ensures.items refl;
   numbered = λ _. refl;
-  fresh = λ _. c.new.ensures.items;
-  blank = rw c.new.ensures.items refl;
-  plain = rw c.new.ensures.items refl;
+  fresh = λ _. c.empty.ensures;
+  blank = rw c.empty.ensures refl;
+  plain = rw c.empty.ensures refl;
   bound = omega arith;
 }
 

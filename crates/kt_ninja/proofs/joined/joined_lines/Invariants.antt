@@ -7,9 +7,9 @@ abbrev pub invariant-loop-rest : goal.invariant-loop-rest
 invariant-loop-rest l = record {
   cut : l.lines.items ++ joined_from l.next (begun_by l.begun.going_on l.begun) (file_lines l.rest) ≡ joined_lines l.text;
   numbered : l.begun.going_on ≡ false → l.begun.number ≡ l.next;
-  fresh : l.begun.going_on ≡ false → l.begun.text.items ≡ [];
-  blank : l.begun.blank ≡ is_blank l.begun.text.items;
-  plain : is_comment l.begun.text.items ≡ false;
+  fresh : l.begun.going_on ≡ false → l.begun.text ≡ [];
+  blank : l.begun.blank ≡ is_blank l.begun.text;
+  plain : is_comment l.begun.text ≡ false;
   bound : l.next + length l.rest ≤ length l.text + 1;
 }
 

@@ -6,9 +6,9 @@ use Rattle.kt_ninja.proofs.joined.Begun.join.Goals as goal
 
 pub returns : goal.returns
 returns c =
-    let new : OpenLine = record { number = c.args.self.now.number; text = c.extend_from_slice.new.self; blank = c.stays_blank-blank.result; going_on = c.goes_on-going_on.result } in
+    let new : OpenLine = record { number = c.args.self.now.number; text = c.add.new.self; blank = c.stays_blank-blank.result; going_on = c.goes_on-going_on.result } in
     record {
-      joined = on_ok_weaker c.extend_from_slice.result
+      joined = on_ok_weaker c.add.result
           (λ text. joins c.args.self.now c.args.line.now new c.added-bytes.result.now c.kept-kept.result.now c.requires.blank c.requires.plain c.added-bytes.ensures c.goes_on-going_on.ensures c.kept-kept.ensures c.stays_blank-blank.ensures text refl)
-          (ok_items c.extend_from_slice.result c.extend_from_slice.new.self.items (c.args.self.now.text.items ++ c.kept-kept.result.now) c.args.self.now.text.items c.extend_from_slice.ensures.items);
+          c.add.ensures;
     }
