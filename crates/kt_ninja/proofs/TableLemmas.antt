@@ -1,6 +1,7 @@
 -- Maps and sets of names, as lists.
 use Rattle.std.proofs.Common.{◌≡◌, ℕ, List, [], ◌∷◌, ◌++◌, refl, ap, map, ⊎_elim}
 use Rattle.std.proofs.lemmas.Bool.{cases_Bool}
+use Rattle.std.specs.Borrow.{Bor}
 use Rattle.std.specs.List.{list_any}
 use Rattle.std.specs.Str.{bytes_eq}
 use Rattle.std.specs.Map.{lookup}
@@ -26,6 +27,20 @@ unfolding put_in
 put_in_entries [] name value = refl
 put_in_entries (e ∷ es) name value =
     ⊎_elim (λ h. rw h refl) (λ h. rw h (ap (λ later. (e.0.items, e.1) ∷ later) (put_in_entries es name value))) (cases_Bool (bytes_eq name.items e.0.items))
+
+-- the same where the names are borrowed
+pub find_in_borrowed : {V : Type 0} (entries : List (Bor (List ℕ) × V)) (name : List ℕ)
+    → find_in (map (λ e. (e.0.now, e.1)) entries) name ≡ lookup (λ k. bytes_eq name k.now) entries
+unfolding find_in
+find_in_borrowed [] name = refl
+find_in_borrowed (e ∷ es) name = ⊎_elim (λ h. rw h refl) (λ h. rw h (find_in_borrowed es name)) (cases_Bool (bytes_eq name e.0.now))
+
+pub put_in_borrowed : {V : Type 0} (entries : List (Bor (List ℕ) × V)) (name : Bor (List ℕ)) (value : V)
+    → map (λ e. (e.0.now, e.1)) (insert_entry (λ j k. bytes_eq j.now k.now) entries name value) ≡ put_in (map (λ e. (e.0.now, e.1)) entries) name.now value
+unfolding put_in
+put_in_borrowed [] name value = refl
+put_in_borrowed (e ∷ es) name value =
+    ⊎_elim (λ h. rw h refl) (λ h. rw h (ap (λ later. (e.0.now, e.1) ∷ later) (put_in_borrowed es name value))) (cases_Bool (bytes_eq name.now e.0.now))
 
 pub among_keys : (keys : List Bytes) (name : List ℕ) → is_among (map (λ key. key.items) keys) name ≡ list_any (λ key. bytes_eq name key.items) keys
 among_keys [] name = refl

@@ -1,23 +1,94 @@
 //! Variables and what they stand for.
-ghost use Rattle.std.specs.Prelude.{◌≡◌, ◌∷◌, ◌++◌, IfOk, OnOk, map};
+ghost use Rattle.std.specs.Prelude.{◌≡◌, ◌∷◌, ◌++◌, [], IfOk, OnOk, is_some, map};
 ghost use Rattle.std.specs.List.{list_all, flat_map};
+ghost use Rattle.std.specs.Option.{option_copied};
 ghost use Rattle.kt_ninja.specs.inner.Cutting.{dollar_piece};
-ghost use Rattle.kt_ninja.specs.Scopes.{byte_in_quotes, command_value, expanded, is_shell_safe, piece_text, shell_word};
-ghost use Rattle.kt_ninja.specs.Scopes.{shell_words, value_in, value_within};
+ghost use Rattle.kt_ninja.specs.Scopes.{byte_in_quotes, command_value, expanded, find_in, is_shell_safe, piece_text};
+ghost use Rattle.kt_ninja.specs.Scopes.{put_in, shell_word, shell_words, value_in, value_within};
 
 use crate::plan::Name;
 use crate::spelling::{Dollar, Spelling};
 use crate::table::Table;
 use kt_list::Sequence;
 use std::alloc::{AllocError, Global};
+use std::boxed::Box;
+use std::marker::Model;
+use std::mem;
 
 /// The values of variables.
 pub(crate) type Scope = Table<Sequence<u8>>;
 
+/// The values of a block's variables. A block that sets none, as most do, holds no table.
+#[derive(Drop)]
+pub(crate) struct BlockScope {
+    values: Option<Box<Scope>>,
+}
+
+impl Model for BlockScope {
+    ghost use Rattle.std.specs.Prelude.{ℕ, List, [], option_map, unwrap_or};
+
+    ghost Value = { List (List ℕ × List ℕ) };
+
+    ghost view = { λ s. unwrap_or (option_map (λ b. b.value) s.values) [] };
+}
+
+impl BlockScope {
+    pub(crate) fn new() -> BlockScope
+        ensures { result ≡ [] }
+    {
+        BlockScope { values: None }
+    }
+
+    #[tactic(auto, unfolding(crate::specs::Scopes::find_in))]
+    pub(crate) fn get(&self, name: &[u8]) -> Option<&Sequence<u8>>
+        ensures { option_copied result ≡ find_in self.now name.now }
+    {
+        match &self.values {
+            Some(values) => values.as_ref().get(name),
+            None => None,
+        }
+    }
+
+    #[tactic(auto, unfolding(crate::specs::Scopes::find_in))]
+    pub(crate) fn has(&self, name: &[u8]) -> bool
+        ensures { result ≡ is_some (find_in self.now name.now) }
+    {
+        match &self.values {
+            Some(values) => values.as_ref().has(name),
+            None => false,
+        }
+    }
+
+    // Its table, which it holds no more.
+    fn take(&mut self, alloc: Global) -> Scope
+        ensures { result ≡ self.old }
+    {
+        match mem::replace(&mut self.values, None) {
+            Some(values) => Box::into_inner(values),
+            None => Table::new(alloc),
+        }
+    }
+
+    /// Puts the value at the name, in place of what was there.
+    pub(crate) fn put(
+        &mut self,
+        alloc: Global,
+        name: Vec<u8>,
+        value: Sequence<u8>,
+    ) -> Result<(), AllocError>
+        ensures { OnOk result (self.new ≡ put_in self.old name.items value) }
+    {
+        let mut values = self.take(alloc);
+        values.put(name, value)?;
+        self.values = Some(Box::new(alloc, values)?);
+        Ok(())
+    }
+}
+
 /// Where the variables of a path or a value are looked up.
 #[derive(Clone, Copy)]
 pub(crate) struct Scopes<'a> {
-    pub(crate) block: &'a Scope,
+    pub(crate) block: &'a BlockScope,
     pub(crate) file: &'a Scope,
 }
 

@@ -14,9 +14,9 @@ ghost use Rattle.kt_ninja.specs.Writable.{is_among};
 use crate::forms::{Binding, Build};
 use crate::plan::{Made, Name, Plan, Statement};
 use crate::read_fault::Fault;
-use crate::scopes::{CommandScopes, Scope, Scopes, command_line, expanded};
+use crate::scopes::{BlockScope, CommandScopes, Scope, Scopes, command_line, expanded};
 use crate::spelling::Spelling;
-use crate::table::{Names, Table};
+use crate::table::{Names, Rules, Table};
 use kt_list::Sequence;
 use std::alloc::{AllocError, Global};
 use std::marker::Model;
@@ -36,7 +36,7 @@ enum Making<'t> {
 struct Stated<'t> {
     outs: Sequence<Name>,
     making: Making<'t>,
-    block: Scope,
+    block: BlockScope,
     inputs: Sequence<Name>,
     implicit: Sequence<Name>,
     order_only: Sequence<Name>,
@@ -63,7 +63,7 @@ impl<'t> Model for Stated<'t> {
 pub(crate) struct State<'t> {
     alloc: Global,
     file: Scope,
-    rules: Table<Spelling<'t>>,
+    rules: Rules<'t>,
     stated: Vec<Stated<'t>>,
     outs: Names,
     defaults: Vec<Name>,
@@ -120,13 +120,13 @@ fn rule_command<'t>(alloc: Global, block: &[Binding<'t>]) -> Result<Spelling<'t>
     Ok(binding.value.again())
 }
 
-fn is_any_key(scope: &Scope, names: &[&[u8]]) -> bool
+fn is_any_key(scope: &BlockScope, names: &[&[u8]]) -> bool
     ensures { result ≡ list_any (λ name. is_some (find_in scope.now name.now)) names.now }
 {
     names.iter().any(|name| scope.has(*name))
 }
 
-fn refers_to_key(alloc: Global, scope: &Scope, spelling: &Spelling) -> Result<bool, AllocError>
+fn refers_to_key(alloc: Global, scope: &BlockScope, spelling: &Spelling) -> Result<bool, AllocError>
     ensures { IfOk result (λ refers. refers ≡ refers_to (λ name. is_some (find_in scope.now name)) spelling.now) }
 {
     let names = spelling.variables(alloc)?;
@@ -138,7 +138,7 @@ fn refers_to_key(alloc: Global, scope: &Scope, spelling: &Spelling) -> Result<bo
 fn value_of(alloc: Global, spelling: &Spelling, file: &Scope) -> Result<Vec<u8>, AllocError>
     ensures { IfOk result (λ text. text.items ≡ expanded (value_in file.now) spelling.now) }
 {
-    let none = Table::new(alloc);
+    let none = BlockScope::new();
     expanded(alloc, spelling, Scopes { block: &none, file })
 }
 
@@ -146,7 +146,7 @@ fn value_of(alloc: Global, spelling: &Spelling, file: &Scope) -> Result<Vec<u8>,
 fn add_to_block(
     alloc: Global,
     file: &Scope,
-    block: &mut Scope,
+    block: &mut BlockScope,
     binding: &Binding,
 ) -> Result<(), Fault>
     ensures { ReadsAs (λ _. block.new) result (block_with file.now block.old (binding_told binding.now)) }
@@ -156,15 +156,15 @@ fn add_to_block(
     }
     let key = Vec::from_slice(alloc, binding.key)?;
     let value = value_of(alloc, &binding.value, file)?;
-    block.put(key, Sequence::from(value))?;
+    block.put(alloc, key, Sequence::from(value))?;
     Ok(())
 }
 
 // The scope of a statement's block.
-fn block_scope(alloc: Global, file: &Scope, bindings: &[Binding]) -> Result<Scope, Fault>
+fn block_scope(alloc: Global, file: &Scope, bindings: &[Binding]) -> Result<BlockScope, Fault>
     ensures { Reads result (block_scope file.now [] (map binding_told bindings.now)) }
 {
-    let mut block = Table::new(alloc);
+    let mut block = BlockScope::new();
     for binding in bindings {
         add_to_block(alloc, file, &mut block, binding)?;
     }
@@ -197,7 +197,7 @@ fn paths(alloc: Global, paths: &[Spelling], scopes: Scopes) -> Result<Sequence<N
 fn paths_of_file(alloc: Global, targets: &[Spelling], file: &Scope) -> Result<Sequence<Name>, Fault>
     ensures { Reads result (paths_in (value_in file.now) targets.now) }
 {
-    let none = Table::new(alloc);
+    let none = BlockScope::new();
     paths(alloc, targets, Scopes { block: &none, file })
 }
 
@@ -206,7 +206,7 @@ fn with_paths<'t>(
     alloc: Global,
     build: &Build,
     making: Making<'t>,
-    block: Scope,
+    block: BlockScope,
     file: &Scope,
 ) -> Result<Stated<'t>, Fault>
     ensures { Reads result
@@ -278,6 +278,21 @@ impl<'t> Stated<'t> {
     }
 }
 
+// The statements, by the variables that the file leaves.
+fn statements(
+    alloc: Global,
+    file: &Scope,
+    stated: Vec<Stated>,
+) -> Result<Vec<Statement>, AllocError>
+    ensures { IfOk result (λ statements. statements.items ≡ map (statement_of file.now) stated.entry.items) }
+{
+    let mut statements = Vec::with_capacity(alloc, stated.len())?;
+    for statement in stated {
+        statements.push(statement.into_statement(alloc, file)?)?;
+    }
+    Ok(statements)
+}
+
 // Adds outputs, each of which is new.
 fn add_outs(alloc: Global, names: &mut Names, outs: &[Name]) -> Result<(), Fault>
     ensures { MatchResult result (λ _. (are_new names.old outs.now ≡ true)
@@ -312,7 +327,7 @@ impl<'t> State<'t> {
         State {
             alloc,
             file: Table::new(alloc),
-            rules: Table::new(alloc),
+            rules: Rules::new(alloc),
             stated: Vec::new(alloc),
             outs: Names::new(alloc),
             defaults: Vec::new(alloc),
@@ -334,7 +349,7 @@ impl<'t> State<'t> {
     #[tactic(auto, unfolding(crate::specs::NinjaRead::read_rule))]
     pub(crate) fn read_rule(
         mut self,
-        name: &[u8],
+        name: &'t [u8],
         block: &[Binding<'t>],
     ) -> Result<State<'t>, Fault>
         ensures { Reads result (read_rule self.entry name.now (map binding_told block.now)) }
@@ -343,13 +358,12 @@ impl<'t> State<'t> {
             return Err(Fault::NoReading);
         }
         let command = rule_command(self.alloc, block)?;
-        let name = Vec::from_slice(self.alloc, name)?;
         self.rules.put(name, command)?;
         Ok(self)
     }
 
     #[tactic(auto, unfolding(crate::specs::NinjaRead::making_of))]
-    fn making(&self, rule: &[u8], block: &Scope) -> Result<Making<'t>, Fault>
+    fn making(&self, rule: &[u8], block: &BlockScope) -> Result<Making<'t>, Fault>
         ensures { ReadsAs (λ making. making_as block.now making) result (making_of self.now rule.now block.now) }
     {
         if is_phony(rule) {
@@ -368,7 +382,7 @@ impl<'t> State<'t> {
     }
 
     // The scope of a block.
-    fn block(&self, bindings: &[Binding]) -> Result<Scope, Fault>
+    fn block(&self, bindings: &[Binding]) -> Result<BlockScope, Fault>
         ensures { Reads result (block_scope self.now.file [] (map binding_told bindings.now)) }
     {
         block_scope(self.alloc, &self.file, bindings)
@@ -379,7 +393,7 @@ impl<'t> State<'t> {
         &self,
         build: &Build,
         making: Making<'t>,
-        block: Scope,
+        block: BlockScope,
     ) -> Result<Stated<'t>, Fault>
         ensures { Reads result
             (stated_with (value_within block self.now.file) (making_as block making.entry) (build_told build.now)) }
@@ -458,17 +472,17 @@ impl<'t> State<'t> {
         let State {
             alloc,
             file,
-            rules: _,
+            rules,
             stated,
-            outs: _,
+            outs,
             defaults,
         } = self;
-        let mut statements = Vec::new(alloc);
-        for statement in stated {
-            statements.push(statement.into_statement(alloc, &file)?)?;
-        }
+        // Given back first, so that the statements are made in their room.
+        drop(rules);
+        drop(outs);
+        let made = statements(alloc, &file, stated)?;
         Ok(Plan {
-            statements: Sequence::from(statements),
+            statements: Sequence::from(made),
             defaults: Sequence::from(defaults),
         })
     }

@@ -4,6 +4,7 @@ ghost use Rattle.std.specs.Option.{option_copied};
 ghost use Rattle.kt_ninja.specs.Scopes.{find_in, put_in};
 ghost use Rattle.kt_ninja.specs.Writable.{is_among};
 
+use crate::spelling::Spelling;
 use indexmap::{IndexMap, IndexSet};
 use std::alloc::{AllocError, Global};
 use std::marker::Model;
@@ -49,6 +50,53 @@ impl<V: Drop> Table<V> {
         ensures { OnOk result (self.new ≡ put_in self.old name.items value) }
     {
         self.entries.insert(name, value)?;
+        Ok(())
+    }
+}
+
+// The commands of rules by their names, which stand in the file.
+#[derive(Drop)]
+pub(crate) struct Rules<'t> {
+    commands: IndexMap<&'t [u8], Spelling<'t>>,
+}
+
+impl<'t> Model for Rules<'t> {
+    ghost use Rattle.std.specs.Prelude.{ℕ, List, map};
+    ghost use Rattle.kt_ninja.specs.Pieces.{Piece};
+
+    ghost Value = { List (List ℕ × List Piece) };
+
+    ghost view = { λ r. map (λ e. (e.0.now, e.1)) r.commands.entries };
+}
+
+impl<'t> Rules<'t> {
+    pub(crate) fn new(alloc: Global) -> Rules<'t>
+        ensures { result ≡ [] }
+    {
+        Rules {
+            commands: IndexMap::new(alloc),
+        }
+    }
+
+    #[tactic(auto, using(crate::proofs::TableLemmas::find_in_borrowed))]
+    pub(crate) fn get(&self, name: &[u8]) -> Option<&Spelling<'t>>
+        ensures { option_copied result ≡ find_in self.now name.now }
+    {
+        self.commands.get(name)
+    }
+
+    #[tactic(auto, using(crate::proofs::TableLemmas::find_in_borrowed))]
+    pub(crate) fn has(&self, name: &[u8]) -> bool
+        ensures { result ≡ is_some (find_in self.now name.now) }
+    {
+        self.commands.contains_key(name)
+    }
+
+    // Puts the command at the name, in place of what was there.
+    pub(crate) fn put(&mut self, name: &'t [u8], command: Spelling<'t>) -> Result<(), AllocError>
+        ensures { OnOk result (self.new ≡ put_in self.old name.now command.entry) }
+    {
+        self.commands.insert(name, command)?;
         Ok(())
     }
 }

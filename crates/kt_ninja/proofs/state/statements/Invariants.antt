@@ -1,6 +1,6 @@
 use Rattle.std.proofs.Common.{◌≡◌, map}
 use Rattle.kt_ninja.specs.NinjaRead.{statement_of}
-use Rattle.kt_ninja.proofs.state.State.into_plan.Given as goal
+use Rattle.kt_ninja.proofs.state.statements.Given as goal
 
 abbrev pub invariant-loop-statement : goal.invariant-loop-statement
-invariant-loop-statement l = l.statements.items ≡ map (statement_of l.self-inside.file) l.yielded
+invariant-loop-statement l = l.statements.items ≡ map (statement_of l.file) l.yielded
