@@ -2,22 +2,23 @@
 ghost use Rattle.std.specs.Prelude.{◌≡◌, ◌++◌, [], IfOk, OnOk};
 
 use std::alloc::{AllocError, Global};
-use std::borrow::CowSlice;
+use std::boxed::Box;
 use std::marker::Model;
+use std::mem;
 
-/// A slice of the file, or a text of its own where lines were joined.
+/// A slice of the file, or a text of its own where lines were joined. Few are, so that their text is held apart.
 #[derive(Debug, Drop)]
 pub(crate) struct LineText<'t> {
-    text: CowSlice<'t, u8>,
+    front: &'t [u8],
+    joined: Option<Box<Vec<u8>>>,
 }
 
 impl<'t> Model for LineText<'t> {
-    ghost use Rattle.std.specs.Prelude.{ℕ, List};
-    ghost use Rattle.std.specs.Cow.{cow_slice_items};
+    ghost use Rattle.std.specs.Prelude.{ℕ, List, option_map, unwrap_or};
 
     ghost Value = { List ℕ };
 
-    ghost view = { λ line. cow_slice_items line.text };
+    ghost view = { λ line. unwrap_or (option_map (λ b. b.value.items) line.joined) line.front.now };
 }
 
 impl<'t> LineText<'t> {
@@ -25,16 +26,17 @@ impl<'t> LineText<'t> {
         ensures { result ≡ [] }
     {
         LineText {
-            text: CowSlice::Borrowed(&[]),
+            front: &[],
+            joined: None,
         }
     }
 
     pub(crate) fn as_slice(&self) -> &[u8]
         ensures { result.now ≡ self.now }
     {
-        match &self.text {
-            CowSlice::Borrowed(bytes) => *bytes,
-            CowSlice::Owned(text) => text.as_slice(),
+        match &self.joined {
+            Some(text) => text.as_ref().as_slice(),
+            None => self.front,
         }
     }
 
@@ -42,18 +44,19 @@ impl<'t> LineText<'t> {
     pub(crate) fn add(&mut self, alloc: Global, bytes: &'t [u8]) -> Result<(), AllocError>
         ensures { OnOk result (self.new ≡ self.old ++ bytes.now) }
     {
-        match &mut self.text {
-            CowSlice::Owned(text) => text.extend_from_slice(bytes),
-            CowSlice::Borrowed(front) => {
-                let front = *front;
-                if front.is_empty() {
-                    self.text = CowSlice::Borrowed(bytes);
-                } else {
-                    self.text = CowSlice::Owned(both(alloc, front, bytes)?);
-                }
-                Ok(())
+        match mem::replace(&mut self.joined, None) {
+            Some(text) => {
+                let mut text = Box::into_inner(text);
+                text.extend_from_slice(bytes)?;
+                self.joined = Some(Box::new(alloc, text)?);
+            }
+            None if self.front.is_empty() => self.front = bytes,
+            None => {
+                let text = both(alloc, self.front, bytes)?;
+                self.joined = Some(Box::new(alloc, text)?);
             }
         }
+        Ok(())
     }
 }
 
