@@ -249,10 +249,11 @@ impl<'a, M: Scope, F: Files> Evaluation<'a, M, F> {
         ensures asked { self.new.world.asked ≡ self.old.world.asked }
     {
         match front {
-            Some(front) => self.macros.append(name, flavour, front, &text),
+            Some(front) => self.macros.append(name, flavour, front, &text).unwrap(),
             None => {
                 let value = Shared::from_vec(text)?;
-                self.macros.put(name, Macro::of_makefile(flavour, value))
+                let value = Macro::of_makefile(flavour, value);
+                self.macros.put(name, value).unwrap()
             }
         }
     }
@@ -308,7 +309,7 @@ impl<'a, M: Scope, F: Files> Evaluation<'a, M, F> {
         ensures blames { Blames result self.old.failed self.new.failed self.new.world.asked }
         ensures unfailed { self.new.failed ≡ self.old.failed }
     {
-        match self.macros.add(rule) {
+        match self.macros.add(rule).unwrap() {
             Ok(warnings) => {
                 self.messages.append(&mut warnings.into_vec())?;
                 Ok(())

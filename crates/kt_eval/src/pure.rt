@@ -1,5 +1,5 @@
 //! Texts expanded after all reading, as recipes are.
-ghost use Rattle.std.specs.Prelude.{◌≡◌, [], false};
+ghost use Rattle.std.specs.Prelude.{◌≡◌, ◌++◌, ◌∷◌, [], OnErr, OnOk, false, map, string_bytes};
 ghost use Rattle.kt_eval.specs.Step.{Ends, ending};
 ghost use Rattle.kt_eval.specs.Expansion.{expanded};
 ghost use Rattle.kt_eval.specs.Fronts.{IsFront};
@@ -14,7 +14,7 @@ use crate::scope::Frozen;
 use crate::stop::Stop;
 use kt_list::Sequence;
 use kt_rules::Place;
-use std::alloc::Global;
+use std::alloc::{AllocError, Global};
 
 impl Macros {
     /// The text with its references expanded, for a recipe: no macro is set, so `eval` is refused.
@@ -37,7 +37,10 @@ impl Macros {
             (frozen_world self.now (A.values automatic.now) place messages.old.items))) }
     {
         let before = std::mem::replace(messages, Vec::new(alloc));
-        let mut files = NoFiles;
+        let mut files = NoFiles {
+            alloc,
+            asked: Vec::new(alloc),
+        };
         let mut evaluation = Evaluation {
             alloc,
             macros: Frozen {
@@ -66,28 +69,48 @@ impl Macros {
     }
 }
 
-// A recipe reads no file.
-#[derive(Clone, Copy)]
-struct NoFiles;
+// The files of a recipe: no name stands for any.
+#[derive(Drop)]
+struct NoFiles {
+    alloc: Global,
+    asked: Vec<String>,
+}
 
 impl Files for NoFiles {
-    ghost use Rattle.std.specs.Prelude.{Some};
+    ghost use Rattle.std.specs.Prelude.{[], Some, map, string_bytes};
 
     ghost known = { λ _. Some [] };
 
-    ghost names = { λ _. [] };
+    ghost names = { λ s. map string_bytes s.asked.items };
 
     ghost failed = { λ _. 0 };
 
-    fn read(&mut self, _name: &str) -> Result<Option<Vec<u8>>, FileFault> {
-        Err(FileFault::Memory)
+    fn read(&mut self, name: &str) -> Result<Option<Vec<u8>>, FileFault> {
+        match self.note(name) {
+            Ok(()) => Ok(None),
+            Err(_) => Err(FileFault::Memory),
+        }
     }
 
     fn asked(&self) -> &[String] {
-        &[]
+        self.asked.as_slice()
     }
 
     fn failures(&self) -> u64 {
         0
+    }
+}
+
+impl NoFiles {
+    // Notes that the name was asked for.
+    fn note(&mut self, name: &str) -> Result<(), AllocError>
+        ensures noted { OnOk result (map string_bytes self.new.asked.items
+            ≡ map string_bytes self.old.asked.items ++ name.now ∷ []) }
+        ensures refused { OnErr result (map string_bytes self.new.asked.items
+            ≡ map string_bytes self.old.asked.items) }
+    {
+        let name = name.to_string(self.alloc)?;
+        self.asked.push(name)?;
+        Ok(())
     }
 }

@@ -1,5 +1,6 @@
 //! Where names are looked up that nothing binds, and where rules go.
-ghost use Rattle.std.specs.Prelude.{◌≡◌, ◌++◌, ◌∷◌, [], Bool, List, IfOk, OnErr, OnOk, codes, option_map};
+ghost use Rattle.std.specs.Prelude.{◌≡◌, ◌++◌, ◌∷◌, [], Bool, List, codes, false, option_map};
+ghost use Rattle.std.specs.Prelude.{IfOk, IfSome, MatchOption, OnErr, OnOk};
 ghost use Rattle.kt_rules.specs.Book.{added, refusal_of};
 ghost use Rattle.kt_rules.specs.Entry.{Rule};
 ghost use Rattle.kt_rules.specs.Refusals.{Answers};
@@ -38,28 +39,32 @@ pub(crate) trait Scope {
     fn get(&self, name: &[u8]) -> Option<&Macro>
         ensures { option_map (λ entry. entry.now) result ≡ find name.now (table self.now) };
 
-    fn put(&mut self, name: Vec<u8>, value: Macro) -> Result<(), AllocError>
-        ensures set { OnOk result (table self.new ≡ put name.items value (table self.old)) }
+    // Sets a macro, if any may be set.
+    fn put(&mut self, name: Vec<u8>, value: Macro) -> Option<Result<(), AllocError>>
+        ensures set { MatchOption result (writable ≡ false)
+            (λ done. OnOk done (table self.new ≡ put name.items value (table self.old))) }
         ensures kept_automatic { automatic self.new ≡ automatic self.old }
         ensures kept_book { book self.new ≡ book self.old };
 
-    // Sets a macro to a text behind `front` and a space.
+    // Sets a macro to a text behind `front` and a space, if any may be set.
     fn append(
         &mut self,
         name: Vec<u8>,
         flavour: Flavour,
         front: Shared<u8>,
         text: &[u8],
-    ) -> Result<(), AllocError>
-        ensures set { OnOk result (table self.new
-            ≡ put name.items (set_by_makefile flavour ((front ++ codes " ") ++ text.now)) (table self.old)) }
+    ) -> Option<Result<(), AllocError>>
+        ensures set { MatchOption result (writable ≡ false) (λ done. OnOk done (table self.new
+            ≡ put name.items (set_by_makefile flavour ((front ++ codes " ") ++ text.now)) (table self.old))) }
         ensures kept_automatic { automatic self.new ≡ automatic self.old }
         ensures kept_book { book self.new ≡ book self.old };
 
-    fn add(&mut self, rule: Entry) -> Result<Warnings, RuleFault>
-        ensures answers { Answers result (added (book self.old) rule (refusal_of (book self.old) rule)) }
-        ensures grown { OnOk result (book self.new ≡ book self.old ++ rule ∷ []) }
-        ensures refused { OnErr result (book self.new ≡ book self.old) }
+    // Adds a rule, if any may be made.
+    fn add(&mut self, rule: Entry) -> Option<Result<Warnings, RuleFault>>
+        ensures answers { MatchOption result (writable ≡ false)
+            (λ result. Answers result (added (book self.old) rule (refusal_of (book self.old) rule))) }
+        ensures grown { IfSome result (λ result. OnOk result (book self.new ≡ book self.old ++ rule ∷ [])) }
+        ensures refused { IfSome result (λ result. OnErr result (book self.new ≡ book self.old)) }
         ensures kept_automatic { automatic self.new ≡ automatic self.old }
         ensures kept_table { table self.new ≡ table self.old };
 }
@@ -94,8 +99,8 @@ impl Scope for Makefile {
         self.macros.get(name)
     }
 
-    fn put(&mut self, name: Vec<u8>, value: Macro) -> Result<(), AllocError> {
-        self.macros.insert(name, value)
+    fn put(&mut self, name: Vec<u8>, value: Macro) -> Option<Result<(), AllocError>> {
+        Some(self.macros.insert(name, value))
     }
 
     fn append(
@@ -104,12 +109,12 @@ impl Scope for Makefile {
         flavour: Flavour,
         front: Shared<u8>,
         text: &[u8],
-    ) -> Result<(), AllocError> {
-        self.macros.append(name, flavour, front, text)
+    ) -> Option<Result<(), AllocError>> {
+        Some(self.macros.append(name, flavour, front, text))
     }
 
-    fn add(&mut self, rule: Entry) -> Result<Warnings, RuleFault> {
-        self.book.add(rule)
+    fn add(&mut self, rule: Entry) -> Option<Result<Warnings, RuleFault>> {
+        Some(self.book.add(rule))
     }
 }
 
@@ -149,24 +154,21 @@ impl<'a, A: Automatic> Scope for Frozen<'a, A> {
         self.macros.get(name)
     }
 
-    // Nothing calls this: where nothing may be written, `eval` is refused.
-    fn put(&mut self, _name: Vec<u8>, _value: Macro) -> Result<(), AllocError> {
-        Err(AllocError)
+    fn put(&mut self, _name: Vec<u8>, _value: Macro) -> Option<Result<(), AllocError>> {
+        None
     }
 
-    // Nor this.
     fn append(
         &mut self,
         _name: Vec<u8>,
         _flavour: Flavour,
         _front: Shared<u8>,
         _text: &[u8],
-    ) -> Result<(), AllocError> {
-        Err(AllocError)
+    ) -> Option<Result<(), AllocError>> {
+        None
     }
 
-    // Nor this.
-    fn add(&mut self, _rule: Entry) -> Result<Warnings, RuleFault> {
-        Err(RuleFault::Memory)
+    fn add(&mut self, _rule: Entry) -> Option<Result<Warnings, RuleFault>> {
+        None
     }
 }

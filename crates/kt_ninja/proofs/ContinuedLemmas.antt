@@ -4,8 +4,7 @@ use Rattle.std.proofs.lemmas.Bool.{cases_Bool, false≢true, eqb-true, and_from,
 use Rattle.std.proofs.lemmas.List.Folds.{list_all-append}
 use Rattle.std.proofs.lemmas.List.Concat.{flat_map-append}
 use Rattle.std.specs.List.{flat_map, list_all}
-use Rattle.kt_ninja.specs.declared.joined.Line.{Line}
-use Rattle.kt_ninja.specs.JoinedLines.{Begun, FileLine, Text, ends_in_dollar, file_lines, first_number, goes_on, is_comment, joined_from, joined_lines, joined_text, with_byte, without_indent}
+use Rattle.kt_ninja.specs.JoinedLines.{Begun, FileLine, Line, Text, ends_in_dollar, file_lines, first_number, goes_on, is_comment, joined_from, joined_lines, joined_text, with_byte, without_indent}
 use Rattle.kt_ninja.specs.Continued.{AreContinued, AreFronts, Continued, EndsRight, HasNoNewline, IsEnd, JoinedLaw, end_in_file, fronts_in_file, in_file, kept_of, numbered}
 use Rattle.kt_ninja.proofs.JoinedLemmas.{last-append}
 

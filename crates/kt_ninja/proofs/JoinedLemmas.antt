@@ -5,12 +5,11 @@ use Rattle.std.proofs.lemmas.List.Folds.{list_all-append}
 use Rattle.std.proofs.Math.Seq.{take-append-add, drop-cons}
 use Rattle.kt_ninja.specs.declared.joined.FileLine.{FileLine as CutLine}
 use Rattle.kt_ninja.specs.declared.joined.Begun.{Begun as OpenLine}
-use Rattle.kt_ninja.specs.declared.joined.Line.{Line}
 use Rattle.kt_ninja.specs.inner.Joining.{Joins, added_text, begun_by, file_line, kept_text, text_with}
 use Rattle.std.proofs.lemmas.List.Sums.{position_or_len_is}
 use Rattle.memchr.specs.Find.{IsFirstByte, is_byte}
 use Rattle.std.specs.List.{position_or_len}
-use Rattle.kt_ninja.specs.JoinedLines.{FileLine, Text, ends_in_dollar, file_lines, first_number, goes_on, is_blank, is_comment, joined_from, joined_text, left_over, with_byte, without_indent}
+use Rattle.kt_ninja.specs.JoinedLines.{FileLine, Line, Text, ends_in_dollar, file_lines, first_number, goes_on, is_blank, is_comment, joined_from, joined_text, left_over, with_byte, without_indent}
 
 -- whether a byte that was found is a hash
 abbrev pub is_hash : Option ℕ → Bool
@@ -199,14 +198,14 @@ unfolding joined_from
 joined_end g number begun = refl
 
 -- the lines that are left behind a step: one ended
-pub pushed : (number : ℕ) (lines more : List Line) (begun new last : OpenLine) (line : CutLine) (rest later : List FileLine) (whole : List Line) (ended : Line)
+pub pushed : (number : ℕ) (lines more : List Line) (begun new last : OpenLine) (line : CutLine) (rest later : List FileLine) (whole : List Line)
     → joined_from number (begun_by begun.going_on begun) (file_line line ∷ later) ≡ stepped new.going_on number new line later
     → rest ≡ file_line line ∷ later
     → lines ++ joined_from number (begun_by begun.going_on begun) rest ≡ whole
-    → new.going_on ≡ false → ended ≡ record { number = new.number; text = new.text; ended = line.ended } → more ≡ lines ++ ended ∷ [] → last.going_on ≡ new.going_on
+    → new.going_on ≡ false → more ≡ lines ++ record { number = new.number; text = new.text; ended = line.ended } ∷ [] → last.going_on ≡ new.going_on
     → more ++ joined_from (number + 1) (begun_by last.going_on last) later ≡ whole
-pushed number lines more begun new last line rest later whole ended step cut before off ends longer same =
-    rw (same, off, longer, ends)
+pushed number lines more begun new last line rest later whole step cut before off longer same =
+    rw (same, off, longer)
     (append_assoc lines (record { number = new.number; text = new.text; ended = line.ended } ∷ []) (joined_from (number + 1) None later)
     ∙ ap (λ l. lines ++ l) (rw off at (sym step))
     ∙ rw cut at before)

@@ -7,12 +7,11 @@ use Rattle.std.specs.Cmp.Lexicographic.{pointwise, other_text, same_text}
 use Rattle.std.proofs.lemmas.Bool.{and_from, and_parts}
 use Rattle.std.proofs.lemmas.List.Concat.{flat_map-append}
 use Rattle.std.proofs.lemmas.Map.Made.{IsDistinct-from_AllPairs}
-use Rattle.kt_ninja.specs.declared.joined.Line.{Line}
 use Rattle.kt_ninja.specs.declared.plan.Made.{Made}
 use Rattle.kt_ninja.specs.declared.plan.Made.TheVariants.{Command, Phony}
 use Rattle.kt_ninja.specs.declared.plan.Statement.{Statement}
 use Rattle.kt_ninja.specs.declared.plan.Plan.{Plan}
-use Rattle.kt_ninja.specs.JoinedLines.{Text, ends_in_dollar, file_lines, is_comment, joined_from, joined_lines}
+use Rattle.kt_ninja.specs.JoinedLines.{Line, Text, ends_in_dollar, file_lines, is_comment, joined_from, joined_lines}
 use Rattle.kt_ninja.specs.Forms.{Pieces}
 use Rattle.kt_ninja.specs.Scopes.{Table, command_value, find_in, put_in}
 use Rattle.kt_ninja.specs.NinjaRead.{Making, Part, Stated, all_parts, and_then_parts, are_new, block_from, by_nothing, by_rule, cut_lines, cut_with, made_of, making_of, nothing_read, ninja_read, outs_of, plan_in, plan_of, read_part, read_parts, statement_of}

@@ -6,11 +6,10 @@ use Rattle.std.proofs.lemmas.Bool.{and_from, and_parts}
 use Rattle.std.proofs.lemmas.List.Folds.{list_all-append}
 use Rattle.std.proofs.lemmas.List.Concat.{flat_map-append}
 use Rattle.kt_ninja.specs.Pieces.{Plain}
-use Rattle.kt_ninja.specs.declared.joined.Line.{Line}
 use Rattle.kt_ninja.specs.declared.plan.Made.{Made}
 use Rattle.kt_ninja.specs.declared.plan.Made.TheVariants.{Command, Phony}
 use Rattle.kt_ninja.specs.declared.plan.Statement.{Statement}
-use Rattle.kt_ninja.specs.JoinedLines.{Text, file_lines, joined_from}
+use Rattle.kt_ninja.specs.JoinedLines.{Line, Text, file_lines, joined_from}
 use Rattle.kt_ninja.specs.Forms.{Pieces}
 use Rattle.kt_ninja.specs.NinjaRead.{Cut, Part, cut_lines, cut_with}
 use Rattle.kt_ninja.specs.Plan.{names_of}

@@ -5,11 +5,10 @@ use Rattle.std.specs.List.{list_all}
 use Rattle.std.specs.Option.{option_and_then}
 use Rattle.std.specs.Str.{bytes_eq}
 use Rattle.std.proofs.lemmas.Bool.{and_from, and_parts}
-use Rattle.kt_ninja.specs.declared.joined.Line.{Line}
 use Rattle.kt_ninja.specs.declared.plan.Made.{Made}
 use Rattle.kt_ninja.specs.declared.plan.Made.TheVariants.{Command, Phony}
 use Rattle.kt_ninja.specs.declared.plan.Statement.{Statement}
-use Rattle.kt_ninja.specs.JoinedLines.{Text, is_comment}
+use Rattle.kt_ninja.specs.JoinedLines.{Line, Text, is_comment}
 use Rattle.kt_ninja.specs.Pieces.{Plain, pieces}
 use Rattle.kt_ninja.specs.Forms.{Binding, Build, Form, Pieces, binding_of, build_form, build_of, default_form, defaults_of, form_of, rule_form, rule_of}
 use Rattle.kt_ninja.specs.Scopes.{Table, find_in, put_in, value_in, value_within}

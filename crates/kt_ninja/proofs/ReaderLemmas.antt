@@ -3,13 +3,12 @@ use Rattle.std.proofs.Common.{◌≡◌, ◌≤◌, ◌+◌, ◌-◌, ℕ, suc, 
 use Rattle.std.proofs.lemmas.Bool.{cases_Bool}
 use Rattle.std.proofs.lemmas.List.{drop-drop, length-drop}
 use Rattle.std.specs.List.{prefix_len}
-use Rattle.kt_ninja.specs.declared.joined.Line.{Line}
 use Rattle.kt_ninja.specs.declared.plan.Plan.{Plan}
 use Rattle.kt_ninja.specs.declared.read_fault.Fault.{Fault}
 use Rattle.kt_ninja.specs.declared.read_fault.Fault.TheVariants.{NoReading, Memory}
 use Rattle.kt_ninja.specs.declared.read_fault.ReadFault.{ReadFault}
 use Rattle.kt_ninja.specs.declared.read_fault.ReadFault.TheVariants.{NotNinja, Memory as MemoryRefused}
-use Rattle.kt_ninja.specs.JoinedLines.{Text, is_blank, is_comment}
+use Rattle.kt_ninja.specs.JoinedLines.{Line, Text, is_blank, is_comment}
 use Rattle.kt_ninja.specs.Forms.{Binding}
 use Rattle.kt_ninja.specs.NinjaRead.{Part, State, all_parts, and_then_parts, begins_part, block_from, cut_lines, ninja_read, nothing_read, plan_in, read_part, read_parts}
 use Rattle.kt_ninja.specs.Reading.{Adds, Misreads, Stops, fault_at, line_binding, part_before, part_of}

@@ -4,8 +4,8 @@ use Rattle.std.proofs.lemmas.List.{drop_more}
 use Rattle.std.specs.List.{list_all}
 use Rattle.kt_ninja.specs.declared.plan.Made.{Made}
 use Rattle.kt_ninja.specs.declared.read_fault.Fault.{Fault}
-use Rattle.kt_ninja.specs.declared.state.Making.{Making as HeldMaking}
-use Rattle.kt_ninja.specs.declared.state.Making.TheVariants.{ByNothing, ByOwn, ByRule}
+use Rattle.kt_ninja.specs.declared.stated.Making.{Making as HeldMaking}
+use Rattle.kt_ninja.specs.declared.stated.Making.TheVariants.{ByNothing, ByOwn, ByRule}
 use Rattle.kt_ninja.specs.JoinedLines.{Text}
 use Rattle.kt_ninja.specs.Forms.{Binding, Build, Pieces}
 use Rattle.kt_ninja.specs.Scopes.{Scope, expanded, find_in, put_in, refers_to, value_in, value_within}

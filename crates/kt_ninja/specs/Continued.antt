@@ -3,8 +3,7 @@
 use Rattle.std.specs.Prelude.{◌≡◌, ◌⊎◌, ℕ, ◌+◌, Bool, true, false, not, ◌==◌, ◌∷◌, ◌++◌}
 use Rattle.std.specs.Prelude.{List, [], length, if◌then◌else◌}
 use Rattle.std.specs.List.{flat_map, list_all}
-use Rattle.kt_ninja.specs.declared.joined.Line.{Line}
-use Rattle.kt_ninja.specs.JoinedLines.{Text, ends_in_dollar, is_comment, joined_lines, without_indent}
+use Rattle.kt_ninja.specs.JoinedLines.{Line, Text, ends_in_dollar, is_comment, joined_lines, without_indent}
 
 -- a joined line: what stands in front of each of its escaped newlines, what stands behind the last of them, and
 -- whether a newline ends it

@@ -3,11 +3,17 @@
 use Rattle.std.specs.Prelude.{ℕ, ◌+◌, ◌-◌, Bool, true, false, not, ◌==◌, ◌&&◌, List, [], ◌∷◌, ◌++◌, length, take, drop}
 use Rattle.std.specs.Prelude.{Option, Some, None, if◌then◌else◌}
 use Rattle.std.specs.List.{list_all, prefix_len}
-use Rattle.kt_ninja.specs.declared.joined.Line.{Line}
 
 -- bytes, as the language takes its texts
 abbrev pub Text : Type 0
 Text = List ℕ
+
+-- a line with those that are joined to it, without newlines: the number of its first line in the file, from 1, its
+-- text, and whether it ends with a newline
+pub record Line : Type 0 where
+  pub number : ℕ
+  pub text : Text
+  pub ended : Bool
 
 -- a line of the file without its newline, and whether it had one
 pub record FileLine : Type 0 where

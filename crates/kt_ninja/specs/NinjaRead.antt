@@ -5,12 +5,11 @@ use Rattle.std.specs.Prelude.{option_map, is_some, is_none, Result, Ok, Err, cod
 use Rattle.std.specs.Option.{option_and_then}
 use Rattle.std.specs.List.{list_all, flat_map}
 use Rattle.std.specs.Str.{bytes_eq}
-use Rattle.kt_ninja.specs.declared.joined.Line.{Line}
 use Rattle.kt_ninja.specs.declared.plan.Made.{Made}
 use Rattle.kt_ninja.specs.declared.plan.Made.TheVariants.{Command, Phony}
 use Rattle.kt_ninja.specs.declared.plan.Statement.{Statement}
 use Rattle.kt_ninja.specs.declared.plan.Plan.{Plan}
-use Rattle.kt_ninja.specs.JoinedLines.{Text, is_blank, is_comment, joined_lines}
+use Rattle.kt_ninja.specs.JoinedLines.{Line, Text, is_blank, is_comment, joined_lines}
 use Rattle.kt_ninja.specs.Pieces.{pieces}
 use Rattle.kt_ninja.specs.Forms.{Binding, Build, Form, Pieces, binding_of, rule_form, build_form, default_form}
 use Rattle.kt_ninja.specs.Forms.{binding_form, form_of}
@@ -252,6 +251,10 @@ abbrev pub plan_in : Result State ℕ → Result Plan ℕ
 plan_in (Ok state) = Ok (plan_of state)
 plan_in (Err number) = Err number
 
--- the plan that a text says, or the number of the line that begins the first part through which it says none
+-- the plan that lines say, or the number of the line that begins the first part through which they say none
+abbrev pub plan_said : List Line → Result Plan ℕ
+plan_said lines = plan_in (read_parts nothing_read (all_parts (cut_lines lines)))
+
+-- the plan that a text says
 unfoldable pub ninja_read : Text → Result Plan ℕ
-ninja_read text = plan_in (read_parts nothing_read (all_parts (cut_lines (joined_lines text))))
+ninja_read text = plan_said (joined_lines text)

@@ -1,12 +1,11 @@
 -- Reading a file part by part (the reader's own).
 use Rattle.std.specs.Prelude.{◌≡◌, ℕ, Bool, List, ◌∷◌, ◌++◌, Option, Some, None, option_map, Result, Err, if◌then◌else◌}
 use Rattle.std.specs.Option.{option_and_then}
-use Rattle.kt_ninja.specs.declared.joined.Line.{Line}
 use Rattle.kt_ninja.specs.declared.read_fault.Fault.{Fault}
 use Rattle.kt_ninja.specs.declared.read_fault.Fault.TheVariants.{NoReading, Memory}
 use Rattle.kt_ninja.specs.declared.read_fault.ReadFault.{ReadFault}
 use Rattle.kt_ninja.specs.declared.read_fault.ReadFault.TheVariants.{NotNinja, Memory as MemoryRefused}
-use Rattle.kt_ninja.specs.JoinedLines.{Text}
+use Rattle.kt_ninja.specs.JoinedLines.{Line, Text}
 use Rattle.kt_ninja.specs.Pieces.{pieces}
 use Rattle.kt_ninja.specs.Forms.{Binding, binding_of, build_of, defaults_of, form_of, rule_of}
 use Rattle.kt_ninja.specs.NinjaRead.{Part, State, bind, block_from, read_build, read_default, read_form, read_rule}

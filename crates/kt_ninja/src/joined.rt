@@ -1,6 +1,6 @@
 //! The joined lines of a Ninja file.
 ghost use Rattle.std.specs.Prelude.{◌≡◌, ◌+◌, ◌-◌, ◌<◌, ◌≤◌, ◌∷◌, ◌==◌, ◌&&◌, not, false, true, [], find, length, take};
-ghost use Rattle.std.specs.Prelude.{IfOk, OnOk};
+ghost use Rattle.std.specs.Prelude.{◌++◌, IfOk, OnOk};
 ghost use Rattle.std.specs.Option.{option_copied};
 ghost use Rattle.std.specs.List.{position_or_len, prefix_len};
 ghost use Rattle.kt_ninja.specs.JoinedLines.{ends_in_dollar, file_lines, is_blank, is_comment, joined_lines};
@@ -8,20 +8,10 @@ ghost use Rattle.kt_ninja.specs.JoinedLines.{without_indent};
 ghost use Rattle.kt_ninja.specs.inner.Joining.{Joins, added_text, file_line, kept_text};
 
 use crate::bytes::first_byte;
-use crate::line_text::LineText;
+use crate::line::{Line, LineText};
 use memchr::memchr;
 use std::alloc::{AllocError, Global};
 use std::mem;
-
-/// A line with those that are joined to it, without newlines.
-#[derive(Debug, Drop)]
-pub(crate) struct Line<'t> {
-    /// The number of its first line in the file, from 1.
-    pub(crate) number: u64,
-    pub(crate) text: LineText<'t>,
-    /// Whether it ends with a newline.
-    pub(crate) ended: bool,
-}
 
 // A line of the file without its newline, whether it had one, and what stands behind it.
 #[derive(Drop)]
@@ -192,20 +182,25 @@ impl<'t> Begun<'t> {
         self.text.add(alloc, kept)
     }
 
-    // The line, which ends, and what is begun behind it.
-    fn end(&mut self, ended: bool, next: u64) -> Line<'t>
-        ensures line { result ≡ record { number = self.old.number; text = self.old.text; ended = ended } }
+    // Adds the line, which ends here, and begins another.
+    fn end(
+        &mut self,
+        alloc: Global,
+        lines: &mut Vec<Line<'t>>,
+        ended: bool,
+        next: u64,
+    ) -> Result<(), AllocError>
+        ensures line { OnOk result (lines.new.items ≡ lines.old.items
+            ++ record { number = self.old.number; text = self.old.text; ended = ended } ∷ []) }
         ensures empty { self.new.text ≡ [] }
         ensures begun { (self.new.number ≡ next) × (self.new.blank ≡ true) × (self.new.going_on ≡ self.old.going_on) }
     {
-        let line = Line {
-            number: self.number,
-            text: mem::replace(&mut self.text, LineText::empty()),
-            ended,
-        };
+        let number = self.number;
+        let text = mem::replace(&mut self.text, LineText::empty());
         self.number = next;
         self.blank = true;
-        line
+        let line = Line::new(alloc, number, text, ended)?;
+        Ok(lines.push(line)?)
     }
 }
 
@@ -227,12 +222,12 @@ pub(crate) fn joined_lines(alloc: Global, text: &[u8]) -> Result<Vec<Line<'_>>, 
         next += 1;
         begun.join(alloc, &line)?;
         if !begun.going_on {
-            lines.push(begun.end(line.ended, next))?;
+            begun.end(alloc, &mut lines, line.ended, next)?;
         }
         rest = line.after;
     }
     if begun.going_on {
-        lines.push(begun.end(false, next))?;
+        begun.end(alloc, &mut lines, false, next)?;
     }
     Ok(lines)
 }

@@ -8,8 +8,9 @@ mod escapes;
 mod forms;
 mod joined;
 pub mod laws;
-mod line_text;
+mod line;
 mod memory;
+mod paths;
 mod plan;
 mod printer;
 mod read_fault;
@@ -18,6 +19,7 @@ mod scopes;
 mod sink;
 mod spelling;
 mod state;
+mod stated;
 mod table;
 
 pub use checking::{Unwritable, texts_can_be_written, writable};

@@ -5,7 +5,7 @@ ghost use Rattle.std.specs.List.{list_all, prefix_len, starts_with};
 ghost use Rattle.kt_ninja.specs.declared.plan.Plan.{Plan as PlanRead};
 ghost use Rattle.kt_ninja.specs.declared.read_fault.ReadFault.TheVariants.{Memory as MemoryRefused};
 ghost use Rattle.kt_ninja.specs.NinjaRead.{all_parts, begins_part, block_of, cut_lines, is_file_byte, is_sound};
-ghost use Rattle.kt_ninja.specs.NinjaRead.{ninja_read, nothing_read, read_part, read_parts};
+ghost use Rattle.kt_ninja.specs.NinjaRead.{ninja_read, nothing_read, plan_said, read_part, read_parts};
 ghost use Rattle.kt_ninja.specs.Reading.{Adds, Misreads, Stops, build_line, default_line, fault_at, line_binding};
 ghost use Rattle.kt_ninja.specs.Reading.{margin_line, part_before, part_of, read_text, rule_line};
 ghost use Rattle.kt_ninja.specs.inner.Parting.{CutsPart};
@@ -17,7 +17,8 @@ ghost use Rattle.kt_ninja.specs.Writable.{IsWritable, is_empty};
 
 use crate::bytes::first_byte;
 use crate::forms::{Binding, binding_of, build_of, defaults_of, rule_name};
-use crate::joined::{Line, is_blank, is_comment, joined_lines};
+use crate::joined::{is_blank, is_comment, joined_lines};
+use crate::line::Line;
 use crate::plan::Plan;
 use crate::read_fault::{Fault, ReadFault};
 use crate::spelling::Spelling;
@@ -28,7 +29,7 @@ use std::alloc::Global;
 fn begins_part(line: &Line) -> bool
     ensures { result ≡ begins_part line.now.text }
 {
-    match first_byte(line.text.as_slice()) {
+    match first_byte(line.text()) {
         Some((byte, _)) => !matches!(byte, b' ' | b'#'),
         None => false,
     }
@@ -50,7 +51,7 @@ fn all_file_bytes(text: &[u8]) -> bool
 fn is_sound(line: &Line) -> bool
     ensures { result ≡ is_sound line.now }
 {
-    line.ended && all_file_bytes(line.text.as_slice())
+    line.is_ended() && all_file_bytes(line.text())
 }
 
 fn all_sound(lines: &[Line]) -> bool
@@ -93,7 +94,7 @@ fn add_line<'t>(
     ensures { MatchResult result (λ now. Adds closed (map binding_told bindings.old.items) line.now now
         (map binding_told bindings.new.items)) (Stops closed line.now) }
 {
-    let text = line.text.as_slice();
+    let text = line.text();
     if is_comment(text) {
         return Ok(closed);
     }
@@ -241,7 +242,7 @@ fn read_part<'t>(
         return Err(Fault::NoReading);
     }
     let block = block(alloc, body)?;
-    read_text(alloc, state, block.as_slice(), head.text.as_slice())
+    read_text(alloc, state, block.as_slice(), head.text())
 }
 
 // How many lines there are before the next that begins a part.
@@ -305,7 +306,7 @@ fn read_parts<'t>(alloc: Global, parts: &'t [Line<'t>]) -> Result<State<'t>, Rea
     while let Some(part) = part_at(parts, from) {
         match read_part(alloc, state, part.head, part.body) {
             Ok(next) => state = next,
-            Err(fault) => return Err(fault_at(part.head.number, fault)),
+            Err(fault) => return Err(fault_at(part.head.number(), fault)),
         }
         from = part.next;
     }
@@ -324,16 +325,23 @@ fn read_lines<'t>(alloc: Global, lines: &'t [Line<'t>]) -> Result<State<'t>, Rea
     read_parts(alloc, parts)
 }
 
+// The plan that all lines of the file say.
+fn plan_of_lines<'t>(alloc: Global, lines: &'t [Line<'t>]) -> Result<Plan, ReadFault>
+    ensures { MatchResult result (λ plan. plan_said lines.now ≡ Ok plan) (Misreads (plan_said lines.now)) }
+{
+    let state = read_lines(alloc, lines)?;
+    match state.into_plan() {
+        Ok(plan) => Ok(plan),
+        Err(_) => Err(ReadFault::Memory),
+    }
+}
+
 #[tactic(auto, unfolding(crate::specs::NinjaRead::ninja_read))]
 fn read(alloc: Global, text: &[u8]) -> Result<Plan, ReadFault>
     ensures { MatchResult result (λ plan. ninja_read text.now ≡ Ok plan) (Misreads (ninja_read text.now)) }
 {
-    let Ok(lines) = joined_lines(alloc, text) else {
-        return Err(ReadFault::Memory);
-    };
-    let state = read_lines(alloc, lines.as_slice())?;
-    match state.into_plan() {
-        Ok(plan) => Ok(plan),
+    match joined_lines(alloc, text) {
+        Ok(lines) => plan_of_lines(alloc, lines.as_slice()),
         Err(_) => Err(ReadFault::Memory),
     }
 }

@@ -1,5 +1,5 @@
 //! Variables and what they stand for.
-ghost use Rattle.std.specs.Prelude.{◌≡◌, ◌∷◌, ◌++◌, [], IfOk, OnOk, is_some, map};
+ghost use Rattle.std.specs.Prelude.{◌≡◌, ◌∷◌, ◌++◌, [], true, IfOk, OnOk, is_some, map};
 ghost use Rattle.std.specs.List.{list_all, flat_map};
 ghost use Rattle.std.specs.Option.{option_copied};
 ghost use Rattle.kt_ninja.specs.inner.Cutting.{dollar_piece};
@@ -37,6 +37,13 @@ impl BlockScope {
         ensures { result ≡ [] }
     {
         BlockScope { values: None }
+    }
+
+    /// Whether it holds no table.
+    pub(crate) fn is_unset(&self) -> bool
+        ensures { result ≡ true → self.now ≡ [] }
+    {
+        self.values.is_none()
     }
 
     #[tactic(auto, unfolding(crate::specs::Scopes::find_in))]

@@ -1,62 +1,28 @@
 //! What was read of a Ninja file so far.
-ghost use Rattle.std.specs.Prelude.{◌≡◌, ◌++◌, [], true, codes, is_some, map, IfOk, MatchResult, Some};
+ghost use Rattle.std.specs.Prelude.{◌≡◌, ◌++◌, [], true, codes, is_some, map, IfOk, MatchResult};
 ghost use Rattle.std.specs.List.{list_all, list_any};
 ghost use Rattle.std.specs.Str.{bytes_eq};
 ghost use Rattle.kt_ninja.specs.NinjaRead.{add_defaults, add_statement, are_new, bind, block_scope, making_of};
 ghost use Rattle.kt_ninja.specs.NinjaRead.{nothing_read, paths_in, plan_of, read_build, read_default, read_rule};
-ghost use Rattle.kt_ninja.specs.NinjaRead.{rule_command, statement_of, stated_with};
+ghost use Rattle.kt_ninja.specs.NinjaRead.{rule_command, stated_with};
 ghost use Rattle.kt_ninja.specs.Scopes.{expanded, find_in, refers_to, value_in, value_within};
-ghost use Rattle.kt_ninja.specs.inner.Holding.{Fails, block_with, made_as, making_as, path_in};
+ghost use Rattle.kt_ninja.specs.inner.Holding.{Fails, block_with, making_as};
 ghost use Rattle.kt_ninja.specs.inner.Wording.{binding_told, build_told};
 ghost use Rattle.kt_ninja.specs.inner.Refusals.{Reads, ReadsAs};
 ghost use Rattle.kt_ninja.specs.Writable.{is_among};
 
 use crate::forms::{Binding, Build};
-use crate::plan::{Made, Name, Plan, Statement};
+use crate::paths::paths_of_file;
+use crate::plan::{Name, Plan};
 use crate::read_fault::Fault;
-use crate::scopes::{BlockScope, CommandScopes, Scope, Scopes, command_line, expanded};
+use crate::scopes::{BlockScope, Scope, Scopes, expanded};
 use crate::spelling::Spelling;
+use crate::stated::{Making, Stated, StatedList};
 use crate::table::{Names, Rules, Table};
 use kt_list::Sequence;
 use std::alloc::{AllocError, Global};
+use std::boxed::Box;
 use std::marker::Model;
-
-/// How the outputs of a statement are made.
-#[derive(Drop)]
-enum Making<'t> {
-    ByNothing,
-    /// By a command of the statement's own.
-    ByOwn(Sequence<u8>),
-    /// By its rule's command, with the scope of its block.
-    ByRule(Spelling<'t>),
-}
-
-/// A statement whose command may not be known yet: it looks up variables as the file leaves them.
-#[derive(Drop)]
-struct Stated<'t> {
-    outs: Sequence<Name>,
-    making: Making<'t>,
-    block: BlockScope,
-    inputs: Sequence<Name>,
-    implicit: Sequence<Name>,
-    order_only: Sequence<Name>,
-}
-
-impl<'t> Model for Stated<'t> {
-    ghost use Rattle.kt_ninja.specs.NinjaRead.{Stated as ReadStatement};
-
-    ghost Value = { ReadStatement };
-
-    ghost use Rattle.kt_ninja.specs.inner.Holding.{making_as};
-
-    ghost view = { λ s. record {
-      outs = s.outs;
-      making = making_as s.block s.making;
-      inputs = s.inputs;
-      implicit = s.implicit;
-      order_only = s.order_only;
-    } };
-}
 
 /// The variables of the file, the commands of its rules, its statements with their outputs, and the default targets.
 #[derive(Drop)]
@@ -64,7 +30,7 @@ pub(crate) struct State<'t> {
     alloc: Global,
     file: Scope,
     rules: Rules<'t>,
-    stated: Vec<Stated<'t>>,
+    stated: StatedList<'t>,
     outs: Names,
     defaults: Vec<Name>,
 }
@@ -78,11 +44,11 @@ impl<'t> Model for State<'t> {
     ghost view = { λ s. record {
       file = s.file;
       rules = s.rules;
-      stated = s.stated.items;
+      stated = s.stated;
       defaults = s.defaults.items;
     } };
 
-    ghost invariant = { λ s. s.outs ≡ outs_of s.stated.items };
+    ghost invariant = { λ s. s.outs ≡ outs_of s.stated };
 }
 
 fn is_command(name: &[u8]) -> bool
@@ -171,128 +137,6 @@ fn block_scope(alloc: Global, file: &Scope, bindings: &[Binding]) -> Result<Bloc
     Ok(block)
 }
 
-// The value of a path, which isn't empty.
-fn path(alloc: Global, path: &Spelling, scopes: Scopes) -> Result<Name, Fault>
-    ensures { Reads result (path_in (value_within scopes.entry.block.now scopes.entry.file.now) path.now) }
-{
-    let name = expanded(alloc, path, scopes)?;
-    if name.is_empty() {
-        return Err(Fault::NoReading);
-    }
-    Ok(Sequence::from(name))
-}
-
-// Paths, none of which is empty.
-fn paths(alloc: Global, paths: &[Spelling], scopes: Scopes) -> Result<Sequence<Name>, Fault>
-    ensures { Reads result (paths_in (value_within scopes.entry.block.now scopes.entry.file.now) paths.now) }
-{
-    let mut names = Vec::with_capacity(alloc, paths.len())?;
-    for spelling in paths {
-        names.push(path(alloc, spelling, scopes)?)?;
-    }
-    Ok(Sequence::from(names))
-}
-
-// Paths by the variables of the file alone.
-fn paths_of_file(alloc: Global, targets: &[Spelling], file: &Scope) -> Result<Sequence<Name>, Fault>
-    ensures { Reads result (paths_in (value_in file.now) targets.now) }
-{
-    let none = BlockScope::new();
-    paths(alloc, targets, Scopes { block: &none, file })
-}
-
-// A statement of a build line, by the variables of its block and of the file.
-fn with_paths<'t>(
-    alloc: Global,
-    build: &Build,
-    making: Making<'t>,
-    block: BlockScope,
-    file: &Scope,
-) -> Result<Stated<'t>, Fault>
-    ensures { Reads result
-        (stated_with (value_within block file.now) (making_as block making.entry) (build_told build.now)) }
-{
-    let scopes = Scopes {
-        block: &block,
-        file,
-    };
-    let outs = paths(alloc, build.outs.as_slice(), scopes)?;
-    let inputs = paths(alloc, build.inputs.explicit.as_slice(), scopes)?;
-    let implicit = paths(alloc, build.inputs.implicit.as_slice(), scopes)?;
-    let order_only = paths(alloc, build.inputs.order_only.as_slice(), scopes)?;
-    Ok(Stated {
-        outs,
-        making,
-        block,
-        inputs,
-        implicit,
-        order_only,
-    })
-}
-
-// What makes the outputs of a statement, by the variables that the file leaves.
-fn made(alloc: Global, making: Making, scopes: CommandScopes) -> Result<Made, AllocError>
-    ensures { IfOk result (λ made. made
-        ≡ made_as scopes.entry.inputs.now scopes.entry.outs.now scopes.entry.scopes.block.now
-        scopes.entry.scopes.file.now making.entry) }
-{
-    match making {
-        Making::ByNothing => Ok(Made::Phony),
-        Making::ByOwn(command) => Ok(Made::Command(command)),
-        Making::ByRule(command) => {
-            let command = command_line(alloc, &command, scopes)?;
-            Ok(Made::Command(Sequence::from(command)))
-        }
-    }
-}
-
-impl<'t> Stated<'t> {
-    // The statement, by the variables that the file leaves.
-    fn into_statement(self, alloc: Global, file: &Scope) -> Result<Statement, AllocError>
-        ensures { IfOk result (λ s. s ≡ statement_of file.now self.entry) }
-    {
-        let Stated {
-            outs,
-            making,
-            block,
-            inputs,
-            implicit,
-            order_only,
-        } = self;
-        let scopes = CommandScopes {
-            inputs: inputs.as_slice(),
-            outs: outs.as_slice(),
-            scopes: Scopes {
-                block: &block,
-                file,
-            },
-        };
-        let made = made(alloc, making, scopes)?;
-        Ok(Statement {
-            outs,
-            made,
-            inputs,
-            implicit,
-            order_only,
-        })
-    }
-}
-
-// The statements, by the variables that the file leaves.
-fn statements(
-    alloc: Global,
-    file: &Scope,
-    stated: Vec<Stated>,
-) -> Result<Vec<Statement>, AllocError>
-    ensures { IfOk result (λ statements. statements.items ≡ map (statement_of file.now) stated.entry.items) }
-{
-    let mut statements = Vec::with_capacity(alloc, stated.len())?;
-    for statement in stated {
-        statements.push(statement.into_statement(alloc, file)?)?;
-    }
-    Ok(statements)
-}
-
 // Adds outputs, each of which is new.
 fn add_outs(alloc: Global, names: &mut Names, outs: &[Name]) -> Result<(), Fault>
     ensures { MatchResult result (λ _. (are_new names.old outs.now ≡ true)
@@ -328,7 +172,7 @@ impl<'t> State<'t> {
             alloc,
             file: Table::new(alloc),
             rules: Rules::new(alloc),
-            stated: Vec::new(alloc),
+            stated: StatedList::new(alloc),
             outs: Names::new(alloc),
             defaults: Vec::new(alloc),
         }
@@ -375,7 +219,7 @@ impl<'t> State<'t> {
         match block.get(b"command".as_slice()) {
             Some(own) => {
                 let own = Vec::from_slice(self.alloc, own.as_slice())?;
-                Ok(Making::ByOwn(Sequence::from(own)))
+                Ok(Making::ByOwn(Box::new(self.alloc, Sequence::from(own))?))
             }
             None => Ok(Making::ByRule(command.again())),
         }
@@ -398,7 +242,7 @@ impl<'t> State<'t> {
         ensures { Reads result
             (stated_with (value_within block self.now.file) (making_as block making.entry) (build_told build.now)) }
     {
-        with_paths(self.alloc, build, making, block, &self.file)
+        Stated::of(self.alloc, build, making, block, &self.file)
     }
 
     /// A build line with its block.
@@ -424,8 +268,8 @@ impl<'t> State<'t> {
             mut outs,
             defaults,
         } = self;
-        add_outs(alloc, &mut outs, statement.outs.as_slice())?;
-        stated.push(statement)?;
+        add_outs(alloc, &mut outs, statement.outs())?;
+        stated.push(alloc, statement)?;
         Ok(State {
             alloc,
             file,
@@ -480,7 +324,7 @@ impl<'t> State<'t> {
         // Given back first, so that the statements are made in their room.
         drop(rules);
         drop(outs);
-        let made = statements(alloc, &file, stated)?;
+        let made = stated.into_statements(alloc, &file)?;
         Ok(Plan {
             statements: Sequence::from(made),
             defaults: Sequence::from(defaults),

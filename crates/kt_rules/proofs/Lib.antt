@@ -12,6 +12,7 @@ pub mod StartLemmas
 pub mod GroupLemmas
 pub mod BookLemmas
 pub mod GoalLemmas
+pub mod NumberLemmas
 pub mod AddLemmas
 pub mod CutBehindLemmas
 pub mod PatternLemmas

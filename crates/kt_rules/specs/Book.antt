@@ -1,9 +1,9 @@
 -- The rules of a makefile as a list, and what is asked of it (POSIX.1-2024 make, "Target Rules"; GNU make manual,
 -- "Rules").
-use Rattle.std.specs.Prelude.{◌≡◌, Bool, true, false, not, ◌&&◌, ◌||◌, ◌==◌, List, [], ◌∷◌, ◌++◌, map, filter, find}
+use Rattle.std.specs.Prelude.{◌≡◌, ℕ, Bool, true, false, not, ◌&&◌, ◌||◌, ◌==◌, List, [], ◌∷◌, ◌++◌, map, filter, find}
 use Rattle.std.specs.Prelude.{flat_map, filter_map, codes, bytes_eq, Option, Some, None, option_map, is_some, is_none}
-use Rattle.std.specs.Prelude.{Result, Ok, Err, if◌then◌else◌}
-use Rattle.std.specs.List.{AllPairs, list_any}
+use Rattle.std.specs.Prelude.{slice_get, Result, Ok, Err, if◌then◌else◌}
+use Rattle.std.specs.List.{AllPairs, list_any, enumerate_from}
 use Rattle.std.specs.Cmp.Lexicographic.{pointwise}
 use Rattle.std.specs.Option.{option_or, option_map_or}
 use Rattle.kt_text.specs.Words.{Text}
@@ -68,6 +68,21 @@ explicit_rules rules name = filter (λ made. not (is_suffix_rule (suffixes_of ru
 -- whether a rule is explicit for one of its targets, where these are the suffixes
 abbrev pub is_explicit : List Text → Rule × Target → Bool
 is_explicit suffixes made = is_made made.0 made.1 && not (is_suffix_rule suffixes made.1.name made)
+
+-- the number of a numbered rule, once for each target of the name that it is explicit for
+abbrev pub numbers_in : List Text → Text → ℕ × Rule → List ℕ
+numbers_in suffixes name numbered = map (λ target. numbered.0)
+    (filter (λ target. bytes_eq name target.name && is_explicit suffixes (numbered.1, target)) numbered.1.targets)
+
+-- the numbers of the rules that the explicit rules of a target are of, in their order: a rule's number is its place in
+-- the list, from 0
+unfoldable pub explicit_numbers : List Rule → Text → List ℕ
+explicit_numbers rules name = flat_map (numbers_in (suffixes_of rules) name) (enumerate_from 0 rules)
+
+-- the rules at the numbers of a target are those of its explicit rules, one by one
+abbrev pub NumbersTellRules : Type 0
+NumbersTellRules = (rules : List Rule) (name : Text)
+    → map (λ made. Some made.0) (explicit_rules rules name) ≡ map (slice_get rules) (explicit_numbers rules name)
 
 -- the names that are phony: what the special target `.PHONY` needs (POSIX.1-2024 make, "Special Targets")
 abbrev pub phony_of : Rule → List Text

@@ -12,6 +12,7 @@ mod goal;
 mod matching;
 mod name_set;
 mod noting;
+mod numbers;
 mod overriding;
 mod pattern;
 mod pattern_set;

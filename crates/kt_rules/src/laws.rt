@@ -1,4 +1,5 @@
 //! Laws of the definitions. These functions do nothing: their contracts are what counts.
+ghost use Rattle.kt_rules.specs.Book.{NumbersTellRules};
 ghost use Rattle.kt_rules.specs.BookRows.{RowsOfAdding, RowsOfAnswers, RowsOfPatternRules, RowsOfSuffixRules};
 ghost use Rattle.kt_rules.specs.Cuts.{CutsAtFirstColon, DropsDots};
 ghost use Rattle.kt_rules.specs.HeadWords.{OuterLaw, UnquotedLaw, WrittenWordsLaw};
@@ -62,4 +63,9 @@ pub fn outer_separators()
 /// Unquoting drops each backslash directly before a space or colon, and nothing else.
 pub fn unquoting()
     ensures { UnquotedLaw }
+{}
+
+/// The rules at a target's numbers are those of its explicit rules, one by one.
+pub fn numbers_of_explicit_rules()
+    ensures { NumbersTellRules }
 {}

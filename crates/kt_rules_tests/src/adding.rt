@@ -1,5 +1,5 @@
 //! Books of rules, a line each.
-use crate::asking::{Question, add, answers, put_answer, put_answer_to};
+use crate::asking::{Question, add, add_lines, answers, put_answer, put_answer_to};
 use crate::telling::put_place;
 use kt_rules::{Book, Place};
 use std::alloc::{AllocError, Global};
@@ -204,6 +204,32 @@ fn walks_over_entries(rt: HostRuntime) -> Result<(), Fail> {
             ),
         ],
     )?;
+    Ok(())
+}
+
+#[test]
+fn numbers_entries(rt: HostRuntime) -> Result<(), Fail> {
+    let alloc = rt.alloc();
+    let mut book = Book::new(alloc)?;
+    add_lines(
+        alloc,
+        &mut book,
+        b"a: b;x\nc d &: e;y\na: f\n.c.o:;z\n%.o: %.c;w\nd: g",
+        &mut Vec::new(alloc),
+    );
+    let numbers = book.entry_numbers()?;
+    let rows: [(&[u8], &[usize]); 6] = [
+        (b"a", &[0, 2]),
+        (b"c", &[1]),
+        (b"d", &[1, 5]),
+        // A suffix rule, a pattern rule, and a name that no rule makes.
+        (b".c.o", &[]),
+        (b"%.o", &[]),
+        (b"b", &[]),
+    ];
+    for (name, expected) in rows {
+        assert_eq!(rt; numbers.noted(name), expected);
+    }
     Ok(())
 }
 

@@ -25,7 +25,7 @@ pub(crate) fn add(
 }
 
 /// Adds the entries of lines, and tells what `add` answers.
-fn add_lines(alloc: Global, book: &mut Book, text: &[u8], told: &mut Vec<u8>) {
+pub(crate) fn add_lines(alloc: Global, book: &mut Book, text: &[u8], told: &mut Vec<u8>) {
     let mut number = 0u64;
     for line in text.split(|byte| *byte == b'\n') {
         number = number.saturating_add(1);

@@ -1,11 +1,12 @@
 -- What the reader holds, as the definitions have it (the reader's own).
-use Rattle.std.specs.Prelude.{◌≡◌, Bool, false, ◌||◌, List, Option, Some, None, is_some, if◌then◌else◌}
+use Rattle.std.specs.Prelude.{◌≡◌, Bool, false, ◌||◌, List, [], Option, Some, None, is_some, if◌then◌else◌}
 use Rattle.kt_ninja.specs.declared.read_fault.Fault.{Fault}
 use Rattle.kt_ninja.specs.declared.read_fault.Fault.TheVariants.{NoReading, Memory}
 use Rattle.kt_ninja.specs.declared.plan.Made.{Made}
 use Rattle.kt_ninja.specs.declared.plan.Made.TheVariants.{Command, Phony}
-use Rattle.kt_ninja.specs.declared.state.Making.{Making as HeldMaking}
-use Rattle.kt_ninja.specs.declared.state.Making.TheVariants.{ByNothing, ByOwn, ByRule}
+use Rattle.kt_ninja.specs.declared.stated.More.{More}
+use Rattle.kt_ninja.specs.declared.stated.Making.{Making as HeldMaking}
+use Rattle.kt_ninja.specs.declared.stated.Making.TheVariants.{ByNothing, ByOwn, ByRule}
 use Rattle.kt_ninja.specs.JoinedLines.{Text}
 use Rattle.kt_ninja.specs.Forms.{Binding, Pieces}
 use Rattle.kt_ninja.specs.Scopes.{Scope, command_value, expanded, find_in, put_in, refers_to, value_in}
@@ -15,14 +16,18 @@ use Rattle.kt_ninja.specs.NinjaRead.{Making, by_nothing, by_own, by_rule}
 -- how a statement with this block is made
 abbrev pub making_as : Scope → HeldMaking → Making
 making_as block ByNothing = by_nothing
-making_as block (ByOwn command) = by_own command
+making_as block (ByOwn command) = by_own command.value
 making_as block (ByRule command) = by_rule command block
 
 -- what makes the outputs of such a statement
 abbrev pub made_as : List Text → List Text → Scope → Scope → HeldMaking → Made
 made_as inputs outs block file ByNothing = Phony
-made_as inputs outs block file (ByOwn command) = Command command
+made_as inputs outs block file (ByOwn command) = Command command.value
 made_as inputs outs block file (ByRule command) = Command (expanded (command_value inputs outs block file) command)
+
+-- what a statement has that has neither a block nor such inputs
+abbrev pub no_more : More
+no_more = record { block = []; implicit = []; order_only = [] }
 
 -- the scope of a block with one more binding
 abbrev pub block_with : Scope → Scope → Binding → Option Scope

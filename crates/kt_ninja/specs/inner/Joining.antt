@@ -1,8 +1,15 @@
 -- Joining the lines of a file one after another (the reader's own).
 use Rattle.std.specs.Prelude.{◌≡◌, ◌-◌, Bool, true, false, ◌++◌, length, take, Option, Some, None, if◌then◌else◌}
+use Rattle.kt_ninja.specs.declared.line.LineForm.{LineForm}
+use Rattle.kt_ninja.specs.declared.line.LineForm.TheVariants.{Plain, Other}
 use Rattle.kt_ninja.specs.declared.joined.FileLine.{FileLine as CutLine}
 use Rattle.kt_ninja.specs.declared.joined.Begun.{Begun as OpenLine}
-use Rattle.kt_ninja.specs.JoinedLines.{Begun, FileLine, Text, goes_on, is_blank, is_comment, without_indent}
+use Rattle.kt_ninja.specs.JoinedLines.{Begun, FileLine, Line, Text, goes_on, is_blank, is_comment, without_indent}
+
+-- a line as it is held
+abbrev pub line_told : LineForm → Line
+line_told (Plain number text) = record { number = number; text = text.now; ended = true }
+line_told (Other line) = record { number = line.value.number; text = line.value.text.items; ended = line.value.ended }
 
 -- a line that was cut off
 abbrev pub file_line : CutLine → FileLine

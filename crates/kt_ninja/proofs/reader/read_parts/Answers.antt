@@ -1,4 +1,4 @@
-use Rattle.std.proofs.Common.{◌≡◌, sym, ◌∙◌, ap, arith, drop}
+use Rattle.std.proofs.Common.{sym, ◌∙◌, ap, arith, drop}
 use Rattle.kt_ninja.specs.NinjaRead.{cut_lines, nothing_read, read_part, read_parts}
 use Rattle.kt_ninja.specs.Reading.{part_of}
 use Rattle.kt_ninja.proofs.ReaderLemmas.{none_left, part_refused, part_taken, parts_step}
@@ -18,7 +18,7 @@ returns-in-Err c =
     let body = c.in-Some.part.body.now in
     let later = drop c.in-Some.part.next lines in
     let step = parts_step c.loop-part.state head (drop c.loop-part.from lines) body later c.in-Some.ensures.parts in
-    rw c.fault_at.ensures
+    rw (c.fault_at.ensures, c.number.ensures)
     (part_refused head.number (read_part c.loop-part.state (part_of head body)) (λ s. read_parts s (cut_lines later).parts) (read_parts nothing_read (cut_lines lines).parts)
     (sym c.loop-part.invariant.same ∙ step) c.in-Err.fault c.in-Err.ensures)
 

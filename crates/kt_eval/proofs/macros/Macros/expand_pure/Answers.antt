@@ -10,4 +10,4 @@ returns-clause-appends g c =
 
 pub returns-clause-ends : goal.returns-clause-ends
 returns-clause-ends g c =
-    ends_when c.args.limit c.args.text.now c.args.self.now (g.A.Automatic.values c.args.automatic.now) c.args.place c.replace-before.result.items c.new-2.result.items c.expand_here-result.result c.expand_here-result.new.self.world c.expand_here-result.new.self.failed _ _ c.new-2.ensures.items (search rules) (search rules) (search rules) c.expand_here-result.ensures.blames (c.expand_here-result.ensures.gives refl)
+    ends_when c.args.limit c.args.text.now c.args.self.now (g.A.Automatic.values c.args.automatic.now) c.args.place c.replace-before.result.items c.new-3.result.items c.expand_here-result.result c.expand_here-result.new.self.world c.expand_here-result.new.self.failed _ _ c.new-3.ensures.items (search rules) (search rules) (search rules) c.expand_here-result.ensures.blames (rw c.new-2.ensures.items at (c.expand_here-result.ensures.gives refl))

@@ -1,7 +1,7 @@
-use Rattle.std.proofs.Common.{◌++◌, refl}
+use Rattle.std.proofs.Common.{refl}
 use Rattle.std.proofs.lemmas.Result.{on_ok_weaker}
 use Rattle.kt_ninja.specs.declared.joined.Begun.{Begun as OpenLine}
-use Rattle.kt_ninja.proofs.JoinedLemmas.{joins, ok_items}
+use Rattle.kt_ninja.proofs.JoinedLemmas.{joins}
 use Rattle.kt_ninja.proofs.joined.Begun.join.Goals as goal
 
 pub returns : goal.returns

@@ -6,7 +6,7 @@ use Rattle.kt_ninja.specs.inner.Holding.{making_as}
 use Rattle.kt_ninja.specs.inner.Wording.{build_told}
 use Rattle.kt_ninja.proofs.PieceLemmas.{refuses_too}
 use Rattle.kt_ninja.proofs.StateLemmas.{no_implicit, no_inputs, no_order_only}
-use Rattle.kt_ninja.proofs.state.with_paths.Goals as goal
+use Rattle.kt_ninja.proofs.stated.Stated.of.Goals as goal
 
 pub returns-in_err-inputs : goal.returns-in_err-inputs
 returns-in_err-inputs c =

@@ -6,7 +6,7 @@ use Rattle.kt_ninja.specs.Scopes.{value_within}
 use Rattle.kt_ninja.specs.inner.Holding.{path_in}
 use Rattle.kt_ninja.proofs.PieceLemmas.{refuses_too}
 use Rattle.kt_ninja.proofs.StateLemmas.{left_at, path_refused, path_taken, paths_end}
-use Rattle.kt_ninja.proofs.state.paths.Goals as goal
+use Rattle.kt_ninja.proofs.paths.paths_within.Goals as goal
 
 pub returns-in_err-path : goal.returns-in_err-path
 returns-in_err-path c =

@@ -1,7 +1,7 @@
 use Rattle.std.proofs.Common.{◌≡◌, ◌++◌, drop, option_map}
 use Rattle.kt_ninja.specs.NinjaRead.{paths_in}
 use Rattle.kt_ninja.specs.Scopes.{value_within}
-use Rattle.kt_ninja.proofs.state.paths.Given as goal
+use Rattle.kt_ninja.proofs.paths.paths_within.Given as goal
 
 abbrev pub invariant-loop-spelling : goal.invariant-loop-spelling
 invariant-loop-spelling l =

@@ -1,0 +1,131 @@
+-- The numbers of the entries that explicit rules are of.
+use Rattle.std.proofs.Common.{◌≡◌, ℕ, ◌+◌, ◌<◌, ◌≤◌, ◌&&◌, not, Bool, true, false, cond, if◌then◌else◌, List, [], ◌∷◌, ◌++◌, length, map, filter, drop, get_or, suc, Option, Some, None, slice_get, refl, sym, ap, ◌∙◌, arith}
+use Rattle.std.specs.List.{enumerate_from, flat_map}
+use Rattle.std.specs.Str.{bytes_eq}
+use Rattle.std.proofs.lemmas.List.{drop_more, map-append}
+use Rattle.std.proofs.lemmas.List.Elements.{filter-append}
+use Rattle.std.proofs.lemmas.Slice.Eq.{bytes_eq-Decides}
+use Rattle.kt_text.specs.Words.{Text}
+use Rattle.kt_rules.specs.declared.entry.Target.{Target}
+use Rattle.kt_rules.specs.Entry.{Rule}
+use Rattle.kt_rules.specs.Suffixes.{suffixes_of, is_suffix_rule}
+use Rattle.kt_rules.specs.Book.{is_made, is_explicit, target_rules, rules_of, explicit_rules, numbers_in, explicit_numbers, NumbersTellRules}
+use Rattle.kt_rules.specs.Slots.{rules_in}
+
+-- a number for each item that passes a test, from a place on
+pub numbers_at : {A : Type 0} (test : A → Bool) (n : ℕ) (xs : List A) (i : ℕ) (x : A) → i < length xs → x ≡ get_or xs i x
+    → map (λ y. n) (filter test (drop i xs)) ≡ (if test x then n ∷ [] else []) ++ map (λ y. n) (filter test (drop (i + 1) xs))
+numbers_at {A} test n xs i x h e =
+    ap (λ ys. map (λ (y : A). n) (filter test ys)) (drop_more xs i x h)
+    ∙ ap (λ y. map (λ (z : A). n) (filter test (y ∷ drop (i + 1) xs))) (sym e)
+    ∙ by (test x)
+  where
+    by : (b : Bool) → map (λ (y : A). n) (cond b (x ∷ filter test (drop (i + 1) xs)) (filter test (drop (i + 1) xs)))
+        ≡ (if b then n ∷ [] else []) ++ map (λ (y : A). n) (filter test (drop (i + 1) xs))
+    by true = refl
+    by false = refl
+
+-- all rules are still to come
+pub numbers_start : (rules left : List Rule) (count : ℕ) (name : Text) → left ≡ rules → count ≡ 0
+    → flat_map (numbers_in (suffixes_of rules) name) (enumerate_from count left) ≡ explicit_numbers rules name
+unfolding explicit_numbers
+numbers_start rules left count name are none =
+    ap (λ n. flat_map (numbers_in (suffixes_of rules) name) (enumerate_from n left)) none
+    ∙ ap (λ rs. flat_map (numbers_in (suffixes_of rules) name) (enumerate_from 0 rs)) are
+
+-- one rule, and then those behind it
+pub numbers_step : (suffixes : List Text) (name : Text) (rule : Rule) (left rest : List Rule) (count next : ℕ) → left ≡ rule ∷ rest → next ≡ count + 1
+    → flat_map (numbers_in suffixes name) (enumerate_from count left)
+    ≡ numbers_in suffixes name (count, rule) ++ flat_map (numbers_in suffixes name) (enumerate_from next rest)
+numbers_step suffixes name rule left rest count next are more =
+    ap (λ rs. flat_map (numbers_in suffixes name) (enumerate_from count rs)) are
+    ∙ ap (λ n. numbers_in suffixes name (count, rule) ++ flat_map (numbers_in suffixes name) (enumerate_from n rest)) (sym more)
+
+-- there are no more rules than slots
+pub rules_fit : (slots : List (Option Rule)) → length (rules_in slots) ≤ length slots
+rules_fit [] = omega arith
+rules_fit (None ∷ slots) = let fit : length (rules_in slots) ≤ length slots = rules_fit slots in omega arith
+rules_fit (Some rule ∷ slots) = let fit : length (rules_in slots) ≤ length slots = rules_fit slots in omega arith
+
+-- ---- the rules at the numbers
+
+-- an item, and those behind it, by what the tests tell of it
+module _ {A B C D : Type 0} (make : A → B) (made test : A → Bool) (named kept : B → Bool) (f : B → D) (g : A → C) (h : C → D) where
+  picked_step : (b a k : Bool) (x : A) (those ours : List A) → named (make x) ≡ a → kept (make x) ≡ k → test x ≡ (a && (b && k)) → f (make x) ≡ h (g x)
+      → map f (filter kept (filter named (map make those))) ≡ map h (map g ours)
+      → map f (filter kept (filter named (map make (cond b (x ∷ those) those)))) ≡ map h (map g (cond (test x) (x ∷ ours) ours))
+  picked_step true true true x those ours na ke te fe rest =
+      ap (λ z. map f (filter kept (cond z (make x ∷ filter named (map make those)) (filter named (map make those))))) na
+      ∙ ap (λ z. map f (cond z (make x ∷ filter kept (filter named (map make those))) (filter kept (filter named (map make those))))) ke
+      ∙ ap (λ y. y ∷ map f (filter kept (filter named (map make those)))) fe
+      ∙ ap (λ ys. h (g x) ∷ ys) rest
+      ∙ sym (ap (λ z. map h (map g (cond z (x ∷ ours) ours))) te)
+  picked_step true true false x those ours na ke te fe rest =
+      ap (λ z. map f (filter kept (cond z (make x ∷ filter named (map make those)) (filter named (map make those))))) na
+      ∙ ap (λ z. map f (cond z (make x ∷ filter kept (filter named (map make those))) (filter kept (filter named (map make those))))) ke
+      ∙ rest
+      ∙ sym (ap (λ z. map h (map g (cond z (x ∷ ours) ours))) te)
+  picked_step true false k x those ours na ke te fe rest =
+      ap (λ z. map f (filter kept (cond z (make x ∷ filter named (map make those)) (filter named (map make those))))) na
+      ∙ rest
+      ∙ sym (ap (λ z. map h (map g (cond z (x ∷ ours) ours))) te)
+  picked_step false true k x those ours na ke te fe rest = rest ∙ sym (ap (λ z. map h (map g (cond z (x ∷ ours) ours))) te)
+  picked_step false false k x those ours na ke te fe rest = rest ∙ sym (ap (λ z. map h (map g (cond z (x ∷ ours) ours))) te)
+
+  -- items picked by one test, or by its three parts
+  picked : ((x : A) → test x ≡ (named (make x) && (made x && kept (make x)))) → ((x : A) → f (make x) ≡ h (g x)) → (xs : List A)
+      → map f (filter kept (filter named (map make (filter made xs)))) ≡ map h (map g (filter test xs))
+  picked parts same [] = refl
+  picked parts same (x ∷ xs) =
+      picked_step (made x) (named (make x)) (kept (make x)) x (filter made xs) (filter test xs) refl refl (parts x) (same x) (picked parts same xs)
+
+-- the test of a target as its parts
+parts_of : (suffixes : List Text) (name : Text) (rule : Rule) (target : Target)
+    → (bytes_eq name target.name && is_explicit suffixes (rule, target))
+    ≡ (bytes_eq name target.name && (is_made rule target && not (is_suffix_rule suffixes name (rule, target))))
+parts_of suffixes name rule target = by (bytes_eq name target.name) refl
+  where
+    by : (b : Bool) → bytes_eq name target.name ≡ b
+        → (b && is_explicit suffixes (rule, target)) ≡ (b && (is_made rule target && not (is_suffix_rule suffixes name (rule, target))))
+    by true e = ap (λ n. is_made rule target && not (is_suffix_rule suffixes n (rule, target))) (sym ((bytes_eq-Decides name target.name).0 e))
+    by false e = refl
+
+-- the explicit rules of a name, where these are the suffixes
+abbrev named_rules : List Text → Text → List (Rule × Target) → List (Rule × Target)
+named_rules suffixes name all =
+    filter (λ (made : Rule × Target). not (is_suffix_rule suffixes name made)) (filter (λ (made : Rule × Target). bytes_eq name made.1.name) all)
+
+abbrev rule_of : Rule × Target → Option Rule
+rule_of made = Some made.0
+
+one_rule : (suffixes : List Text) (name : Text) (all : List Rule) (n : ℕ) (rule : Rule) → slice_get all n ≡ Some rule
+    → map rule_of (named_rules suffixes name (target_rules rule)) ≡ map (slice_get all) (numbers_in suffixes name (n, rule))
+one_rule suffixes name all n rule is =
+    picked (λ (target : Target). (rule, target)) (is_made rule) (λ (target : Target). bytes_eq name target.name && is_explicit suffixes (rule, target))
+    (λ (made : Rule × Target). bytes_eq name made.1.name) (λ (made : Rule × Target). not (is_suffix_rule suffixes name made))
+    rule_of (λ (target : Target). n) (slice_get all)
+    (parts_of suffixes name rule) (λ target. sym is) rule.targets
+
+named_append : (suffixes : List Text) (name : Text) (one others : List (Rule × Target))
+    → map rule_of (named_rules suffixes name (one ++ others)) ≡ map rule_of (named_rules suffixes name one) ++ map rule_of (named_rules suffixes name others)
+named_append suffixes name one others =
+    ap (λ xs. map rule_of (filter (λ (made : Rule × Target). not (is_suffix_rule suffixes name made)) xs)) (filter-append (λ (made : Rule × Target). bytes_eq name made.1.name) one others)
+    ∙ ap (map rule_of) (filter-append (λ (made : Rule × Target). not (is_suffix_rule suffixes name made))
+    (filter (λ (made : Rule × Target). bytes_eq name made.1.name) one) (filter (λ (made : Rule × Target). bytes_eq name made.1.name) others))
+    ∙ map-append rule_of (named_rules suffixes name one) (named_rules suffixes name others)
+
+-- the rules from a number on
+rules_from : (suffixes : List Text) (name : Text) (all : List Rule) (n : ℕ) (rules : List Rule) → ((i : ℕ) → slice_get all (n + i) ≡ slice_get rules i)
+    → map rule_of (named_rules suffixes name (flat_map target_rules rules)) ≡ map (slice_get all) (flat_map (numbers_in suffixes name) (enumerate_from n rules))
+rules_from suffixes name all n [] at = refl
+rules_from suffixes name all n (rule ∷ rules) at =
+    let first : n ≡ n + 0 = omega arith in
+    let behind : (i : ℕ) → slice_get all (n + 1 + i) ≡ slice_get rules i = λ i. let e : n + 1 + i ≡ n + suc i = omega arith in ap (slice_get all) e ∙ at (suc i) in
+    named_append suffixes name (target_rules rule) (flat_map target_rules rules)
+    ∙ ap (λ xs. xs ++ map rule_of (named_rules suffixes name (flat_map target_rules rules))) (one_rule suffixes name all n rule (ap (slice_get all) first ∙ at 0))
+    ∙ ap (λ xs. map (slice_get all) (numbers_in suffixes name (n, rule)) ++ xs) (rules_from suffixes name all (n + 1) rules behind)
+    ∙ sym (map-append (slice_get all) (numbers_in suffixes name (n, rule)) (flat_map (numbers_in suffixes name) (enumerate_from (n + 1) rules)))
+
+pub numbers_tell : NumbersTellRules
+unfolding explicit_rules rules_of explicit_numbers
+numbers_tell = λ rules name. rules_from (suffixes_of rules) name rules 0 rules (λ i. let e : 0 + i ≡ i = omega arith in ap (slice_get rules) e)

@@ -1,0 +1,14 @@
+use Rattle.std.proofs.Common.{◌≡◌, ◌++◌, ◌+◌, ◌<◌, ◌^◌, length}
+use Rattle.std.specs.List.{enumerate_from, flat_map}
+use Rattle.kt_text.specs.Words.{Text}
+use Rattle.kt_rules.specs.Book.{explicit_numbers, numbers_in}
+use Rattle.kt_rules.specs.Indexes.{noted_at}
+use Rattle.kt_rules.specs.Suffixes.{suffixes_of}
+use Rattle.kt_rules.proofs.book.Book.entry_numbers.Given as goal
+
+abbrev pub invariant-loop-number : goal.invariant-loop-number
+invariant-loop-number l = record {
+  left : (name : Text) → noted_at l.index name ++ flat_map (numbers_in (suffixes_of l.self) name) (enumerate_from l.number-iterator.count l.number-iterator.iter)
+      ≡ explicit_numbers l.self name;
+  fits : l.number-iterator.count + length l.number-iterator.iter < 2 ^ 64;
+}
