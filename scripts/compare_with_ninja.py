@@ -4,7 +4,7 @@
     scripts/compare_with_ninja.py [PROGRAM]
 
 PROGRAM is the built kati. Each text NAME.ninja in scripts/ninja_texts says the build of the makefile NAME.mk in a spelling of its own;
-the makefile's goals stand in its first line behind `# goals: `. `kati --check` tells whether a text is read as the plan of its makefile.
+the makefile's goals stand in its first line after `# goals: `. `kati --check` tells whether a text is read as the plan of its makefile.
 Ninja tells whether it reads the text as it reads what kati writes, by the outputs, inputs and commands that `ninja -t targets all`,
 `-t query` and `-t commands -s` print. Both are asked of each text, of each beginning of it, and of what each byte less and some bytes more
 above its last `default` line make of it: some ten thousand texts, in a minute or two. No tool of Ninja's prints default targets, so that
@@ -28,11 +28,11 @@ TAKEN, REFUSED, OTHERWISE = "takes it for the plan", "refuses it", "reads someth
 # What kati is known to take in its own way: whether it says that the text is the plan, what Ninja does, and what stands in the text.
 KNOWN = [
     ("a joined newline where a line begins, which Ninja refuses", True, REFUSED, rb"^ *\$\n"),
-    ("a name that goes on behind a joined newline; Ninja ends it there", True, REFUSED, rb"\$\w+\$\n *\w"),
+    ("a name that goes on after a joined newline; Ninja ends it there", True, REFUSED, rb"\$\w+\$\n *\w"),
     ("a `command` of the file, which Ninja takes where the statement has no block", True, OTHERWISE, rb"^command *="),
     ("the same, where the file's is the command", False, TAKEN, rb"^command *="),
-    ("outputs behind a bar, which kati refuses", False, TAKEN, rb"^build(\$:|[^:\n])*\|"),
-    ("a keyword with no space behind it, which kati refuses", False, TAKEN, rb"^build[$=]"),
+    ("outputs after a bar, which kati refuses", False, TAKEN, rb"^build(\$:|[^:\n])*\|"),
+    ("a keyword with no space after it, which kati refuses", False, TAKEN, rb"^build[$=]"),
     ("a `default` line that is joined to the line above it, of which no tool of Ninja's tells", False, TAKEN, rb"\$\ndefault "),
 ]
 

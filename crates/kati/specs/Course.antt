@@ -17,7 +17,7 @@ pub data Course (A : Type 0) : Type 0 where
 abbrev pub fault_nowhere : FaultKind → Text → Fault
 fault_nowhere kind name = fault_at None (number_of kind) (wording kind ++ name)
 
--- what a call answered, seen by `see`, with the messages and the names asked for that it left, is this step; where
+-- what a call returned, seen by `see`, with the messages and the names asked for that it left, is this step; where
 -- memory was refused or a device failed, nothing is said of it
 abbrev pub Follows : {A B : Type 0} → (A → B) → Result A Stop → List Text → List Text → Course B → Type 0
 Follows see (Ok x) said asked course = course ≡ on_course said asked (see x)

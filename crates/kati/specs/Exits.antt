@@ -11,7 +11,7 @@ code_of statuses.Done = 0
 code_of statuses.Differs = 1
 code_of statuses.Fault = 2
 
--- of a run that was kept from it: by a device, or by want of memory
+-- of a run that was kept from it: by a device, or by being out of memory
 abbrev pub fault_code : RunFault → ℕ
 fault_code (faults.Read name) = 3
 fault_code faults.WriteOut = 3

@@ -8,7 +8,7 @@ use kt_eval::{Fault, FaultKind, Stop};
 use kt_rules::Place;
 use std::alloc::Global;
 
-/// The stop for a fault of this kind, which tells of this name, or for want of memory for its words.
+/// The stop for a fault of this kind, which tells of this name, or for being out of memory for its words.
 pub(crate) fn stop_on(alloc: Global, kind: FaultKind, name: &[u8], place: Option<Place>) -> Stop
     ensures { IsFaultOf (fault_at place (number_of kind) (wording kind ++ name.now)) result }
 {

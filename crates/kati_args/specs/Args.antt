@@ -114,7 +114,7 @@ unless_bad args (Some word) = Err word
 abbrev pub answer_to : List Row → Result Args Text
 answer_to rows = unless_bad (args_in rows) (find is_bad_macro (words_in rows))
 
--- what may be answered where clap found this in the words: that, or that there isn't memory enough
+-- what may be returned where clap found this in the words: that, or that there isn't memory enough
 abbrev pub AnswersFound : List Row → Result Args ArgFault → Type 0
 AnswersFound rows (Ok args) = answer_to rows ≡ Ok args
 AnswersFound rows (Err (BadMacro word)) = answer_to rows ≡ Err (string_bytes word)
@@ -126,8 +126,8 @@ AnswersFound rows (Err (Usage text)) = ⊥
 abbrev pub IsTaken : List Text → Type 0
 IsTaken words = takes kati_app words ≡ true
 
--- what may be answered to the words: arguments and a bad macro only where clap takes them, help and usage only where it
--- doesn't, help only where clap shows it, and usage only where clap finds another fault
+-- what may be returned for the words: arguments and a bad macro only where clap takes them, help and usage only where
+-- it doesn't, help only where clap shows it, and usage only where clap finds another fault
 abbrev pub Answers : List Text → Result Args ArgFault → Type 0
 Answers words (Err (Help text)) = (takes kati_app words ≡ false) × IsAmong DisplayHelp (fault_of kati_app words)
 Answers words (Err (Usage text)) =
@@ -136,7 +136,7 @@ Answers words (Err (Usage text)) =
 Answers words (Err Memory) = ⊤
 Answers words result = IsTaken words × AnswersFound (matches_of kati_app words) result
 
--- what is answered for an error of clap's
+-- what is returned for an error of clap's
 abbrev pub Tells : Error → ArgFault → Type 0
 Tells error (Help text) = kind_of error ≡ DisplayHelp
 Tells error (Usage text) = (kind_of error ≢ OutOfMemory) × (kind_of error ≢ DisplayHelp)

@@ -10,11 +10,11 @@ use Rattle.kati_args.specs.declared.fault.ArgFault.{ArgFault}
 use Rattle.kati_args.specs.declared.fault.ArgFault.TheVariants.{Memory, Usage}
 use Rattle.kati_args.specs.Args.{Answers, answer_to, kati_app}
 
--- the words of a command line, behind the program's name
+-- the words of a command line, after the program's name
 abbrev pub line : List Text → List Text
 line words = codes "kati" ∷ words
 
--- what is answered to words that clap takes
+-- what is returned for words that clap takes
 abbrev pub asked : List Text → Option (Result Args Text)
 asked words = if takes kati_app (line words) then Some (answer_to (matches_of kati_app (line words))) else None
 
@@ -58,13 +58,13 @@ IsUsage (Err (Usage text)) = ⊤
 IsUsage (Err Memory) = ⊤
 IsUsage result = ⊥
 
--- nothing else may be answered to the words
+-- nothing else may be returned for the words
 abbrev pub AsksUsage : List Text → Type 0
 AsksUsage words = (result : Result Args ArgFault) → Answers (line words) result → IsUsage result
 
 pub record RowsOfUsage : Type 0 where
   pub unknown : AsksUsage (codes "--nothing" ∷ [])
   pub later : AsksUsage (codes "t" ∷ codes "A=1" ∷ codes "-x" ∷ [])
-  -- clap refuses a word behind a bad macro
+  -- clap refuses a word after a bad macro
   pub too_deep : AsksUsage (codes "A:=x" ∷ codes "--depth=401" ∷ [])
   pub no_value : AsksUsage (codes "=x" ∷ codes "-f" ∷ [])

@@ -10,7 +10,7 @@ pub type Name = Sequence<u8>;
 pub struct Macro {
     /// What stands before the first equals sign.
     pub name: Name,
-    /// All that stands behind it.
+    /// All that stands after it.
     pub value: Sequence<u8>,
 }
 

@@ -11,7 +11,7 @@ pub fn rows_of_faults()
     ensures { RowsOfFaults }
 {}
 
-/// Worked command lines to which only usage may be answered.
+/// Worked command lines to which only usage may be returned.
 pub fn rows_of_usage()
     ensures { RowsOfUsage }
 {}

@@ -9,7 +9,7 @@ use crate::args::{Macro, Name};
 use kt_list::Sequence;
 use std::alloc::{AllocError, Global};
 
-/// What stands before the first equals sign of a word, and what stands behind it.
+/// What stands before the first equals sign of a word, and what stands after it.
 fn split(word: &str) -> Option<(&str, &str)>
     ensures { MatchOption result (is_macro word.now ≡ false)
         (λ cut. (is_macro word.now ≡ true) × (cut.0.now ≡ name_in word.now)

@@ -65,7 +65,7 @@ fn holds(out: &[u8], lines: &[u8]) -> bool {
     left.is_empty()
 }
 
-// What stands behind the first line, if it is this one.
+// What stands after the first line, if it is this one.
 fn after_line<'a>(lines: &'a [u8], line: &[u8]) -> Option<&'a [u8]> {
     match lines.strip_prefix(line) {
         Some([b'\n', rest @ ..]) => Some(rest),

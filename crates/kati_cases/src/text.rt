@@ -51,7 +51,7 @@ fn digit(byte: u8) -> u8 {
     }
 }
 
-/// What stands before the first space, and behind it.
+/// What stands before the first space, and after it.
 pub fn cut(line: &[u8]) -> (&[u8], &[u8]) {
     match line.iter().position(|byte| *byte == b' ') {
         Some(at) => (&line[..at], &line[at + 1..]),

@@ -5,7 +5,7 @@ use kt_ninja::MemSink;
 use std::alloc::Global;
 use std::process::Abort;
 
-/// A run whose devices don't fail: the words behind the program's name, the files, the names that it asks for, the exit
+/// A run whose devices don't fail: the words after the program's name, the files, the names that it asks for, the exit
 /// status, the output and the error output.
 type Row = (
     &'static [&'static str],

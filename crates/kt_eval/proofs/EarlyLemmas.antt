@@ -1,4 +1,4 @@
--- Messages and names so far, where something is refused: they are a beginning of those of the step that it stands in.
+-- Messages and names so far, where something is refused: they are a prefix of those of the step that it stands in.
 use Rattle.std.proofs.Common.{◌≡◌, ℕ, suc, ◌+◌, ◌<◌, ◌==◌, ◌||◌, Bool, true, cond, false, List, [], ◌∷◌, ◌++◌, length, map, drop, get_or, drop-cons, Some, codes, refl, sym, ap, subst, ◌∙◌, arith, Bor}
 use Rattle.std.specs.List.{slice_get}
 use Rattle.kt_text.specs.Words.{Text, words_of, stripped}

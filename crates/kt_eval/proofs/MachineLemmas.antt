@@ -28,7 +28,7 @@ ends_so (Err (stops.Device name)) w (Stopped v x) h = both_fronts w v h
 ends_so (Err stops.Memory) w (Gave v x) h = both_fronts w v h
 ends_so (Err stops.Memory) w (Stopped v x) h = both_fronts w v h
 
--- the same where the bytes behind the names are known
+-- the same where the bytes of the named files are known
 pub reads_to_the_end : (known : Option Store) (names : List Text) (limit : ℕ) (table : Table) (book : List Rule) (said asked : List Text) (result : Result (Unit {0}) Stop) (w : World) → (AreKnown known → Gives (λ u. u) result w (read_first (store_of known) (evaluator true (store_of known) limit) names (first_world table book said asked))) → IfSome known (λ store. Reads result w.table w.book w.said w.asked (reading store names limit table book said asked))
 reads_to_the_end None names limit table book said asked result w h = tt
 reads_to_the_end (Some store) names limit table book said asked result w h = ends_so result w _ (h refl)
@@ -42,7 +42,7 @@ in_the_end : (w : World) (outcome : Outcome (Unit {0})) → GoesOn w (world_of o
 in_the_end w (Gave v x) h = both_fronts w v h
 in_the_end w (Stopped v x) h = both_fronts w v h
 
--- before the first line the messages and the names are a beginning of those of the reading
+-- before the first line the messages and the names are a prefix of those of the reading
 pub before_reading : (known : Option Store) (names : List Text) (limit : ℕ) (table : Table) (book : List Rule) (said asked : List Text) → IfSome known (λ store. IsFront said (messages_of (reading store names limit table book said asked)) × IsFront asked (names_of (reading store names limit table book said asked)))
 before_reading None names limit table book said asked = tt
 before_reading (Some store) names limit table book said asked = in_the_end (first_world table book said asked) (read_first store (evaluator true store limit) names (first_world table book said asked)) (read_first_front true store limit names (first_world table book said asked))

@@ -29,6 +29,6 @@ pub ends_when : (limit : ℕ) (text : Text) (table : Table) (automatic : Store) 
 ends_when limit text table automatic place before frames result w failed before' said' empty first last none b h =
     rw (sym first, sym last) (ends_so result w w.asked _ (rw none at b) (rw empty at h))
 
--- a beginning by other names
+-- a prefix by other names
 pub front_by : (old new old' new' : List Text) → old ≡ old' → new ≡ new' → IsFront old new → IsFront old' new'
 front_by old new old' new' e f h = rw (sym e, sym f) h

@@ -1,4 +1,4 @@
--- What was said and asked for before a step is a beginning of that at its end, for each step that something may fail before. The
+-- What was said and asked for before a step is a prefix of that at its end, for each step that something may fail before. The
 -- second and third of each are the two parts of the first, as tactics take them.
 use Rattle.std.proofs.Common.{◌≡◌, ℕ, zero, suc, ◌≤◌, Bool, true, List, [], ◌∷◌, ◌++◌, refl, arith, length, take, Option}
 use Rattle.kt_text.specs.Words.{Text}

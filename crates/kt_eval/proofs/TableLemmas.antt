@@ -14,7 +14,7 @@ Pair = Vec ℕ Global × Macro
 abbrev pub entry_of : Pair → List ℕ × Macro
 entry_of entry = (entry.0.items, entry.1)
 
--- what a reference shows is what is copied from behind it
+-- what a reference shows is what is copied from after it
 pub seen : (r : Option (Bor Macro)) → option_map (λ m. m.now) r ≡ option_copied r
 seen None = refl
 seen (Some m) = refl

@@ -51,7 +51,7 @@ assign_line e name operator text = do
 unfoldable pub body_text : List Text → Text
 body_text lines = join_with_byte 10 (map condensed_of lines)
 
--- a define by what stands behind its word: a name with an operator, or a name alone, which is deferred
+-- a define by what stands after its word: a name with an operator, or a name alone, which is deferred
 unfoldable pub define : Evaluator → Text → Kind → Text → Step (Unit {0})
 define e rest (assignment name operator text) body = assign_line e (plain_of name) operator body
 define e rest other body = assign_line e (trimmed (plain_of rest)) operator.Deferred body

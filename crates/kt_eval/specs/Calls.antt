@@ -183,7 +183,7 @@ abbrev pub one_less : Option ℕ → Option ℕ
 one_less None = None
 one_less (Some more) = Some (more - 1)
 
--- how many marks of a reference's own kind are nested behind a byte
+-- how many marks of a reference's own kind are nested after a byte
 abbrev pub nested : Mark → ℕ → ℕ → ℕ
 nested mark depth byte = if byte == opener mark then depth + 1 else (if byte == closer mark then depth - 1 else depth)
 
@@ -204,12 +204,12 @@ pub data Asked : Type 0 where
   refuses : (name : Text) → Asked
   refers : (body : Text) → Asked
 
--- the body of a reference by its first word and what stands behind its separators
+-- the body of a reference by its first word and what stands after its separators
 abbrev pub asked_after : Mark → Text → Text → Text → Option Function → Asked
 asked_after mark body name rest (Some function) = calls function (arguments_of mark (commas function) rest)
 asked_after mark body name rest None = if is_refused_function name then refuses name else refers body
 
--- a function's name directly behind the opening mark, with a separator behind it, makes a call
+-- a function's name directly after the opening mark, with a separator after it, makes a call
 unfoldable pub asked_of : Mark → Text → Asked
 asked_of mark body =
     let place = position_or_len is_separator body in

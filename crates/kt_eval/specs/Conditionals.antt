@@ -32,7 +32,7 @@ are_equal e (Some compared) = do
   y ← expanded e compared.second
   done (bytes_eq x y)
 
--- whether a condition holds, by its word and the text behind that
+-- whether a condition holds, by its word and the text after that
 unfoldable pub holds : Evaluator → Directive → Text → Step Bool
 holds e word.Ifdef text = is_defined e text
 holds e word.Ifndef text = do
@@ -59,7 +59,7 @@ worded_holds e other text = bad_conditional
 unfoldable pub text_holds : Evaluator → Text → Step Bool
 text_holds e text = worded_holds e (kind_of (word_before_blank text) false) (text_after_word text)
 
--- whether an `else` is taken: without a condition behind it, it always is
+-- whether an `else` is taken: without a condition after it, it always is
 unfoldable pub else_holds : Evaluator → Bool → Text → Step Bool
 else_holds e false rest = done true
 else_holds e true rest = text_holds e (plain_of rest)

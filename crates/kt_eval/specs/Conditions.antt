@@ -28,7 +28,7 @@ abbrev pub second_in : Text → Text → Option Compared
 second_in first rest =
     option_map (λ end. record { first = trimmed first; second = trimmed (take end rest) }) (bare_place 41 0 0 rest)
 
--- two texts in parentheses, behind the opening one
+-- two texts in parentheses, after the opening one
 unfoldable pub in_parentheses : Text → Option Compared
 in_parentheses text = option_and_then (λ comma. second_in (take comma text) (drop (comma + 1) text))
     (bare_place 44 0 0 text)

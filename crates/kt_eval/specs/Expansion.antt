@@ -45,7 +45,7 @@ unfoldable pub value_of : Evaluator → Option Found → Step Text
 value_of e None = done []
 value_of e (Some found) = flavoured e found.flavour found.value
 
--- each argument in turn, behind those before
+-- each argument in turn, after those before
 unfoldable pub each_argument : Evaluator → List Text → List Text → Step (List Text)
 each_argument e out [] = done out
 each_argument e out (text ∷ texts) = do
@@ -89,7 +89,7 @@ apply_and e (text ∷ texts) = do
   x ← e.expand (stripped text)
   if length x == 0 || length texts == 0 then done x else apply_and e texts
 
--- the body for each word in turn, behind what came before and a separator
+-- the body for each word in turn, after what came before and a separator
 unfoldable pub each_word : Evaluator → Text → Text → Text → Text → List Text → Step Text
 each_word e name body out separator [] = done out
 each_word e name body out separator (word ∷ words) = do
@@ -211,7 +211,7 @@ term_of e dollar = done (codes "$")
 term_of e (reference mark body) = referred e (asked_by mark body)
 term_of e unclosed = stop 7 (codes "unterminated reference")
 
--- each term in turn, behind what came before
+-- each term in turn, after what came before
 unfoldable pub each_term : Evaluator → Text → List Piece → Step Text
 each_term e out [] = done out
 each_term e out (piece ∷ pieces) = do

@@ -80,8 +80,8 @@ abbrev pub names_of : Ending → List Text
 names_of (read_all table book said asked) = asked
 names_of (at_fault said asked fault) = asked
 
--- what a call answered, and the macros, rules, messages and names asked for that it left, are that ending; where
--- memory is wanted or a device failed, the messages and the names are a beginning of its messages and names
+-- what a call returned, and the macros, rules, messages and names asked for that it left, are that ending; where
+-- memory is refused or a device failed, the messages and the names are a prefix of its messages and names
 abbrev pub Reads : Result (Unit {0}) Stop → Table → List Rule → List Text → List Text → Ending → Type 0
 Reads (Ok x) table book said asked expected = expected ≡ read_all table book said asked
 Reads (Err (stops.Fault fault)) table book said asked expected = expected ≡ at_fault said asked fault
@@ -95,7 +95,7 @@ IsDeviceOf name (stops.Fault fault) = ⊥
 IsDeviceOf name (stops.Device other) = string_bytes other ≡ name
 IsDeviceOf name stops.Memory = ⊥
 
--- the refusal once more, or want of memory where its copy is refused
+-- the refusal once more, or being out of memory where its copy is refused
 abbrev pub IsAgain : Stop → Stop → Type 0
 IsAgain stops.Memory stop = Unit {0}
 IsAgain (stops.Fault fault) stop = stop ≡ stops.Fault fault

@@ -3,7 +3,7 @@ use Rattle.std.specs.Prelude.{ℕ, List, ◌∷◌, [], ◌++◌, ◌==◌, Bool
 use Rattle.kt_list.specs.Counters.{one_more}
 use Rattle.kt_eval.specs.Files.{Store}
 
--- what is behind each name, what was asked for, which read fails, how many there were, and how many failed
+-- the bytes of the file of each name, what was asked for, which read fails, how many there were, and how many failed
 pub record Memory : Type 0 where
   pub store : Store
   pub asked : List (List ℕ)

@@ -12,7 +12,7 @@ use Rattle.kt_eval.specs.Files.{Store}
 use Rattle.kt_eval.specs.Fronts.{IsFront, last}
 use Rattle.kt_eval.specs.State.{World}
 
--- what is seen of an evaluation: its world, the bytes behind the names of its files, where they are known, how often
+-- what is seen of an evaluation: its world, the bytes of the named files of its files, where they are known, how often
 -- a read failed, and by which reference it holds the files
 pub record Seen : Type 0 where
   pub world : World
@@ -32,7 +32,7 @@ one_of asked_for said asked = asked
 abbrev pub trail : Trail → World → List Text
 trail of w = one_of of w.said w.asked
 
--- each list of the first world is a beginning of that of the second
+-- each list of the first world is a prefix of that of the second
 abbrev pub GoesOn : World → World → Type 0
 GoesOn old new =
     ((of : Trail) → length (trail of old) ≤ length (trail of new))
@@ -81,19 +81,19 @@ stop number words w = Stopped w (fault_at w.place number words)
 abbrev pub change : (World → World) → Step (Unit {0})
 change f w = Gave (f w) tt
 
--- the fault that is answered is the one that the step stops at; where memory is wanted or a device failed, the
--- messages so far and the names asked for are a beginning of those of the step
+-- the fault that is returned is the one that the step stops at; where memory is refused or a device failed, the
+-- messages so far and the names asked for are a prefix of those of the step
 abbrev pub Fails : {A : Type 0} → Stop → World → Outcome A → Type 0
 Fails (stops.Fault fault) w outcome = outcome ≡ Stopped w fault
 Fails (stops.Device name) w outcome = GoesOn w (world_of outcome)
 Fails stops.Memory w outcome = GoesOn w (world_of outcome)
 
--- what a call answered, seen by `see`, and the world that it left are what the step gives
+-- what a call returned, seen by `see`, and the world that it left are what the step gives
 abbrev pub Gives : {A B : Type 0} → (A → B) → Result A Stop → World → Outcome B → Type 0
 Gives see (Ok x) w outcome = outcome ≡ Gave w (see x)
 Gives see (Err e) w outcome = Fails e w outcome
 
--- what a call answered is where to go on, and what is given from there on is the outcome
+-- what a call returned is where to go on, and what is given from there on is the outcome
 abbrev pub GivesOn : {A B : Type 0} → Result A Stop → World → (A → Step B) → Outcome B → Type 0
 GivesOn (Ok x) w rest outcome = outcome ≡ rest x w
 GivesOn (Err e) w rest outcome = Fails e w outcome
@@ -112,7 +112,7 @@ abbrev pub messages_of : Ending → List Text
 messages_of (with_text said text) = said
 messages_of (with_fault said fault) = said
 
--- what a call answered, and the messages that it left, are that ending; where memory is wanted, a beginning of its
+-- what a call returned, and the messages that it left, are that ending; where memory is refused, a prefix of its
 -- messages; no device is there to fail
 abbrev pub Ends : Result (Vec ℕ Global) Stop → List Text → Ending → Type 0
 Ends (Ok text) said expected = expected ≡ with_text said text.items
@@ -120,7 +120,7 @@ Ends (Err (stops.Fault fault)) said expected = expected ≡ with_fault said faul
 Ends (Err (stops.Device name)) said expected = ⊥
 Ends (Err stops.Memory) said expected = IsFront said (messages_of expected)
 
--- the bytes behind the names are known
+-- the bytes of the named files are known
 abbrev pub AreKnown : Option Store → Type 0
 AreKnown known = is_some known ≡ true
 
@@ -128,8 +128,8 @@ AreKnown known = is_some known ≡ true
 abbrev pub store_of : Option Store → Store
 store_of known = unwrap_or known []
 
--- a failed device is answered where the count of failures rose, by the name that was asked for last; nothing else is
--- answered where a device failed
+-- a failed device is returned where the count of failures rose, by the name that was asked for last; nothing else is
+-- returned where a device failed
 abbrev pub Blames : {A : Type 0} → Result A Stop → ℕ → ℕ → List Text → Type 0
 Blames (Ok x) old new asked = new ≡ old
 Blames (Err (stops.Fault fault)) old new asked = new ≡ old

@@ -34,14 +34,14 @@ set_by_makefile flavour value = record { flavour = flavour; origin = Makefile; v
 pub data Assigning : Type 0 where
   -- nothing: the macro stays as it is
   keeps : Assigning
-  -- the text as it stands becomes the deferred value, behind what is given
+  -- the text as it stands becomes the deferred value, after what is given
   defers : (front : Text) → Assigning
-  -- the text is expanded, and becomes the immediate value, behind what is given
+  -- the text is expanded, and becomes the immediate value, after what is given
   expands : (front : Text) → Assigning
   -- the text is expanded, and with each dollar doubled becomes the deferred value
   escapes : Assigning
 
--- more text goes behind the old value and one space, and is expanded at once where the old value was
+-- more text goes after the old value and one space, and is expanded at once where the old value was
 abbrev pub appending : Flavour → Text → Assigning
 appending Deferred old = defers (old ++ codes " ")
 appending Immediate old = expands (old ++ codes " ")

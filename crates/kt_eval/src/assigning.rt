@@ -13,9 +13,9 @@ use std::alloc::{AllocError, Global};
 pub(crate) enum Assigning {
     /// The macro stays as it is.
     Keeps,
-    /// The text as it stands becomes the deferred value, behind this one and a space if there is one.
+    /// The text as it stands becomes the deferred value, after this one and a space if there is one.
     Defers(Option<Shared<u8>>),
-    /// The expanded text becomes the immediate value, behind this one and a space if there is one.
+    /// The expanded text becomes the immediate value, after this one and a space if there is one.
     Expands(Option<Shared<u8>>),
     /// The expanded text with each dollar doubled becomes the deferred value.
     Escapes,
@@ -62,7 +62,7 @@ fn assigning_again(operator: Operator, old: &Macro) -> Result<Assigning, AllocEr
     }
 }
 
-// More text goes behind the old value and a space. The value is held once more, not copied.
+// More text goes after the old value and a space. The value is held once more, not copied.
 fn appending(old: &Macro) -> Result<Assigning, AllocError>
     ensures { IfOk result (λ found. assigning_told found ≡ appending old.now.flavour old.now.value) }
 {

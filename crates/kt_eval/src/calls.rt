@@ -49,7 +49,7 @@ fn byte_name(body: &[u8]) -> &[u8]
     if body.len() == 1 { body } else { b" " }
 }
 
-// A function's name directly behind the opening mark, with a separator behind it, makes a call.
+// A function's name directly after the opening mark, with a separator after it, makes a call.
 #[tactic(auto, unfolding(crate::specs::Calls::asked_of))]
 fn asked_of(alloc: Global, mark: Mark, body: &[u8]) -> Result<Asked<'_>, AllocError>
     ensures { IfOk result (λ asked. asked_told asked ≡ asked_of mark body.now) }

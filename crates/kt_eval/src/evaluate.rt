@@ -215,7 +215,7 @@ impl<'a, M: Scope, F: Files> Evaluation<'a, M, F> {
         self.accept(function.name(), outcome)
     }
 
-    // Expands each argument in turn, behind what is given.
+    // Expands each argument in turn, after what is given.
     #[cycle(evaluate)]
     #[tactic(auto, using(crate::proofs::Steps::each_argument_goes), unfolding(crate::specs::Expansion::each_argument))]
     pub(crate) fn each_argument(

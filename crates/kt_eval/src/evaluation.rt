@@ -107,7 +107,7 @@ impl<'a, M: Scope, F: Files> Evaluation<'a, M, F> {
         Ok(())
     }
 
-    // Says a message behind its place.
+    // Says a message after its place.
     pub(crate) fn warn(&mut self, message: &[u8]) -> Result<(), AllocError>
         ensures refused { OnErr result (self.new ≡ self.old) }
         ensures done { OnOk result (self.new ≡ record self.old { world = warn message.now self.old.world }) }
@@ -143,7 +143,7 @@ impl<'a, M: Scope, F: Files> Evaluation<'a, M, F> {
         Err(Stop::Fault(self.fault(FaultKind::BadArgument, name)?))
     }
 
-    // What a function of texts answered.
+    // What a function of texts returned.
     #[tactic(auto, using(crate::proofs::Steps::accepted_goes))]
     pub(crate) fn accept(
         &self,
@@ -229,7 +229,7 @@ impl<'a, M: Scope, F: Files> Evaluation<'a, M, F> {
         assignment_of(operator, self.macros.get(name))
     }
 
-    // Sets a macro to a text, behind an old value and a space if there is one.
+    // Sets a macro to a text, after an old value and a space if there is one.
     pub(crate) fn set_macro(
         &mut self,
         name: Vec<u8>,
@@ -357,7 +357,7 @@ impl<'a, M: Scope, F: Files> Evaluation<'a, M, F> {
     }
 
     // Reads the bytes of a file, if it is there. Its name is copied first, so that no failure of the device ends in
-    // want of memory.
+    // being out of memory.
     #[tactic(auto, using(crate::proofs::Steps::read_bytes_steps), unfolding(crate::specs::Reading::read_bytes))]
     pub(crate) fn read_bytes(&mut self, name: &str) -> Result<Option<Vec<u8>>, Stop>
         ensures gives { AreKnown self.old.known → Gives (λ found. option_map

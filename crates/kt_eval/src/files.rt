@@ -16,7 +16,7 @@ pub enum FileFault {
 
 /// Files by their names, and a record of what was asked for.
 pub trait Files {
-    /// The bytes behind each name, where they are known.
+    /// The bytes of the file of each name, where they are known.
     ghost known: { Self → Option Store };
 
     /// The names that were asked for, in order.

@@ -73,10 +73,10 @@ impl Machine {
 
     /// Reads the first of these files that is there.
     ///
-    /// After a refusal each further call repeats it, or answers want of memory where its copy is
+    /// After a refusal each further call repeats it, or is out of memory where its copy is
     /// refused, and asks for no file. Messages are appended in order; where memory is refused or a
-    /// device fails, a beginning of them, and a beginning of the names is asked for. A failed device
-    /// is answered by the name asked for last; nothing else is answered where one failed.
+    /// device fails, a prefix of them, and a prefix of the names is asked for. A failed device
+    /// is told by the name asked for last; nothing else is returned where one failed.
     pub fn read_file<F: Files>(&mut self, files: &mut F, names: &[&str]) -> Result<(), Stop>
         ensures reads { self.old.refusal ≡ None
             → IfSome (F.known files.old)
@@ -242,7 +242,7 @@ fn set_default(
     )
 }
 
-// The refusal once more, or want of memory where its copy is refused.
+// The refusal once more, or being out of memory where its copy is refused.
 fn copy_or_memory(alloc: Global, stop: &Stop) -> Stop
     ensures { IsAgain result stop.now }
 {

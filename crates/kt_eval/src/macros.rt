@@ -50,7 +50,7 @@ impl Macro {
         }
     }
 
-    // Puts a space and more text behind the value; in place, where nothing else holds it.
+    // Puts a space and more text after the value; in place, where nothing else holds it.
     fn append(&mut self, more: &[u8]) -> Result<(), AllocError>
         ensures { OnOk result (self.new ≡ record self.old { value = (self.old.value ++ codes " ") ++ more.now }) }
     {
@@ -123,7 +123,7 @@ impl Macros {
         Ok(())
     }
 
-    // Sets a macro to a text behind `front` and a space. Where `front` was the value of this macro
+    // Sets a macro to a text after `front` and a space. Where `front` was the value of this macro
     // and nothing else holds it, it grows in place: the macro's own hold ends first.
     pub(crate) fn append(
         &mut self,

@@ -36,8 +36,8 @@ impl MemFiles {
     ghost use Rattle.std.specs.Prelude.{◌≡◌, [], map, string_bytes};
     ghost use Rattle.kt_eval.specs.Memory.{Memory};
 
-    /// The bytes behind each name; of two pairs of one name the first counts. The nth read, counted from 1, fails;
-    /// with 0 none does.
+    /// The bytes of the file of each name; of two pairs of one name the first counts. The nth read, counted from 1,
+    /// fails; with 0 none does.
     pub fn new(alloc: Global, pairs: Vec<(String, Vec<u8>)>, nth: u64) -> MemFiles
         ensures { result ≡ record {
           store = map (λ p. (string_bytes p.0, p.1.items)) pairs.items;

@@ -97,7 +97,7 @@ impl<'a> Page<'a> {
         0
     }
 
-    // The step of a line, counted from 0; none behind the last one.
+    // The step of a line, counted from 0; none after the last one.
     #[tactic(auto, using(crate::proofs::RootLemmas::none_left_past, std::proofs::lemmas::Option::slice_get_within))]
     pub(crate) fn step(&self, place: usize) -> Option<Step>
         ensures value { result ≡ slice_get self.now.blocks.steps place }
@@ -109,7 +109,7 @@ impl<'a> Page<'a> {
         self.blocks.get(place)
     }
 
-    // The branch that begins at a place, before that where reading goes on behind all branches:
+    // The branch that begins at a place, before that where reading goes on after all branches:
     // whether it has a condition, and where the next one begins.
     pub(crate) fn branch(&self, place: usize, after: usize) -> Option<(bool, usize)>
         ensures before { IfSome result (λ found. place < after) }
@@ -137,7 +137,7 @@ impl<'a> Page<'a> {
         }
     }
 
-    // The place behind that of a line.
+    // The place after that of a line.
     pub(crate) fn behind(&self, place: usize) -> usize
         requires { place < length self.now.blocks.steps }
         ensures { result ≡ place + 1 }

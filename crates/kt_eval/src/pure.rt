@@ -21,7 +21,7 @@ impl Macros {
     ///
     /// The text stands at level 0. Without a place, as for the goal that a macro names, messages
     /// begin with the program's name. GNU make manual, "How to Use Variables", "Using Variables in
-    /// Recipes". Messages are appended in order; where memory is refused, a beginning of them.
+    /// Recipes". Messages are appended in order; where memory is refused, a prefix of them.
     pub fn expand_pure<A: Automatic>(
         &self,
         alloc: Global,

@@ -46,7 +46,7 @@ pub(crate) trait Scope {
         ensures kept_automatic { automatic self.new ≡ automatic self.old }
         ensures kept_book { book self.new ≡ book self.old };
 
-    // Sets a macro to a text behind `front` and a space, if any may be set.
+    // Sets a macro to a text after `front` and a space, if any may be set.
     fn append(
         &mut self,
         name: Vec<u8>,

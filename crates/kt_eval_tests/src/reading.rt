@@ -128,7 +128,7 @@ fn machine_of(alloc: Global, start: Start<'_>) -> Result<Machine, AllocError> {
     Machine::new(alloc, macros, start.limit)
 }
 
-/// The messages of a reading, the names asked for behind `makefile` and `Makefile`, and how it ended.
+/// The messages of a reading, the names asked for after `makefile` and `Makefile`, and how it ended.
 fn put_told(out: &mut Vec<u8>, reading: &Reading, asked: &[String], outcome: &Result<(), Stop>) {
     put_messages(out, reading.messages.as_slice());
     put_asked(out, asked.get(2..).unwrap_or(&[]));

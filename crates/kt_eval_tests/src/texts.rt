@@ -1,7 +1,7 @@
 //! Texts of what was found.
 use kt_list::Sequence;
 
-/// Puts more text behind a text. Where memory is refused it is left out, so that no row is met.
+/// Puts more text after a text. Where memory is refused it is left out, so that no row is met.
 pub(crate) fn put(out: &mut Vec<u8>, text: &[u8]) {
     let _refused = out.extend_from_slice(text);
 }

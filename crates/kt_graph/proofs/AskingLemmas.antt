@@ -22,7 +22,7 @@ length-with_rule rule (first ∷ used) = by (nat_lt rule first) (length-with_rul
     by true more = omega arith
     by false more = omega arith
 
--- it stands behind those that aren't above it
+-- it stands after those that aren't above it
 pub with_rule_is : (rule : ℕ) (used : List ℕ)
     → take (prefix_len (λ other. nat_le other rule) used) used ++ rule ∷ drop (prefix_len (λ other. nat_le other rule) used) used ≡ with_rule rule used
 unfolding with_rule

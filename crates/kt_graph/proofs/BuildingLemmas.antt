@@ -1,4 +1,4 @@
--- The rule whose recipe is used, with those before it and behind it, and what rules need together.
+-- The rule whose recipe is used, with those before it and after it, and what rules need together.
 use Rattle.std.proofs.Common.{◌≡◌, ℕ, suc, zero, Bool, true, false, not, cond, ◌+◌, ◌-◌, ◌<◌, ◌≤◌, List, [], ◌∷◌, ◌++◌, length, map, filter, take, drop, get_or, Option, Some, None, option_map, refl, sym, ap, ◌∙◌, arith, rules}
 use Rattle.std.specs.List.{before_last, after_last, last_or, suffix_len}
 use Rattle.std.proofs.lemmas.List.{append_assoc, drop_at, get_or-append_right, get_or_at, length-append, length-take, length_push, map-append, take-append-drop, take_all, take_at, take_more, take_rest}
@@ -42,7 +42,7 @@ last_pushed : {A : Type 0} (o : Option A) (xs : List A) (x : A) → last_or o (x
 last_pushed o [] x = refl
 last_pushed o (y ∷ xs) x = last_pushed (Some y) xs x
 
--- the last that passes, and what stands before it and behind it
+-- the last that passes, and what stands before it and after it
 last_cut : {A : Type 0} (p : A → Bool) (before : List A) (x : A) (after : List A) → p x ≡ true → filter p after ≡ []
     → (last_or None (filter p (before ++ x ∷ after)) ≡ Some x)
     × (before_last p (before ++ x ∷ after) ≡ before) × (after_last p (before ++ x ∷ after) ≡ after)
@@ -67,7 +67,7 @@ last_cut p before x after passes none =
           ∙ drop_at (before ++ x ∷ []) after (length all - (length all - (n + 1))) (length_push before x ∙ omega (arith, len)),
     )
 
--- the same where the last of a front passes, and nothing behind the front does
+-- the same where the last of a front passes, and nothing after the front does
 pub used_at : {B A : Type 0} (p : A → Bool) (f : B → A) (all left : List B) (x : B) → left ≡ take (length left) all → 0 < length left
     → x ≡ get_or left (length left - 1) x → p (f x) ≡ true → filter p (map f (drop (length left) all)) ≡ []
     → (last_or None (filter p (map f all)) ≡ Some (f x))

@@ -103,7 +103,7 @@ module _ (rules : List Rule) (known : List Text) where
           (subst (λ answers. IsRight rules known old.questions.keys answers (length used)) (sym stood.answers) right);
     }
 
-  -- a new question stands behind the others
+  -- a new question stands after the others
   module _ (old mid : Tried) (question : Question) (place : ℕ) (used : List ℕ) (u : question.used.items ≡ used)
       (right : IsRightFor rules known old (length used)) (last : StandsLast old mid question place) where
     -- the questions with longer chains are right as they were
@@ -174,7 +174,7 @@ module _ (rules : List Rule) (known : List Text) where
           ∙ slice_get-get_or (old.questions.keys ++ question ∷ []) place question (omega (arith, last.place_behind, length-append old.questions.keys (question ∷ [])))
           ∙ ap Some (get_or_at old.questions.keys question [] question place (sym last.place_behind)))
 
-      -- what stands behind it has a longer chain
+      -- what stands after it has a longer chain
       longer : (k : ℕ) (one : Question) → place < k → slice_get new.questions.keys k ≡ Some one → length used + 1 ≤ length one.used.items
       longer k one past at =
           behind_deep rules known left used name (asked_told one)

@@ -49,7 +49,7 @@ one_adds : (rows : List (List ℕ)) (from to : ℕ) → from < length rows → C
 one_adds rows from to within =
     subst (λ (xs : List ℕ). Contains xs to) (sym (get_or-set_same rows from (get_or rows from [] ++ to ∷ []) [] within)) (Contains-push (get_or rows from []) to)
 
--- a row with one more behind it
+-- a row with one more after it
 pub rows_set : (rows : List (Vec ℕ Global)) (from to : ℕ) (new old : Vec ℕ Global) → from < length rows → old ≡ get_or rows from old
     → new.items ≡ old.items ++ to ∷ []
     → map (λ row. row.items) (set rows from new) ≡ with_edge (map (λ row. row.items) rows) (from, to)

@@ -27,7 +27,7 @@ use Rattle.kt_graph.specs.Views.{AreWithin, IsWithin, candidate_at, candidate_to
 use Rattle.kt_graph.proofs.CandidateLemmas.{matching_at, matching_none, rule_at, told_at}
 use Rattle.kt_graph.proofs.MemberLemmas.{Contains-cases, Contains-none}
 
--- nothing stands behind a percent sign that isn't there
+-- nothing stands after a percent sign that isn't there
 pub no_back : (pattern : Text) → IsFirstByte (is_byte 37) pattern None → [] ≡ pattern_back pattern
 unfolding pattern_back is_percent
 no_back pattern found =
@@ -63,7 +63,7 @@ span_ends pattern word span found = by (has_percent pattern) (is_between (patter
     by true false is e = absurd (none-some span e)
     by false b is e = absurd (none-some span e)
 
--- what a part behind a place ends in, the whole ends in
+-- what a part after a place ends in, the whole ends in
 rest_ends : (name end : Text) (place : ℕ) → place ≤ length name → EndsIn (drop place name) end → EndsIn name end
 rest_ends name end place within ends =
     let long = length-drop place name in

@@ -1,4 +1,4 @@
--- Trees stay where a chain has fewer rules and more may be added: what makes a name behind a chain makes it outside one.
+-- Trees stay where a chain has fewer rules and more may be added: what makes a name after a chain makes it outside one.
 use Rattle.std.proofs.Common.{◌≡◌, ℕ, zero, suc, ◌+◌, ◌≤◌, Bool, true, false, not, ◌||◌, if◌then◌else◌, List, [], ◌∷◌, length, filter, refl, sym, ap, ◌∙◌, subst, true≢false, ◌⊎◌, inl, inr, ⊎_elim, arith}
 use Rattle.std.specs.Prelude.{◌==◌, nat_eq, nat_lt}
 use Rattle.std.specs.List.{Contains, flat_map, list_any, range_with_len}
@@ -81,7 +81,7 @@ has_all_with rule used fewer all other h =
     ∙ ⊎_elim (λ same. or_left (nat_eq other rule) (is_used used other) same) (λ rest. or_right (nat_eq other rule) (is_used used other) (all other rest))
     (or_cases (nat_eq other rule) (is_used fewer other) (sym (used_with rule other fewer) ∙ h))
 
--- a candidate behind a chain is one behind a chain with fewer rules
+-- a candidate after a chain is one after a chain with fewer rules
 fewer_candidates : (rules : List Rule) (name : Text) (used fewer : List ℕ) → HasAll used fewer → (one : Candidate)
     → Contains (candidates_for rules (is_begun used) name) one → Contains (candidates_for rules (is_begun fewer) name) one
 fewer_candidates rules name [] [] all one c = c

@@ -52,7 +52,7 @@ among_numbers names distinct (first ∷ numbers) number below all =
     (same_number names distinct number first below (All-head (λ n. n < length names) first numbers all))
     ∙ ap (λ b. nat_eq number first || b) (among_numbers names distinct numbers number below (All-tail (λ n. n < length names) first numbers all))
 
--- a name is put behind others where its number is
+-- a name is put after others where its number is
 with_one : (names : List (Vec ℕ Global)) → AreDistinct names → (numbers : List ℕ) (number : ℕ) → number < length names → AreBelow (length names) numbers
     → with_name (names_at names numbers) (name_at names number) ≡ names_at names (with_number numbers number)
 with_one names distinct numbers number below all =

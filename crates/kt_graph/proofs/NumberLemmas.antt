@@ -32,7 +32,7 @@ name_added : (names : List Text) (name : Text) (b : Bool) → (more : List Text)
 name_added names name true = ([], sym (append-nil names))
 name_added names name false = (name ∷ [], refl)
 
--- names are put behind those that there are
+-- names are put after those that there are
 pub names_grow : (needed names : List Text) → (more : List Text) × (fold with_name names needed ≡ names ++ more)
 names_grow [] names = ([], sym (append-nil names))
 names_grow (name ∷ needed) names =
@@ -58,7 +58,7 @@ stand_kept names needed expected numbers h =
     let grown = names_grow needed names in
     subst (λ l. StandFor l expected numbers) (sym grown.1) (stand_longer names grown.0 expected numbers h)
 
--- one more number behind others
+-- one more number after others
 pub stand_more : (names new earlier : List Text) (name : Text) (numbers : List ℕ) (number : ℕ) → new ≡ with_name names name → slice_get new number ≡ Some name
     → StandFor names earlier numbers → StandFor new (earlier ++ name ∷ []) (numbers ++ number ∷ [])
 stand_more names new earlier name numbers number grown at h =
@@ -82,7 +82,7 @@ number_found (key ∷ keys) name place h =
     let at = position-Some (λ (k : Vec ℕ Global). bytes_eq name k.items) (key ∷ keys) place key h in
     at_key (key ∷ keys) name place (get_or (key ∷ keys) place key) (slice_get-get_or (key ∷ keys) place key at.0) at.1
 
--- a name that was found isn't put behind the others
+-- a name that was found isn't put after the others
 pub name_there : (keys : List (Vec ℕ Global)) (name : Text) → list_any (λ (k : Vec ℕ Global). bytes_eq name k.items) keys ≡ true
     → map (λ (k : Vec ℕ Global). k.items) keys ≡ with_name (map (λ (k : Vec ℕ Global). k.items) keys) name
 name_there keys name h =
@@ -127,7 +127,7 @@ parts_push names [] (other ∷ parts) one part h last = absurd h
 parts_push names (first ∷ expected) [] one part h last = absurd h
 parts_push names (first ∷ expected) (other ∷ parts) one part h last = (h.0, parts_push names expected parts one part h.1 last)
 
--- one more part behind others
+-- one more part after others
 pub parts_more : (names new needed : List Text) (expected : List Part) (parts : List HeldPart) (one : Part) (part : HeldPart) → new ≡ fold with_name names needed
     → SayParts names expected parts → SaysPart new one part → SayParts new (expected ++ one ∷ []) (parts ++ part ∷ [])
 parts_more names new needed expected parts one part grown h last =
@@ -142,7 +142,7 @@ reach_more names new all i name h at grown =
     ap (λ l. fold with_name l (drop (i + 1) all)) grown
     ∙ sym (ap (λ l. fold with_name names l) (drop_more all i name h ∙ ap (λ x. x ∷ drop (i + 1) all) (sym at)))
 
--- the numbers of names up to a place, behind earlier ones
+-- the numbers of names up to a place, after earlier ones
 pub names_said : (names new earlier all : List Text) (i : ℕ) (name : Text) (numbers more : List ℕ) (number : ℕ) → i < length all → name ≡ get_or all i name
     → new ≡ with_name names name → slice_get new number ≡ Some name → more ≡ numbers ++ number ∷ []
     → StandFor names (earlier ++ take i all) numbers → StandFor new (earlier ++ take (i + 1) all) more

@@ -57,7 +57,7 @@ above_first true [] ends some = absurd (some refl refl)
 above_first false [] ends some = refl
 above_first rooted (last ∷ parts) ends some = sym (above_stays rooted last parts ends)
 
--- it stays behind another, and at the front of a name without root
+-- it stays after another, and at the front of a name without root
 pub put_up : (rooted : Bool) (old new : List (Bor Text)) (above : Bor Text) → above.now ≡ above_name → ends_in_name (reverse (told old)) ≡ false
     → (rooted ≡ true → length old ≡ 0 → ⊥) → new ≡ old ++ above ∷ []
     → reverse (told new) ≡ step_up rooted (reverse (told old))

@@ -1,4 +1,4 @@
--- Questions behind others, each once.
+-- Questions after others, each once.
 use Rattle.std.proofs.Common.{◌≡◌, ℕ, ◌+◌, ◌-◌, ◌<◌, ◌≤◌, Bool, true, false, if◌then◌else◌, List, [], ◌∷◌, ◌++◌, length, refl, sym, ap, ◌∙◌, subst, ⊎_elim, arith, append_assoc, append-nil}
 use Rattle.std.specs.Prelude.{fold, map, Some, slice_get, get_or}
 use Rattle.std.specs.List.{Contains, IsDistinct, AllByRecursion, list_any}
@@ -51,7 +51,7 @@ none_new asked (one ∷ more) h =
     ap (λ b. fold with_question (if b then asked else asked ++ one ∷ []) more) (h one (in_first one more))
     ∙ none_new asked more (λ question c. h question (in_rest one question more c))
 
--- what is put goes behind what stands
+-- what is put goes after what stands
 record IsBehind (asked more all : List Asked) : Type 0 where
   added : List Asked
   whole : all ≡ asked ++ added

@@ -13,7 +13,7 @@ use Rattle.kt_graph.specs.Node.{Node, all_inputs, inputs_of, node_of, order_only
 use Rattle.kt_graph.specs.Reach.{HasInput, IsReached, Leads}
 use Rattle.kt_graph.proofs.NumberLemmas.{names_grow}
 
--- ---- names behind others
+-- ---- names after others
 
 among_names : (names : List Text) (name : Text) → is_among names name ≡ true → Contains names name
 among_names names name h = Contains-list_any (pointwise nat_eq) (λ x y. (bytes_eq-Decides x y).0) names name h

@@ -66,7 +66,7 @@ stack_with rooted parts part is stack = record {
   under_root = stack.under_root;
 }
 
--- dot-dot behind components: it goes under the root, it stays at the front, or it takes a name away
+-- dot-dot after components: it goes under the root, it stays at the front, or it takes a name away
 record GoesUp (rooted : Bool) (parts : List Text) : Type 0 where
   pub kept : IsStack rooted (step_up rooted parts)
   pub how : ((rooted ≡ true) × (parts ≡ []) × (step_up rooted parts ≡ []))

@@ -61,7 +61,7 @@ sorted_distinct numbers sorted moved h =
 
 -- ---- numbers without repeats
 
--- one that stands behind others isn't among them
+-- one that stands after others isn't among them
 is_last : (numbers : List ℕ) (number : ℕ) (later : List ℕ) (other : ℕ)
     → AllByRecursion (λ y. nat_eq other y ≡ false) (numbers ++ number ∷ later) → nat_eq number other ≡ false
 is_last [] number later other h = eqb-flips number other ∙ h.0

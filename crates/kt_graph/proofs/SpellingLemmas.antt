@@ -14,7 +14,7 @@ use Rattle.kt_graph.specs.Paths.{canon_of, parts_of, is_idle, is_rooted, above_n
 abbrev is_slash : ℕ → Bool
 is_slash byte = byte == 47
 
--- names go behind the components before them
+-- names go after the components before them
 put_name : (rooted : Bool) (parts : List Text) (part : Text) → is_name part ≡ true → with_part rooted parts part ≡ part ∷ parts
 put_name rooted parts part h = by (is_idle part) (bytes_eq part above_name) refl refl
   where

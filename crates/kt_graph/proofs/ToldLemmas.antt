@@ -95,7 +95,7 @@ module _ (rules : List Rule) (name : Text) where
         within = own_within;
       }
 
-      -- it stands behind this one
+      -- it stands after this one
       pub found_later : passed ≡ false → find p (candidates_told rules name (drop (i + 1) candidates)) ≡ find p (candidates_told rules name candidates)
       found_later not_passed = sym (ap (λ b. cond b (Some told) (find p (candidates_told rules name (drop (i + 1) candidates)))) not_passed) ∙ sym rest_is ∙ left
 

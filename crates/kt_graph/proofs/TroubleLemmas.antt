@@ -124,7 +124,7 @@ rises_none : Rises []
 unfolding IsStrictlySortedBy
 rises_none = tt
 
--- what stands behind a name in a list that rises isn't below it
+-- what stands after a name in a list that rises isn't below it
 pub none_below : (earlier : List Text) (name : Text) (later : List Text) → Rises (earlier ++ name ∷ later) → (other : Text)
     → Contains (name ∷ later) other → ¬ (order other name ≡ Less)
 none_below [] name later rises other has less = ⊎_elim

@@ -114,7 +114,7 @@ any_items : (keys : List (Vec ℕ Global)) (name : Vec ℕ Global)
 any_items [] name = refl
 any_items (key ∷ keys) name = ap (λ b. pointwise nat_eq name.items key.items || b) (any_items keys name)
 
--- a name that is inserted into a set of vectors is one more name behind the others, if it isn't among them
+-- a name that is inserted into a set of vectors is one more name after the others, if it isn't among them
 pub inserted_name : (keys : List (Vec ℕ Global)) (name : Vec ℕ Global)
     → map (λ v. v.items) (insert_key (λ x y. pointwise nat_eq x.items y.items) keys name) ≡ with_name (map (λ v. v.items) keys) name.items
 inserted_name keys name = rw (any_items keys name) (by (list_any (pointwise nat_eq name.items) (map (λ v. v.items) keys)))
@@ -128,7 +128,7 @@ pub unknown_past : (known : List Text) (directory stem : Text) (names : List Tex
 unfolding needed_names
 unknown_past known directory stem names i past = ap (λ rest. unknown_of known (needed_names directory stem rest)) (drop_all i names past)
 
--- those before the bar and those behind it
+-- those before the bar and those after it
 pub unknown_both : (known before after : List Text)
     → fold with_name (fold with_name [] (unknown_of known before)) (unknown_of known after) ≡ without_repeats (unknown_of known (before ++ after))
 unfolding without_repeats

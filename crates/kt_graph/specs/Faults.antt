@@ -22,7 +22,7 @@ fault_words (circular name) = codes "circular: " ++ name
 fault_words reserved_name = codes "reserved name"
 fault_words (one_file name) = codes "two targets of one file: " ++ name
 
--- the call answers just this fault; that memory was refused is always excused
+-- the call returns just this fault; that memory was refused is always excused
 abbrev pub Tells : GraphFault → Trouble → Type 0
 Tells Memory trouble = Unit {0}
 Tells (Refused number words) trouble = (number ≡ fault_number trouble) × (words ≡ fault_words trouble)

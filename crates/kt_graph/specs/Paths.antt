@@ -24,14 +24,14 @@ abbrev pub ends_in_name : List Text → Bool
 ends_in_name [] = false
 ends_in_name (last ∷ parts) = not (bytes_eq last above_name)
 
--- `..` behind components, the last of them first: it takes the one before it away, unless that is `..`, too; at the
+-- `..` after components, the last of them first: it takes the one before it away, unless that is `..`, too; at the
 -- front it stays, but not under the root
 abbrev pub step_up : Bool → List Text → List Text
 step_up true [] = []
 step_up false [] = above_name ∷ []
 step_up rooted (last ∷ parts) = if bytes_eq last above_name then above_name ∷ last ∷ parts else parts
 
--- a component behind others, the last of them first
+-- a component after others, the last of them first
 abbrev pub with_part : Bool → List Text → Text → List Text
 with_part rooted parts part =
     if is_idle part then parts else (if bytes_eq part above_name then step_up rooted parts else part ∷ parts)

@@ -15,7 +15,7 @@ pub record IsName (part : Text) : Type 0 where
   pub filled : is_idle part ≡ false
   pub plain : bytes_eq part above_name ≡ false
 
--- what may go behind other components: one that is empty or dot; a name with the dot-dot behind it; dot-dot directly
+-- what may go after other components: one that is empty or dot; a name with the dot-dot after it; dot-dot directly
 -- under the root
 abbrev pub MayGo : Bool → List Text → List Text → Type 0
 MayGo rooted front gone =

@@ -32,7 +32,7 @@ is_begun (rule ∷ used) = true
 
 -- ---- choices
 
--- what makes a name behind a chain of rules, if anything does
+-- what makes a name after a chain of rules, if anything does
 abbrev pub Choosing : Type 0
 Choosing = List ℕ → Text → Option Candidate
 
@@ -62,7 +62,7 @@ abbrev pub chosen_of : List Text → Choosing → List ℕ → List Candidate �
 chosen_of known deeper used candidates =
     option_or (find (is_met known) candidates) (find (is_inferred known deeper used) candidates)
 
--- what makes a name behind a chain to which so many rules may be added
+-- what makes a name after a chain to which so many rules may be added
 unfoldable pub fitting : List Rule → List Text → ℕ → Choosing
 fitting rules known zero used name = None
 fitting rules known (suc left) used name =
@@ -86,7 +86,7 @@ asked_eq one other = bytes_eq one.0 other.0 && pointwise nat_eq one.1 other.1
 abbrev pub Asking : Type 0
 Asking = List ℕ → Text → List Asked
 
--- for names in turn, and for none behind one that finds no rule
+-- for names in turn, and for none after one that finds no rule
 abbrev pub asked_for : Choosing → Asking → List ℕ → List Text → List Asked
 asked_for deeper asking used [] = []
 asked_for deeper asking used (name ∷ names) =
@@ -97,7 +97,7 @@ asked_by known deeper asking used candidate =
     if candidate.is_last then [] else asked_for deeper asking (with_rule candidate.rule used)
     (unknown_needs known candidate)
 
--- for candidates in turn, and for none behind one that is inferred
+-- for candidates in turn, and for none after one that is inferred
 abbrev pub asked_among : List Text → Choosing → Asking → List ℕ → List Candidate → List Asked
 asked_among known deeper asking used [] = []
 asked_among known deeper asking used (candidate ∷ candidates) =
@@ -115,7 +115,7 @@ asking rules known (suc left) used name =
     (name, used) ∷ asked_inside known (fitting rules known left) (asking rules known left) used
     (open_candidates rules used name)
 
--- a question behind others, if it isn't among them
+-- a question after others, if it isn't among them
 abbrev pub with_question : List Asked → Asked → List Asked
 with_question asked question = if list_any (asked_eq question) asked then asked else asked ++ question ∷ []
 
@@ -131,7 +131,7 @@ pub record Searching : Type 0 where
 
 -- ---- trees
 
--- a finite tree of rules that makes a name behind a chain: its root is a candidate for the name, and its branches are
+-- a finite tree of rules that makes a name after a chain: its root is a candidate for the name, and its branches are
 -- trees for what of its prerequisites isn't known. No path of it has a rule twice, or more rules than are left; a
 -- terminal rule has no branch. In which order candidates come doesn't matter here.
 unfoldable pub HasTree : List Rule → List Text → ℕ → List ℕ → Text → Type 0

@@ -18,7 +18,7 @@ use crate::node::{Instance, NodeKind};
 use kt_rules::{Entry, Kind, Needs, Target, TargetRule};
 use std::alloc::{AllocError, Global};
 
-/// The rule whose recipe is used, and the rules before it and behind it.
+/// The rule whose recipe is used, and the rules before it and after it.
 #[derive(Clone, Copy)]
 pub(crate) struct Used<'a, 'r> {
     pub(crate) rule: TargetRule<'a>,
@@ -116,7 +116,7 @@ pub(crate) fn plain_node<'a>(
     })
 }
 
-/// What rules need behind what is needed first.
+/// What rules need after what is needed first.
 pub(crate) fn with_needs<'a: 'n, 'n>(
     alloc: Global,
     first: &'n Needs,
@@ -131,7 +131,7 @@ pub(crate) fn with_needs<'a: 'n, 'n>(
     Ok(needs)
 }
 
-// Puts what rules need behind what is needed.
+// Puts what rules need after what is needed.
 fn add_needs<'a: 'n, 'n>(
     needs: &mut Vec<&'n Needs>,
     rules: &[TargetRule<'a>],

@@ -31,7 +31,7 @@ const CHAIN_LIMIT: usize = 8;
 /// What is searched: pattern rules over known names.
 ///
 /// A question is never asked again while its answer is looked for, since the chains of the questions
-/// behind it have more rules.
+/// after it have more rules.
 #[derive(Drop)]
 pub(crate) struct Chains<'a> {
     alloc: Global,
@@ -73,7 +73,7 @@ impl<'a> Chains<'a> {
         }
     }
 
-    // What makes a name behind a chain to which so many rules may be added.
+    // What makes a name after a chain to which so many rules may be added.
     #[cycle(search)]
     fn ask(
         &self,
@@ -124,7 +124,7 @@ impl<'a> Chains<'a> {
         self.first_fitting(tried, left - 1, name, used)
     }
 
-    // What makes a name behind a chain to which a rule may be added, and so many behind that.
+    // What makes a name after a chain to which a rule may be added, and so many after that.
     #[cycle(search)]
     fn first_fitting(
         &self,
@@ -251,7 +251,7 @@ impl<'a> Chains<'a> {
         self.all_found(tried, left, unknown.as_slice(), chain.as_slice())
     }
 
-    // Whether each of the names finds a rule. None is asked for behind one that doesn't.
+    // Whether each of the names finds a rule. None is asked for after one that doesn't.
     #[cycle(search)]
     fn all_found(
         &self,

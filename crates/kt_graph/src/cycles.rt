@@ -217,7 +217,7 @@ impl<'e> Arrivals<'e> {
     }
 }
 
-// The place of the first vertex that is left behind some that aren't, or the end.
+// The place of the first vertex that is left after some that aren't, or the end.
 fn first_held(left: &Left, froms: &[usize], passed: usize) -> usize
     requires { (from : ℕ) → Contains (take passed froms.now) from → holds_in left.now.held.items from ≡ false }
     ensures { (from : ℕ) → Contains (take result froms.now) from → holds_in left.now.held.items from ≡ false }

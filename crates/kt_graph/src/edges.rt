@@ -9,7 +9,7 @@ use std::alloc::{AllocError, Global};
 
 /// Where vertices lead, by numbers.
 ///
-/// A vertex stands for a name, or behind the names for a making of several: each of these leads to the
+/// A vertex stands for a name, or after the names for a making of several: each of these leads to the
 /// making, and the making to all that they need.
 #[derive(Drop)]
 pub(crate) struct Edges {

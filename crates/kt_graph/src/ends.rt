@@ -1,4 +1,4 @@
-//! Pattern rules by what stands behind the percent signs of their targets.
+//! Pattern rules by what stands after the percent signs of their targets.
 ghost use Rattle.std.specs.Prelude.{◌≡◌, ◌++◌, ◌∷◌, [], ℕ, List, IfOk, OnOk};
 ghost use Rattle.kt_text.specs.Match.{pattern_back};
 ghost use Rattle.kt_graph.specs.inner.Ends.{HasAll, Notes, NotesAll};
@@ -75,7 +75,7 @@ impl Ends {
     }
 }
 
-// What stands behind the first percent sign of a pattern.
+// What stands after the first percent sign of a pattern.
 fn end_of(pattern: &[u8]) -> &[u8]
     ensures { result.now ≡ pattern_back pattern.now }
 {

@@ -87,7 +87,7 @@ impl<'g> Grouping<'g> {
         Ok(())
     }
 
-    // Puts a node behind those of its making, or into a group of its own.
+    // Puts a node after those of its making, or into a group of its own.
     fn put(&mut self, making: Option<usize>, node: Node<'g>) -> Result<(), AllocError>
         ensures { OnOk result ((instances : List Held) (nodes : List Told) → IsGrouping instances nodes self.old
             → MayFollow instances nodes making node.entry

@@ -112,7 +112,7 @@ impl Known {
         Ok(())
     }
 
-    // Adds a name behind the others, if it isn't among them.
+    // Adds a name after the others, if it isn't among them.
     fn add(&mut self, name: &[u8]) -> Result<(), AllocError>
         ensures { OnOk result (self.new ≡ with_name self.old name.now) }
     {

@@ -243,7 +243,7 @@ impl<'g> Iterator for Nodes<'g> {
     }
 }
 
-// The first node of numbers, and the numbers behind it.
+// The first node of numbers, and the numbers after it.
 fn first_node<'g>(
     names: &'g [Vec<u8>],
     instances: &'g [Instance],

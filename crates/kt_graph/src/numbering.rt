@@ -161,7 +161,7 @@ impl Numbers {
         Ok(numbers)
     }
 
-    // Puts the numbers of names behind others.
+    // Puts the numbers of names after others.
     fn add_names(&mut self, numbers: &mut Vec<usize>, names: &[Name]) -> Result<(), AllocError>
         ensures say { OnOk result ((earlier : List Text) → StandFor self.old earlier numbers.old.items
             → StandFor self.new (earlier ++ names.now) numbers.new.items) }

@@ -4,7 +4,7 @@ use std::alloc::{AllocError, Global};
 /// The numbers of the rules in a chain, rising.
 pub type Used = Vec<usize>;
 
-/// What makes a name, behind the rules of a chain.
+/// What makes a name, after the rules of a chain.
 #[derive(Debug, PartialEq, Eq, Hash, Drop)]
 pub struct Question {
     pub name: Vec<u8>,

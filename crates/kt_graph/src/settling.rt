@@ -33,7 +33,7 @@ use std::alloc::{AllocError, Global};
 
 /// The names that were reached so far, by numbers, and the nodes of the first of them.
 ///
-/// The names behind those that have nodes are the work that is left.
+/// The names after those that have nodes are the work that is left.
 #[derive(Drop)]
 pub(crate) struct Settling<'a> {
     alloc: Global,

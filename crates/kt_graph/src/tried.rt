@@ -25,7 +25,7 @@ pub(crate) struct Tried {
 pub(crate) enum Placed {
     /// It stood there before, with this answer.
     Before(Option<Candidate>),
-    /// It went to this place, behind all others, and has no answer yet.
+    /// It went to this place, after all others, and has no answer yet.
     Last(usize),
 }
 
@@ -64,7 +64,7 @@ impl Tried {
         self.answers.truncate(count);
     }
 
-    /// Puts a question behind the others, if it isn't among them. Where memory is refused, it may
+    /// Puts a question after the others, if it isn't among them. Where memory is refused, it may
     /// be left there alone.
     pub(crate) fn put(&mut self, question: Question) -> Result<Placed, AllocError>
         ensures placed { IfOk result (IsPlaced self.old self.new question) }

@@ -1,4 +1,4 @@
-//! Graphs of rules, a line each with a recipe behind the first `;`, and what is told of them.
+//! Graphs of rules, a line each with a recipe after the first `;`, and what is told of them.
 use crate::reading::{names, takes_all};
 use crate::telling::{put, put_fault, put_graph, put_inputs, put_kind, put_number};
 use kt_graph::{Graph, GraphFault, Instance, Known, Node, graph};

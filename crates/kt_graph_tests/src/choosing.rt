@@ -132,7 +132,7 @@ fn questions(rt: HostRuntime) -> Result<(), Fail> {
             b"d/x.o x.o",
             b"none 03;1 ,x 04;d/x.o{} d/x.p{0} d/x.c{1} x.o{} ",
         ),
-        // No question behind one without an answer; order-only ones come last; each once.
+        // No question after one without an answer; order-only ones come last; each once.
         (
             b"%.o: %.b %.a %.b | %.c;x\n%.b: k;y",
             b"k",
@@ -178,7 +178,7 @@ fn ends_of_targets(rt: HostRuntime) -> Result<(), Fail> {
     Ok(())
 }
 
-/// What is told where a prerequisite of so many bytes stands behind the rules.
+/// What is told where a prerequisite of so many bytes stands after the rules.
 fn put_with(told: &mut Vec<u8>, alloc: Global, rules: &[u8], len: usize) -> Result<(), AllocError> {
     let name = vec![in alloc; b'y'; len]?;
     put_with_name(told, alloc, rules, name.as_slice())

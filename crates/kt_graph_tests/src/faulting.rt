@@ -42,7 +42,7 @@ fn cycles(rt: HostRuntime) -> Result<(), Fail> {
             b"all",
             b"E28 circular: x.a",
         ),
-        // Names that lead to a cycle, and those behind it, don't lie on it.
+        // Names that lead to a cycle, and those after it, don't lie on it.
         (b"a: m\nm: n b\nn: m\nb: c", b"", b"a", b"E28 circular: m"),
         // Nor does a name between two cycles.
         (b"z: z b\nb: y\ny: y", b"", b"z", b"E28 circular: y"),

@@ -8,7 +8,7 @@ use std::alloc::{AllocError, Global};
 use std::process::Abort;
 use std::test::Fail;
 
-/// Goals, a comma behind each.
+/// Goals, a comma after each.
 fn put_goals(told: &mut Vec<u8>, goals: &[Name]) {
     for goal in goals {
         put(told, goal.as_slice());

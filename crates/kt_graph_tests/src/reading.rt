@@ -14,7 +14,7 @@ pub(crate) fn text(alloc: Global, bytes: &[u8]) -> Result<Sequence<u8>, AllocErr
     Ok(Sequence::from(Vec::from_slice(alloc, bytes)?))
 }
 
-/// The entry of a line: the head, and a recipe behind the first `;`.
+/// The entry of a line: the head, and a recipe after the first `;`.
 fn entry(alloc: Global, line: &[u8], number: u64) -> Result<Entry, RuleFault> {
     let place = place(alloc, number)?;
     match memchr(b';', line) {

@@ -30,7 +30,7 @@ pub(crate) fn put_inputs(told: &mut Vec<u8>, inputs: Inputs) {
 }
 
 /// The made names of a graph as statements, a line each: the names that one making makes, what they need, and
-/// behind a semicolon the recipe of the first.
+/// after a semicolon the recipe of the first.
 pub(crate) fn put_graph(told: &mut Vec<u8>, graph: &Graph) {
     let Ok(groups) = graph.groups() else {
         put(told, b"memory");
@@ -67,7 +67,7 @@ fn put_order_only(told: &mut Vec<u8>, node: &Node) {
     }
 }
 
-/// The recipes of a node's parts, each behind a semicolon.
+/// The recipes of a node's parts, each after a semicolon.
 fn put_recipe(told: &mut Vec<u8>, node: &Node) {
     for part in 0..node.parts() {
         for line in node.recipe(part).unwrap_or(&[]) {

@@ -127,7 +127,7 @@ comment_stays [] back h = refl
 comment_stays (b ∷ bs) back h =
     ⊎_elim (λ e. rw e (comment_stays bs back (rw e at h))) (λ e. rw e (rw e at h)) (cases_Bool (b == 32))
 
--- what is kept of fronts behind what is begun
+-- what is kept of fronts after what is begun
 abbrev fronts_text : Option Begun → List Text → Text
 fronts_text None fronts = kept_of fronts
 fronts_text (Some begun) fronts = begun.front ++ flat_map without_indent fronts
@@ -149,7 +149,7 @@ first_plain (Some begun) front fronts h =
     comment_stays (begun.front ++ without_indent front) (flat_map without_indent fronts)
     (ap is_comment (append_assoc begun.front (without_indent front) (flat_map without_indent fronts)) ∙ h)
 
--- the newline that ends a line, behind what is begun
+-- the newline that ends a line, after what is begun
 abbrev EndsBehind : Option Begun → List Text → Text → Type 0
 EndsBehind begun fronts last =
     (ends_in_dollar false last ≡ false) ⊎ (is_comment (fronts_text begun (fronts ++ last ∷ [])) ≡ true)
@@ -355,7 +355,7 @@ none_plain = refl
 abbrev HasLines : Text → Type 0
 HasLines text = (lines : List Continued) × (in_file lines ≡ text) × AreContinued lines
 
--- the text behind these fronts and these bytes of the next line
+-- the text after these fronts and these bytes of the next line
 abbrev Goes : Text → Type 0
 Goes text = (fronts : List Text) (bytes : Text) → AreFronts fronts → is_comment (kept_of fronts) ≡ false
     → HasNoNewline bytes

@@ -29,7 +29,7 @@ first_at test (b ∷ bs) (suc k) within none here =
     ap (λ t. t ++ escaped test bs) (one_plain (test b) b (none 0 (omega arith) (omega arith)))
     ∙ ap (λ t. b ∷ t) (first_at test bs k (omega arith) (later test b bs k none) here)
 
--- the plain bytes before the first special one, that one behind a dollar, and the escaped text of the rest
+-- the plain bytes before the first special one, that one after a dollar, and the escaped text of the rest
 pub escaped-first : (test : ℕ → Bool) (bs : List ℕ) (k : ℕ) (rest : List ℕ) → NoneBefore (Passes test bs) 0 (length bs) k × Passes test bs k
     → rest ≡ drop (k + 1) bs → escaped test bs ≡ take k bs ++ ((36 ∷ slice_index bs k ∷ []) ++ escaped test rest)
 escaped-first test bs k rest first is =

@@ -13,7 +13,7 @@ pub appended-nil : (taken : Option (List ℕ)) → appended taken [] ≡ taken
 appended-nil None = refl
 appended-nil (Some bytes) = ap Some (append-nil bytes)
 
--- two texts taken one behind the other
+-- two texts taken one after the other
 pub appended_twice : (first second third : Option (List ℕ)) (a b : List ℕ)
     → second ≡ appended first a → third ≡ appended second b → third ≡ appended first (a ++ b)
 appended_twice first second third a b one two = two ∙ ap (λ t. appended t b) one ∙ appended-append first a b
@@ -44,14 +44,14 @@ pub taken_twice : (first second third : Option (List ℕ)) (n k : ℕ) (piece : 
 taken_twice first second third n k piece one two =
     appended_twice first second third (take n piece) (take k (drop n piece)) one two ∙ ap (λ t. appended first t) (sym (take-add n k piece))
 
--- a beginning of what is left of a piece makes a beginning of the piece
+-- a prefix of what is left of a piece makes a prefix of the piece
 pub front_of_rest : (first second third : Option (List ℕ)) (n : ℕ) (piece : List ℕ)
     → second ≡ appended first (take n piece) → GrowsByFront second third (drop n piece) → GrowsByFront first third piece
 front_of_rest first second third n piece one grows =
     let P : List ℕ → Type 0 = λ t. GrowsByFront first third t in
     subst P (take-append-drop n piece) (front_after first second third (take n piece) (drop n piece) one grows)
 
--- the first n bytes of a piece are a beginning of it
+-- the first n bytes of a piece are a prefix of it
 pub front_taken : (old new : Option (List ℕ)) (n : ℕ) (piece : List ℕ) → new ≡ appended old (take n piece) → GrowsByFront old new piece
 front_taken old new n piece taken = record {
   front = take n piece;

@@ -33,7 +33,7 @@ newline_found text (Some place) h =
     let low : place ≤ length text = omega (arith, h.0.high) in
     sym (position_or_len_is (λ b. b == 10) text place 0 low (λ k l. false_from_ne_true _ (h.0.before k (omega arith) l)) (λ l. h.1))
 
--- the file lines of a text by its first newline: what stands behind the place
+-- the file lines of a text by its first newline: what stands after the place
 abbrev pub lines_at : Text → Text → List FileLine
 lines_at bytes [] = record { bytes = bytes; ended = false } ∷ []
 lines_at bytes (b ∷ after) = record { bytes = bytes; ended = true } ∷ file_lines after
@@ -94,7 +94,7 @@ last-append front back some =
     let e : length (front ++ back) - 1 ≡ length front + (length back - 1) = omega (arith, length-append front back) in
     rw e (take-append-add front back (length back - 1))
 
--- a text that ends in a dollar has one behind its indent
+-- a text that ends in a dollar has one after its indent
 some-dollar : (pending : Bool) (bs : Text) → pending ≡ false → ends_in_dollar pending bs ≡ true → 0 < length (without_indent bs)
 unfolding ends_in_dollar
 some-dollar pending [] none h = absurd (false≢true (sym none ∙ h))
@@ -116,7 +116,7 @@ pub some-added : (going_on : Bool) (bs : Text) → ends_in_dollar false bs ≡ t
 some-added true bs h = some-dollar false bs refl h
 some-added false bs h = some-text bs h
 
--- what is kept behind what was begun, by whether the line goes on
+-- what is kept after what was begun, by whether the line goes on
 kept-append : (going_on : Bool) (front back : Text) → (going_on ≡ true → 0 < length back)
     → front ++ kept_text going_on back ≡ (if going_on then take (length (front ++ back) - 1) (front ++ back) else front ++ back)
 kept-append true front back some = sym (last-append front back (some refl))
@@ -197,7 +197,7 @@ pub joined_end : (g : Bool) (number : ℕ) (begun : OpenLine) → joined_from nu
 unfolding joined_from
 joined_end g number begun = refl
 
--- the lines that are left behind a step: one ended
+-- the lines that are left after a step: one ended
 pub pushed : (number : ℕ) (lines more : List Line) (begun new last : OpenLine) (line : CutLine) (rest later : List FileLine) (whole : List Line)
     → joined_from number (begun_by begun.going_on begun) (file_line line ∷ later) ≡ stepped new.going_on number new line later
     → rest ≡ file_line line ∷ later

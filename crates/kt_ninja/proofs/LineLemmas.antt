@@ -86,7 +86,7 @@ pub defaults_by : (ps : Pieces) → list_any (is_plain 58) ps ≡ false → defa
 unfolding defaults_of
 defaults_by ps h = rw h refl
 
--- inputs, by what stands behind the bars
+-- inputs, by what stands after the bars
 abbrev pub inputs_with : List Pieces → Pieces × Pieces → Inputs
 inputs_with explicit cut = record { explicit = explicit; implicit = words_of cut.0; order_only = words_of cut.1 }
 

@@ -1,4 +1,4 @@
--- Lists of names that aren't empty stand behind their mark.
+-- Lists of names that aren't empty stand after their mark.
 use Rattle.std.proofs.Common.{◌≡◌, ◌<◌, ℕ, List, [], ◌∷◌, ◌++◌, length, refl, codes, arith}
 use Rattle.std.specs.List.{concat}
 use Rattle.kt_ninja.specs.Text.{defaults_text, marked_text, names_text}

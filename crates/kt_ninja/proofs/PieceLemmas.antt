@@ -31,7 +31,7 @@ map_twice front back (Some ps) = ap Some (sym (append_assoc front back ps))
 pub map_none : (front : List Piece) (found : Option (List Piece)) → found ≡ None → option_map (λ later. front ++ later) found ≡ None
 map_none front found h = ap (option_map (λ later. front ++ later)) h
 
--- behind a dollar
+-- after a dollar
 pub escape-escapable : (b : ℕ) (bs : Text) → is_escapable b ≡ true → pieces_from behind_dollar (b ∷ bs) ≡ option_map (λ later. Escaped b ∷ later) (pieces_from outside bs)
 unfolding pieces_from
 escape-escapable b bs h = rw h refl
@@ -66,7 +66,7 @@ pub outside-nil : pieces_from outside [] ≡ Some []
 unfolding pieces_from
 outside-nil = refl
 
--- behind a name without braces, which a byte ends that isn't one of a name
+-- after a name without braces, which a byte ends that isn't one of a name
 name_ended : (name : Text) (b : ℕ) (bs : Text) (dollar : Bool) → (b == 36) ≡ dollar
     → option_and_then (λ s. option_map (λ later. s.done ++ later) (pieces_from s.next bs)) (Some (outer_step (Variable name ∷ []) b))
     ≡ option_map (λ later. Variable name ∷ later) (option_and_then (λ s. option_map (λ later. s.done ++ later) (pieces_from s.next bs)) (Some (outer_step [] b)))
@@ -100,7 +100,7 @@ in_name-prefix name (b ∷ bs) =
     (λ h. rw h (⊎_elim (λ d. name_ended name b bs true d) (λ d. name_ended name b bs false d) (cases_Bool (b == 36)) ∙ short_none name b bs))
     (cases_Bool (is_short_name_byte b))
 
--- what a name in braces is by what stands behind it
+-- what a name in braces is by what stands after it
 abbrev pub closed : Text → Text → Option (List Piece)
 closed name [] = None
 closed name (b ∷ bs) = if b == 125 then (if is_empty name then None else option_map (λ later. Variable name ∷ later) (pieces_from outside bs)) else None
@@ -195,7 +195,7 @@ pub cuts_too : (old new : Where) (text longer : Text) (cut : Cut) → pieces_fro
 cuts_too old new text longer cut same more h =
     record { first = same ∙ h.first; less = omega (arith, more, h.less) }
 
--- a name without braces, behind its dollar
+-- a name without braces, after its dollar
 pub short_of : (text : Text) (b : ℕ) (bs : Text) (cut : Cut) → text ≡ b ∷ bs → is_escapable b ≡ false → (b == 123) ≡ false → CutsShort text cut → CutsOff behind_dollar text cut
 short_of text b bs cut is escapable brace h =
     let short : is_short_name_byte b ≡ true = ap begins_short (sym is) ∙ h.0 in

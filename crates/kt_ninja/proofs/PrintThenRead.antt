@@ -46,7 +46,7 @@ text_is_itself : (b : Bool) (name : Text) → b ≡ bytes_eq name name → b ≡
 text_is_itself true name is = refl
 text_is_itself false name is = absurd (other_text name name is refl)
 
--- behind one entry
+-- after one entry
 found_case : {X : Type 0} (es : Table X) (key : Text) (old value : X) (name : Text) (here : Bool) → bytes_eq name key ≡ here
     → find_in (put_in es name value) name ≡ Some value
     → find_in (if here then (key, value) ∷ es else (key, old) ∷ put_in es name value) name ≡ Some value
@@ -65,7 +65,7 @@ absent_case : {X : Type 0} (here : Bool) (old : X) (later : Option X) → (if he
 absent_case true old later e = absurd (cc e)
 absent_case false old later e = (refl, e)
 
--- behind one entry
+-- after one entry
 other_case : {X : Type 0} (es : Table X) (key : Text) (old value : X) (name other : Text) (here : Bool)
     → bytes_eq other key ≡ false → find_in es other ≡ None → find_in (put_in es name value) other ≡ None
     → find_in (if here then (key, value) ∷ es else (key, old) ∷ put_in es name value) other ≡ None
@@ -86,12 +86,12 @@ still_absent ((key, old) ∷ es) name other value differ none =
 abbrev Fresh : ℕ → Table Pieces → Type 0
 Fresh number table = (m : ℕ) → number ≤ m → find_in table (rule_named m) ≡ None
 
--- the rules behind a statement made so
+-- the rules after a statement made so
 abbrev table_behind : ℕ → Made → Table Pieces → Table Pieces
 table_behind number (Command c) table = put_in table (rule_named number) (command_pieces c)
 table_behind number Phony table = table
 
--- behind a statement the next number is free again
+-- after a statement the next number is free again
 fresh_behind : (number : ℕ) (made : Made) (table : Table Pieces) → Fresh number table → Fresh (number + rule_count made) (table_behind number made table)
 fresh_behind number (Command c) table fresh m h =
     still_absent table (rule_named number) (rule_named m) (command_pieces c) (names_differ m number (omega arith)) (fresh m (omega arith))

@@ -62,7 +62,7 @@ name_lacks_bar (Variable name) e = refl
 
 -- ---- words
 
--- each word behind a plain space
+-- each word after a plain space
 abbrev pub spaced : List Pieces → Pieces
 spaced words = flat_map (λ w. Plain 32 ∷ w) words
 
@@ -79,7 +79,7 @@ spaced_pass q space (w ∷ ws) e =
     let both = and_parts (list_all q w) (list_all (list_all q) ws) e in
     and_from (q (Plain 32)) _ space (all_both q w (spaced ws) both.0 (spaced_pass q space ws both.1))
 
--- words behind a first one, cut at their spaces
+-- words after a first one, cut at their spaces
 split_spaced : (w : Pieces) (ws : List Pieces) → list_all (lacks 32) w ≡ true → list_all (list_all (lacks 32)) ws ≡ true
     → slice_split (is_plain 32) (w ++ spaced ws) ≡ w ∷ ws
 split_spaced w [] e es = rw append-nil (uncut 32 w e)
@@ -94,7 +94,7 @@ kept (w ∷ ws) e =
     let both = and_parts (is_word w) (list_all is_word ws) e in
     rw ((and_parts (not (is_empty w)) (list_all is_name_piece w) both.0).0, kept ws both.1) refl
 
--- an empty part behind them is dropped
+-- an empty part after them is dropped
 kept_but_last : (ws : List Pieces) → list_all is_word ws ≡ true → filter (λ w. not (is_empty w)) (ws ++ [] ∷ []) ≡ ws
 kept_but_last ws e = filter-append (λ (w : Pieces). not (is_empty w)) ws ([] ∷ []) ∙ append-nil _ ∙ kept ws e
 
@@ -109,7 +109,7 @@ words_from w ws e =
     let lack = and_parts (list_all (lacks 32) w) (list_all (list_all (lacks 32)) ws) (lack_spaces (w ∷ ws) e) in
     ap (filter (λ v. not (is_empty v))) (split_spaced w ws lack.0 lack.1) ∙ kept (w ∷ ws) e
 
--- words behind their spaces, cut there
+-- words after their spaces, cut there
 split_behind : (ws : List Pieces) → list_all (list_all (lacks 32)) ws ≡ true → slice_split (is_plain 32) (spaced ws) ≡ [] ∷ ws
 split_behind [] e = refl
 split_behind (w ∷ ws) e =
@@ -121,7 +121,7 @@ pub words_behind : (ws : List Pieces) → list_all is_word ws ≡ true → words
 unfolding words_of
 words_behind ws e = ap (filter (λ v. not (is_empty v))) (split_behind ws (lack_spaces ws e)) ∙ kept ws e
 
--- the words with a space behind them
+-- the words with a space after them
 abbrev pub ended : List Pieces → List Pieces
 ended ws = ws ++ [] ∷ []
 
@@ -135,9 +135,9 @@ unfolding words_of
 words_ended ws e =
     ap (filter (λ v. not (is_empty v))) (split_behind (ended ws) (ended_pass (lacks 32) ws (lack_spaces ws e))) ∙ kept_but_last ws e
 
--- ---- what stands behind the colon of a build line
+-- ---- what stands after the colon of a build line
 
--- words, and implicit and order-only inputs behind their bars
+-- words, and implicit and order-only inputs after their bars
 abbrev pub behind_colon : List Pieces → List Pieces → List Pieces → Pieces
 behind_colon front [] [] = spaced front
 behind_colon front (i ∷ is) [] = spaced (ended front) ++ (Plain 124 ∷ spaced (i ∷ is))
@@ -171,7 +171,7 @@ lack_colons ws e = words_pass (lacks 58) name_lacks_colon ws e
 no_bar : (ws : List Pieces) → list_all is_word ws ≡ true → list_all (lacks 124) (spaced ws) ≡ true
 no_bar ws e = spaced_pass (lacks 124) refl ws (lack_bars ws e)
 
--- or behind them
+-- or after them
 no_bar_ended : (ws : List Pieces) → list_all is_word ws ≡ true → list_all (lacks 124) (spaced (ended ws)) ≡ true
 no_bar_ended ws e = spaced_pass (lacks 124) refl (ended ws) (ended_pass (lacks 124) ws (lack_bars ws e))
 
@@ -182,7 +182,7 @@ parts_of front (i ∷ is) [] = spaced (ended front) ∷ spaced (i ∷ is) ∷ []
 parts_of front [] (o ∷ os) = spaced (ended front) ∷ [] ∷ spaced (o ∷ os) ∷ []
 parts_of front (i ∷ is) (o ∷ os) = spaced (ended front) ∷ spaced (ended (i ∷ is)) ∷ [] ∷ spaced (o ∷ os) ∷ []
 
--- what stands behind the colon, cut at its bars
+-- what stands after the colon, cut at its bars
 cut_at_bars : (front is os : List Pieces) → list_all is_word front ≡ true → list_all is_word is ≡ true → list_all is_word os ≡ true
     → slice_split (is_plain 124) (behind_colon front is os) ≡ parts_of front is os
 cut_at_bars front [] [] f i o = uncut 124 (spaced front) (no_bar front f)
@@ -238,7 +238,7 @@ paths_printed o os e =
     let bars = none_plain 124 (o ++ spaced os) (no_bar (o ∷ os) e) in
     rw (bars, words_from o os e) refl
 
--- what stands behind `build `
+-- what stands after `build `
 abbrev pub behind_build : Pieces → List Pieces → List Pieces → List Pieces → List Pieces → Pieces
 behind_build o os front is ord = (o ++ spaced os) ++ (Plain 58 ∷ behind_colon front is ord)
 

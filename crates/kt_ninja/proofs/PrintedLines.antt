@@ -21,14 +21,14 @@ use Rattle.kt_ninja.proofs.PrintedForms.{behind_colon, behind_pass, ended, space
 
 -- ---- texts
 
--- names behind their spaces, written, are their text
+-- names after their spaces, written, are their text
 pub names_written : (names : List Text) → written (spaced (map name_pieces names)) ≡ names_text names
 names_written [] = refl
 names_written (n ∷ ns) =
     ap (λ t. 32 ∷ t) (written_append (name_pieces n) (spaced (map name_pieces ns))
     ∙ ap₂ (λ a b. a ++ b) (written_by is_special_in_name n) (names_written ns))
 
--- words with a space behind them
+-- words with a space after them
 ended_then : (ws : List Pieces) (t : Text) → written (spaced (ended ws)) ++ t ≡ written (spaced ws) ++ (32 ∷ t)
 ended_then ws t =
     ap (λ ps. written ps ++ t) (flat_map-append (λ (w : Pieces). Plain 32 ∷ w) ws ([] ∷ []))
@@ -50,7 +50,7 @@ front_then rule ins t =
     ended_then (front_pieces rule ins) t ∙ ap (λ x. x ++ (32 ∷ t)) (front_written rule ins)
     ∙ ap (λ x. 32 ∷ x) (append_assoc rule (names_text ins) (32 ∷ t))
 
--- all that stands behind the colon
+-- all that stands after the colon
 behind_written : (rule : Text) (ins is os : List Text)
     → written (behind_colon (front_pieces rule ins) (map name_pieces is) (map name_pieces os))
     ≡ 32 ∷ (rule ++ (names_text ins ++ (marked_text (codes " |") is ++ marked_text (codes " ||") os)))
@@ -218,12 +218,12 @@ part number ps body = record { number = number; head = Some (line number ps); bo
 abbrev pub from_parts : List Part → Cut
 from_parts parts = record { before = []; parts = parts }
 
--- the line behind a statement that begins at this line
+-- the line after a statement that begins at this line
 abbrev pub line_behind : Made → ℕ → ℕ
 line_behind (Command c) at = at + 1 + 1 + 1
 line_behind Phony at = at + 1
 
--- the parts of a statement, and those behind it
+-- the parts of a statement, and those after it
 abbrev pub statement_parts : ℕ → ℕ → Statement → Made → List Part → List Part
 statement_parts number at s (Command c) later =
     part at (rule_line (rule_name_text number (Command c))) (line (at + 1) (command_line c) ∷ [])

@@ -179,7 +179,7 @@ plain_pieces (b ∷ bs) e =
 
 -- ---- commands
 
--- the pieces of a printed command: a first space stands behind a dollar too
+-- the pieces of a printed command: a first space stands after a dollar too
 abbrev pub command_pieces : Text → Pieces
 command_pieces [] = []
 command_pieces (b ∷ bs) = piece_by (b == 32 || b == 36) b ∷ pieces_by is_special_in_command bs

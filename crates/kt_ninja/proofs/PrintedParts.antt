@@ -67,7 +67,7 @@ rule_line_form number c =
 abbrev build_of_names : Text → List Text → List Text → List Text → List Text → Build
 build_of_names rule outs ins is order = built (map name_pieces outs) rule (inputs_are (map name_pieces ins) (map name_pieces is) (map name_pieces order))
 
--- its pieces behind `build`
+-- its pieces after `build`
 abbrev pieces_of_names : Text → List Text → List Text → List Text → List Text → Pieces
 pieces_of_names rule outs ins is order =
     spaced (map name_pieces outs) ++ (Plain 58 ∷ behind_colon (map Plain rule ∷ map name_pieces ins) (map name_pieces is) (map name_pieces order))

@@ -21,7 +21,7 @@ piece_written (Variable name) = []
 abbrev pub written : Pieces → Text
 written ps = flat_map piece_written ps
 
--- a piece that it writes: a byte that needs no dollar, or one behind a dollar that can stand there
+-- a piece that it writes: a byte that needs no dollar, or one after a dollar that can stand there
 abbrev pub is_printed : Piece → Bool
 is_printed (Plain b) = not (b == 36) && is_command_byte b
 is_printed (Escaped b) = is_escapable b

@@ -85,7 +85,7 @@ hands_then {S} {old} {middle} {new} first second one two =
       none = λ never. two.none (omega (arith, never)) ∙ one.none (omega (arith, never));
     }
 
--- one text behind the other
+-- one text after the other
 pub puts_then : {S : Type 0} {written : S → Option (List ℕ)} {failures : S → ℕ} {old middle new : Block S} (first second : List ℕ)
     → Puts written failures old middle first → Puts written failures middle new second → Puts written failures old new (first ++ second)
 puts_then first second one two = record {

@@ -86,7 +86,7 @@ before_is (l ∷ ls) =
     (λ h. ap (λ c. c.before) (cut_more l ls h) ∙ ap (λ k. l ∷ k) (before_is ls) ∙ ap (λ n. take n (l ∷ ls)) (sym (length_more l ls h)))
     (cases_Bool (begins_part l.text))
 
--- the parts are those of the lines behind them
+-- the parts are those of the lines after them
 pub parts_are : (lines : List Line) → (cut_lines lines).parts ≡ (cut_lines (drop (length_before lines) lines)).parts
 unfolding cut_lines
 parts_are [] = refl
@@ -114,7 +114,7 @@ first_part head after none =
     (λ h. let some : head ∷ (cut_lines after).before ≡ [] = sym (ap (λ c. c.before) (cut_more head after h)) ∙ none in absurd (cc some))
     (cases_Bool (begins_part head.text))
 
--- the part that the first line begins, and those behind it
+-- the part that the first line begins, and those after it
 pub parts_cut : (head : Line) (after rest body later : List Line) → rest ≡ head ∷ after → (cut_lines rest).before ≡ []
     → body ≡ take (length_before after) after → later ≡ drop (length_before after) after
     → (cut_lines rest).parts ≡ part_of head body ∷ (cut_lines later).parts

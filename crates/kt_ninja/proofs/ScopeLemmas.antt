@@ -21,7 +21,7 @@ pub shell_words-none : (between : ℕ) → shell_words between [] ≡ []
 unfolding shell_words
 shell_words-none between = refl
 
--- a word and the words behind it, put one after the other
+-- a word and the words after it, put one after the other
 pub words_put : (text first last : Text) (between : ℕ) (path : Text) (paths all : List Text) → all ≡ path ∷ paths → first ≡ text ++ shell_word path
     → last ≡ first ++ flat_map (λ q. between ∷ shell_word q) paths → last ≡ text ++ shell_words between all
 words_put text first last between path paths all is one more =

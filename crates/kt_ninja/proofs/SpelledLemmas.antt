@@ -66,7 +66,7 @@ step_is from b bs h = by (step from b) h
     by None e = absurd (false≢true e)
     by (Some s) e = (s, refl)
 
--- not directly behind a dollar
+-- not directly after a dollar
 abbrev pub is_ready : Where → Bool
 is_ready outside = true
 is_ready behind_dollar = false
@@ -128,7 +128,7 @@ pass_one mark from b bs ready h m some =
     let fits : Fits mark is.0 = rw is.1 at (plain_step mark from b ready h m) in
     record { done = is.0.done; to = is.0.next; over = over_step from b is.0 is.1; ready = fits.0; free = fits.1 }
 
--- the pieces behind what was passed are there too
+-- the pieces after what was passed are there too
 pub some_after : (from to : Where) (run t : Text) (done : List Piece) → Over from run done to → is_some (pieces_from from (run ++ t)) ≡ true → is_some (pieces_from to t) ≡ true
 some_after from to run t done over some = kept (pieces_from to t) (ap is_some (sym (over.reads t)) ∙ some)
   where
@@ -245,7 +245,7 @@ scan_run mark text run stop free spelled s =
 pub scan_stop : (mark : ℕ) (text rest run stop : Text) → rest ≡ run ++ stop → list_any (is_byte2 36 mark) run ≡ false → is_spelled text ≡ true → Scanned mark text rest → Scanned mark text stop
 scan_stop mark text rest run stop is free spelled s = scan_run mark text run stop free spelled (rw is at s)
 
--- and over a dollar with the byte behind it
+-- and over a dollar with the byte after it
 pub scan_dollar : (mark : ℕ) (text stop after later : Text) (d b : ℕ) → stop ≡ d ∷ after → after ≡ b ∷ later → d ≡ 36 → is_spelled text ≡ true → Scanned mark text stop → Scanned mark text later
 scan_dollar mark text stop after later d b is is_after dollar spelled s =
     let here : stop ≡ 36 ∷ b ∷ later = is ∙ rw (dollar, is_after) refl in

@@ -14,7 +14,7 @@ use Rattle.kt_ninja.specs.inner.Cutting.{variable_names}
 use Rattle.kt_ninja.proofs.PieceLemmas.{closed, escape-brace, escape-escapable, escape-nil, escape-none, escape-short, in_braces-prefix, in_name-prefix, outside-dollar, outside-plain}
 use Rattle.kt_ninja.proofs.SpelledLemmas.{outside_some, spelled_some}
 
--- what a spelling begins with: behind a dollar no plain byte
+-- what a spelling begins with: after a dollar no plain byte
 abbrev begins_escaped : List Piece → Bool
 begins_escaped [] = false
 begins_escaped (Plain b ∷ ps) = false

@@ -176,7 +176,7 @@ mapped : (piece : Piece) (rest : Option (List Piece)) (found : List Piece)
 mapped piece None found e = absurd (cc e)
 mapped piece (Some later) found e = (later, refl, cc e)
 
--- one more piece in front of what is read behind it
+-- one more piece in front of what is read after it
 read_more : (piece : Piece) (spelling after : Text) (found : List Piece) → IsSpelled piece spelling after
     → ((later : List Piece) → pieces_from outside after ≡ Some later → HasSpellings after later)
     → option_map (λ later. piece ∷ later) (pieces_from outside after) ≡ Some found

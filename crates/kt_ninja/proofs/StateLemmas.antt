@@ -133,7 +133,7 @@ pub within_none : (none file : Scope) → none ≡ [] → value_within none file
 unfolding find_in
 within_none none file h = ap (λ block. value_within block file) h
 
--- default targets, put behind those above
+-- default targets, put after those above
 pub defaults_added : (state : State) (names all : List Text) → list_all (is_among (outs_of state.stated)) names ≡ true → all ≡ state.defaults ++ names
     → add_defaults state names ≡ Some (record state { defaults = all })
 defaults_added state names all outs is = rw outs (ap (λ d. Some (record state { defaults = d })) (sym is))

@@ -32,7 +32,7 @@ or_cases : {A : Type 0} (here : Bool) (x : A) (a b : Option A)
 or_cases true x a b = refl
 or_cases false x a b = refl
 
--- the names of one list behind another
+-- the names of one list after another
 pub repeated_after-append : (before xs ys : List (List ℕ))
     → repeated_after before (xs ++ ys) ≡ option_or (repeated_after before xs) (repeated_after (before ++ xs) ys)
 repeated_after-append before [] ys = ap (λ b. repeated_after b ys) (sym (append-nil before))

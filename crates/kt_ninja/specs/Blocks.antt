@@ -26,7 +26,7 @@ Counts false true old new = (old ≤ new) × Rises old new
 Counts true false old new = ⊥
 Counts true true old new = new ≡ old
 
--- the text was put behind what waited in the block, on its way to the same sink
+-- the text was put after what waited in the block, on its way to the same sink
 pub record Passes {S : Type 0} (written : S → Option (List ℕ)) (failures : S
     → ℕ) (old new : Block S) (text : List ℕ) : Type 0 where
   pub same : new.sink.ghost_name ≡ old.sink.ghost_name
@@ -48,7 +48,7 @@ pub record Puts {S : Type 0} (written : S → Option (List ℕ)) (failures : S
   pub passes : Passes written failures old new text
   pub hands : HandsOver old new text
 
--- the text was printed to its end: a sink that didn't fail has taken it, and one that failed a beginning of it
+-- the text was printed to its end: a sink that didn't fail has taken it, and one that failed a prefix of it
 abbrev pub PrintsBy : Bool → Option (List ℕ) → Option (List ℕ) → List ℕ → Type 0
 PrintsBy false taken taken' text = taken' ≡ appended taken text
 PrintsBy true taken taken' text = GrowsByFront taken taken' text

@@ -1,11 +1,11 @@
 -- Joined lines by what stands in the file (Ninja manual, "Lexical syntax"): exactly the escaped newlines go, each with
--- the spaces behind it.
+-- the spaces after it.
 use Rattle.std.specs.Prelude.{◌≡◌, ◌⊎◌, ℕ, ◌+◌, Bool, true, false, not, ◌==◌, ◌∷◌, ◌++◌}
 use Rattle.std.specs.Prelude.{List, [], length, if◌then◌else◌}
 use Rattle.std.specs.List.{flat_map, list_all}
 use Rattle.kt_ninja.specs.JoinedLines.{Line, Text, ends_in_dollar, is_comment, joined_lines, without_indent}
 
--- a joined line: what stands in front of each of its escaped newlines, what stands behind the last of them, and
+-- a joined line: what stands in front of each of its escaped newlines, what stands after the last of them, and
 -- whether a newline ends it
 pub record Continued : Type 0 where
   pub fronts : List Text
@@ -24,7 +24,7 @@ abbrev pub in_file : List Continued → Text
 in_file [] = []
 in_file (l ∷ ls) = fronts_in_file l.fronts ++ (l.last ++ (end_in_file l.ended ++ in_file ls))
 
--- what is kept of its lines: all but the spaces behind an escaped newline
+-- what is kept of its lines: all but the spaces after an escaped newline
 abbrev pub kept_of : List Text → Text
 kept_of [] = []
 kept_of (l ∷ ls) = l ++ flat_map without_indent ls
@@ -38,7 +38,7 @@ numbered number (l ∷ ls) = record { number = number; text = kept_of (l.fronts 
 abbrev pub HasNoNewline : Text → Type 0
 HasNoNewline text = list_all (λ b. not (b == 10)) text ≡ true
 
--- no dollar escapes the one that stands behind each front
+-- no dollar escapes the one that stands after each front
 abbrev pub AreFronts : List Text → Type 0
 AreFronts [] = Unit {0}
 AreFronts (f ∷ fs) = HasNoNewline f × (ends_in_dollar false f ≡ false) × AreFronts fs

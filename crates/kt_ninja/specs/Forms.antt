@@ -54,7 +54,7 @@ pub record Binding : Type 0 where
 abbrev pub bound_to : Pieces → Text → Option Binding
 bound_to value key = if is_keyword key then None else Some (record { key = key; value = value })
 
--- a line as a binding: one name before its first `=`, and all behind it but its leading spaces
+-- a line as a binding: one name before its first `=`, and all after it but its leading spaces
 unfoldable pub binding_of : Pieces → Option Binding
 binding_of ps =
     if list_any (is_plain 61) ps
@@ -62,7 +62,7 @@ binding_of ps =
     (name_in (words_of (before_first (is_plain 61) ps)))
     else None
 
--- what a build line names behind its rule: explicit, implicit and order-only inputs
+-- what a build line names after its rule: explicit, implicit and order-only inputs
 pub record Inputs : Type 0 where
   pub explicit : List Pieces
   pub implicit : List Pieces
@@ -79,7 +79,7 @@ abbrev pub begins_with_at : Pieces → Bool
 begins_with_at [] = false
 begins_with_at (p ∷ ps) = is_plain 64 p
 
--- what stands behind the rule's name, cut at its bars: `| implicit`, `|| order`, or both in this order. Two bars side
+-- what stands after the rule's name, cut at its bars: `| implicit`, `|| order`, or both in this order. Two bars side
 -- by side have nothing between them.
 abbrev pub inputs_of : List Pieces → List Pieces → Option Inputs
 inputs_of explicit [] = Some (record { explicit = explicit; implicit = []; order_only = [] })
@@ -95,7 +95,7 @@ inputs_of explicit ((p ∷ ps) ∷ [] ∷ order ∷ []) =
     })
 inputs_of explicit _ = None
 
--- a build line of these outputs, by the words before its first bar and the parts behind it
+-- a build line of these outputs, by the words before its first bar and the parts after it
 abbrev pub build_with : List Pieces → List Pieces → List Pieces → Option Build
 build_with outs [] parts = None
 build_with outs (rule_word ∷ explicit) parts =
@@ -118,15 +118,15 @@ build_cut (outs ∷ rest ∷ []) = option_and_then
     (λ paths. build_behind paths (slice_split (is_plain 124) rest)) (paths_of outs)
 build_cut _ = None
 
--- what stands behind `build`
+-- what stands after `build`
 unfoldable pub build_of : Pieces → Option Build
 build_of ps = build_cut (slice_split (is_plain 58) ps)
 
--- what stands behind `default`: one path or more, without colon or bar
+-- what stands after `default`: one path or more, without colon or bar
 unfoldable pub defaults_of : Pieces → Option (List Pieces)
 defaults_of ps = if list_any (is_plain 58) ps then None else paths_of ps
 
--- what stands behind `rule`: its name
+-- what stands after `rule`: its name
 unfoldable pub rule_of : Pieces → Option Text
 rule_of ps = name_in (words_of ps)
 

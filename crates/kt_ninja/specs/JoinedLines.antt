@@ -40,7 +40,7 @@ ends_in_dollar pending (b ∷ bs) = ends_in_dollar (not pending && b == 36) bs
 abbrev pub without_indent : Text → Text
 without_indent text = drop (prefix_len (λ b. b == 32) text) text
 
--- a comment: its first byte behind spaces is `#`
+-- a comment: its first byte after spaces is `#`
 unfoldable pub is_comment : Text → Bool
 is_comment [] = false
 is_comment (b ∷ bs) = if b == 32 then is_comment bs else b == 35
@@ -73,7 +73,7 @@ abbrev pub left_over : Option Begun → List Line
 left_over None = []
 left_over (Some begun) = record { number = begun.first; text = begun.front; ended = false } ∷ []
 
--- the joined lines of file lines, the first of which has this number, behind what was begun
+-- the joined lines of file lines, the first of which has this number, after what was begun
 unfoldable pub joined_from : ℕ → Option Begun → List FileLine → List Line
 joined_from number begun [] = left_over begun
 joined_from number begun (l ∷ ls) =

@@ -62,7 +62,7 @@ is_file_byte b = not (b == 13 || b == 0)
 abbrev pub is_sound : Line → Bool
 is_sound line = line.ended && list_all is_file_byte line.text
 
--- the lines of a block: comments are skipped, and behind a blank line no binding stands
+-- the lines of a block: comments are skipped, and after a blank line no binding stands
 unfoldable pub block_from : Bool → List Line → Option (List Binding)
 block_from closed [] = Some []
 block_from closed (l ∷ ls) =

@@ -5,7 +5,7 @@ use Rattle.std.specs.Option.{option_and_then}
 use Rattle.kt_ninja.specs.JoinedLines.{Text}
 use Rattle.kt_ninja.specs.Writable.{is_empty}
 
--- a byte as it stands, a byte behind a dollar, or the variable of a name
+-- a byte as it stands, a byte after a dollar, or the variable of a name
 pub data Piece : Type 0 where
   Plain : ℕ → Piece
   Escaped : ℕ → Piece
@@ -27,7 +27,7 @@ is_long_name_byte b = is_short_name_byte b || b == 46
 abbrev pub is_escapable : ℕ → Bool
 is_escapable b = b == 36 || (b == 32 || b == 58)
 
--- where in a text the next byte stands: outside of all escapes, right behind a dollar, or in a variable's name, of
+-- where in a text the next byte stands: outside of all escapes, right after a dollar, or in a variable's name, of
 -- which these bytes stand before it
 pub data Where : Type 0 where
   outside : Where
@@ -40,13 +40,13 @@ pub record Step : Type 0 where
   pub done : List Piece
   pub next : Where
 
--- a byte outside of all escapes, behind these pieces
+-- a byte outside of all escapes, after these pieces
 abbrev pub outer_step : List Piece → ℕ → Step
 outer_step before b =
     if b == 36 then record { done = before; next = behind_dollar }
     else record { done = before ++ Plain b ∷ []; next = outside }
 
--- the byte behind a dollar; none where it escapes nothing
+-- the byte after a dollar; none where it escapes nothing
 abbrev pub dollar_step : ℕ → Option Step
 dollar_step b =
     if is_escapable b then Some (record { done = Escaped b ∷ []; next = outside })

@@ -25,7 +25,7 @@ fault_at number Memory = MemoryRefused
 abbrev pub line_binding : Text → Option Binding
 line_binding text = option_and_then binding_of (pieces text)
 
--- what a line of a block adds, and whether it closes the block, whatever comes behind it
+-- what a line of a block adds, and whether it closes the block, whatever comes after it
 abbrev pub Adds : Bool → List Binding → Line → Bool → List Binding → Type 0
 Adds closed old line now new =
     (rest : List Line) → option_map (λ more. old ++ more) (block_from closed (line ∷ rest)) ≡ option_map
@@ -36,7 +36,7 @@ abbrev pub Stops : Bool → Line → Fault → Type 0
 Stops closed line NoReading = (rest : List Line) → block_from closed (line ∷ rest) ≡ None
 Stops closed line Memory = Unit {0}
 
--- what stands behind `rule`, `build` and `default`, and a binding, with the block below it
+-- what stands after `rule`, `build` and `default`, and a binding, with the block below it
 abbrev pub rule_line : State → List Binding → Text → Option State
 rule_line state bindings text = option_and_then
     (λ name. read_rule state name bindings) (option_and_then rule_of (pieces text))

@@ -15,7 +15,7 @@ abbrev pub name_goes_on : Text → Bool
 name_goes_on [] = false
 name_goes_on (b ∷ bs) = is_short_name_byte b
 
--- how a piece is spelled in front of this text: a byte but the dollar as it is, an escaped one behind a dollar, and a
+-- how a piece is spelled in front of this text: a byte but the dollar as it is, an escaped one after a dollar, and a
 -- variable as `$name` or `${name}`. A name without braces is as long as can be
 abbrev pub IsSpelled : Piece → Text → Text → Type 0
 IsSpelled (Plain b) spelling after = (spelling ≡ b ∷ []) × ((b == 36) ≡ false)
@@ -24,7 +24,7 @@ IsSpelled (Variable name) spelling after =
     ((spelling ≡ 36 ∷ name) × IsName is_short_name_byte name × (name_goes_on after ≡ false))
     ⊎ ((spelling ≡ 36 ∷ 123 ∷ name ++ 125 ∷ []) × IsName is_long_name_byte name)
 
--- each piece has its spelling in front of those behind it
+-- each piece has its spelling in front of those after it
 abbrev pub AreSpelled : List Piece → List Text → Type 0
 AreSpelled [] [] = Unit {0}
 AreSpelled (p ∷ ps) (s ∷ ss) = IsSpelled p s (concat ss) × AreSpelled ps ss

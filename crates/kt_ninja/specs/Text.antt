@@ -8,7 +8,7 @@ use Rattle.kt_ninja.specs.declared.plan.Made.TheVariants.{Command, Phony}
 use Rattle.kt_ninja.specs.declared.plan.Statement.{Statement}
 use Rattle.kt_ninja.specs.declared.plan.Plan.{Plan}
 
--- each byte of this kind behind a dollar, every other byte as it is
+-- each byte of this kind after a dollar, every other byte as it is
 abbrev pub escaped : (ℕ → Bool) → List ℕ → List ℕ
 escaped test bytes = flat_map (λ b. if test b then codes "$" ++ b ∷ [] else b ∷ []) bytes
 
@@ -23,7 +23,7 @@ is_special_in_command b = b == 36
 abbrev pub name_text : List ℕ → List ℕ
 name_text name = escaped is_special_in_name name
 
--- Ninja drops spaces before a value, so that a first one stands behind a dollar too
+-- Ninja drops spaces before a value, so that a first one stands after a dollar too
 abbrev pub lead_text : List ℕ → List ℕ
 lead_text [] = []
 lead_text (b ∷ bs) = if b == 32 then codes "$" else []
@@ -31,11 +31,11 @@ lead_text (b ∷ bs) = if b == 32 then codes "$" else []
 abbrev pub command_text : List ℕ → List ℕ
 command_text command = lead_text command ++ escaped is_special_in_command command
 
--- each name behind one space
+-- each name after one space
 abbrev pub names_text : List (List ℕ) → List ℕ
 names_text names = flat_map (λ n. codes " " ++ name_text n) names
 
--- the names behind their mark, if there are any
+-- the names after their mark, if there are any
 abbrev pub marked_text : List ℕ → List (List ℕ) → List ℕ
 marked_text mark [] = []
 marked_text mark (n ∷ ns) = mark ++ names_text (n ∷ ns)

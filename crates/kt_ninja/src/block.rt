@@ -18,7 +18,7 @@ pub struct Block<'a, W: Sink> {
     pub failed: bool,
 }
 
-/// What stands behind the byte at this place.
+/// What stands after the byte at this place.
 fn after(text: &[u8], at: usize) -> &[u8]
     requires { at < length text.now }
     ensures { result.now ≡ drop (at + 1) text.now }
@@ -40,7 +40,7 @@ impl<'a, W: Sink> Block<'a, W> {
         self.waiting.clear();
     }
 
-    /// Puts the piece behind what waits.
+    /// Puts the piece after what waits.
     pub fn put(&mut self, piece: &[u8])
         ensures { Puts W.written W.failed self.old self.new piece.now }
     {
@@ -50,7 +50,7 @@ impl<'a, W: Sink> Block<'a, W> {
         }
     }
 
-    /// Puts as much of the piece as has room in a block, and answers its length in bytes.
+    /// Puts as much of the piece as has room in a block, and returns its length in bytes.
     fn fill(&mut self, piece: &[u8]) -> usize
         requires { 0 < length piece.now }
         ensures some { 0 < result }
@@ -66,7 +66,7 @@ impl<'a, W: Sink> Block<'a, W> {
         count
     }
 
-    /// Puts the text, each special byte behind a dollar.
+    /// Puts the text, each special byte after a dollar.
     pub fn put_escaped(&mut self, text: &[u8], escapes: Escapes)
         ensures { Puts W.written W.failed self.old self.new (escaped (is_special escapes) text.now) }
     {

@@ -69,7 +69,7 @@ fn name_in<'t>(words: &[Spelling<'t>]) -> Option<&'t [u8]>
     }
 }
 
-/// The name behind `rule`.
+/// The name after `rule`.
 pub(crate) fn rule_name<'t>(alloc: Global, line: &Spelling<'t>) -> Result<&'t [u8], Fault>
     ensures { ReadsAs (λ name. name.now) result (rule_of line.now) }
 {
@@ -112,7 +112,7 @@ fn key<'t>(alloc: Global, front: &Spelling<'t>) -> Result<&'t [u8], Fault>
     Ok(name)
 }
 
-/// The binding of a key to what stands behind the first `=`.
+/// The binding of a key to what stands after the first `=`.
 pub(crate) fn binding_of<'t>(alloc: Global, line: &Spelling<'t>) -> Result<Binding<'t>, Fault>
     ensures { ReadsAs binding_told result (binding_of line.now) }
 {
@@ -125,7 +125,7 @@ pub(crate) fn binding_of<'t>(alloc: Global, line: &Spelling<'t>) -> Result<Bindi
     })
 }
 
-/// What a build line names behind its rule.
+/// What a build line names after its rule.
 #[derive(Drop)]
 pub(crate) struct Inputs<'t> {
     pub(crate) explicit: Vec<Spelling<'t>>,
@@ -162,7 +162,7 @@ fn two<'t>(parts: &[Spelling<'t>]) -> Option<(Spelling<'t>, Spelling<'t>)>
     }
 }
 
-// What stands behind two bars, by what stands between them, which is nothing, and behind them.
+// What stands after two bars, by what stands between them, which is nothing, and after them.
 fn behind_two_bars<'t>(parts: &[Spelling<'t>]) -> Result<Spelling<'t>, Fault>
     ensures { Reads result (two_bars parts.now) }
 {
@@ -172,7 +172,7 @@ fn behind_two_bars<'t>(parts: &[Spelling<'t>]) -> Result<Spelling<'t>, Fault>
     }
 }
 
-// What stands behind one bar and behind two, by the parts between the bars.
+// What stands after one bar and after two, by the parts between the bars.
 fn behind_bars<'t>(bars: &[Spelling<'t>]) -> Result<(Spelling<'t>, Spelling<'t>), Fault>
     ensures { ReadsAs (λ cut. (cut.0, cut.1)) result (bars_cut bars.now) }
 {
@@ -202,7 +202,7 @@ fn again<'t>(alloc: Global, words: &[Spelling<'t>]) -> Result<Vec<Spelling<'t>>,
     Ok(copies)
 }
 
-// What a build line names behind its rule, by the words before its first bar and the parts behind it.
+// What a build line names after its rule, by the words before its first bar and the parts after it.
 fn inputs_of<'t>(
     alloc: Global,
     explicit: &[Spelling<'t>],
@@ -218,7 +218,7 @@ fn inputs_of<'t>(
     })
 }
 
-// A build line of these outputs, by the words before its first bar and the parts behind it.
+// A build line of these outputs, by the words before its first bar and the parts after it.
 fn build_with<'t>(
     alloc: Global,
     outs: Vec<Spelling<'t>>,
@@ -237,7 +237,7 @@ fn build_with<'t>(
     Ok(Build { outs, rule, inputs })
 }
 
-// The same by all that stands behind the colon.
+// The same by all that stands after the colon.
 fn build_behind<'t>(
     alloc: Global,
     outs: Vec<Spelling<'t>>,
@@ -253,7 +253,7 @@ fn build_behind<'t>(
     build_with(alloc, outs, front.as_slice(), behind)
 }
 
-/// What stands behind `build`.
+/// What stands after `build`.
 pub(crate) fn build_of<'t>(alloc: Global, line: &Spelling<'t>) -> Result<Build<'t>, Fault>
     ensures { ReadsAs build_told result (build_of line.now) }
 {
@@ -265,7 +265,7 @@ pub(crate) fn build_of<'t>(alloc: Global, line: &Spelling<'t>) -> Result<Build<'
     build_behind(alloc, outs, &rest)
 }
 
-/// What stands behind `default`.
+/// What stands after `default`.
 pub(crate) fn defaults_of<'t>(
     alloc: Global,
     line: &Spelling<'t>,

@@ -13,7 +13,7 @@ use memchr::memchr;
 use std::alloc::{AllocError, Global};
 use std::mem;
 
-// A line of the file without its newline, whether it had one, and what stands behind it.
+// A line of the file without its newline, whether it had one, and what stands after it.
 #[derive(Drop)]
 struct FileLine<'a> {
     bytes: &'a [u8],
@@ -145,7 +145,7 @@ fn added(going_on: bool, bytes: &[u8]) -> &[u8]
     }
 }
 
-// Whether a line that begins blank or not goes on behind these bytes.
+// Whether a line that begins blank or not goes on after these bytes.
 fn goes_on(line: &FileLine, blank: bool, bytes: &[u8]) -> bool
     ensures { result ≡ line.now.ended && (ends_in_dollar false line.now.bytes.now
         && not (blank && is_comment bytes.now)) }

@@ -28,7 +28,7 @@ pub fn law_of_pieces()
     ensures { PieceLaw }
 {}
 
-/// Joining the lines of a file takes away exactly its escaped newlines, each with the spaces behind it.
+/// Joining the lines of a file takes away exactly its escaped newlines, each with the spaces after it.
 pub fn law_of_joined_lines()
     ensures { JoinedLaw }
 {}

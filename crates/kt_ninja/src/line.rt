@@ -51,7 +51,7 @@ impl<'t> LineText<'t> {
         }
     }
 
-    /// Puts bytes of the file behind it. Nothing is copied where it was empty.
+    /// Puts bytes of the file after it. Nothing is copied where it was empty.
     pub(crate) fn add(&mut self, alloc: Global, bytes: &'t [u8]) -> Result<(), AllocError>
         ensures { OnOk result (self.new ≡ self.old ++ bytes.now) }
     {

@@ -26,9 +26,9 @@ pub struct Statement {
     pub made: Made,
     /// Explicit inputs, which `$in` names.
     pub inputs: Sequence<Name>,
-    /// Implicit inputs, behind `|`.
+    /// Implicit inputs, after `|`.
     pub implicit: Sequence<Name>,
-    /// Order-only inputs, behind `||`.
+    /// Order-only inputs, after `||`.
     pub order_only: Sequence<Name>,
 }
 

@@ -52,7 +52,7 @@ impl<'a, W: Sink> Block<'a, W> {
         self.put(buffer.format(number).as_bytes());
     }
 
-    /// A leading space would be lost behind the `=` of its line, so that it stands behind a dollar.
+    /// A leading space would be lost after the `=` of its line, so that it stands after a dollar.
     fn put_lead(&mut self, command: &[u8])
         ensures { Puts W.written W.failed self.old self.new (lead_text command.now) }
     {
@@ -141,7 +141,7 @@ impl<'a, W: Sink> Block<'a, W> {
     }
 }
 
-/// Prints the plan, and answers whether a write failed.
+/// Prints the plan, and returns whether a write failed.
 fn print<W: Sink>(plan: &Plan, sink: &mut W) -> bool
     ensures { Prints W.written W.failed sink.old sink.new result (plan_text plan.now) }
 {
@@ -165,7 +165,7 @@ fn print<W: Sink>(plan: &Plan, sink: &mut W) -> bool
 /// Writes the plan as a Ninja file (Ninja manual, "Ninja file reference"), statements in the plan's order, through
 /// a block of 4,096 bytes that the sink gets when it is full and at the end. Takes no memory.
 ///
-/// After a fault the sink has taken a beginning of the text.
+/// After a fault the sink has taken a prefix of the text.
 pub fn write_plan<W: Sink>(plan: &Plan, sink: &mut W) -> Result<(), WriteFault>
     requires { IsWritable plan.now }
     ensures ok { OnOk result (W.written sink.new ≡ appended (W.written sink.old) (plan_text plan.now)) }

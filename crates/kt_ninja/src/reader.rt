@@ -84,7 +84,7 @@ fn line_binding(alloc: Global, text: &[u8]) -> Result<Binding<'_>, Fault>
     binding_of(alloc, &line)
 }
 
-// Adds a line to a block, and answers whether the block is closed behind it.
+// Adds a line to a block, and returns whether the block is closed after it.
 fn add_line<'t>(
     alloc: Global,
     closed: bool,
@@ -120,7 +120,7 @@ fn block<'t>(alloc: Global, body: &'t [Line<'t>]) -> Result<Vec<Binding<'t>>, Fa
     Ok(bindings)
 }
 
-// What stands behind `rule`.
+// What stands after `rule`.
 fn read_rule_line<'t>(
     alloc: Global,
     state: State<'t>,
@@ -134,7 +134,7 @@ fn read_rule_line<'t>(
     state.read_rule(name, block)
 }
 
-// What stands behind `build`.
+// What stands after `build`.
 fn read_build_line<'t>(
     alloc: Global,
     state: State<'t>,
@@ -148,7 +148,7 @@ fn read_build_line<'t>(
     state.read_build(&build, block)
 }
 
-// What stands behind `default`, which has no block.
+// What stands after `default`, which has no block.
 fn read_default_line<'t>(
     alloc: Global,
     state: State<'t>,
@@ -181,7 +181,7 @@ fn read_margin_line<'t>(
     Ok(state.bind(&binding)?)
 }
 
-// What stands behind the keyword, if the text begins with it.
+// What stands after the keyword, if the text begins with it.
 #[tactic(auto, using(crate::proofs::Stripping::stripped))]
 fn behind<'t>(keyword: &[u8], text: &'t [u8]) -> Option<&'t [u8]>
     ensures { MatchOption result (starts_with nat_eq text.now keyword.now ≡ false)

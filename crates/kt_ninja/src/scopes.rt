@@ -141,7 +141,7 @@ pub(crate) fn expanded(
     }
 }
 
-// Adds what stands behind a dollar.
+// Adds what stands after a dollar.
 fn add_dollar(text: &mut Vec<u8>, dollar: Dollar, scopes: Scopes) -> Result<(), AllocError>
     ensures { OnOk result (text.new.items ≡ text.old.items
         ++ piece_text (value_within scopes.entry.block.now scopes.entry.file.now) (dollar_piece dollar.entry)) }
@@ -198,7 +198,7 @@ fn add_shell_word(text: &mut Vec<u8>, path: &[u8]) -> Result<(), AllocError>
     Ok(text.push(b'\'')?)
 }
 
-// Adds paths as words of a shell, each behind a byte.
+// Adds paths as words of a shell, each after a byte.
 fn add_later_words(text: &mut Vec<u8>, between: u8, paths: &[Name]) -> Result<(), AllocError>
     ensures { OnOk result (text.new.items ≡ text.old.items ++ flat_map (λ path. between ∷ shell_word path) paths.now) }
 {
@@ -248,7 +248,7 @@ impl<'a> CommandScopes<'a> {
         }
     }
 
-    // Adds what stands behind a dollar of the command.
+    // Adds what stands after a dollar of the command.
     fn add_dollar(&self, text: &mut Vec<u8>, dollar: Dollar) -> Result<(), AllocError>
         ensures { OnOk result (text.new.items ≡ text.old.items
             ++ piece_text (command_value self.now.inputs.now self.now.outs.now self.now.scopes.block.now

@@ -18,7 +18,7 @@ pub trait Sink {
     /// How often it failed; at the greatest `u64` the count stays.
     ghost failed: { Self → ℕ };
 
-    /// Takes a beginning of the piece, and answers its length in bytes. An `Err`, and a 0 for a piece
+    /// Takes a prefix of the piece, and returns its length in bytes. An `Err`, and a 0 for a piece
     /// that isn't empty, is a failure; it isn't to be tried again. What takes a byte is none.
     fn write(&mut self, piece: &[u8]) -> Result<usize, SinkFault>
         ensures within { IfOk result (λ n. n ≤ length piece.now) }
@@ -41,7 +41,7 @@ pub struct WriteFault;
 
 /// Writes all of the piece, by as many calls as that takes, and none for an empty piece.
 ///
-/// A fault is not tried again; what the sink took up to it is a beginning of the piece.
+/// A fault is not tried again; what the sink took up to it is a prefix of the piece.
 pub fn put<W: Sink>(sink: &mut W, piece: &[u8]) -> Result<(), WriteFault>
     ensures ok { OnOk result (W.written sink.new ≡ appended (W.written sink.old) piece.now) }
     ensures fault { OnErr result (GrowsByFront (W.written sink.old) (W.written sink.new) piece.now) }

@@ -129,7 +129,7 @@ impl Names {
         self.names.contains(name)
     }
 
-    // Adds the name, and answers whether it is new.
+    // Adds the name, and returns whether it is new.
     #[tactic(auto, using(crate::proofs::TableLemmas::among_keys, crate::proofs::TableLemmas::insert_keys))]
     pub(crate) fn add(&mut self, name: Vec<u8>) -> Result<bool, AllocError>
         ensures added { IfOk result (λ added. added ≡ not (is_among self.old name.items)) }

@@ -80,7 +80,7 @@ fn add_statement(text: &mut Vec<u8>, statement: &Statement) -> Result<(), AllocE
     add_names(text, statement.order_only.as_slice(), b'#')
 }
 
-/// The text of the plan, with a newline behind it.
+/// The text of the plan, with a newline after it.
 pub(crate) fn shown(alloc: Global, plan: &Plan) -> Result<Vec<u8>, AllocError> {
     let mut text = Vec::new(alloc);
     for statement in plan.statements.as_slice() {

@@ -42,7 +42,7 @@ const PLANS: [(&[u8], &[u8]); 26] = [
         b"# c\n\n   \nx = 1\n  # c\n\nbuild $x$ $:${x}: phony\n",
         b"1 :1,;;;;#>\n",
     ),
-    // Inputs stand behind their bars, and default targets add up.
+    // Inputs stand after their bars, and default targets add up.
     (b"build t: phony ||@b\ndefault t\n", b"t,;;;;@b,#>t,\n"),
     (b"build t:phony a|b||c\n", b"t,;;a,;b,;c,#>\n"),
     (
@@ -233,7 +233,7 @@ fn repeated(alloc: Global, text: &[u8], count: usize) -> Result<Vec<u8>, AllocEr
     Ok(all)
 }
 
-/// What stands in front, a text and how often, and what stands behind; the plan, with the text where `%` stands.
+/// What stands in front, a text and how often, and what stands after; the plan, with the text where `%` stands.
 const LONG: [(&[u8], &[u8], usize, &[u8], &[u8]); 5] = [
     // a path of 5,000 bytes
     (b"build ", b"x", 5_000, b": phony\n", b"%,;;;;#>\n"),

@@ -86,7 +86,7 @@ const COMPILED: &[u8] = b"a.o,;=cc -c a.c -o a.o;a.c,;;#>a.o,";
 const COMPILED_TEXT: &[u8] =
     b"# kati\nrule r0\n command = cc -c a.c -o a.o\nbuild a.o: r0 a.c\ndefault a.o\n";
 
-/// The sink has a beginning of the text, got in at most two calls and none after the fault.
+/// The sink has a prefix of the text, got in at most two calls and none after the fault.
 #[test]
 fn sinks_fail(rt: HostRuntime) {
     let plan = plan_of(&rt, rt.alloc(), COMPILED);
@@ -151,7 +151,7 @@ fn blocks_are_handed_over_when_full(rt: HostRuntime) {
     }
 }
 
-/// A piece behind `ab` in a sink of room 7 and step 2: what it holds then, its calls and failures.
+/// A piece after `ab` in a sink of room 7 and step 2: what it holds then, its calls and failures.
 const PIECES: [(&[u8], bool, &[u8], u64, u64); 4] = [
     (b"", true, b"ab", 1, 0),
     (b"cde", true, b"abcde", 3, 0),

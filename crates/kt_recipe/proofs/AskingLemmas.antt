@@ -15,7 +15,7 @@ use Rattle.kt_recipe.specs.Forms.{text_of}
 use Rattle.kt_recipe.specs.Auto.{marks, has_parts, endings, names_in, of_mark, automatic_in}
 use Rattle.kt_recipe.specs.inner.Asking.{subject_in, subject_of, form_of, parted, asked_by, macro_in}
 
--- ---- pairs behind others
+-- ---- pairs after others
 
 abbrev or_else : Option Text → Option Text → Option Text
 or_else None other = other
@@ -36,7 +36,7 @@ look_behind (e ∷ es) others name =
     ap (λ found. if pointwise nat_eq e.0 name then Some e.1 else found) (look_behind es others name)
     ∙ test_first (pointwise nat_eq e.0 name) e.1 (look es name) (look others name)
 
--- ---- pairs behind a mark
+-- ---- pairs after a mark
 
 abbrev behind : ℕ → Store → Store
 behind mark macros = map (λ macro. (mark ∷ macro.0, macro.1)) macros
@@ -90,7 +90,7 @@ none_there node part (one ∷ known) mark rest is =
     (marked one.0 mark (of_mark node part one.1) rest false (not_first (one.0 == mark) (has_mark known mark) is))
     ∙ none_there node part known mark rest (not_second (one.0 == mark) (has_mark known mark) is)
 
--- at the first mark, or behind it
+-- at the first mark, or after it
 either_mark : (node : Node) (part : ℕ) (one : ℕ × Subject) (known : List (ℕ × Subject)) (mark : ℕ) (rest : Text) (b : Bool) → (one.0 == mark) ≡ b
     → (b ≡ true → look (all_behind node part known) (mark ∷ rest) ≡ None)
     → look (all_behind node part known) (mark ∷ rest) ≡ told_by node part rest (subject_in known mark)
@@ -112,7 +112,7 @@ found_there node part (one ∷ known) mark rest is =
     (ap (has_mark known) (sym (eqb-true one.0 mark same)) ∙ apart (has_mark known one.0) (differ known) is))
     (found_there node part known mark rest (apart_rest (has_mark known one.0) (differ known) is))
 
--- ---- what stands behind a mark
+-- ---- what stands after a mark
 
 abbrev told : Node → ℕ → Subject × Form → Text
 told node part asked = text_of asked.1 (names_in node part asked.0)

@@ -1,4 +1,4 @@
--- One more call behind a command.
+-- One more call after a command.
 use Rattle.std.proofs.Common.{◌≡◌, Bool, true, false, [], ◌∷◌, ◌++◌, Some, codes, refl, sym, ap, ◌∙◌, append_assoc, true≢false}
 use Rattle.kt_text.specs.Words.{Text, is_nonempty}
 use Rattle.kt_recipe.specs.Shell.{joined, wrapped}

@@ -20,7 +20,7 @@ marks =
     (64, Target) ∷ (60, First) ∷ (94, Each) ∷ (63, Each) ∷ (43, Every) ∷ (124, OrderOnly) ∷ (42, Stem)
     ∷ (37, Member) ∷ []
 
--- whether a `D` or `F` may stand behind the mark; behind `|` none may [Automatic Variables], nor behind `%` (kati's
+-- whether a `D` or `F` may stand after the mark; after `|` none may [Automatic Variables], nor after `%` (kati's
 -- own)
 abbrev pub has_parts : Subject → Bool
 has_parts Target = true
@@ -31,7 +31,7 @@ has_parts OrderOnly = false
 has_parts Stem = true
 has_parts Member = false
 
--- what may stand behind a mark, and the form that it asks for
+-- what may stand after a mark, and the form that it asks for
 abbrev pub endings : Bool → List (Text × Form)
 endings true = ([], Whole) ∷ (codes "D", Directory) ∷ (codes "F", File) ∷ []
 endings false = ([], Whole) ∷ []
@@ -60,7 +60,7 @@ needs_in node part =
 abbrev pub names_in : Node → ℕ → Subject → List Text
 names_in node part subject = names_of node.name (part_stem (slice_get node.parts part)) (needs_in node part) subject
 
--- the macros of a mark, by what stands behind it
+-- the macros of a mark, by what stands after it
 abbrev pub of_mark : Node → ℕ → Subject → Store
 of_mark node part subject =
     map (λ ending. (ending.0, text_of ending.1 (names_in node part subject))) (endings (has_parts subject))

@@ -9,7 +9,7 @@ use Rattle.kt_text.specs.Words.{Text, is_blank}
 unfoldable pub is_prefix : ℕ → Bool
 is_prefix byte = is_blank byte || (byte == 64 || (byte == 45 || byte == 43))
 
--- that run, and what stands behind it
+-- that run, and what stands after it
 abbrev pub run_of : Text → Text
 run_of text = take (prefix_len is_prefix text) text
 

@@ -2,7 +2,7 @@
 use Rattle.std.specs.Prelude.{ℕ, ◌==◌, [], ◌∷◌, ◌++◌, flat_map, Option, Some, None, option_map, if◌then◌else◌}
 use Rattle.kt_text.specs.Words.{Text}
 
--- a byte between single quotes: a single quote can't stand there, so it ends them, stands behind a backslash, and
+-- a byte between single quotes: a single quote can't stand there, so it ends them, stands after a backslash, and
 -- begins new ones
 abbrev pub quoted_byte : ℕ → Text
 quoted_byte byte = if byte == 39 then 39 ∷ 92 ∷ 39 ∷ 39 ∷ [] else byte ∷ []
@@ -11,14 +11,14 @@ quoted_byte byte = if byte == 39 then 39 ∷ 92 ∷ 39 ∷ 39 ∷ [] else byte �
 unfoldable pub quoted : Text → Text
 quoted text = 39 ∷ (flat_map quoted_byte text ++ (39 ∷ []))
 
--- where a byte of a word stands: outside quotes, directly behind a backslash there, or between single quotes
+-- where a byte of a word stands: outside quotes, directly after a backslash there, or between single quotes
 pub data Standing : Type 0 where
   outside : Standing
   escaped : Standing
   inside : Standing
 
 -- what a shell reads a word as that is written with quotes alone: between single quotes each byte stands for itself
--- ["Single-Quotes"], and so does one behind a backslash, but for a newline, which goes with it ["Escape Character
+-- ["Single-Quotes"], and so does one after a backslash, but for a newline, which goes with it ["Escape Character
 -- (Backslash)"]. A word with anything else outside quotes has no reading here, nor has one whose quotes are open at
 -- its end.
 unfoldable pub read_quotes : Standing → Text → Option Text

@@ -32,7 +32,7 @@ unfoldable pub wrapped : Bool → Text → Text → Text
 wrapped true shell piece = codes "{ " ++ (shell_call shell piece ++ codes " || :; }")
 wrapped false shell piece = shell_call shell piece
 
--- one more behind the command so far, run where all before it succeeded (POSIX.1-2024 Shell Command Language, "AND
+-- one more after the command so far, run where all before it succeeded (POSIX.1-2024 Shell Command Language, "AND
 -- Lists")
 abbrev pub joined : Option Text → Text → Text
 joined None call = call
@@ -45,7 +45,7 @@ pub data Progress : Type 0 where
   goes_on : (said : List Text) (command : Option Text) → Progress
   ends : (said : List Text) (fault : Fault) → Progress
 
--- what is told and made behind an expansion
+-- what is told and made after an expansion
 abbrev pub on_text : Ending → (List Text → Text → Progress) → Progress
 on_text (with_text said text) next = next said text
 on_text (with_fault said fault) next = ends said fault

@@ -28,14 +28,14 @@ abbrev pub said_of : Progress → List Text
 said_of (goes_on said command) = said
 said_of (ends said fault) = said
 
--- the messages and the fault that are told are those of this end; where memory is wanted the messages are a beginning
+-- the messages and the fault that are told are those of this end; where memory is refused the messages are a prefix
 -- of its messages; no device is there to fail
 abbrev pub Stops : Stop → List Text → Progress → Type 0
 Stops (stops.Fault fault) said progress = progress ≡ ends said fault
 Stops (stops.Device name) said progress = ⊥
 Stops stops.Memory said progress = IsFront said (said_of progress)
 
--- what a call answered, seen by `see`, and the messages that it left are those of this end
+-- what a call returned, seen by `see`, and the messages that it left are those of this end
 abbrev pub Tells : {A : Type 0} → (A → Option Text) → Result A Stop → List Text → Progress → Type 0
 Tells see (Ok x) said progress = progress ≡ goes_on said (see x)
 Tells see (Err stop) said progress = Stops stop said progress

@@ -12,9 +12,9 @@ use std::alloc::{AllocError, Global};
 #[derive(Clone, Copy)]
 pub(crate) enum Form {
     Whole,
-    /// With a `D` behind its mark: what stands before the last slash.
+    /// With a `D` after its mark: what stands before the last slash.
     Directory,
-    /// With an `F`: what stands behind it.
+    /// With an `F`: what stands after it.
     File,
 }
 

@@ -5,7 +5,7 @@ ghost use Rattle.kt_recipe.specs.Lines.{after_run, is_marked, is_prefix, pieces_
 
 use std::alloc::{AllocError, Global};
 
-/// What stands behind the blanks, `@`, `-` and `+` that a text begins with (GNU make manual, "Recipe
+/// What stands after the blanks, `@`, `-` and `+` that a text begins with (GNU make manual, "Recipe
 /// Echoing", "Errors in Recipes").
 pub(crate) fn after_run(text: &[u8]) -> &[u8]
     ensures { result.now ≡ after_run text.now }

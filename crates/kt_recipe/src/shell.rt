@@ -23,7 +23,7 @@ use std::alloc::Global;
 /// The command of a node: the pieces of its recipes, each for a shell of its own, joined by `&&`
 /// (GNU make manual, "Recipe Execution"). None where no recipe has a piece.
 ///
-/// Messages are appended in order; where memory is refused, a beginning of them.
+/// Messages are appended in order; where memory is refused, a prefix of them.
 #[tactic(auto, unfolding(crate::specs::Shell::shell_of))]
 pub fn command(
     alloc: Global,

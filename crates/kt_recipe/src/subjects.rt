@@ -36,7 +36,7 @@ pub(crate) fn asked_by(name: &[u8]) -> Option<(Subject, Form)>
     }
 }
 
-// What a letter behind the mark asks for.
+// What a letter after the mark asks for.
 fn parted(subject: Subject, letter: u8) -> Option<(Subject, Form)>
     ensures { result ≡ parted subject letter }
 {

@@ -1,4 +1,4 @@
--- Names cut behind a suffix that they begin with.
+-- Names cut after a suffix that they begin with.
 use Rattle.std.proofs.Common.{◌≡◌, ℕ, zero, suc, ◌+◌, ◌<◌, ◌≤◌, Bool, true, false, cond, ◌&&◌, ◌||◌, List, [], ◌∷◌, find, length, take, drop, map, Option, Some, None, IfSome, refl, sym, ap, subst, ◌∙◌, true≢false, arith, get_or}
 use Rattle.std.specs.Prelude.{min, nat_eq, nat_lt, if◌then◌else◌}
 use Rattle.std.proofs.lemmas.Bool.{ltb-true, ltb-false, lt-ltb}
@@ -112,7 +112,7 @@ earlier_assoc (Some x) (Some y) (Some z) = let e : min (min x y) z ≡ min x (mi
 abbrev pub names_in : List (Vec ℕ Global) → List Text
 names_in names = map (λ name. name.items) names
 
--- a beginning from a place on is tried
+-- a prefix from a place on is tried
 pub cut_at : (suffixes : List Text) (names : List (Vec ℕ Global)) (i : ℕ) (front : Vec ℕ Global) (name : Text) (first cut next : Option ℕ) → i < length names
     → front ≡ get_or names i front → cut ≡ cut_behind suffixes name front.items → next ≡ earlier first cut
     → earlier next (first_cut suffixes (names_in (drop (i + 1) names)) name) ≡ earlier first (first_cut suffixes (names_in (drop i names)) name)
@@ -206,7 +206,7 @@ cut_by suffixes front name false cut l c =
     is_not_cut suffixes front name (length front) refl
     (λ low. absurd (true≢false (sym (lt-ltb (length front) (length name) low) ∙ l)))
 
--- a name is cut behind a beginning at one place at most
+-- a name is cut after a prefix at one place at most
 pub cut_behind_is : (suffixes : List Text) (name front : Text)
     → cut_behind suffixes name front ≡ (if goes_on suffixes name front then Some (length front) else None)
 cut_behind_is suffixes name front =

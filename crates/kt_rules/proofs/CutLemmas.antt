@@ -141,7 +141,7 @@ cuts_at_first text = subst (FindsColon false text) (sym (placed_open false text)
 
 -- ---- leading `./`
 
--- what is left behind slashes, where a `./` stands before them, and then behind each `./` with its slashes
+-- what is left after slashes, where a `./` stands before them, and then after each `./` with its slashes
 record LeftBehind (behind : Bool) (name left : Text) : Type 0 where
   front : Text
   slashes : List Text
@@ -160,7 +160,7 @@ or_false : (a b : Bool) → ((a || false) && b) ≡ (a && b)
 or_false true b = refl
 or_false false b = refl
 
--- a slash behind a `./`
+-- a slash after a `./`
 slash_more : (behind : Bool) (byte : ℕ) (text left : Text) → (behind && byte == 47) ≡ true → LeftBehind true text left → LeftBehind behind (byte ∷ text) left
 slash_more true byte text left h rest = record {
   front = byte ∷ rest.front;
@@ -230,7 +230,7 @@ left_behind behind (byte ∷ []) = left_one behind byte (behind && byte == 47) r
 left_behind behind (byte ∷ next ∷ text) =
     left_more behind byte next text (behind && byte == 47) (byte == 46 && next == 47) refl refl (left_behind true (next ∷ text)) (left_behind true text)
 
--- leading `./` go with all slashes behind them, and nothing else
+-- leading `./` go with all slashes after them, and nothing else
 pub drops_dots : (name : Text) → IsLeft name (after_dots false name)
 drops_dots name =
     let all = left_behind false name in

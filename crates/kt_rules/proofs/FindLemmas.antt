@@ -1,4 +1,4 @@
--- Searches, and names put behind others.
+-- Searches, and names put after others.
 use Rattle.std.proofs.Common.{◌≡◌, ℕ, ◌+◌, ◌<◌, Bool, true, false, cond, if◌then◌else◌, List, [], ◌∷◌, ◌++◌, fold, find, filter, map, take, drop, length, get_or, ◌≤◌, ◌&&◌, ◌||◌, Option, Some, None, refl, sym, ap, ◌∙◌, true≢false}
 use Rattle.std.proofs.lemmas.List.{append-nil, append_assoc, drop_more, drop_all}
 use Rattle.kt_text.specs.Words.{Text}
@@ -8,7 +8,7 @@ one_grows : (names : List Text) (name : Text) (b : Bool) → (more : List Text) 
 one_grows names name true = ([], sym (append-nil names))
 one_grows names name false = (name ∷ [], refl)
 
--- names that are added stand behind the others
+-- names that are added stand after the others
 pub names_grow : (names added : List Text) → (more : List Text) × (fold with_name names added ≡ names ++ more)
 names_grow names [] = ([], sym (append-nil names))
 names_grow names (name ∷ added) =

@@ -48,7 +48,7 @@ word_kept (byte ∷ word) words h = refl
 abbrev Goes : {A : Type 0} → Text → List A → Type 0
 Goes gap rest = (is_nonempty gap ≡ true) ⊎ (rest ≡ [])
 
--- a word with separators behind it, or at the end of the text
+-- a word with separators after it, or at the end of the text
 one_word : (word gap rest : Text) → is_nonempty word ≡ true → HoldsNoSeparator false word → AreSeparators gap
     → QuotesNone false word gap → Goes gap rest
     → written_words ((word ++ gap) ++ rest) ≡ word ∷ written_words rest
@@ -112,7 +112,7 @@ are_written : (text leading : Text) (parts : List Part) → text ≡ leading ++ 
 are_written text leading parts e gap each apart =
     ap written_words e ∙ gap_skipped leading (flat_map part_text parts) gap ∙ words_of_parts parts each apart
 
--- a text cut up behind a byte: what is left of a word, separators, and parts
+-- a text cut up after a byte: what is left of a word, separators, and parts
 record CutUp (before : Bool) (text : Text) : Type 0 where
   first : Text
   gap : Text

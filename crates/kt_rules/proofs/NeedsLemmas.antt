@@ -1,4 +1,4 @@
--- Prerequisites before and behind the bar, and targets without repeats.
+-- Prerequisites before and after the bar, and targets without repeats.
 use Rattle.std.proofs.Common.{◌≡◌, ℕ, Bool, true, false, List, [], ◌∷◌, ◌++◌, map, refl, sym, ◌∙◌, ap, arith, ⊎_elim, append_assoc, append-nil}
 use Rattle.std.specs.Prelude.{nat_eq, if◌then◌else◌, ◌||◌}
 use Rattle.std.specs.List.{after_first, before_first, list_any}
@@ -13,14 +13,14 @@ use Rattle.kt_rules.specs.declared.entry.Needs.{Needs}
 use Rattle.kt_rules.specs.Names.{name_of, with_name}
 use Rattle.kt_rules.specs.RuleLine.{is_bar, needs_of}
 
--- what words are needs behind some that were read: the bar was met or not
+-- what words are needs after some that were read: the bar was met or not
 unfoldable pub needs_from : Bool → List Text → List Text → List Text → Needs
 needs_from behind before after [] = record { prerequisites = before; order_only = after }
 needs_from true before after (word ∷ words) = needs_from true before (after ++ name_of word ∷ []) words
 needs_from false before after (word ∷ words) =
     if is_bar word then needs_from true before after words else needs_from false (before ++ name_of word ∷ []) after words
 
--- behind the bar all is order-only
+-- after the bar all is order-only
 behind_all : (before after words : List Text) → needs_from true before after words ≡ record { prerequisites = before; order_only = after ++ map name_of words }
 unfolding needs_from
 behind_all before after [] = ap (λ l. record { prerequisites = before; order_only = l }) (sym (append-nil after))
@@ -32,7 +32,7 @@ behind_all before after (word ∷ words) =
 before-cons : (word : Text) (words : List Text) → is_bar word ≡ false → before_first is_bar (word ∷ words) ≡ word ∷ before_first is_bar words
 before-cons word words h = rw h (grind arith)
 
--- and not behind it
+-- and not after it
 after-cons : (word : Text) (words : List Text) → is_bar word ≡ false → after_first is_bar (word ∷ words) ≡ after_first is_bar words
 after-cons word words h = rw h (grind arith)
 
@@ -57,7 +57,7 @@ any_items : (keys : List (Vec ℕ Global)) (name : Vec ℕ Global)
 any_items [] name = refl
 any_items (key ∷ keys) name = ap (λ b. pointwise nat_eq name.items key.items || b) (any_items keys name)
 
--- a name that is inserted into a set of vectors is one more name behind the others, if it isn't among them
+-- a name that is inserted into a set of vectors is one more name after the others, if it isn't among them
 pub insert_key_items : (keys : List (Vec ℕ Global)) (name : Vec ℕ Global)
     → map (λ v. v.items) (insert_key (λ x y. pointwise nat_eq x.items y.items) keys name) ≡ with_name (map (λ v. v.items) keys) name.items
 insert_key_items keys name = rw (any_items keys name) (by (list_any (pointwise nat_eq name.items) (map (λ v. v.items) keys)))

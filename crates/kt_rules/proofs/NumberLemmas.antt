@@ -33,7 +33,7 @@ numbers_start rules left count name are none =
     ap (λ n. flat_map (numbers_in (suffixes_of rules) name) (enumerate_from n left)) none
     ∙ ap (λ rs. flat_map (numbers_in (suffixes_of rules) name) (enumerate_from 0 rs)) are
 
--- one rule, and then those behind it
+-- one rule, and then those after it
 pub numbers_step : (suffixes : List Text) (name : Text) (rule : Rule) (left rest : List Rule) (count next : ℕ) → left ≡ rule ∷ rest → next ≡ count + 1
     → flat_map (numbers_in suffixes name) (enumerate_from count left)
     ≡ numbers_in suffixes name (count, rule) ++ flat_map (numbers_in suffixes name) (enumerate_from next rest)
@@ -49,7 +49,7 @@ rules_fit (Some rule ∷ slots) = let fit : length (rules_in slots) ≤ length s
 
 -- ---- the rules at the numbers
 
--- an item, and those behind it, by what the tests tell of it
+-- an item, and those after it, by what the tests tell of it
 module _ {A B C D : Type 0} (make : A → B) (made test : A → Bool) (named kept : B → Bool) (f : B → D) (g : A → C) (h : C → D) where
   picked_step : (b a k : Bool) (x : A) (those ours : List A) → named (make x) ≡ a → kept (make x) ≡ k → test x ≡ (a && (b && k)) → f (make x) ≡ h (g x)
       → map f (filter kept (filter named (map make those))) ≡ map h (map g ours)

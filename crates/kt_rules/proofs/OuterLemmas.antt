@@ -52,7 +52,7 @@ last_slash : (before : Bool) (text front : Text) (byte : ℕ) → text ≡ endin
     → ends_in_backslash before text ≡ (byte == 92)
 last_slash before text front byte e = ap (ends_in_backslash before) e ∙ ends_last before front byte
 
--- how long a text with one more byte is, and one with a text behind it
+-- how long a text with one more byte is, and one with a text after it
 one_longer : (front : Text) (byte : ℕ) → length (ending front byte) ≡ length front + 1
 one_longer front byte = length-append front (byte ∷ [])
 
@@ -64,7 +64,7 @@ less_last front byte =
     let one = one_longer front byte in
     omega (arith, one)
 
--- the byte at the end, and the one behind that
+-- the byte at the end, and the one after that
 at_last : (front back : Text) (byte : ℕ) → get_or (ending front byte ++ back) (length front) 0 ≡ byte
 at_last front back byte =
     ap (λ (xs : Text). get_or xs (length front) 0) (append_assoc front (byte ∷ []) back)
@@ -82,7 +82,7 @@ past_last front back =
     at_first [] = ap (λ i. get_or [] i 0 == 32) (none (length front))
     at_first (byte ∷ text) = ap (λ i. get_or (byte ∷ text) i 0 == 32) (none (length front))
 
--- separators behind a byte that is none are all at the end
+-- separators after a byte that is none are all at the end
 suffix_behind : (front back : Text) (byte : ℕ) → is_separator byte ≡ false → AreSeparators back
     → suffix_len is_separator (ending front byte ++ back) ≡ length (ending front byte ++ back) - (length front + 1)
 suffix_behind front back byte h all =
@@ -123,7 +123,7 @@ test_is front back byte =
     ∙ ap (λ n. n == 92) (at_last front back byte))
     ∙ ap (λ a. byte == 92 && a) (past_last (ending front byte) back)
 
--- the place is the end of a text, where separators behind it aren't quoted
+-- the place is the end of a text, where separators after it aren't quoted
 abbrev EndsThere : Text → Text → Type 0
 EndsThere text behind = end_place (text ++ behind) ≡ length text
 

@@ -47,7 +47,7 @@ all_tail P x xs h = λ k d within. h (suc k) d (omega (arith, within))
 abbrev pub AreSeparators : Text → Type 0
 AreSeparators text = list_all is_separator text ≡ true
 
--- a backslash at a text's end quotes no space at the begin of the text behind it
+-- a backslash at a text's end quotes no space at the begin of the text after it
 abbrev pub QuotesNone : Bool → Text → Text → Type 0
 QuotesNone before text behind = (ends_in_backslash before text && begins_with_space behind) ≡ false
 

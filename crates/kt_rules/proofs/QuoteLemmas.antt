@@ -13,7 +13,7 @@ use Rattle.kt_rules.proofs.PartLemmas.{right_false, and_left, and_right, both_tr
 holds_less : (byte : ℕ) (text : Text) → HoldsNoQuote (byte ∷ text) → HoldsNoQuote text
 holds_less byte text h = λ front back other e. h (byte ∷ front) back other (ap (λ (xs : Text). byte ∷ xs) e)
 
--- its first byte quotes none, whatever stands behind the text
+-- its first byte quotes none, whatever stands after the text
 first_stays : (byte : ℕ) (text rest : Text) → HoldsNoQuote (byte ∷ text) → begins_quotable rest ≡ false
     → (byte == 92 && begins_quotable (text ++ rest)) ≡ false
 first_stays byte [] rest h r = rw r (right_false (byte == 92))
@@ -68,7 +68,7 @@ pieces_stay first (piece ∷ pieces) q h =
     (one_quoted piece (flat_map quoted_text pieces) begins
     ∙ pieces_stay piece pieces others (all_tail HoldsNoQuote first (piece ∷ pieces) h))
 
--- a text as pieces behind backslashes
+-- a text as pieces after backslashes
 record InPieces (text : Text) : Type 0 where
   first : Text
   pieces : List Text

@@ -90,7 +90,7 @@ in_spots_from rule place number [] name = tt
 in_spots_from rule place number (target ∷ targets) name =
     in_append place _ _ (in_target_spots rule target place number name) (in_spots_from rule place (number + 1) targets name)
 
--- one target's spots, and then those of the targets behind it
+-- one target's spots, and then those of the targets after it
 pub spots_step : (rule : Rule) (place number : ℕ) (targets : List Target) (name : Text) (d : Target) → number < length targets
     → spots_from rule place number (drop number targets) name
     ≡ target_spots rule (get_or targets number d) (spot_at place number) name ++ spots_from rule place (number + 1) (drop (number + 1) targets) name
@@ -104,7 +104,7 @@ spots_end rule place number name = refl
 cons_nil : (target : Target) (rest : List Target) → (target ∷ rest) ≡ [] → ⊥
 cons_nil target rest h = cc
 
--- the target of a number, and those behind it
+-- the target of a number, and those after it
 pub first_target : (targets : List Target) (number : ℕ) (target : Target) (rest : List Target) → target ∷ rest ≡ drop number targets
     → (slice_get targets number ≡ Some target) × (rest ≡ drop (number + 1) targets)
 first_target [] zero target rest h = absurd (cons_nil target rest h)

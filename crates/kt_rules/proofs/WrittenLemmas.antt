@@ -9,7 +9,7 @@ use Rattle.kt_rules.specs.declared.cutting.Cut.{Cut}
 use Rattle.kt_rules.specs.declared.cutting.Cut.TheVariants.{Separator}
 use Rattle.kt_rules.specs.Names.{cuts, cut_place, pieces_of, written_words}
 
--- the pieces behind the first
+-- the pieces after the first
 pieces_behind : Cut → Bool → Text → List Text
 pieces_behind cut behind_backslash [] = []
 pieces_behind cut behind_backslash (byte ∷ text) =
@@ -35,7 +35,7 @@ written_words-skip : (byte : ℕ) (text : Text) → is_separator byte ≡ true �
 unfolding pieces_of written_words
 written_words-skip byte text h = rw h refl
 
--- the pieces behind the first that have a byte are the words of the text from the first cut on
+-- the pieces after the first that have a byte are the words of the text from the first cut on
 behind_first : (behind : Bool) (text : Text)
     → filter is_nonempty (pieces_behind Separator behind text) ≡ written_words (drop (cut_place Separator behind text) text)
 unfolding pieces_of cut_place pieces_behind written_words

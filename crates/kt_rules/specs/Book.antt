@@ -143,7 +143,7 @@ beside_group_in rules rule = find (λ target. list_any (is_beside_group rule) (r
 abbrev pub two_recipes_in : List Rule → Rule → Option Target
 two_recipes_in rules rule = if is_some rule.recipe then beside_group_in rules rule else None
 
--- what is refused of a rule behind others: first a group without a recipe
+-- what is refused of a rule after others: first a group without a recipe
 unfoldable pub refusal_of : List Rule → Rule → Option Refusal
 refusal_of rules rule =
     if is_group rule.kind && is_none rule.recipe then Some bad_group
@@ -182,7 +182,7 @@ override_message place target = place_text place ++ (codes ": warning: overridin
 abbrev pub override_messages : List Rule → Rule → List Text
 override_messages rules rule = map (override_message rule.place) (overridden_targets rules rule)
 
--- what `add` answers: the messages, or the fault
+-- what `add` returns: the messages, or the fault
 abbrev pub added : List Rule → Rule → Option Refusal → Result (List Text) Fault
 added rules rule None = Ok (override_messages rules rule)
 added rules rule (Some refusal) = Err (fault_at rule.place refusal)

@@ -1,5 +1,5 @@
 -- What the cuts of a rule line find, as facts about the parts of a text (POSIX.1-2024 make, "Target Rules"). That a
--- backslash quotes only the byte directly behind it is kati's own.
+-- backslash quotes only the byte directly after it is kati's own.
 use Rattle.std.specs.Prelude.{◌≡◌, ℕ, Bool, true, false, ◌==◌, ◌&&◌, List, [], ◌∷◌, ◌++◌, flat_map, Option, Some, None}
 use Rattle.std.specs.List.{list_all}
 use Rattle.kt_text.specs.Words.{Text}
@@ -33,7 +33,7 @@ CutsAtFirstColon = (text : Text) → FindsColon false text (colon_cut text)
 abbrev pub is_slash : ℕ → Bool
 is_slash byte = byte == 47
 
--- a leading `./` with the slashes behind it
+-- a leading `./` with the slashes after it
 abbrev pub dot_slash : Text → Text
 dot_slash slashes = 46 ∷ 47 ∷ slashes
 
@@ -49,7 +49,7 @@ abbrev pub is_some_text : List Text → Bool
 is_some_text [] = false
 is_some_text (text ∷ texts) = true
 
--- a name is each leading `./` with all slashes behind it, and then what is left
+-- a name is each leading `./` with all slashes after it, and then what is left
 pub record IsLeft (name left : Text) : Type 0 where
   pub slashes : List Text
   pub parts : name ≡ flat_map dot_slash slashes ++ left
@@ -57,6 +57,6 @@ pub record IsLeft (name left : Text) : Type 0 where
   pub no_dot_slash : begins_with_dot_slash left ≡ false
   pub no_slash : (is_some_text slashes && begins_with_slash left) ≡ false
 
--- leading `./` go with all slashes behind them, and nothing else
+-- leading `./` go with all slashes after them, and nothing else
 abbrev pub DropsDots : Type 0
 DropsDots = (name : Text) → IsLeft name (after_dots false name)

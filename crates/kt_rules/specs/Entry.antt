@@ -47,7 +47,7 @@ line_added (Some lines) line = lines ++ line ∷ []
 abbrev pub with_line : Rule → RecipeLine → Rule
 with_line rule line = record rule { recipe = Some (line_added rule.recipe line) }
 
--- how a line makes its targets, by what stands behind them and whether one has a percent sign
+-- how a line makes its targets, by what stands after them and whether one has a percent sign
 abbrev pub kind_of : Separator → Bool → Kind
 kind_of Single false = SingleColon
 kind_of Single true = Pattern
@@ -89,7 +89,7 @@ abbrev pub shared_needs : Option Text → Needs → Needs
 shared_needs None needs = needs
 shared_needs (Some pattern) needs = no_needs
 
--- the recipe that a rule line has itself: the text behind its semicolon
+-- the recipe that a rule line has itself: the text after its semicolon
 abbrev pub recipe_of : Option Text → Place → Option (List RecipeLine)
 recipe_of recipe place = option_map (λ text. record { text = text; place = place } ∷ []) recipe
 
@@ -139,6 +139,6 @@ abbrev pub rules_with : Result Line Refusal → Option Text → Place → Result
 rules_with (Ok line) recipe place = Ok (rule_with line recipe place)
 rules_with (Err refusal) recipe place = Err refusal
 
--- the rule of an expanded head, with the recipe behind its semicolon, if there is one, or its fault
+-- the rule of an expanded head, with the recipe after its semicolon, if there is one, or its fault
 unfoldable pub rule_of : Text → Option Text → Place → Result Rule Fault
 rule_of text recipe place = faults_at place (rules_with (read_line text) recipe place)

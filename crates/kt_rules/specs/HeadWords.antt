@@ -1,5 +1,5 @@
 -- How the head of a rule line is cut into words, trimmed and unquoted, as facts about the parts of a text (POSIX.1-2024
--- make, "Target Rules": names separated by blanks). That a backslash quotes only a space or colon directly behind it is
+-- make, "Target Rules": names separated by blanks). That a backslash quotes only a space or colon directly after it is
 -- kati's own.
 use Rattle.std.specs.Prelude.{◌≡◌, ℕ, Bool, true, false, not, ◌-◌, ◌==◌, ◌&&◌, List, [], ◌∷◌, ◌++◌, length, take, map}
 use Rattle.std.specs.Prelude.{flat_map, All}
@@ -21,12 +21,12 @@ abbrev pub begins_with_space : Text → Bool
 begins_with_space [] = false
 begins_with_space (byte ∷ text) = byte == 32
 
--- separators alone, which stand behind a text: a backslash at its end quotes none of them
+-- separators alone, which stand after a text: a backslash at its end quotes none of them
 pub record IsGap (text gap : Text) : Type 0 where
   pub separators : list_all is_separator gap ≡ true
   pub unquoted : (ends_in_backslash false text && begins_with_space gap) ≡ false
 
--- a word with the separators behind it
+-- a word with the separators after it
 pub record Part : Type 0 where
   pub word : Text
   pub gap : Text
@@ -37,7 +37,7 @@ part_text part = part.word ++ part.gap
 abbrev pub part_word : Part → Text
 part_word part = part.word
 
--- a word has a byte and none that separates; behind it stand separators
+-- a word has a byte and none that separates; after it stand separators
 pub record IsPart (part : Part) : Type 0 where
   pub some : is_nonempty part.word ≡ true
   pub whole : HoldsNoSeparator false part.word
@@ -46,11 +46,11 @@ pub record IsPart (part : Part) : Type 0 where
 abbrev pub HasGap : Part → Type 0
 HasGap part = is_nonempty part.gap ≡ true
 
--- between two parts there are separators: only behind the last there may be none
+-- between two parts there are separators: only after the last there may be none
 abbrev pub AreApart : List Part → Type 0
 AreApart parts = All HasGap (take (length parts - 1) parts)
 
--- a text is separators and its words, each with the separators behind it
+-- a text is separators and its words, each with the separators after it
 pub record AreWords (text : Text) (words : List Text) : Type 0 where
   pub leading : Text
   pub parts : List Part
@@ -101,7 +101,7 @@ abbrev pub piece_text : Text → Text
 piece_text piece = piece
 
 -- a text is pieces with a backslash before each but the first, and another the same pieces without them: these
--- backslashes quote the byte directly behind them, and no other does
+-- backslashes quote the byte directly after them, and no other does
 pub record IsUnquoted (text left : Text) : Type 0 where
   pub first : Text
   pub pieces : List Text

@@ -59,7 +59,7 @@ unfoldable pub unquoted : Text → Text
 unquoted [] = []
 unquoted (byte ∷ text) = if byte == 92 && begins_quotable text then unquoted text else byte ∷ unquoted text
 
--- without each leading `./` and the slashes behind it, again and again; slashes before the first may be dropped, too
+-- without each leading `./` and the slashes after it, again and again; slashes before the first may be dropped, too
 unfoldable pub after_dots : Bool → Text → Text
 after_dots drops_slashes [] = []
 after_dots drops_slashes (byte ∷ []) = if drops_slashes && byte == 47 then [] else byte ∷ []
@@ -81,7 +81,7 @@ name_of word = without_dots (unquoted word)
 abbrev pub is_among : List Text → Text → Bool
 is_among names name = list_any (pointwise nat_eq name) names
 
--- a name behind others, if it isn't among them
+-- a name after others, if it isn't among them
 abbrev pub with_name : List Text → Text → List Text
 with_name names name = if is_among names name then names else names ++ name ∷ []
 

@@ -80,7 +80,7 @@ has_pattern set rule = list_any (has_repeated rule) set.keys.keys
 abbrev pub stays_before : PatternSet → Rule → Bool
 stays_before behind rule = is_some rule.recipe && not (has_pattern behind rule)
 
--- the rules behind those that are left: those that stay stand in turn, and the set has them all
+-- the rules after those that are left: those that stay stand in turn, and the set has them all
 pub record IsSorted (all left kept : List Rule) (set : PatternSet) : Type 0 where
   pub behind : List Rule
   pub whole : left ++ behind ≡ all

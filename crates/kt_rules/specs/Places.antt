@@ -6,6 +6,6 @@ use Rattle.kt_rules.specs.declared.place.Place.{Place}
 abbrev pub place_text : Place → List ℕ
 place_text p = p.file ++ (codes ":" ++ decimal p.line)
 
--- a text has got a beginning of a place's text
+-- a text has got a prefix of a place's text
 abbrev pub IsBegun : Place → List ℕ → List ℕ → Type 0
 IsBegun place old new = (more : List ℕ) × (rest : List ℕ) × (new ≡ old ++ more) × (more ++ rest ≡ place_text place)

@@ -62,12 +62,12 @@ abbrev pub faults_at : {A : Type 0} → Place → Result A Refusal → Result A 
 faults_at place (Ok value) = Ok value
 faults_at place (Err refusal) = Err (fault_at place refusal)
 
--- the call answers just this fault; that memory was refused is always excused
+-- the call returns just this fault; that memory was refused is always excused
 abbrev pub Tells : RuleFault → Fault → Type 0
 Tells Memory fault = Unit {0}
 Tells (Refused number place words) fault = record { number = number; place = place; words = words } ≡ fault
 
--- the call answers what is expected: the value, or just the fault
+-- the call returns what is expected: the value, or just the fault
 abbrev pub Answers : {A : Type 0} → Result A RuleFault → Result A Fault → Type 0
 Answers (Ok value) expected = expected ≡ Ok value
 Answers (Err Memory) expected = Unit {0}

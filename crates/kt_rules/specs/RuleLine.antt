@@ -56,7 +56,7 @@ with_pattern separator targets part needs None = Err (bad_static_pattern (withou
 with_pattern separator targets part needs (Some word) =
     Ok (record { separator = separator; targets = targets; pattern = Some word; needs = needs })
 
--- what stands behind the separator: one more unquoted colon divides off a static pattern
+-- what stands after the separator: one more unquoted colon divides off a static pattern
 abbrev pub head_behind : Separator → Text → Text → Option (Text × Text) → Result Head Refusal
 head_behind separator targets needs None = Ok (record {
   separator = separator;
@@ -78,7 +78,7 @@ group_head targets rest =
 unfoldable pub group_targets : Text → Option Text
 group_targets before = if ends_with nat_eq before (38 ∷ []) then Some (take (length before - 1) before) else None
 
--- what stands behind a double colon, of which the second follows the first directly
+-- what stands after a double colon, of which the second follows the first directly
 unfoldable pub behind_double : Text → Option Text
 behind_double after = if starts_with nat_eq after (58 ∷ []) then Some (drop 1 after) else None
 
@@ -102,7 +102,7 @@ head_cut (Some cut) = head_round cut.0 cut.1
 unfoldable pub head_of : Text → Result Head Refusal
 head_of text = head_cut (colon_cut text)
 
--- the word behind which prerequisites are order-only (GNU make manual, "Types of Prerequisites")
+-- the word after which prerequisites are order-only (GNU make manual, "Types of Prerequisites")
 unfoldable pub is_bar : Text → Bool
 is_bar word = pointwise nat_eq word (124 ∷ [])
 

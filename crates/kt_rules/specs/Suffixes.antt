@@ -26,7 +26,7 @@ special_needs special rule =
 unfoldable pub start_suffixes : List Text
 start_suffixes = words_of (codes ".o .c .cc .cpp .s .S .y .l .h .sh .a .f")
 
--- the suffixes with the names of a `.SUFFIXES` behind them, as far as they aren't there; without names there are none
+-- the suffixes with the names of a `.SUFFIXES` after them, as far as they aren't there; without names there are none
 abbrev pub suffixes_with : List Text → List Text → List Text
 suffixes_with suffixes [] = []
 suffixes_with suffixes (name ∷ names) = fold with_name suffixes (name ∷ names)

@@ -51,7 +51,7 @@ pub type Warnings = Sequence<Sequence<u8>>;
 #[derive(Drop)]
 pub struct Book {
     alloc: Global,
-    // A slot stays empty where its entry couldn't be noted for want of memory.
+    // A slot stays empty where its entry couldn't be noted where memory was refused.
     slots: Vec<Option<Entry>>,
     // The targets that are made by their names, and those of them whose rule has a recipe.
     targets: Index<Spot>,

@@ -30,7 +30,7 @@ pub enum Kind {
 #[derive(Debug, Drop)]
 pub struct Needs {
     pub prerequisites: Sequence<Name>,
-    /// What stands behind `|` (GNU make manual, "Types of Prerequisites").
+    /// What stands after `|` (GNU make manual, "Types of Prerequisites").
     pub order_only: Sequence<Name>,
 }
 

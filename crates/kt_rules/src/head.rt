@@ -65,7 +65,7 @@ fn group_targets(before: &[u8]) -> Option<&[u8]>
     }
 }
 
-// What stands behind the second colon of two.
+// What stands after the second colon of two.
 #[tactic(auto, unfolding(crate::specs::RuleLine::behind_double))]
 fn behind_double(after: &[u8]) -> Option<&[u8]>
     ensures { option_map (λ rest. rest.now) result ≡ behind_double after.now }
@@ -92,7 +92,7 @@ fn group_head<'a>(targets: &'a [u8], rest: &'a [u8]) -> Result<Head<'a>, Refusal
     })
 }
 
-// By what stands behind the separator: one more colon divides off a static pattern.
+// By what stands after the separator: one more colon divides off a static pattern.
 fn head_behind<'a>(
     separator: Separator,
     targets: &'a [u8],

@@ -45,7 +45,7 @@ pub fn first_colon()
     ensures { CutsAtFirstColon }
 {}
 
-/// Each leading `./` of a name goes with all slashes behind it, and nothing else.
+/// Each leading `./` of a name goes with all slashes after it, and nothing else.
 pub fn leading_dots()
     ensures { DropsDots }
 {}

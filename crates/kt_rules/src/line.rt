@@ -110,7 +110,7 @@ fn pattern(alloc: Global, word: Option<&[u8]>) -> Result<Option<Name>, AllocErro
     }
 }
 
-// The names of prerequisites, those behind the first word `|` order-only.
+// The names of prerequisites, those after the first word `|` order-only.
 #[tactic(auto, using(crate::proofs::NeedsLemmas::needs_from_start), unfolding(crate::proofs::NeedsLemmas::needs_from))]
 fn needs(alloc: Global, text: &[u8]) -> Result<Needs, AllocError>
     ensures { IfOk result (λ needs. needs ≡ needs_of (written_words text.now)) }

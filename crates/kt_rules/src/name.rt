@@ -10,7 +10,7 @@ use std::alloc::{AllocError, Global};
 
 /// The name without its leading `./`.
 ///
-/// Slashes behind a `./` go with it, and this again and again. A name of which nothing is left is
+/// Slashes after a `./` go with it, and this again and again. A name of which nothing is left is
 /// `./`. Takes no memory.
 #[tactic(auto, unfolding(crate::specs::Names::without_dots))]
 pub fn without_dots(name: &[u8]) -> &[u8]
@@ -35,7 +35,7 @@ fn after_dots(name: &[u8]) -> &[u8]
     left
 }
 
-// What stands behind one leading `./` and the slashes after it.
+// What stands after one leading `./` and the slashes after it.
 fn past_dot(name: &[u8]) -> Option<&[u8]>
     ensures { MatchOption result (after_dots false name.now ≡ name.now)
         (λ rest. (after_dots false name.now ≡ after_dots false rest.now) × (length rest.now < length name.now)) }

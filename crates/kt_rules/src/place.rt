@@ -27,7 +27,7 @@ impl Place {
         })
     }
 
-    /// Appends `FILE:LINE`. Where memory is refused, the text holds a beginning of it more.
+    /// Appends `FILE:LINE`. Where memory is refused, the text holds a prefix of it more.
     pub fn append_to(&self, text: &mut Vec<u8>) -> Result<(), AllocError>
         ensures appended { OnOk result (text.new.items ≡ text.old.items ++ place_text self.now) }
         ensures refused { OnErr result (IsBegun self.now text.old.items text.new.items) }

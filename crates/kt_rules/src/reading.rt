@@ -18,7 +18,7 @@ use std::alloc::{AllocError, Global};
 
 /// The entry of a rule line.
 ///
-/// `text` is the expanded head and `recipe` the unexpanded text behind the first `;`, if there is
+/// `text` is the expanded head and `recipe` the unexpanded text after the first `;`, if there is
 /// one. A line without targets is an entry without targets. POSIX.1-2024 make, "Target Rules"; GNU
 /// make manual, "Rule Syntax".
 ///
@@ -93,7 +93,7 @@ fn kind_of(separator: Separator, has_percent: bool) -> Kind
     }
 }
 
-// The recipe that begins behind the semicolon of the rule line.
+// The recipe that begins after the semicolon of the rule line.
 fn recipe_of(
     alloc: Global,
     recipe: Option<Sequence<u8>>,

@@ -1,4 +1,4 @@
-//! What books answer, as texts: their rules are a line each, the head, and a recipe behind the first `;`.
+//! What books answer, as texts: their rules are a line each, the head, and a recipe after the first `;`.
 use crate::telling::{put, put_fault, put_needs, put_place, read};
 use kt_rules::{Book, Entry, Explicit, Pattern, RuleFault, TargetRule, Warnings};
 use memchr::memchr;
@@ -24,7 +24,7 @@ pub(crate) fn add(
     book.add(entry)
 }
 
-/// Adds the entries of lines, and tells what `add` answers.
+/// Adds the entries of lines, and tells what `add` returns.
 pub(crate) fn add_lines(alloc: Global, book: &mut Book, text: &[u8], told: &mut Vec<u8>) {
     let mut number = 0u64;
     for line in text.split(|byte| *byte == b'\n') {
@@ -56,7 +56,7 @@ fn put_explicit(told: &mut Vec<u8>, rules: Explicit) {
     }
 }
 
-/// All entries with their targets, a star behind each that is explicit.
+/// All entries with their targets, a star after each that is explicit.
 fn put_entries(told: &mut Vec<u8>, book: &Book) {
     for entry in book.entries() {
         put_place(told, entry.place());

@@ -13,7 +13,7 @@ pub(crate) fn put_place(told: &mut Vec<u8>, place: &Place) {
     put(told, b" ");
 }
 
-/// Names, a comma behind each.
+/// Names, a comma after each.
 pub(crate) fn put_names(told: &mut Vec<u8>, names: &[Name]) {
     for name in names {
         put(told, name.as_slice());
@@ -21,7 +21,7 @@ pub(crate) fn put_names(told: &mut Vec<u8>, names: &[Name]) {
     }
 }
 
-/// Prerequisites, and behind a bar the order-only ones.
+/// Prerequisites, and after a bar the order-only ones.
 pub(crate) fn put_needs(told: &mut Vec<u8>, needs: &Needs) {
     put_names(told, needs.prerequisites.as_slice());
     put(told, b"|");

@@ -169,7 +169,7 @@ record Reference (line : Text) (place : ℕ) (piece : Piece) (spelled rest : Tex
   fresh : Fresh line place
   begins : get_or line place 0 ≡ 36
 
--- a continuation behind it that began inside it
+-- a continuation after it that began inside it
 overlaps : (line : Text) (place : ℕ) (piece : Piece) (spelled rest : Text) → Reference line place piece spelled rest → (c : IsContinued line (place + length spelled))
     → place < c.start → c.start < place + length spelled → ⊥
 overlaps line place (literal []) spelled rest r c l m =

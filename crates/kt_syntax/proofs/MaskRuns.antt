@@ -97,7 +97,7 @@ at_start line place c =
     let u = unit (drop c.start line) c.unit in
     sym (ap (λ n. get_or line n 0) (add-zero c.start)) ∙ sym (get_or-drop c.start line 0 0) ∙ u.first
 
--- a place behind the first byte
+-- a place after the first byte
 pub behind_start : (line : Text) (place at : ℕ) → (c : IsContinued line place) → c.start < at → at < c.start + unit_length kept (drop c.start line)
     → (get_or line at 0 ≡ 10) ⊎ (get_or line at 0 ≡ 13)
 behind_start line place at c l m =
@@ -115,7 +115,7 @@ continued_within line place c =
     let d = length-drop c.start line in
     omega arith
 
--- a place behind the first byte is no backslash
+-- a place after the first byte is no backslash
 not_start : (line : Text) (place at : ℕ) → (c : IsContinued line place) → c.start < at → at < c.start + unit_length kept (drop c.start line) → get_or line at 0 ≡ 92 → ⊥
 not_start line place at c l m e =
     ⊎_elim (λ g. let never : 92 ≡ 10 = sym e ∙ g in omega arith) (λ g. let never : 92 ≡ 13 = sym e ∙ g in omega arith) (behind_start line place at c l m)
@@ -136,7 +136,7 @@ pub fresh_next : (line : Text) (place : ℕ) → ¬ IsContinued line place → F
 fresh_next line place none c =
     ⊎_elim (λ h. absurd (none (earlier line (place + 1) place c h (omega arith)))) (λ h. omega arith) (at_most_or_less c.start place)
 
--- behind a continuation
+-- after a continuation
 pub fresh_behind : (line : Text) (place : ℕ) → Fresh line place → (c : IsContinued line place) → Fresh line (place + unit_length kept (drop place line))
 fresh_behind line place fresh c d =
     let size = unit_length kept (drop place line) in

@@ -72,7 +72,7 @@ length-between text from end order within =
 pub whole_mask : (text : Text) (end : ℕ) → end ≡ length text → take end (mask_of text) ≡ mask_of text
 whole_mask text end e = take_all end (mask_of text) (let l = length-mask_of text in omega arith)
 
--- behind the last symbol no blank stands
+-- after the last symbol no blank stands
 pub no_blanks_left : (text : Text) (from end : ℕ) → from ≡ end → end ≤ length text → end ≡ past_blanks from (take end (mask_of text))
 no_blanks_left text from end e within =
     let size = length-between text from end (omega arith) within in

@@ -58,7 +58,7 @@ drop_take (suc count) (suc most) [] = sym (take_nil (suc most - suc count))
 drop_take (suc count) (suc most) (x ∷ xs) =
     drop_take count most xs ∙ ap (λ n. take n (drop count xs)) (let same : most - count ≡ suc most - suc count = omega arith in same)
 
--- the symbols of a line behind so many of its own bytes
+-- the symbols of a line after so many of its own bytes
 pub behind_own : (text : Text) (most end size : ℕ) → size ≡ position_or_len is_mark (take most text) → size ≤ length text
     → take (end - size) (mask_of (drop size text)) ≡ drop size (take end (mask_of text))
 unfolding mask_of

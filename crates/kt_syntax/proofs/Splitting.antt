@@ -55,7 +55,7 @@ from_literal continuations byte bytes rest free ends =
     let size = run_length bytes rest n.1 ends in
     terms_first continuations byte (bytes ++ rest) rest (literal (byte ∷ bytes)) (literal_first continuations byte bytes rest n.0 size) (literal_after continuations byte bytes rest n.0 size)
 
--- behind a dollar
+-- after a dollar
 terms_behind : (continuations : Continuations) (text rest : Text) (piece : Piece) (n : ℕ) → behind_dollar continuations text ≡ (piece, n) → drop n text ≡ rest → terms_after continuations 0 (36 ∷ text) ≡ piece ∷ terms_after continuations 0 rest
 unfolding first_term
 terms_behind continuations text rest piece n e d =

@@ -11,7 +11,7 @@ use Rattle.kt_syntax.specs.Steps.{ahead_of, places_after, step_of, steps_from}
 use Rattle.kt_syntax.specs.Reading.{after_branches, append, left_at, left_of}
 use Rattle.kt_syntax.proofs.Sound.{levels_at}
 
--- behind the open conditionals the text itself is left, which has no branches and nothing round it
+-- after the open conditionals the text itself is left, which has no branches and nothing round it
 abbrev IsRooted : List OpenConditional → List Level → Type 0
 IsRooted [] levels = ((innermost levels).others ≡ no_branch) × (outer levels ≡ [])
 IsRooted (open_one ∷ others) levels = IsRooted others (outer levels)

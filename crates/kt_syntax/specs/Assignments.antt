@@ -25,7 +25,7 @@ pub record AreBlanks (mask : List ℕ) (begin end : ℕ) : Type 0 where
   pub blank : (k : ℕ) → begin ≤ k → k < end → is_blank (slice_index mask k) ≡ true
   pub ends : is_blank (slice_index mask end) ≡ false
 
--- from a place on: a name, then blanks, then an operator; the value begins behind the blanks after that
+-- from a place on: a name, then blanks, then an operator; the value begins after the blanks after that
 pub record IsAssignment (text : Text) (mask : List ℕ) (begin : ℕ) (parts : Parts) : Type 0 where
   pub place : ℕ
   pub size : ℕ

@@ -20,7 +20,7 @@ uncommented run (symbol ∷ mask) (byte ∷ text) =
     else backslashes run ++ byte ∷ uncommented 0 mask text)
 
 -- a text without continuations and without its comment. Its mask takes a backslash, carriage return and newline for a
--- continuation, which makes no difference here: no number sign stands directly behind any of them
+-- continuation, which makes no difference here: no number sign stands directly after any of them
 unfoldable pub uncommented_of : Text → Text
 uncommented_of text = uncommented 0 (mask_of text) text
 

@@ -76,7 +76,7 @@ is_target_specific text mask = assigns_after text mask (colon_place 0 0 mask)
 unfoldable pub head_text : Text → Text
 head_text text = if head_end text == comment_place text then text else take (head_end text) text
 
--- the recipe behind the first semicolon, without the blanks at its begin
+-- the recipe after the first semicolon, without the blanks at its begin
 unfoldable pub first_recipe : Text → Option Text
 first_recipe line = if head_end line == comment_place line then None
     else Some (drop (past_blanks (head_end line + 1) (mask_of line)) line)

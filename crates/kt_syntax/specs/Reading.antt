@@ -61,7 +61,7 @@ ReadsOn steps place (step.Branch condition next after) = left_at steps place ≡
 ReadsOn steps place step.Endif = left_at steps place ≡ left_at steps (place + 1)
 ReadsOn steps place (step.Stray kind) = (rest : Items) × (left_at steps place ≡ fault kind place rest)
 
--- a step names later places alone, and none behind the end of the text
+-- a step names later places alone, and none after the end of the text
 abbrev pub IsAhead : (place end : ℕ) → Step → Type 0
 IsAhead place end (step.Define body_end) = (place < body_end) × (body_end ≤ end)
 IsAhead place end (step.Conditional next after) = (place < next) × (next ≤ after) × (after ≤ end)

@@ -118,7 +118,7 @@ single continuations text = (
   unit_length continuations text,
 )
 
--- the term behind a dollar, and how many bytes it takes there
+-- the term after a dollar, and how many bytes it takes there
 unfoldable pub behind_dollar : Continuations → Text → Piece × ℕ
 behind_dollar continuations [] = (literal [], 0)
 behind_dollar continuations (byte ∷ text) =

@@ -37,7 +37,7 @@ impl Blocks {
         Blocks { steps, missing }
     }
 
-    /// The step of a line, counted from 0; none behind the last one.
+    /// The step of a line, counted from 0; none after the last one.
     pub fn get(&self, line: usize) -> Option<Step>
         ensures value { result ≡ slice_get self.now.steps line }
         ensures reads { IfSome result (ReadsOn self.now.steps line) }

@@ -138,7 +138,7 @@ fn more_masked(odd: bool, byte: u8, text: &[u8]) -> usize
     }
 }
 
-// How many bytes the term behind a dollar takes: a continuation counts as one byte there.
+// How many bytes the term after a dollar takes: a continuation counts as one byte there.
 #[inline(never)]
 fn behind_mark(text: &[u8]) -> usize
     ensures value { result ≡ (behind_dollar kept text.now).1 }

@@ -43,7 +43,7 @@ fn literal_length(text: &[u8]) -> usize
     memchr(b'$', text).unwrap_or(text.len())
 }
 
-// The term behind a dollar, and how many bytes it takes there.
+// The term after a dollar, and how many bytes it takes there.
 #[tactic(auto, unfolding(crate::specs::Terms::behind_dollar))]
 pub(crate) fn behind_dollar(text: &[u8]) -> (Result<Term<'_>, Unterminated>, usize)
     ensures term { piece_of result.0 ≡ (behind_dollar dropped text.now).0 }

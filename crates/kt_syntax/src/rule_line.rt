@@ -63,7 +63,7 @@ fn head_text(text: &[u8], comment: usize, end: usize) -> &[u8]
     &text[..end]
 }
 
-// The recipe behind the first semicolon of a line.
+// The recipe after the first semicolon of a line.
 #[tactic(auto, unfolding(crate::specs::Heads::first_recipe))]
 fn first_recipe(line: &[u8]) -> Option<&[u8]>
     ensures { option_map (λ recipe. recipe.now) result ≡ first_recipe line.now }

@@ -111,7 +111,7 @@ condensed_more continued continues line after whole out left on last cut before 
     append_assoc out (condensed_line continued continues line) (left_text continues (groups (pieces_of after)))
     ∙ ap (λ t. out ++ t) (rw on (sym (left_text-step continued line after last)) ∙ ap (λ found. left_text continued (groups found)) (sym cut)) ∙ before
 
--- and its end: the piece behind the last newline
+-- and its end: the piece after the last newline
 pub condensed_end : (continued : Bool) (rest whole out : Text) → length rest ≡ 0 → out ++ left_text continued (groups (pieces_of rest)) ≡ whole → out ++ condensed_line continued false [] ≡ whole
 unfolding groups pieces_of left_text is_continued condensed_group condensed_rest
 condensed_end true [] whole out none before = ap (λ t. out ++ t) (sym (append-nil _)) ∙ before

@@ -5,7 +5,7 @@ use Rattle.std.proofs.lemmas.List.{drop_all, take_all}
 use Rattle.kt_text.specs.Words.{Text, is_nonempty, list_text, put_word}
 use Rattle.kt_text.specs.Functions.{word_at, joined_pairs}
 
--- the words of a list behind a list of words as a text
+-- the words of a list after a list of words as a text
 abbrev pub put_words : Text → List Text → Text
 put_words list [] = list
 put_words list (word ∷ later) = put_words (put_word list word) later

@@ -1,4 +1,4 @@
--- The logical lines of a text stand in it one behind the other.
+-- The logical lines of a text stand in it one after the other.
 use Rattle.std.proofs.Common.{◌≡◌, ◌≤◌, ◌<◌, ◌+◌, ◌-◌, ℕ, zero, suc, Bool, true, false, List, [], ◌∷◌, length, get_or, refl, sym, ap, subst, ◌∙◌, arith, take, drop, length-append}
 use Rattle.std.proofs.lemmas.Bool.Decides.{nat_tests}
 use Rattle.std.specs.List.{concat, onto_first}
@@ -70,7 +70,7 @@ kept_in_group (line ∷ []) = let k = kept_within line in let l = length-append 
 kept_in_group (line ∷ next ∷ lines) =
     let k = kept_in_group (next ∷ lines) in let l = length-append line (concat (next ∷ lines)) in omega arith
 
--- ---- one line behind the other
+-- ---- one line after the other
 
 -- lines from a place on
 AreFrom : ℕ → ℕ → List Line → Type 0

@@ -29,7 +29,7 @@ abbrev pub Refuses : Option Text → TextFault → Type 0
 Refuses expected BadArgument = expected ≡ None
 Refuses expected Memory = Unit {0}
 
--- the call answers the text that is expected, or `BadArgument` exactly where none is
+-- the call returns the text that is expected, or `BadArgument` exactly where none is
 abbrev pub Answers : Result (Vec ℕ Global) TextFault → Option Text → Type 0
 Answers result expected = MatchResult result (λ text. expected ≡ Some text.items) (Refuses expected)
 

@@ -52,7 +52,7 @@ lines_from start number (group ∷ later) =
 unfoldable pub logical_lines_of : Text → List Line
 logical_lines_of text = lines_from 0 1 (groups (lines_of text))
 
--- lines that stand in a text of this size, each behind the one before it
+-- lines that stand in a text of this size, each after the one before it
 pub record AreInOrder (size : ℕ) (lines : List Line) : Type 0 where
   pub within : All (λ line. (line.span.start ≤ line.span.end) × (line.span.end ≤ size)) lines
   pub ordered : AllAdjacentBelow (λ line next. line.span.end ≤ next.span.start) lines (length lines)
@@ -124,7 +124,7 @@ condensed_group (line ∷ next ∷ lines) = condensed_line false true line ++ co
 unfoldable pub condensed_of : Text → Text
 condensed_of text = flat_map condensed_group (groups (pieces_of text))
 
--- the fault of a text with a NUL has that line; want of memory is excused
+-- the fault of a text with a NUL has that line; being out of memory is excused
 abbrev pub NulFault : Option ℕ → LineFault → Type 0
 NulFault line (Nul number) = line ≡ Some number
 NulFault line Memory = Unit {0}

@@ -12,7 +12,7 @@ pub record IsSorting (texts sorted : List Text) : Type 0 where
   pub rises : IsStrictlySortedBy (slice_cmp nat_cmp) sorted
   pub members : (word : Text) → Contains sorted word ↔ Contains texts word
 
--- the list behind `sort` is such a one, and there is no other
+-- the list after `sort` is such a one, and there is no other
 pub record SortLaw : Type 0 where
   pub sorts : (texts : List Text) → IsSorting texts (word_set texts)
   pub only : (texts sorted : List Text) → IsSorting texts sorted → sorted ≡ word_set texts

@@ -48,7 +48,7 @@ words_of text = filter is_nonempty (slice_split is_separator text)
 unfoldable pub list_text : List Text → Text
 list_text texts = join_with_byte 32 (filter is_nonempty texts)
 
--- one more word behind a list of words as a text
+-- one more word after a list of words as a text
 abbrev pub put_word : Text → Text → Text
 put_word list [] = list
 put_word [] (byte ∷ word) = byte ∷ word

@@ -38,7 +38,7 @@ pub fn condensed(alloc: Global, text: &[u8]) -> Result<Vec<u8>, AllocError>
         continued = continues;
         rest = after;
     }
-    // Behind the last newline stands an empty line.
+    // After the last newline stands an empty line.
     add_line(&mut out, b"", continued, false)?;
     Ok(out)
 }

@@ -1,4 +1,4 @@
--- What a step answers that doesn't go on (kati's own).
+-- What a step returns that doesn't go on (kati's own).
 use Rattle.std.specs.Prelude.{◌≡◌, None}
 use Rattle.kt_graph.specs.declared.fault.GraphFault.{GraphFault}
 use Rattle.kt_graph.specs.declared.fault.GraphFault.TheVariants as graphs
@@ -7,7 +7,7 @@ use Rattle.kt_eval.specs.Step.{fault_at}
 use Rattle.kt_eval.specs.declared.stop.Stop.{Stop}
 use Rattle.kt_eval.specs.declared.stop.Stop.TheVariants as stops
 
--- this fault, or want of memory for its words
+-- this fault, or being out of memory for its words
 abbrev pub IsFaultOf : Fault → Stop → Type 0
 IsFaultOf expected (stops.Fault fault) = fault ≡ expected
 IsFaultOf expected (stops.Device name) = ⊥

@@ -16,7 +16,7 @@ use Rattle.kati.specs.Planned.{Planning, planned, at_fault}
 abbrev pub read_of : Makefile → Read
 read_of makefile = record { table = makefile.macros; book = makefile.book }
 
--- what a call answered, seen by `see`, and the messages that it left are these statements; no device is there to fail
+-- what a call returned, seen by `see`, and the messages that it left are these statements; no device is there to fail
 abbrev pub Plans : {A : Type 0} → (A → List Statement) → Result A Stop → List Text → Planning → Type 0
 Plans see (Ok x) said planning = planning ≡ planned said (see x)
 Plans see (Err (stops.Fault fault)) said planning = planning ≡ at_fault said fault

@@ -8,7 +8,7 @@ use Rattle.kt_eval.specs.Levels.{evaluator}
 -- The call does the step, with so many levels left below it; what it returned is seen by `see`.
 pub record Does {A B : Type 0} (see : A → B) (writable : Bool) (levels : ℕ) (step : Evaluator → Step B)
     (result : Result A Stop) (old new : Seen) : Type 0 where
-  -- where the bytes behind the names are known, the result and the world that it leaves are what the step gives
+  -- where the bytes of the named files are known, the result and the world that it leaves are what the step gives
   pub gives : AreKnown old.known
       → Gives see result new.world (step (evaluator writable (store_of old.known) levels) old.world)
   -- files, messages and names asked for are kept

@@ -1,4 +1,4 @@
-//! Continuations behind a dollar: a line says what its condensed text says, and values have none.
+//! Continuations after a dollar: a line says what its condensed text says, and values have none.
 use super::{tells, with_limit};
 use std::test::Fail;
 

@@ -5,7 +5,7 @@ use kt_eval::MemFiles;
 use std::alloc::{AllocError, Global};
 use std::test::Fail;
 
-/// A text between many copies of one before it and of one behind it.
+/// A text between many copies of one before it and of one after it.
 fn nested(
     alloc: Global,
     front: &[u8],

@@ -7,7 +7,7 @@ use Rattle.kt_rules.specs.Entry.{Rule}
 use Rattle.kt_rules.specs.Slots.{rule_told}
 use Rattle.kt_graph.specs.declared.building.Used.{Used}
 
--- these stand before the last rule with a recipe, and behind it
+-- these stand before the last rule with a recipe, and after it
 pub record IsCut (rules : List (Rule × Target)) (used : Used) : Type 0 where
   pub before : before_last has_recipe rules ≡ map rule_told used.earlier.now
   pub behind : after_last has_recipe rules ≡ map rule_told used.later.now

@@ -83,7 +83,7 @@ pub record StoodBefore (old new : Tried) (question : Question) (answer : Option 
   pub questions : new.questions.keys ≡ old.questions.keys
   pub answers : new.answers.items ≡ old.answers.items
 
--- it is new, and went behind the others without an answer
+-- it is new, and went after the others without an answer
 pub record StandsLast (old new : Tried) (question : Question) (place : ℕ) : Type 0 where
   pub place_behind : place ≡ length old.questions.keys
   pub absent : list_any (asked_eq (asked_told question)) (map asked_told old.questions.keys) ≡ false

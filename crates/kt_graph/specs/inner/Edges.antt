@@ -1,5 +1,5 @@
 -- Vertices and where they lead, as the code finds cycles among them (kati's own). A vertex of a name has its number;
--- behind the names stand the makings of several names.
+-- after the names stand the makings of several names.
 use Rattle.std.specs.Prelude.{◌≡◌, ◌↔◌, ℕ, suc, ◌+◌, ◌<◌, true, false, Bool, ◌⊎◌, List, [], ◌∷◌, ◌++◌, length, get_or}
 use Rattle.std.specs.Prelude.{set, take, replicate, fold, map, All, IfSome, if◌then◌else◌, Option, Some, None}
 use Rattle.std.specs.Prelude.{slice_get}
@@ -144,7 +144,7 @@ pub record IsKept (arrivals : Edges) (held : List Bool) (passed : List ℕ) : Ty
 
 -- ---- what a vertex leads to
 
--- a vertex behind the others of the work, if it is taken
+-- a vertex after the others of the work, if it is taken
 abbrev pub work_with : Bool → List ℕ → ℕ → List ℕ
 work_with taken work vertex = if taken then work ++ vertex ∷ [] else work
 

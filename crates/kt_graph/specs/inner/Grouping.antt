@@ -12,7 +12,7 @@ use Rattle.kt_graph.specs.Node.{Instance, Node}
 use Rattle.kt_graph.specs.Views.{instance_at, name_at, nodes_told}
 use Rattle.kt_graph.specs.inner.Whole.{AreApart}
 
--- the groups of nodes behind others: a node that stands with none before it begins one, of all later nodes that stand
+-- the groups of nodes after others: a node that stands with none before it begins one, of all later nodes that stand
 -- with it
 unfoldable pub groups_behind : List Node → List Node → List (List Node)
 groups_behind earlier [] = []
@@ -40,7 +40,7 @@ abbrev pub places_with : List (Option ℕ) → Option ℕ → ℕ → List (Opti
 places_with places None place = places
 places_with places (Some making) place = set places making (Some place)
 
--- a node behind those of the group at a place
+-- a node after those of the group at a place
 abbrev pub with_member : List (List Node) → ℕ → Node → List (List Node)
 with_member groups place node = set groups place (get_or groups place [] ++ node ∷ [])
 

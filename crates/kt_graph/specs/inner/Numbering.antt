@@ -13,7 +13,7 @@ use Rattle.kt_graph.specs.declared.settled.Numbered.{Numbered}
 use Rattle.kt_graph.specs.Node.{Instance, Node, Part}
 use Rattle.kt_graph.specs.Views.{instance_at, name_at, node_told}
 
--- a number behind others, if it isn't among them
+-- a number after others, if it isn't among them
 abbrev pub with_number : List ℕ → ℕ → List ℕ
 with_number numbers number = if list_any (nat_eq number) numbers then numbers else numbers ++ number ∷ []
 

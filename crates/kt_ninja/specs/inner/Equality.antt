@@ -1,4 +1,4 @@
--- `==` answers whether two plans are the same.
+-- `==` says whether two plans are the same.
 use Rattle.std.proofs.Common.{◌≡◌, ℕ, List, refl, sym, ap, subst}
 use Rattle.std.specs.Prelude.{Bool, true, false, IsTrue, ◌↔◌, ◌&&◌}
 use Rattle.std.specs.Bool.{Decides}

@@ -5,7 +5,7 @@ use Rattle.kt_ninja.specs.JoinedLines.{Line}
 use Rattle.kt_ninja.specs.NinjaRead.{cut_lines}
 use Rattle.kt_ninja.specs.Reading.{part_of}
 
--- at this place begins this part, and behind it the next
+-- at this place begins this part, and after it the next
 pub record CutsPart (lines : List Line) (from : ℕ) (part : PartLines) : Type 0 where
   pub parts : (cut_lines (drop from lines)).parts
       ≡ part_of part.head.now part.body.now ∷ (cut_lines (drop part.next lines)).parts

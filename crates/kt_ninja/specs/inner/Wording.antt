@@ -24,12 +24,12 @@ abbrev pub two_of : List Pieces → Option (Pieces × Pieces)
 two_of (first ∷ second ∷ []) = Some (first, second)
 two_of _ = None
 
--- what stands behind two bars, between which there is nothing
+-- what stands after two bars, between which there is nothing
 abbrev pub two_bars : List Pieces → Option Pieces
 two_bars ([] ∷ order ∷ []) = Some order
 two_bars _ = None
 
--- what stands behind one bar and behind two, where the first part is there
+-- what stands after one bar and after two, where the first part is there
 abbrev pub bars_behind : Pieces → List Pieces → Option (Pieces × Pieces)
 bars_behind implicit [] = Some (implicit, [])
 bars_behind [] (part ∷ parts) = option_map (λ order. ([], order)) (two_bars ([] ∷ part ∷ parts))

@@ -45,7 +45,7 @@ impl<'a> Iterator for Entries<'a> {
     }
 }
 
-// The first entry in the slots, and the slots behind it.
+// The first entry in the slots, and the slots after it.
 fn first_entry(slots: &[Option<Entry>]) -> Option<(&Entry, &[Option<Entry>])>
     ensures { MatchOption result (rules_in slots.now ≡ [])
         (λ cut. rules_in slots.now ≡ cut.0.now ∷ rules_in cut.1.now) }

@@ -77,7 +77,7 @@ pub(crate) fn skips_bare(
     has_bare(slots, spots) && is_suffix_name(suffixes, name)
 }
 
-// The first explicit rule that stands at one of the spots, and the spots behind it.
+// The first explicit rule that stands at one of the spots, and the spots after it.
 #[tactic(auto, unfolding(crate::specs::Slots::explicit_left))]
 fn first_explicit<'a>(
     slots: &'a [Option<Entry>],

@@ -160,7 +160,7 @@ pub(crate) fn unrepeated<'a>(
     Ok(kept)
 }
 
-// Appends a pattern rule to those that are kept, if it has a recipe and none behind it repeats it.
+// Appends a pattern rule to those that are kept, if it has a recipe and none after it repeats it.
 fn sort_in<'a>(
     pattern: Pattern<'a>,
     kept: &mut Vec<Pattern<'a>>,

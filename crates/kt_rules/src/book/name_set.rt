@@ -63,7 +63,7 @@ impl NameSet {
         self.names.truncate(len);
     }
 
-    /// Adds a name behind the others, if it isn't among them.
+    /// Adds a name after the others, if it isn't among them.
     pub(crate) fn add(&mut self, name: &[u8]) -> Result<(), AllocError>
         ensures added { OnOk result (self.new ≡ with_name self.old name.now) }
         ensures refused { OnErr result (self.new ≡ self.old) }

@@ -14,7 +14,7 @@ use crate::refusal::Refusal;
 use std::alloc::Global;
 
 impl Book {
-    // What is refused of an entry behind those of the book.
+    // What is refused of an entry after those of the book.
     #[tactic(auto, unfolding(crate::specs::Book::refusal_of))]
     pub(crate) fn refusal<'a>(&self, entry: &'a Entry) -> Option<Refusal<'a>>
         ensures { option_map refusal_told result ≡ refusal_of self.now entry.now }

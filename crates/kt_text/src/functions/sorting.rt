@@ -123,7 +123,7 @@ impl<'a> Ord for SortKey<'a> {
 // A word of so many bytes is held in its key.
 const HEAD: usize = 16;
 
-// The bytes of a short word, with zeros behind them.
+// The bytes of a short word, with zeros after them.
 fn head(word: &[u8]) -> [u8; HEAD]
     ensures { IsHead result word.now }
 {
@@ -145,7 +145,7 @@ fn front_number(word: &[u8]) -> u64
     front
 }
 
-// The byte at a place, or 0 behind the end.
+// The byte at a place, or 0 after the end.
 fn byte_at(word: &[u8], i: usize) -> u8
     ensures { result ≡ slice_index word.now i }
 {

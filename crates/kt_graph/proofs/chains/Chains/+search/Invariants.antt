@@ -1,4 +1,4 @@
--- How far down the chain a step stands: a question stands above what it asks, and each question behind it has one rule more.
+-- How far down the chain a step stands: a question stands above what it asks, and each question after it has one rule more.
 -- The loops: what is left to be asked and found from here is what was to be asked and found from the start.
 use Rattle.std.proofs.Common.{◌≡◌, ◌+◌, ◌-◌, ◌*◌, length, map, drop, is_some}
 use Rattle.std.specs.List.{find, list_all}
