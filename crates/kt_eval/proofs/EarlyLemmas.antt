@@ -23,7 +23,7 @@ use Rattle.kt_eval.proofs.LevelLemmas.{evaluator_reads}
 use Rattle.kt_eval.proofs.ReadingLemmas.{Tries}
 use Rattle.kt_eval.proofs.GrowingLemmas.{front_next}
 use Rattle.kt_eval.proofs.GrowingReads.{behind_first_related, behind_branch_related, read_first_related, read_or_related, one_more_level}
-use Rattle.kt_eval.proofs.Steps.{grown_front, expand_front, eval_front, each_word_front, expanded_front, each_argument_front, apply_or_front, apply_and_front, read_items_front, close_rule_front, read_end_front}
+use Rattle.kt_eval.proofs.StepLemmas.{grown_front, expand_front, eval_front, each_word_front, expanded_front, each_argument_front, apply_or_front, apply_and_front, read_items_front, close_rule_front, read_end_front}
 
 stands : (w : World) → GoesOn w w
 stands w = (λ of. omega arith, λ of count le. refl)

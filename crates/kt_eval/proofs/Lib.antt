@@ -7,6 +7,7 @@ pub mod BodyLemmas
 pub mod ReadingLemmas
 pub mod GrowingLemmas
 pub mod GrowingReads
+pub mod StepLemmas
 pub mod Steps
 pub mod EarlyLemmas
 pub mod RootLemmas

@@ -14,7 +14,7 @@ use Rattle.kt_eval.specs.Levels.{evaluator}
 use Rattle.kt_eval.specs.Reading.{read_first}
 use Rattle.kt_eval.specs.Fronts.{IsFront}
 use Rattle.kt_eval.specs.Machines.{Reads, ending, messages_of, names_of, reading, first_world}
-use Rattle.kt_eval.proofs.Steps.{read_first_front}
+use Rattle.kt_eval.proofs.StepLemmas.{read_first_front}
 
 both_fronts : (v w : World) → GoesOn v w → IsFront v.said w.said × IsFront v.asked w.asked
 both_fronts v w g = ((g.0 told, g.1 told), (g.0 asked_for, g.1 asked_for))

@@ -5,7 +5,7 @@ use Rattle.kt_eval.specs.inner.Views.{compared_told}
 use Rattle.kt_eval.specs.Step.{Gave, Fails, GoesOn, Outcome, store_of, world_of}
 use Rattle.std.proofs.lemmas.Result.{err_from_is_err_and}
 use Rattle.kt_eval.proofs.EarlyLemmas.{eval_fails, foreach_fails, word_fails, sheet_fails, equal_fails, argument_at_fails, argument_at_front, or_at_fails, and_at_fails, definition_fails, first_fails, branch_fails}
-use Rattle.kt_eval.proofs.Steps.{call_by_name_front, rule_of_parts_front}
+use Rattle.kt_eval.proofs.StepLemmas.{call_by_name_front, rule_of_parts_front}
 use Rattle.std.specs.Prelude.{Some, option_map, map}
 use Rattle.kt_eval.specs.Levels.{evaluator}
 use Rattle.kt_eval.specs.Reading.{read_items}
