@@ -8,6 +8,7 @@ pub mod MaskLaw
 pub mod Masking
 pub mod ModifierLemmas
 pub mod NestingLemmas
+pub mod OwnRuns
 pub mod OwnSymbols
 pub mod ReadingOn
 pub mod RecipeLemmas

@@ -6,12 +6,9 @@ use Rattle.std.specs.List.{position_or_len}
 use Rattle.kt_text.specs.Words.{Text}
 use Rattle.kt_syntax.proofs.Masking.{step-outside, take_nil}
 use Rattle.kt_syntax.specs.Mask.{mask_from, mask_of, more_masked, goes_odd}
+use Rattle.kt_syntax.specs.inner.OwnRuns.{is_mark}
 
--- a dollar or a backslash
-abbrev pub is_mark : ℕ → Bool
-is_mark byte = byte == 36 || byte == 92
-
-or_parts : (a b : Bool) → (a || b) ≡ false → (a ≡ false) × (b ≡ false)
+pub or_parts : (a b : Bool) → (a || b) ≡ false → (a ≡ false) × (b ≡ false)
 or_parts false false h = (refl, refl)
 or_parts false true h = absurd (true≢false h)
 or_parts true b h = absurd (true≢false h)
@@ -22,7 +19,7 @@ unfolding mask_from
 same_symbol symbol other [] = refl
 same_symbol symbol other (byte ∷ text) = refl
 
-own_byte : (symbol byte : ℕ) (text : Text) → is_mark byte ≡ false → mask_from 0 symbol false (byte ∷ text) ≡ byte ∷ mask_from 0 byte false text
+pub own_byte : (symbol byte : ℕ) (text : Text) → is_mark byte ≡ false → mask_from 0 symbol false (byte ∷ text) ≡ byte ∷ mask_from 0 byte false text
 unfolding mask_from more_masked
 own_byte symbol byte text h = let parts = or_parts (byte == 36) (byte == 92) h in rw (parts.0, parts.1) refl
 

@@ -17,3 +17,4 @@ pub mod Rows
 pub mod Signs
 pub mod Steps
 pub mod Terms
+pub mod inner

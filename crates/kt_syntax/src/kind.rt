@@ -7,6 +7,7 @@ ghost use Rattle.kt_syntax.specs.Mask.{mask_of};
 
 use crate::form::{Directive, Form, Operator};
 use crate::mask::Mask;
+use crate::own::past_own_name;
 use crate::places::{comment_place, is_blank, past_blanks, past_line_blanks, past_word};
 use crate::symbol::Symbol;
 
@@ -63,8 +64,18 @@ pub(crate) fn assignment(text: &[u8], begin: usize, end: usize) -> Option<Parts>
 }
 
 // Where the name of an assignment ends, if an operator may follow it.
-#[tactic(auto, unfolding(crate::specs::Kinds::name_end))]
 fn name_end(text: &[u8], begin: usize, end: usize) -> Option<usize>
+    requires order { begin ≤ end }
+    requires within { end ≤ length text.now }
+    ensures value { result ≡ name_end begin (drop begin (take end (mask_of text.now))) (drop begin text.now) }
+    ensures bounds { IfSome result (λ place. (begin ≤ place) × (place ≤ end)) }
+{
+    masked_name_end(text, past_own_name(text, begin, end), end)
+}
+
+// The same by the symbols of the line.
+#[tactic(auto, unfolding(crate::specs::Kinds::name_end))]
+fn masked_name_end(text: &[u8], begin: usize, end: usize) -> Option<usize>
     requires order { begin ≤ end }
     requires within { end ≤ length text.now }
     ensures value { result ≡ name_end begin (drop begin (take end (mask_of text.now))) (drop begin text.now) }

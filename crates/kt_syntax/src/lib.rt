@@ -10,6 +10,7 @@ pub mod laws;
 mod mask;
 mod nesting;
 mod next_term;
+mod own;
 mod part;
 mod places;
 mod recipe;

@@ -1,9 +1,10 @@
 //! A line with its references and continuations masked.
-ghost use Rattle.std.specs.Prelude.{◌≡◌, ◌<◌, ◌≤◌, ◌∷◌, ◌+◌, ◌==◌, ◌||◌, List, ℕ, length, drop, take, slice_index};
+ghost use Rattle.std.specs.Prelude.{◌≡◌, ◌<◌, ◌≤◌, ◌∷◌, ◌+◌, List, ℕ, length, drop, take, slice_index};
 ghost use Rattle.std.specs.Iterator.{YieldsFirst, item_count};
 ghost use Rattle.std.specs.List.{position_or_len};
 ghost use Rattle.kt_syntax.specs.Mask.{goes_odd, mask_byte, mask_from, mask_of, more_masked};
 ghost use Rattle.kt_syntax.specs.Terms.{behind_dollar, kept};
+ghost use Rattle.kt_syntax.specs.inner.OwnRuns.{is_mark};
 
 use crate::next_term::behind_dollar;
 use crate::symbol::Symbol;
@@ -168,8 +169,8 @@ fn mask_byte(byte: u8, more: usize) -> Symbol
 }
 
 // How many of the first bytes of a line, up to a place, stand before its first dollar and backslash.
-fn own_length(text: &[u8], most: usize) -> usize
-    ensures value { result ≡ position_or_len (λ byte. byte == 36 || byte == 92) (take most text.now) }
+pub(crate) fn own_length(text: &[u8], most: usize) -> usize
+    ensures value { result ≡ position_or_len is_mark (take most text.now) }
     ensures small { result ≤ most }
     ensures bound { result ≤ length text.now }
 {

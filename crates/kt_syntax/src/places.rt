@@ -6,6 +6,7 @@ ghost use Rattle.kt_syntax.specs.Kinds.{before_comment, comment_place, past_blan
 ghost use Rattle.kt_syntax.specs.Mask.{mask_of};
 
 use crate::mask::Mask;
+use crate::own::{past_own_blanks, past_own_word};
 use crate::symbol::Symbol;
 use memchr::memchr;
 
@@ -51,6 +52,20 @@ pub(crate) fn past_blanks(text: &[u8], from: usize, end: usize) -> usize
     if from == end {
         return end;
     }
+    match past_own_blanks(text, from, end) {
+        Some(place) => place,
+        None => past_masked_blanks(text, from, end),
+    }
+}
+
+// The same by the symbols of the line.
+fn past_masked_blanks(text: &[u8], from: usize, end: usize) -> usize
+    requires order { from ≤ end }
+    requires within { end ≤ length text.now }
+    ensures value { result ≡ past_blanks from (take end (mask_of text.now)) }
+    ensures low { from ≤ result }
+    ensures bound { result ≤ end }
+{
     let mut place = from;
     for symbol in Mask::between(text, from, end) {
         if !is_blank(&symbol) {
@@ -73,6 +88,20 @@ pub(crate) fn past_line_blanks(text: &[u8], from: usize) -> usize
 
 // The first place where a blank stands, or the end.
 pub(crate) fn past_word(text: &[u8], from: usize, end: usize) -> usize
+    requires order { from ≤ end }
+    requires within { end ≤ length text.now }
+    ensures value { result ≡ past_word from (take end (mask_of text.now)) }
+    ensures low { from ≤ result }
+    ensures bound { result ≤ end }
+{
+    match past_own_word(text, from, end) {
+        Some(place) => place,
+        None => past_masked_word(text, from, end),
+    }
+}
+
+// The same by the symbols of the line.
+fn past_masked_word(text: &[u8], from: usize, end: usize) -> usize
     requires order { from ≤ end }
     requires within { end ≤ length text.now }
     ensures value { result ≡ past_word from (take end (mask_of text.now)) }

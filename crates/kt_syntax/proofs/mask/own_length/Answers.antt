@@ -1,7 +1,7 @@
 use Rattle.std.proofs.Common.{take, ap, ◌∙◌}
 use Rattle.std.proofs.lemmas.List.{take_min}
 use Rattle.std.specs.List.{position_or_len}
-use Rattle.kt_syntax.proofs.OwnSymbols.{is_mark}
+use Rattle.kt_syntax.specs.inner.OwnRuns.{is_mark}
 use Rattle.kt_syntax.proofs.Runs.{first_byte_place}
 use Rattle.kt_syntax.proofs.mask.own_length.Goals as goal
 

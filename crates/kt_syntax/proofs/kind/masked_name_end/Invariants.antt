@@ -1,7 +1,7 @@
 use Rattle.std.proofs.Common.{◌≡◌, ◌≤◌, ◌+◌, length, take, drop}
 use Rattle.kt_syntax.specs.Kinds.{name_end}
 use Rattle.kt_syntax.specs.Mask.{mask_of}
-use Rattle.kt_syntax.proofs.kind.name_end.Given as goal
+use Rattle.kt_syntax.proofs.kind.masked_name_end.Given as goal
 
 abbrev pub invariant-loop-symbol : goal.invariant-loop-symbol
 invariant-loop-symbol l = record {

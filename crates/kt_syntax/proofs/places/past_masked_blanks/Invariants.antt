@@ -3,7 +3,7 @@ use Rattle.std.specs.List.{prefix_len}
 use Rattle.kt_text.specs.Words.{is_blank}
 use Rattle.kt_syntax.specs.Kinds.{past_blanks}
 use Rattle.kt_syntax.specs.Mask.{mask_of}
-use Rattle.kt_syntax.proofs.places.past_blanks.Given as goal
+use Rattle.kt_syntax.proofs.places.past_masked_blanks.Given as goal
 
 abbrev pub invariant-loop-symbol : goal.invariant-loop-symbol
 invariant-loop-symbol l = record {

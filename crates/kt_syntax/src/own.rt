@@ -1,0 +1,120 @@
+//! Bytes that are their own symbols, as nearly all bytes are where a walk over a line begins: they are taken in runs.
+ghost use Rattle.std.specs.Prelude.{◌≡◌, ◌≤◌, drop, false, length, slice_index, take, IfSome};
+ghost use Rattle.std.specs.List.{position_or_len, prefix_len};
+ghost use Rattle.kt_text.specs.Words.{is_blank};
+ghost use Rattle.kt_syntax.specs.Kinds.{name_end, past_blanks, past_word};
+ghost use Rattle.kt_syntax.specs.Mask.{mask_of};
+ghost use Rattle.kt_syntax.specs.inner.OwnRuns.{ends_own_name, ends_own_word, is_mark};
+
+use crate::mask::own_length;
+use kt_text::is_blank;
+
+// The first place from a place on where no blank stands, or the end; `None` where that takes a look at symbols.
+#[tactic(auto, using(crate::proofs::OwnRuns::blanks_passed))]
+pub(crate) fn past_own_blanks(text: &[u8], from: usize, end: usize) -> Option<usize>
+    requires order { from ≤ end }
+    requires within { end ≤ length text.now }
+    ensures value { IfSome result (λ place. place ≡ past_blanks from (take end (mask_of text.now))) }
+    ensures bounds { IfSome result (λ place. (from ≤ place) × (place ≤ end)) }
+{
+    if has_mark(text, from) {
+        return None;
+    }
+    let line = &text[from..end];
+    let run = blank_run(line);
+    if byte_at(line, run) == b'\\' {
+        return None;
+    }
+    Some(from + run)
+}
+
+// The first place from a place on where a blank stands, or the end; `None` where that takes a look at symbols.
+#[tactic(auto, using(crate::proofs::OwnRuns::word_passed))]
+pub(crate) fn past_own_word(text: &[u8], from: usize, end: usize) -> Option<usize>
+    requires order { from ≤ end }
+    requires within { end ≤ length text.now }
+    ensures value { IfSome result (λ place. place ≡ past_word from (take end (mask_of text.now))) }
+    ensures bounds { IfSome result (λ place. (from ≤ place) × (place ≤ end)) }
+{
+    if has_mark(text, from) {
+        return None;
+    }
+    let line = &text[from..end];
+    let run = word_run(line);
+    if is_mark(byte_at(line, run)) {
+        return None;
+    }
+    Some(from + run)
+}
+
+// A place in the name of an assignment up to which nothing can end it.
+#[tactic(auto, using(crate::proofs::OwnRuns::name_passed))]
+pub(crate) fn past_own_name(text: &[u8], begin: usize, end: usize) -> usize
+    requires order { begin ≤ end }
+    requires within { end ≤ length text.now }
+    ensures value { name_end result (drop result (take end (mask_of text.now))) (drop result text.now)
+        ≡ name_end begin (drop begin (take end (mask_of text.now))) (drop begin text.now) }
+    ensures low { begin ≤ result }
+    ensures bound { result ≤ end }
+{
+    if has_mark(text, begin) {
+        return begin;
+    }
+    begin + name_run(&text[begin..end])
+}
+
+// Whether a dollar or a backslash stands before a place of a line.
+fn has_mark(text: &[u8], place: usize) -> bool
+    requires { place ≤ length text.now }
+    ensures { result ≡ false → position_or_len is_mark (take place text.now) ≡ place }
+{
+    own_length(text, place) < place
+}
+
+fn blank_run(text: &[u8]) -> usize
+    ensures value { result ≡ prefix_len is_blank text.now }
+    ensures bound { result ≤ length text.now }
+{
+    text.iter().take_while(|byte| is_blank(**byte)).count()
+}
+
+fn word_run(text: &[u8]) -> usize
+    ensures value { result ≡ position_or_len ends_own_word text.now }
+    ensures bound { result ≤ length text.now }
+{
+    text.iter().take_while(|byte| !ends_own_word(**byte)).count()
+}
+
+fn name_run(text: &[u8]) -> usize
+    ensures value { result ≡ position_or_len ends_own_name text.now }
+    ensures bound { result ≤ length text.now }
+{
+    text.iter().take_while(|byte| !ends_own_name(**byte)).count()
+}
+
+fn is_mark(byte: u8) -> bool
+    ensures { result ≡ is_mark byte }
+{
+    matches!(byte, b'$' | b'\\')
+}
+
+#[tactic(auto, unfolding(kt_text::specs::Words::is_blank))]
+fn ends_own_word(byte: u8) -> bool
+    ensures { result ≡ ends_own_word byte }
+{
+    matches!(byte, b' ' | b'\t' | b'$' | b'\\')
+}
+
+#[tactic(auto, unfolding(kt_text::specs::Words::is_blank))]
+fn ends_own_name(byte: u8) -> bool
+    ensures { result ≡ ends_own_name byte }
+{
+    matches!(byte, b' ' | b'\t' | b'$' | b'\\' | b'=' | b':' | b'?' | b'+' | b'!')
+}
+
+// The byte at a place, or 0 after the end.
+fn byte_at(text: &[u8], place: usize) -> u8
+    ensures { result ≡ slice_index text.now place }
+{
+    text.get(place).copied().unwrap_or(0)
+}
