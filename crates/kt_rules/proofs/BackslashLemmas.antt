@@ -16,11 +16,11 @@ use Rattle.kt_rules.specs.RuleLine.{colon_cut}
 abbrev is_backslash : ℕ → Bool
 is_backslash byte = byte == 92
 
-first_false : (a b : Bool) → (a || b) ≡ false → a ≡ false
+pub first_false : (a b : Bool) → (a || b) ≡ false → a ≡ false
 first_false false b h = refl
 first_false true b h = h
 
-rest_false : (a b : Bool) → (a || b) ≡ false → b ≡ false
+pub rest_false : (a b : Bool) → (a || b) ≡ false → b ≡ false
 rest_false false b h = h
 rest_false true b h = absurd (true≢false h)
 

@@ -6,6 +6,7 @@ mod NeedsLemmas
 mod TestingLemmas
 pub mod IndexLemmas
 pub mod NameSetLemmas
+pub mod RefusedLemmas
 pub mod SlotLemmas
 pub mod FindLemmas
 pub mod StartLemmas

@@ -5,6 +5,7 @@ ghost use Rattle.std.specs.Cmp.Lexicographic.{pointwise};
 ghost use Rattle.kt_text.specs.Functions.{quotes_percent};
 ghost use Rattle.kt_rules.specs.Names.{is_member, is_refused_name, is_refused_target, is_special, is_wildcard};
 ghost use Rattle.kt_rules.specs.Names.{is_without_effect};
+ghost use Rattle.kt_rules.specs.inner.Telling.{is_telling};
 
 use crate::name::has_backslash;
 use memchr::memmem;
@@ -12,9 +13,30 @@ use memchr::memmem;
 /// The name that orders prerequisites in GNU make, which kati doesn't take.
 pub(crate) const WAIT: &[u8] = b".WAIT";
 
-// Whether kati doesn't take the name.
-#[tactic(auto, unfolding(crate::specs::Names::is_refused_name))]
+// Whether kati doesn't take the name. Few names hold a byte that each such name has.
+#[tactic(auto, using(crate::proofs::RefusedLemmas::plain_name_taken))]
 pub(crate) fn is_refused_name(name: &[u8]) -> bool
+    ensures { result ≡ is_refused_name name.now }
+{
+    has_telling_byte(name) && is_refused(name)
+}
+
+fn has_telling_byte(name: &[u8]) -> bool
+    ensures { result ≡ list_any is_telling name.now }
+{
+    name.iter().any(|byte| is_telling(*byte))
+}
+
+#[tactic(auto, unfolding(crate::specs::Names::is_wildcard))]
+fn is_telling(byte: u8) -> bool
+    ensures { result ≡ is_telling byte }
+{
+    matches!(byte, b'*' | b'?' | b'[' | b'\\' | b'~' | b')')
+}
+
+// The same for a name with such a byte.
+#[tactic(auto, unfolding(crate::specs::Names::is_refused_name))]
+fn is_refused(name: &[u8]) -> bool
     ensures { result ≡ is_refused_name name.now }
 {
     has_wildcard(name) || quotes_percent(name) || name.starts_with(b"~") || is_member(name)

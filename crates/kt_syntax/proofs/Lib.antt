@@ -21,4 +21,5 @@ pub mod Splitting
 pub mod SymbolLemmas
 pub mod Uncommenting
 pub mod Unique
+pub mod Unsigned
 pub mod WholeTree

@@ -91,7 +91,7 @@ word_run (suc count) symbol (byte ∷ text) h =
     (cases_Bool (is_blank byte)))
     (cases_Bool (is_mark byte))
 
-and_false : (a b : Bool) → b ≡ false → (a && b) ≡ false
+pub and_false : (a b : Bool) → b ≡ false → (a && b) ≡ false
 and_false true b h = h
 and_false false b h = refl
 

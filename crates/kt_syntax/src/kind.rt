@@ -10,6 +10,7 @@ use crate::mask::Mask;
 use crate::own::past_own_name;
 use crate::places::{comment_place, is_blank, past_blanks, past_line_blanks, past_word};
 use crate::symbol::Symbol;
+use memchr::memchr;
 
 /// The kind of a line whose continuations are condensed, as `joined` gives it; `tab` says whether
 /// the line begins with a tab.
@@ -43,9 +44,24 @@ pub(crate) struct Parts {
     pub value: usize,
 }
 
-// The parts of the assignment whose name begins at a place.
-#[tactic(auto, unfolding(crate::specs::Kinds::assignment_parts))]
+// The parts of the assignment whose name begins at a place. Each operator ends in an equals sign.
 pub(crate) fn assignment(text: &[u8], begin: usize, end: usize) -> Option<Parts>
+    requires order { begin ≤ end }
+    requires within { end ≤ length text.now }
+    ensures value { option_map (λ parts. record { name = parts.name; operator = parts.operator; value = parts.value })
+        result ≡ assignment_parts text.now (take end (mask_of text.now)) begin }
+    ensures bounds { IfSome result (λ parts. (begin ≤ parts.name) × (parts.name ≤ length text.now)
+        × (parts.value ≤ length text.now)) }
+{
+    match memchr(b'=', text) {
+        None => None,
+        Some(_) => signed_assignment(text, begin, end),
+    }
+}
+
+// The same for a line with an equals sign.
+#[tactic(auto, unfolding(crate::specs::Kinds::assignment_parts))]
+fn signed_assignment(text: &[u8], begin: usize, end: usize) -> Option<Parts>
     requires order { begin ≤ end }
     requires within { end ≤ length text.now }
     ensures value { option_map (λ parts. record { name = parts.name; operator = parts.operator; value = parts.value })

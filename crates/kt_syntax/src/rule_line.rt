@@ -108,9 +108,20 @@ fn semicolon_place(text: &[u8], comment: usize) -> usize
     place
 }
 
-// Whether the head of a line, up to a place, assigns a target-specific macro.
-#[tactic(auto, unfolding(crate::specs::Heads::is_target_specific))]
+// Whether the head of a line, up to a place, assigns a target-specific macro. Each operator ends in an equals sign.
 fn is_target_specific(text: &[u8], end: usize) -> bool
+    requires { end ≤ length text.now }
+    ensures { result ≡ is_target_specific text.now (take end (mask_of text.now)) }
+{
+    match memchr(b'=', text) {
+        None => false,
+        Some(_) => assigns_after_colon(text, end),
+    }
+}
+
+// The same for a line with an equals sign.
+#[tactic(auto, unfolding(crate::specs::Heads::is_target_specific))]
+fn assigns_after_colon(text: &[u8], end: usize) -> bool
     requires { end ≤ length text.now }
     ensures { result ≡ is_target_specific text.now (take end (mask_of text.now)) }
 {

@@ -1,10 +1,7 @@
-use Rattle.kt_syntax.specs.Mask.{mask_of}
 use Rattle.std.proofs.Common.{take}
-use Rattle.kt_syntax.proofs.Kinding.{parts_found}
+use Rattle.kt_syntax.proofs.Unsigned.{unsigned_assigns_nothing}
+use Rattle.kt_syntax.specs.Mask.{mask_of}
 use Rattle.kt_syntax.proofs.kind.assignment.Goals as goal
 
-pub returns-clause-value : goal.returns-clause-value
-returns-clause-value c =
-    parts_found c.args.text.now (take c.args.end (mask_of c.args.text.now)) c.args.begin c.in_ok-name.name c.past_blanks-place.result
-    (c.in_ok-operator.operator, c.in_ok-operator.size) c.past_line_blanks.result c.in_ok-name.ensures.value c.past_blanks-place.ensures.value c.in_ok-operator.ensures.value
-    c.past_line_blanks.ensures.value
+pub returns-in-None-clause-value : goal.returns-in-None-clause-value
+returns-in-None-clause-value c = unsigned_assigns_nothing c.args.text.now (take c.args.end (mask_of c.args.text.now)) c.args.begin c.in-None.ensures

@@ -1,0 +1,70 @@
+-- Texts without an equals sign, which each operator ends in: they hold no assignment.
+use Rattle.std.proofs.Common.{◌≡◌, ◌==◌, ℕ, zero, suc, Bool, true, false, List, [], ◌∷◌, Option, Some, None, length, drop, refl, sym, ap, ◌∙◌, ⊎_elim, true≢false, arith}
+use Rattle.std.proofs.lemmas.Bool.{cases_Bool, eqb-true, false_from_ne_true, le-ltb}
+use Rattle.std.specs.Prelude.{codes, is_some, nat_eq}
+use Rattle.std.specs.List.{list_any, position_or_len, starts_with}
+use Rattle.memchr.specs.Find.{IsFirstByte}
+use Rattle.kt_text.specs.Words.{Text}
+use Rattle.kt_text.proofs.MatchLemmas.{list_any-place}
+use Rattle.kt_syntax.proofs.OwnRuns.{and_false}
+use Rattle.kt_syntax.proofs.OwnSymbols.{or_parts}
+use Rattle.kt_syntax.proofs.SymbolLemmas.{not_found as absent_at}
+use Rattle.kt_syntax.specs.Heads.{assigns_after, colon_place, is_target_specific}
+use Rattle.kt_syntax.specs.Kinds.{assignment_parts, name_end, operator_of, parts_after, past_blanks}
+
+abbrev is_sign : ℕ → Bool
+is_sign byte = byte == 61
+
+-- what a text without a sign begins with has none
+beginless : (needle text : Text) → list_any is_sign text ≡ false → list_any is_sign needle ≡ true → starts_with nat_eq text needle ≡ false
+beginless [] text none some = absurd (true≢false (sym some))
+beginless (byte ∷ needle) [] none some = refl
+beginless (byte ∷ needle) (first ∷ text) none some =
+    ⊎_elim (λ (sign : is_sign byte ≡ true).
+    let here = (or_parts (is_sign first) (list_any is_sign text) none).0 in
+    let differ : nat_eq byte first ≡ false = false_from_ne_true (nat_eq byte first)
+    (λ e. true≢false (sym (ap is_sign (sym (eqb-true byte first e)) ∙ sign) ∙ here)) in
+    rw differ refl)
+    (λ (other : is_sign byte ≡ false).
+    let later : list_any is_sign needle ≡ true = rw other at some in
+    and_false (nat_eq byte first) (starts_with nat_eq text needle)
+    (beginless needle text (or_parts (is_sign first) (list_any is_sign text) none).1 later))
+    (cases_Bool (is_sign byte))
+
+pub no_sign_no_operator : (text : Text) → list_any is_sign text ≡ false → operator_of text ≡ None
+unfolding operator_of
+no_sign_no_operator text none =
+    rw (beginless (codes "=") text none refl, beginless (codes ":=") text none refl, beginless (codes "::=") text none refl,
+    beginless (codes ":::=") text none refl, beginless (codes "?=") text none refl, beginless (codes "+=") text none refl,
+    beginless (codes "!=") text none refl) refl
+
+none_dropped : (count : ℕ) (text : Text) → list_any is_sign text ≡ false → list_any is_sign (drop count text) ≡ false
+none_dropped zero text none = none
+none_dropped (suc count) [] none = none
+none_dropped (suc count) (byte ∷ text) none = none_dropped count text (or_parts (is_sign byte) (list_any is_sign text) none).1
+
+no_parts : (text : Text) (mask : List ℕ) (name : Option ℕ) → list_any is_sign text ≡ false → parts_after text mask name ≡ None
+no_parts text mask None none = refl
+no_parts text mask (Some name) none =
+    rw (no_sign_no_operator (drop (past_blanks name mask) text) (none_dropped (past_blanks name mask) text none)) refl
+
+pub no_assignment : (text : Text) (mask : List ℕ) (begin : ℕ) → list_any is_sign text ≡ false → None ≡ assignment_parts text mask begin
+unfolding assignment_parts
+no_assignment text mask begin none = sym (no_parts text mask (name_end begin (drop begin mask) (drop begin text)) none)
+
+not_found : (text : Text) → IsFirstByte is_sign text None → list_any is_sign text ≡ false
+not_found text found =
+    let same : length text ≡ position_or_len is_sign text = sym (absent_at 61 text found) in
+    list_any-place is_sign text ∙ le-ltb _ _ (omega arith)
+
+-- a text in which no sign is found
+pub unsigned_assigns_nothing : (text : Text) (mask : List ℕ) (begin : ℕ) → IsFirstByte is_sign text None → None ≡ assignment_parts text mask begin
+unsigned_assigns_nothing text mask begin found = no_assignment text mask begin (not_found text found)
+
+none_after : (text : Text) (mask : List ℕ) (colon : Option ℕ) → list_any is_sign text ≡ false → false ≡ assigns_after text mask colon
+none_after text mask None none = refl
+none_after text mask (Some colon) none = ap is_some (no_assignment text mask _ none)
+
+pub unsigned_is_unspecific : (text : Text) (mask : List ℕ) → IsFirstByte is_sign text None → false ≡ is_target_specific text mask
+unfolding is_target_specific
+unsigned_is_unspecific text mask found = none_after text mask (colon_place 0 0 mask) (not_found text found)
