@@ -24,7 +24,13 @@ pub(crate) fn is_refused_name(name: &[u8]) -> bool
 fn has_telling_byte(name: &[u8]) -> bool
     ensures { result ≡ list_any is_telling name.now }
 {
-    name.iter().any(|byte| is_telling(*byte))
+    // Names are short: a loop is quicker than the groups of bytes in which `any` tests.
+    for byte in name {
+        if is_telling(*byte) {
+            return true;
+        }
+    }
+    false
 }
 
 #[tactic(auto, unfolding(crate::specs::Names::is_wildcard))]
