@@ -17,7 +17,13 @@ pub(crate) fn copied(alloc: Global, text: &[u8]) -> Result<Vec<u8>, TextFault>
 pub(crate) fn add_word(list: &mut Vec<u8>, word: &[u8]) -> Result<(), AllocError>
     ensures { OnOk result (list.new.items ≡ put_word list.old.items word.now) }
 {
-    add_parts(list, word, b"", b"")
+    if word.is_empty() {
+        return Ok(());
+    }
+    if !list.is_empty() {
+        list.push(b' ')?;
+    }
+    list.extend_from_slice(word)
 }
 
 // Adds the word that the parts make.
