@@ -5,6 +5,7 @@ pub mod ArgumentLemmas
 pub mod RowLemmas
 pub mod BodyLemmas
 pub mod ReadingLemmas
+pub mod FrameLemmas
 pub mod GrowingLemmas
 pub mod GrowingReads
 pub mod StepLemmas

@@ -74,13 +74,9 @@ fn word_end(text: &[u8]) -> usize
     ensures value { result ≡ position_or_len is_separator text.now }
     ensures bound { result ≤ length text.now }
 {
-    first_separator(text).unwrap_or(text.len())
-}
-
-fn first_separator(text: &[u8]) -> Option<usize>
-    ensures { result ≡ position is_separator text.now }
-{
-    text.iter().position(|byte| is_separator(*byte))
+    text.iter()
+        .take_while(|byte| !is_separator(**byte))
+        .count()
 }
 
 // The arguments, cut at commas outside nested marks of the reference's own kind.

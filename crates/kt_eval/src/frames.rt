@@ -18,13 +18,14 @@ pub(crate) fn innermost(
 ) -> Result<Option<Shared<u8>>, AllocError>
     ensures { IfOk result (λ found. found ≡ innermost name.now None frames.now) }
 {
-    let mut found = None;
-    for frame in frames {
+    let mut left = frames;
+    while let Some((frame, outer)) = left.split_last() {
         if let Some(value) = seen(alloc, frame, name)? {
-            found = Some(value);
+            return Ok(Some(value));
         }
+        left = outer;
     }
-    Ok(found)
+    Ok(None)
 }
 
 // What a binding says of a name.
