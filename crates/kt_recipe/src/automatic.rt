@@ -5,8 +5,9 @@ ghost use Rattle.kt_rules.specs.Names.{is_among, without_repeats};
 ghost use Rattle.kt_graph.specs.Views.{part_needed, part_order_only, part_stem};
 ghost use Rattle.kt_recipe.specs.inner.Asking.{macro_in};
 ghost use Rattle.kt_recipe.specs.Auto.{names_in};
+ghost use Rattle.kt_recipe.specs.Forms.{text_of};
 
-use crate::forms::text;
+use crate::forms::{Form, text};
 use crate::subjects::{Subject, asked_by};
 use indexmap::IndexSet;
 use kt_eval::Automatic;
@@ -58,11 +59,37 @@ fn macro_in<'g>(
     ensures { IfOk result (λ found. option_map (λ value. value.items) found ≡ macro_in node.now part name.now) }
 {
     match asked_by(name) {
-        Some((subject, form)) => {
-            let names = names_in(alloc, node, part, subject)?;
-            Ok(Some(text(alloc, form, names.as_slice())?))
-        }
+        Some((subject, form)) => Ok(Some(told(alloc, node, part, subject, form)?)),
         None => Ok(None),
+    }
+}
+
+// What a part of a node tells, in a form.
+#[tactic(auto, using(crate::proofs::AskingLemmas::one_told))]
+fn told<'g>(
+    alloc: Global,
+    node: &Node<'g>,
+    part: usize,
+    subject: Subject,
+    form: Form,
+) -> Result<Vec<u8>, AllocError>
+    ensures { IfOk result (λ told. told.items ≡ text_of form (names_in node.now part subject)) }
+{
+    match only_name(node, part, subject) {
+        Some(name) => text(alloc, form, [name].as_slice()),
+        None => text(alloc, form, names_in(alloc, node, part, subject)?.as_slice()),
+    }
+}
+
+// The name that a part of a node tells, where it tells one and this is known without a look at others.
+#[tactic(auto, unfolding(crate::specs::Auto::names_of))]
+fn only_name<'g>(node: &Node<'g>, part: usize, subject: Subject) -> Option<&'g [u8]>
+    ensures { IfSome result (λ name. names_in node.now part subject ≡ name.now ∷ []) }
+{
+    match subject {
+        Subject::Target => Some(node.name()),
+        Subject::First => node.prerequisites(part).next(),
+        _ => None,
     }
 }
 
