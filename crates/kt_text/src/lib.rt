@@ -13,6 +13,7 @@ mod output;
 mod pattern;
 mod physical;
 mod separators;
+mod sort_key;
 mod word_runs;
 
 pub use blanks::{is_blank, trim_end, trim_start};
@@ -24,4 +25,5 @@ pub use logical::{logical_lines, nul_line};
 pub use pattern::{has_percent, match_pattern, push_with_stem};
 pub use physical::{is_continued, line_content};
 pub use separators::{is_separator, stripped, stripped_start, trailing_separators};
+pub use sort_key::SortKey;
 pub use word_runs::Words;

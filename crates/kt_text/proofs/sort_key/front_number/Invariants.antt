@@ -1,6 +1,6 @@
 use Rattle.std.proofs.Common.{◌≡◌, ◌+◌, ◌-◌, ◌*◌, ◌^◌, ◌<◌, ◌≤◌, drop}
 use Rattle.kt_text.specs.Sorted.{front_number}
-use Rattle.kt_text.proofs.functions.sorting.front_number.Given as goal
+use Rattle.kt_text.proofs.sort_key.front_number.Given as goal
 
 abbrev pub invariant-loop-i : goal.invariant-loop-i
 invariant-loop-i l = record {

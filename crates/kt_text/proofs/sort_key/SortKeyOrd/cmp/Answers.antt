@@ -3,7 +3,7 @@ use Rattle.std.specs.Ordering.{MatchOrdering}
 use Rattle.std.specs.declared.cmp.Ordering.{Ordering}
 use Rattle.std.specs.declared.cmp.Ordering.TheVariants.{Less, Equal, Greater}
 use Rattle.kt_text.proofs.SortLemmas.{order, AreBytes, fronts_decide}
-use Rattle.kt_text.proofs.functions.sorting.SortKeyOrd.cmp.Goals as goal
+use Rattle.kt_text.proofs.sort_key.SortKeyOrd.cmp.Goals as goal
 
 decided_is : (found wanted : Ordering) → (found ≡ Equal → ⊥) → MatchOrdering found (wanted ≡ Less) (Unit {0}) (wanted ≡ Greater) → found ≡ wanted
 decided_is Less wanted differs is = sym is
