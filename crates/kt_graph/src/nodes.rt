@@ -99,7 +99,7 @@ impl<'a> Graph<'a> {
     pub(crate) fn reached(
         alloc: Global,
         book: &'a Book,
-        known: &'a Known,
+        known: &'a Known<'a>,
         goals: &[Name],
     ) -> Result<Graph<'a>, AllocError>
         ensures { IfOk result (IsGraph book.now known.now goals.now) }
