@@ -1,11 +1,11 @@
 -- Files of made names, counted as they come.
-use Rattle.std.proofs.Common.{◌≡◌, ℕ, zero, suc, ◌+◌, Bool, true, false, not, ◌||◌, ◌&&◌, cond, if◌then◌else◌, List, [], ◌∷◌, ◌++◌, length, map, filter, find, nat_eq, nat_lt, Option, None, Some, is_some, unwrap_or, Vec, Global, refl, sym, ap, ◌∙◌, subst, arith}
+use Rattle.std.proofs.Common.{◌≡◌, ℕ, zero, suc, ◌+◌, Bool, true, false, not, ◌&&◌, cond, if◌then◌else◌, List, [], ◌∷◌, ◌++◌, length, map, filter, find, All, nat_eq, nat_lt, Option, None, Some, is_some, unwrap_or, Vec, Global, refl, sym, ap, ◌∙◌, subst, arith}
 use Rattle.std.specs.Map.{lookup, KeepsOthers}
 use Rattle.std.specs.Str.{bytes_eq}
 use Rattle.std.proofs.lemmas.Bool.{ne_eqb, lt-ltb}
 use Rattle.std.proofs.lemmas.Cmp.{nat_list_eq_equiv}
 use Rattle.std.proofs.lemmas.List.{append-nil, append_assoc, length-append}
-use Rattle.std.proofs.lemmas.List.Elements.{filter-append}
+use Rattle.std.proofs.lemmas.List.Elements.{All-append, filter-append}
 use Rattle.std.proofs.lemmas.Slice.Eq.{bytes_eq-Decides}
 use Rattle.kt_text.specs.Words.{Text}
 use Rattle.kt_graph.specs.inner.Files.{count_of, held_for, is_repeated, made_names, several_in}
@@ -129,17 +129,6 @@ found_first test node nodes b is = by (not (is_leaf node.kind)) (test node.name)
 
 -- ---- the steps of loops over nodes
 
-pub reserved_more : (old new here rest all : Bool) → new ≡ (old || here) → (old || (here || rest)) ≡ all → (new || rest) ≡ all
-reserved_more old new here rest all is before = ap (λ b. b || rest) is ∙ by old ∙ before
-  where
-    by : (b : Bool) → ((b || here) || rest) ≡ (b || (here || rest))
-    by true = refl
-    by false = refl
-
-pub reserved_end : (now all : Bool) → (now || false) ≡ all → now ≡ all
-reserved_end true all e = e
-reserved_end false all e = e
-
 pub made_more : (before : List Text) (node : Node) (nodes : List Node) (all : List Text) → before ++ made_names (node ∷ nodes) ≡ all
     → (before ++ made_names (node ∷ [])) ++ made_names nodes ≡ all
 made_more before node nodes all e =
@@ -147,3 +136,11 @@ made_more before node nodes all e =
 
 pub made_end : (before all : List Text) → before ++ [] ≡ all → before ≡ all
 made_end before all e = sym (append-nil before) ∙ e
+
+abbrev AreCanonical : List Text → Type 0
+AreCanonical names = All (λ (name : Text). canon_of name ≡ name) names
+
+pub canonical_more : (node : Node) (nodes : List Node) → AreCanonical (made_names (node ∷ [])) → AreCanonical (made_names nodes) → AreCanonical (made_names (node ∷ nodes))
+canonical_more node nodes one rest =
+    subst (λ (names : List Text). AreCanonical names) (sym (made_first node nodes))
+    (All-append (λ (name : Text). canon_of name ≡ name) (made_names (node ∷ [])) (made_names nodes) one rest)

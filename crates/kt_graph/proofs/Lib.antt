@@ -41,3 +41,4 @@ pub mod ResolutionLemmas
 pub mod GroupingLemmas
 pub mod EndLemmas
 pub mod NotingLemmas
+pub mod KnownLemmas

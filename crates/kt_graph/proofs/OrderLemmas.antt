@@ -1,5 +1,5 @@
 -- Names that are sorted with their numbers.
-use Rattle.std.proofs.Common.{◌≡◌, ℕ, suc, zero, ◌+◌, ◌<◌, ◌↔◌, false, List, [], ◌∷◌, ◌++◌, length, map, get_or, All, Some, Vec, Global, Bor, refl, sym, ap, ◌∙◌, subst, arith, add-zero, slice_get}
+use Rattle.std.proofs.Common.{◌≡◌, ℕ, suc, zero, ◌+◌, ◌<◌, ◌↔◌, false, List, [], ◌∷◌, ◌++◌, length, map, get_or, All, Some, Vec, Global, refl, sym, ap, ◌∙◌, subst, arith, add-zero, slice_get}
 use Rattle.std.specs.List.{Contains, range_with_len, swap}
 use Rattle.std.specs.List.Sorted.{IsPermutation, IsSorted, IsSortedBy, IsStrictlySortedBy}
 use Rattle.std.specs.Option.{option_map, unwrap_or}
@@ -100,35 +100,35 @@ rising xs sorted single =
 -- ---- names with their numbers
 
 abbrev pub Numbered : Type 0
-Numbered = Bor Text × ℕ
+Numbered = Text × ℕ
 
 -- each name has its number
 pub record AreNumbered (names : List (Vec ℕ Global)) (count : ℕ) (pairs : List Numbered) : Type 0 where
   pub numbers : map (λ (pair : Numbered). pair.1) pairs ≡ range_with_len 0 count
-  pub named : All (λ (pair : Numbered). pair.0.now ≡ name_at names pair.1) pairs
+  pub named : All (λ (pair : Numbered). pair.0 ≡ name_at names pair.1) pairs
 
-names_of : (names : List (Vec ℕ Global)) (pairs : List Numbered) → All (λ (pair : Numbered). pair.0.now ≡ name_at names pair.1) pairs
-    → map (λ (pair : Numbered). pair.0.now) pairs ≡ names_at names (map (λ (pair : Numbered). pair.1) pairs)
+names_of : (names : List (Vec ℕ Global)) (pairs : List Numbered) → All (λ (pair : Numbered). pair.0 ≡ name_at names pair.1) pairs
+    → map (λ (pair : Numbered). pair.0) pairs ≡ names_at names (map (λ (pair : Numbered). pair.1) pairs)
 names_of names [] named = refl
 names_of names (pair ∷ pairs) named =
-    ap (λ first. first ∷ map (λ (p : Numbered). p.0.now) pairs) (All-head (λ (p : Numbered). p.0.now ≡ name_at names p.1) pair pairs named)
-    ∙ ap (λ rest. name_at names pair.1 ∷ rest) (names_of names pairs (All-tail (λ (p : Numbered). p.0.now ≡ name_at names p.1) pair pairs named))
+    ap (λ first. first ∷ map (λ (p : Numbered). p.0) pairs) (All-head (λ (p : Numbered). p.0 ≡ name_at names p.1) pair pairs named)
+    ∙ ap (λ rest. name_at names pair.1 ∷ rest) (names_of names pairs (All-tail (λ (p : Numbered). p.0 ≡ name_at names p.1) pair pairs named))
 
 abbrev pub pair_cmp : Numbered → Numbered → Ordering
-pair_cmp x y = ordering_then (slice_cmp nat_cmp x.0.now y.0.now) (nat_cmp x.1 y.1)
+pair_cmp x y = ordering_then (slice_cmp nat_cmp x.0 y.0) (nat_cmp x.1 y.1)
 
 first_not_less : (a b : Ordering) → is_lt (ordering_then a b) ≡ false → is_lt a ≡ false
 first_not_less Less b h = h
 first_not_less Equal b h = refl
 first_not_less Greater b h = refl
 
-names_sorted : (pairs : List Numbered) → IsSorted pair_cmp pairs → IsSortedBy (λ x y. is_lt (slice_cmp nat_cmp x y)) (map (λ (pair : Numbered). pair.0.now) pairs)
+names_sorted : (pairs : List Numbered) → IsSorted pair_cmp pairs → IsSortedBy (λ x y. is_lt (slice_cmp nat_cmp x y)) (map (λ (pair : Numbered). pair.0) pairs)
 names_sorted pairs sorted k d low within =
-    let long : length (map (λ (pair : Numbered). pair.0.now) pairs) ≡ length pairs = length-map pairs (λ (pair : Numbered). pair.0.now) in
-    let past : Numbered = (record { ref_ptr = (0, 0); now = [] }, 0) in
-    let this : get_or (map (λ (pair : Numbered). pair.0.now) pairs) k d ≡ (get_or pairs k past).0.now = get_or-map (λ (pair : Numbered). pair.0.now) pairs k past d (omega arith) in
-    let next : get_or (map (λ (pair : Numbered). pair.0.now) pairs) (k + 1) d ≡ (get_or pairs (k + 1) past).0.now
-    = get_or-map (λ (pair : Numbered). pair.0.now) pairs (k + 1) past d (omega arith) in
+    let long : length (map (λ (pair : Numbered). pair.0) pairs) ≡ length pairs = length-map pairs (λ (pair : Numbered). pair.0) in
+    let past : Numbered = ([], 0) in
+    let this : get_or (map (λ (pair : Numbered). pair.0) pairs) k d ≡ (get_or pairs k past).0 = get_or-map (λ (pair : Numbered). pair.0) pairs k past d (omega arith) in
+    let next : get_or (map (λ (pair : Numbered). pair.0) pairs) (k + 1) d ≡ (get_or pairs (k + 1) past).0
+    = get_or-map (λ (pair : Numbered). pair.0) pairs (k + 1) past d (omega arith) in
     rw (this, next) (first_not_less _ (nat_cmp (get_or pairs (k + 1) past).1 (get_or pairs k past).1) (sorted k past low (omega arith)))
 
 single_at : (order : List ℕ) → IsSingle order → (i j : ℕ) → i < length order → j < length order → get_or order i 0 ≡ get_or order j 0 → i ≡ j
@@ -143,7 +143,7 @@ sorted_order names pairs sorted distinct numbered moved up =
     let n = length names in
     let moved_numbers : IsPermutation (range_with_len 0 n) order
     = subst (λ xs. IsPermutation xs order) numbered.numbers (IsPermutation-map (λ (pair : Numbered). pair.1) pairs sorted moved) in
-    let named = names_of names sorted (All-permutation (λ (p : Numbered). p.0.now ≡ name_at names p.1) pairs sorted moved numbered.named) in
+    let named = names_of names sorted (All-permutation (λ (p : Numbered). p.0 ≡ name_at names p.1) pairs sorted moved numbered.named) in
     let below : All (λ k. k < n) order = All-permutation (λ k. k < n) (range_with_len 0 n) order moved_numbers (within_range n) in
     let single = single_permuted n order moved_numbers in
     let long : length (names_at names order) ≡ length order = length-map order (name_at names) in
@@ -163,7 +163,7 @@ sorted_order names pairs sorted distinct numbered moved up =
 pub numbered_none : (names : List (Vec ℕ Global)) (pairs : List Numbered) → pairs ≡ [] → AreNumbered names 0 pairs
 numbered_none names pairs none = record {
   numbers = ap (map (λ (pair : Numbered). pair.1)) none;
-  named = subst (λ xs. All (λ (pair : Numbered). pair.0.now ≡ name_at names pair.1) xs) (sym none) (All-nil (λ (pair : Numbered). pair.0.now ≡ name_at names pair.1));
+  named = subst (λ xs. All (λ (pair : Numbered). pair.0 ≡ name_at names pair.1) xs) (sym none) (All-nil (λ (pair : Numbered). pair.0 ≡ name_at names pair.1));
 }
 
 range_more : (a n : ℕ) → range_with_len a n ++ (a + n) ∷ [] ≡ range_with_len a (n + 1)
@@ -175,15 +175,15 @@ range_more a (suc n) =
     rw (more, last) (ap (λ rest. a ∷ rest) (range_more (a + 1) n ∙ ap (range_with_len (a + 1)) next))
 
 pub numbered_more : (names : List (Vec ℕ Global)) (number : ℕ) (name : Vec ℕ Global) (pairs more : List Numbered) (pair : Numbered) → AreNumbered names number pairs
-    → number < length names → name ≡ get_or names number name → pair.0.now ≡ name.items → pair.1 ≡ number → more ≡ pairs ++ pair ∷ []
+    → number < length names → name ≡ get_or names number name → pair.0 ≡ name.items → pair.1 ≡ number → more ≡ pairs ++ pair ∷ []
     → AreNumbered names (number + 1) more
 numbered_more names number name pairs more pair numbered within is text at grown =
     let found : slice_get names number ≡ Some name = slice_get_read names (length names) number name refl within is in
-    let told : pair.0.now ≡ name_at names pair.1
+    let told : pair.0 ≡ name_at names pair.1
     = text ∙ sym (ap (λ o. unwrap_or (option_map (λ (n : Vec ℕ Global). n.items) o) []) (ap (slice_get names) at ∙ found)) in
     record {
       numbers = ap (map (λ (p : Numbered). p.1)) grown ∙ map-append (λ (p : Numbered). p.1) pairs (pair ∷ [])
           ∙ ap (λ front. front ++ pair.1 ∷ []) numbered.numbers ∙ ap (λ k. range_with_len 0 number ++ k ∷ []) (at ∙ omega arith) ∙ range_more 0 number;
-      named = subst (λ xs. All (λ (p : Numbered). p.0.now ≡ name_at names p.1) xs) (sym grown)
-          (All-push (λ (p : Numbered). p.0.now ≡ name_at names p.1) pairs pair numbered.named told);
+      named = subst (λ xs. All (λ (p : Numbered). p.0 ≡ name_at names p.1) xs) (sym grown)
+          (All-push (λ (p : Numbered). p.0 ≡ name_at names p.1) pairs pair numbered.named told);
     }

@@ -264,6 +264,32 @@ another p (first ∷ names) name rises two =
         more h in
         (rest.0, Contains-there first names rest.0 rest.1, rest.2, rest.3)
 
+-- ---- names that are the one spelling of their file
+
+find_none : {A : Type 0} (xs : List A) → find (λ x. false) xs ≡ None
+find_none [] = refl
+find_none (x ∷ xs) = find_none xs
+
+-- of names that rise, no two have one file
+single_file : (names : List Text) (name : Text) → Rises names → All (λ one. canon_of one ≡ one) names → Contains names name → is_repeated names name ≡ false
+single_file names name rises canonical has = by (is_repeated names name) refl
+  where
+    by : (b : Bool) → is_repeated names name ≡ b → b ≡ false
+    by true on =
+        let at : (other : Text) × Contains names other × (bytes_eq (canon_of other) (canon_of name) ≡ true) × ¬ (name ≡ other) =
+        another (λ one. bytes_eq (canon_of one) (canon_of name)) names name rises (ltb-true 1 (count_of names (canon_of name)) on) in
+        let one : canon_of name ≡ name = All-contains (λ one. canon_of one ≡ one) names name canonical has in
+        let two : canon_of at.0 ≡ at.0 = All-contains (λ one. canon_of one ≡ one) names at.0 canonical at.1 in
+        absurd (at.3 (sym one ∙ sym ((bytes_eq-Decides (canon_of at.0) (canon_of name)).0 at.2) ∙ two))
+    by false off = refl
+
+pub none_repeated : (nodes : List Node) → Rises (map (λ node. node.name) nodes) → All (λ name. canon_of name ≡ name) (made_names nodes)
+    → None ≡ find (is_repeated (made_names nodes)) (made_names nodes)
+none_repeated nodes rises canonical =
+    sym (find_agree (is_repeated (made_names nodes)) (λ name. false) (made_names nodes)
+    (λ name has. single_file (made_names nodes) name (rises_made nodes rises) canonical has)
+    ∙ find_none (made_names nodes))
+
 -- ---- a graph
 
 module _ (rules : List Rule) (known goals : List Text) (nodes : List Node) (graph : IsGraph rules known goals nodes) where

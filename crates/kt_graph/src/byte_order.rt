@@ -2,6 +2,7 @@
 ghost use Rattle.std.specs.Prelude.{◌≡◌, map, IfOk};
 ghost use Rattle.kt_graph.specs.inner.Files.{AreDistinct, IsByteOrder};
 
+use kt_text::SortKey;
 use std::alloc::{AllocError, Global};
 
 /// The numbers of names, in byte order of these.
@@ -11,13 +12,13 @@ pub(crate) fn byte_order(alloc: Global, names: &[Vec<u8>]) -> Result<Vec<usize>,
 {
     let mut named = Vec::with_capacity(alloc, names.len())?;
     for (number, name) in names.iter().enumerate() {
-        named.push((name.as_slice(), number))?;
+        named.push((SortKey::new(name.as_slice()), number))?;
     }
     named.sort_unstable();
     numbers(alloc, named.as_slice())
 }
 
-fn numbers(alloc: Global, named: &[(&[u8], usize)]) -> Result<Vec<usize>, AllocError>
+fn numbers(alloc: Global, named: &[(SortKey<'_>, usize)]) -> Result<Vec<usize>, AllocError>
     ensures { IfOk result (λ numbers. numbers.items ≡ map (λ pair. pair.1) named.now) }
 {
     let mut numbers = Vec::with_capacity(alloc, named.len())?;

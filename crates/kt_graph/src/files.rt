@@ -1,11 +1,11 @@
 //! The files that the names of a graph stand for.
-ghost use Rattle.std.specs.Prelude.{◌≡◌, ◌++◌, ◌∷◌, ◌||◌, ◌&&◌, [], List, Some, false, bytes_eq, find, is_some, map};
+ghost use Rattle.std.specs.Prelude.{◌≡◌, ◌++◌, ◌∷◌, ◌&&◌, [], All, List, Some, false, true, bytes_eq, find, is_some};
 ghost use Rattle.std.specs.Prelude.{not, option_map, unwrap_or, IfOk, OnOk, if◌then◌else◌};
 ghost use Rattle.std.specs.List.{list_any};
 ghost use Rattle.kt_text.specs.Words.{Text};
 ghost use Rattle.kt_graph.specs.inner.Files.{HasFiles, held_for, is_repeated, made_names};
 ghost use Rattle.kt_graph.specs.Node.{is_leaf};
-ghost use Rattle.kt_graph.specs.Paths.{always_name, is_reserved};
+ghost use Rattle.kt_graph.specs.Paths.{canon_of, is_reserved};
 
 use crate::node::Node;
 use crate::nodes::Nodes;
@@ -14,26 +14,66 @@ use crate::spelling::is_canonical;
 use indexmap::IndexMap;
 use std::alloc::{AllocError, Global};
 
-/// The files of made names, and whether a name, made or not, is kati's own.
+/// Whether a name, made or not, is kati's own.
+pub(crate) fn has_always(alloc: Global, nodes: Nodes<'_>) -> Result<bool, AllocError>
+    ensures { IfOk result (λ has. has ≡ list_any (λ node. is_reserved node.name) nodes.entry) }
+{
+    for node in nodes {
+        if is_always_name(alloc, node.name())? {
+            return Ok(true);
+        }
+    }
+    Ok(false)
+}
+
+fn is_always_name(alloc: Global, name: &[u8]) -> Result<bool, AllocError>
+    ensures { IfOk result (λ is. is ≡ is_reserved name.now) }
+{
+    if is_canonical(name) {
+        return Ok(is_always(name));
+    }
+    let file = canon(alloc, name)?;
+    Ok(is_always(file.as_slice()))
+}
+
+/// Whether each made name is the one spelling of its file, so that no two of them have one file. Takes
+/// no memory.
+pub(crate) fn are_canonical(nodes: Nodes<'_>) -> bool
+    ensures { result ≡ true → All (λ name. canon_of name ≡ name) (made_names nodes.entry) }
+{
+    for node in nodes {
+        if !is_canonical_if_made(&node) {
+            return false;
+        }
+    }
+    true
+}
+
+fn is_canonical_if_made(node: &Node<'_>) -> bool
+    ensures { result ≡ true → All (λ name. canon_of name ≡ name) (made_names (node.now ∷ [])) }
+{
+    if !node.is_made() {
+        return true;
+    }
+    is_canonical(node.name())
+}
+
+/// The files of made names.
 #[derive(Drop)]
 pub(crate) struct Files {
     alloc: Global,
     // Each file with whether several made names have it.
     several: IndexMap<Vec<u8>, bool>,
-    has_always: bool,
 }
 
 impl Files {
     /// The files of nodes.
     pub(crate) fn of(alloc: Global, nodes: Nodes<'_>) -> Result<Files, AllocError>
-        ensures reserved { IfOk result
-            (λ files. files.has_always ≡ list_any (λ node. is_reserved node.name) nodes.entry) }
-        ensures made { IfOk result (λ files. HasFiles files (made_names nodes.entry)) }
+        ensures { IfOk result (λ files. HasFiles files (made_names nodes.entry)) }
     {
         let mut files = Files {
             alloc,
             several: IndexMap::new(alloc),
-            has_always: false,
         };
         for node in nodes {
             files.add(&node)?;
@@ -42,44 +82,24 @@ impl Files {
     }
 
     fn add(&mut self, node: &Node<'_>) -> Result<(), AllocError>
-        ensures reserved { OnOk result (self.new.has_always ≡ (self.old.has_always || is_reserved node.now.name)) }
-        ensures made { OnOk result ((names : List Text) → HasFiles self.old names
+        ensures { OnOk result ((names : List Text) → HasFiles self.old names
             → HasFiles self.new (names ++ made_names (node.now ∷ []))) }
     {
-        if !node.is_made() && is_canonical(node.name()) {
-            self.has_always = self.has_always_with(node.name());
+        if !node.is_made() {
             return Ok(());
         }
         let file = canon(self.alloc, node.name())?;
-        self.has_always = self.has_always_with(file.as_slice());
-        if node.is_made() {
-            self.add_file(file)?;
-        }
-        Ok(())
-    }
-
-    fn has_always_with(&self, file: &[u8]) -> bool
-        ensures { result ≡ (self.now.has_always || bytes_eq file.now always_name) }
-    {
-        self.has_always || is_always(file)
+        self.add_file(file)
     }
 
     fn add_file(&mut self, file: Vec<u8>) -> Result<(), AllocError>
-        ensures same { OnOk result (self.new.has_always ≡ self.old.has_always) }
-        ensures added { OnOk result ((other : Text) → held_for self.new.several.entries other
+        ensures { OnOk result ((other : Text) → held_for self.new.several.entries other
             ≡ (if bytes_eq other file.items then Some (is_some (held_for self.old.several.entries file.items))
             else held_for self.old.several.entries other)) }
     {
         let is_known = self.several.contains_key(file.as_slice());
         self.several.insert(file, is_known)?;
         Ok(())
-    }
-
-    /// Whether a name is kati's own.
-    pub(crate) fn has_always(&self) -> bool
-        ensures { result ≡ self.now.has_always }
-    {
-        self.has_always
     }
 
     /// The first made name whose file has another made name.

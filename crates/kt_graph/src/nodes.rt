@@ -1,11 +1,15 @@
 //! What makes each name that goals need, as the crates above see it.
 ghost use Rattle.std.specs.Prelude.{◌≡◌, ◌∷◌, [], All, List, MatchOption, bytes_eq, find, length, map, not, option_map};
 ghost use Rattle.std.specs.Prelude.{IfOk};
+ghost use Rattle.std.specs.Cmp.Lexicographic.{slice_cmp};
 ghost use Rattle.std.specs.Iterator.{YieldsFirstBy, item_count};
+ghost use Rattle.std.specs.List.Sorted.{IsStrictlySortedBy};
+ghost use Rattle.std.specs.Ordering.{nat_cmp};
 ghost use Rattle.kt_text.specs.Words.{Text};
 ghost use Rattle.kt_rules.specs.Entry.{Rule};
 ghost use Rattle.kt_graph.specs.Faults.{IsFileTrouble};
 ghost use Rattle.kt_graph.specs.Groups.{groups_of};
+ghost use Rattle.kt_graph.specs.inner.Files.{is_repeated, made_names};
 ghost use Rattle.kt_graph.specs.inner.Numbering.{HasNumbers};
 ghost use Rattle.kt_graph.specs.Reach.{ComesFirst, IsCyclic, IsFirst, IsGraph};
 ghost use Rattle.kt_graph.specs.inner.Settling.{IsDone};
@@ -15,7 +19,7 @@ ghost use Rattle.kt_graph.specs.Views.{node_at, nodes_told, trouble_told};
 use crate::byte_order::byte_order;
 use crate::cycles::first_circular;
 use crate::edges::Edges;
-use crate::files::Files;
+use crate::files::{Files, are_canonical, has_always};
 use crate::grouping::grouped;
 use crate::known::Known;
 use crate::node::{Instance, Node, name_of};
@@ -99,7 +103,7 @@ impl<'a> Graph<'a> {
     pub(crate) fn reached(
         alloc: Global,
         book: &'a Book,
-        known: &'a Known,
+        known: &'a Known<'a>,
         goals: &[Name],
     ) -> Result<Graph<'a>, AllocError>
         ensures { IfOk result (IsGraph book.now known.now goals.now) }
@@ -194,14 +198,26 @@ impl<'a> Graph<'a> {
             → IsGraph rules known goals self.now
             → IsFileTrouble rules known goals (option_map trouble_told trouble)) }
     {
-        let files = Files::of(self.alloc, self.nodes())?;
-        if files.has_always() {
+        if has_always(self.alloc, self.nodes())? {
             return Ok(Some(Trouble::Reserved));
         }
-        match files.first_repeated(self.nodes())? {
+        match self.first_repeated()? {
             Some(name) => Ok(Some(Trouble::OneFile(name))),
             None => Ok(None),
         }
+    }
+
+    // The first made name whose file has another made name.
+    fn first_repeated(&self) -> Result<Option<&[u8]>, AllocError>
+        ensures { IfOk result (λ found. IsStrictlySortedBy (slice_cmp nat_cmp) (map (λ node. node.name) self.now)
+            → option_map (λ name. name.now) found ≡ find (is_repeated (made_names self.now)) (made_names self.now)) }
+    {
+        // Names differ, so two of one file aren't both its one spelling.
+        if are_canonical(self.nodes()) {
+            return Ok(None);
+        }
+        let files = Files::of(self.alloc, self.nodes())?;
+        files.first_repeated(self.nodes())
     }
 }
 

@@ -4,8 +4,8 @@ use Rattle.kt_graph.specs.inner.Files.{held_for}
 use Rattle.kt_graph.proofs.FileLemmas.{held_after}
 use Rattle.kt_graph.proofs.files.Files.add_file.Goals as goal
 
-pub returns-clause-added : goal.returns-clause-added
-returns-clause-added c = λ other.
+pub returns : goal.returns
+returns c = λ other.
     let known = rw c.as_slice.ensures.value at c.contains_key-is_known.ensures in
     held_after c.args.self.now.several.entries c.insert.new.self.entries c.args.file.items c.contains_key-is_known.result
     c.in_ok-insert.ensures.updates.3 c.in_ok-insert.ensures.updates.1 other
