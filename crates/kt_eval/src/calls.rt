@@ -74,9 +74,7 @@ fn word_end(text: &[u8]) -> usize
     ensures value { result ≡ position_or_len is_separator text.now }
     ensures bound { result ≤ length text.now }
 {
-    text.iter()
-        .take_while(|byte| !is_separator(**byte))
-        .count()
+    text.iter().take_while(|byte| !is_separator(**byte)).count()
 }
 
 // The arguments, cut at commas outside nested marks of the reference's own kind.

@@ -76,7 +76,11 @@ fn told<'g>(
 {
     match only_name(node, part, subject) {
         Some(name) => text(alloc, form, [name].as_slice()),
-        None => text(alloc, form, names_in(alloc, node, part, subject)?.as_slice()),
+        None => text(
+            alloc,
+            form,
+            names_in(alloc, node, part, subject)?.as_slice(),
+        ),
     }
 }
 

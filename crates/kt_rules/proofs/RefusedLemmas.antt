@@ -14,8 +14,10 @@ fewer : (test : ℕ → Bool) (text : Text) → ((byte : ℕ) → is_telling byt
     → list_any test text ≡ false
 fewer test [] implies none = refl
 fewer test (byte ∷ text) implies none =
-    rw (implies byte (first_false (is_telling byte) (list_any is_telling text) none),
-    fewer test text implies (rest_false (is_telling byte) (list_any is_telling text) none)) refl
+    rw (
+      implies byte (first_false (is_telling byte) (list_any is_telling text) none),
+      fewer test text implies (rest_false (is_telling byte) (list_any is_telling text) none),
+    ) refl
 
 no_wildcard : (byte : ℕ) → is_telling byte ≡ false → is_wildcard byte ≡ false
 no_wildcard byte none = first_false (is_wildcard byte) (byte == 92 || (byte == 126 || byte == 41)) none
@@ -60,5 +62,9 @@ no_member text none = rw (begins_otherwise 41 (drop (length text - 1) text) (sta
 pub plain_name_taken : (name : Text) → list_any is_telling name ≡ false → is_refused_name name ≡ false
 unfolding is_refused_name
 plain_name_taken name none =
-    rw (fewer is_wildcard name no_wildcard none, quotes_no_percent name (fewer (λ b. b == 92) name no_backslash none),
-    tilde_first name (fewer (λ b. b == 126) name no_tilde none), no_member name (fewer (λ b. b == 41) name no_closing none)) refl
+    rw (
+      fewer is_wildcard name no_wildcard none,
+      quotes_no_percent name (fewer (λ b. b == 92) name no_backslash none),
+      tilde_first name (fewer (λ b. b == 126) name no_tilde none),
+      no_member name (fewer (λ b. b == 41) name no_closing none),
+    ) refl

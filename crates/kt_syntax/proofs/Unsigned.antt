@@ -34,9 +34,15 @@ beginless (byte ∷ needle) (first ∷ text) none some =
 pub no_sign_no_operator : (text : Text) → list_any is_sign text ≡ false → operator_of text ≡ None
 unfolding operator_of
 no_sign_no_operator text none =
-    rw (beginless (codes "=") text none refl, beginless (codes ":=") text none refl, beginless (codes "::=") text none refl,
-    beginless (codes ":::=") text none refl, beginless (codes "?=") text none refl, beginless (codes "+=") text none refl,
-    beginless (codes "!=") text none refl) refl
+    rw (
+      beginless (codes "=") text none refl,
+      beginless (codes ":=") text none refl,
+      beginless (codes "::=") text none refl,
+      beginless (codes ":::=") text none refl,
+      beginless (codes "?=") text none refl,
+      beginless (codes "+=") text none refl,
+      beginless (codes "!=") text none refl,
+    ) refl
 
 none_dropped : (count : ℕ) (text : Text) → list_any is_sign text ≡ false → list_any is_sign (drop count text) ≡ false
 none_dropped zero text none = none

@@ -82,14 +82,18 @@ fn word_run(text: &[u8]) -> usize
     ensures value { result ≡ position_or_len ends_own_word text.now }
     ensures bound { result ≤ length text.now }
 {
-    text.iter().take_while(|byte| !ends_own_word(**byte)).count()
+    text.iter()
+        .take_while(|byte| !ends_own_word(**byte))
+        .count()
 }
 
 fn name_run(text: &[u8]) -> usize
     ensures value { result ≡ position_or_len ends_own_name text.now }
     ensures bound { result ≤ length text.now }
 {
-    text.iter().take_while(|byte| !ends_own_name(**byte)).count()
+    text.iter()
+        .take_while(|byte| !ends_own_name(**byte))
+        .count()
 }
 
 fn is_mark(byte: u8) -> bool
@@ -109,7 +113,10 @@ fn ends_own_word(byte: u8) -> bool
 fn ends_own_name(byte: u8) -> bool
     ensures { result ≡ ends_own_name byte }
 {
-    matches!(byte, b' ' | b'\t' | b'$' | b'\\' | b'=' | b':' | b'?' | b'+' | b'!')
+    matches!(
+        byte,
+        b' ' | b'\t' | b'$' | b'\\' | b'=' | b':' | b'?' | b'+' | b'!'
+    )
 }
 
 // The byte at a place, or 0 after the end.

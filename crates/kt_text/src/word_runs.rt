@@ -77,7 +77,5 @@ fn word_end(text: &[u8]) -> usize
     ensures bound { result ≤ length text.now }
 {
     // Words are short: a loop is quicker than a search by wide registers.
-    text.iter()
-        .take_while(|byte| !is_separator(**byte))
-        .count()
+    text.iter().take_while(|byte| !is_separator(**byte)).count()
 }
