@@ -1,5 +1,6 @@
 //! The automatic macros of recipes.
-ghost use Rattle.std.specs.Prelude.{◌≡◌, [], ◌∷◌, ◌++◌, IfOk, IfSome, OnOk, filter, map, not, option_map, slice_get, take};
+ghost use Rattle.std.specs.Prelude.{◌≡◌, [], ◌∷◌, ◌++◌, IfOk, IfSome, OnOk, filter, map, not, option_map};
+ghost use Rattle.std.specs.Prelude.{slice_get, take};
 ghost use Rattle.kt_text.specs.Words.{is_nonempty};
 ghost use Rattle.kt_rules.specs.Names.{is_among, without_repeats};
 ghost use Rattle.kt_graph.specs.Views.{part_needed, part_order_only, part_stem};
