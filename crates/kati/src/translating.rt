@@ -177,11 +177,11 @@ fn planned_goals(
 }
 
 // The plan of these goals, where these names are known.
-fn planned_known<'a>(
+fn planned_known(
     alloc: Global,
     args: &Args,
-    known: &'a Known<'a>,
-    makefile: &'a Makefile,
+    known: &Known,
+    makefile: &Makefile,
     goals: Vec<Name>,
     messages: &mut Vec<Sequence<u8>>,
 ) -> Result<Plan, Stop>

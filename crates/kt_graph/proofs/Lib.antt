@@ -41,4 +41,3 @@ pub mod ResolutionLemmas
 pub mod GroupingLemmas
 pub mod EndLemmas
 pub mod NotingLemmas
-pub mod KnownLemmas

@@ -36,11 +36,11 @@ const CHAIN_LIMIT: usize = 8;
 pub(crate) struct Chains<'a> {
     alloc: Global,
     patterns: Patterns<'a>,
-    known: &'a Known<'a>,
+    known: &'a Known,
 }
 
 impl<'a> Chains<'a> {
-    pub(crate) fn new(alloc: Global, patterns: Patterns<'a>, known: &'a Known<'a>) -> Chains<'a>
+    pub(crate) fn new(alloc: Global, patterns: Patterns<'a>, known: &'a Known) -> Chains<'a>
         ensures patterns { result.patterns ≡ patterns.entry }
         ensures known { result.known ≡ known.entry }
     {

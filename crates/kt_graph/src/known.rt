@@ -12,25 +12,26 @@ use std::marker::Model;
 
 /// The names that are known: those of a list of files, those of explicit rules, and the phony ones.
 ///
-/// A known name needs no rule where a pattern rule needs it. The names stay in the book and the list.
+/// A known name needs no rule where a pattern rule needs it.
 #[derive(Drop)]
-pub struct Known<'a> {
-    names: IndexSet<&'a [u8]>,
+pub struct Known {
+    alloc: Global,
+    names: IndexSet<Vec<u8>>,
 }
 
-impl<'a> Model for Known<'a> {
+impl Model for Known {
     ghost use Rattle.std.specs.Prelude.{ℕ, List, map};
 
     ghost Value = { List (List ℕ) };
 
-    ghost view = { λ known. map (λ name. name.now) known.names.keys };
+    ghost view = { λ known. map (λ name. name.items) known.names.keys };
 }
 
-impl<'a> Known<'a> {
+impl Known {
     /// The names that a book and a list of files make known. The list has a name a line; empty lines
     /// say nothing.
     #[tactic(auto, unfolding(crate::specs::Known::known_names, kt_rules::specs::Names::without_repeats))]
-    pub fn of(alloc: Global, book: &'a Book, files: &'a [u8]) -> Result<Known<'a>, AllocError>
+    pub fn of(alloc: Global, book: &Book, files: &[u8]) -> Result<Known, AllocError>
         ensures { IfOk result (λ known. known ≡ known_names book.now files.now) }
     {
         let mut known = Known::none(alloc);
@@ -48,17 +49,18 @@ impl<'a> Known<'a> {
         self.names.contains(name)
     }
 
-    fn none(alloc: Global) -> Known<'a>
+    fn none(alloc: Global) -> Known
         ensures { result ≡ [] }
     {
         Known {
+            alloc,
             names: IndexSet::new(alloc),
         }
     }
 
     // Adds the names of a list, one a line.
     #[tactic(auto, unfolding(crate::specs::Known::listed_names))]
-    fn add_listed(&mut self, files: &'a [u8]) -> Result<(), AllocError>
+    fn add_listed(&mut self, files: &[u8]) -> Result<(), AllocError>
         ensures { OnOk result (self.new ≡ fold with_name self.old (listed_names files.now)) }
     {
         for name in files.lines() {
@@ -70,7 +72,7 @@ impl<'a> Known<'a> {
     }
 
     // Adds what an entry makes known.
-    fn add_entry(&mut self, book: &Book, entry: &'a Entry) -> Result<(), AllocError>
+    fn add_entry(&mut self, book: &Book, entry: &Entry) -> Result<(), AllocError>
         ensures { OnOk result (self.new ≡ fold with_name self.old (named_by (suffixes_of book.now) entry.now)) }
     {
         self.add_explicit(book, entry)?;
@@ -81,7 +83,7 @@ impl<'a> Known<'a> {
     }
 
     // Adds the targets for which an entry is an explicit rule, and what they need.
-    fn add_explicit(&mut self, book: &Book, entry: &'a Entry) -> Result<(), AllocError>
+    fn add_explicit(&mut self, book: &Book, entry: &Entry) -> Result<(), AllocError>
         ensures { OnOk result (self.new
             ≡ fold with_name self.old (flat_map (named_with (suffixes_of book.now) entry.now) entry.now.targets)) }
     {
@@ -94,14 +96,14 @@ impl<'a> Known<'a> {
         Ok(())
     }
 
-    fn add_needs(&mut self, needs: &'a Needs) -> Result<(), AllocError>
+    fn add_needs(&mut self, needs: &Needs) -> Result<(), AllocError>
         ensures { OnOk result (self.new ≡ fold with_name self.old (all_needs needs.now)) }
     {
         self.add_all(needs.prerequisites.as_slice())?;
         self.add_all(needs.order_only.as_slice())
     }
 
-    fn add_all(&mut self, names: &'a [Name]) -> Result<(), AllocError>
+    fn add_all(&mut self, names: &[Name]) -> Result<(), AllocError>
         ensures { OnOk result (self.new ≡ fold with_name self.old names.now) }
     {
         for name in names {
@@ -111,10 +113,12 @@ impl<'a> Known<'a> {
     }
 
     // Adds a name after the others, if it isn't among them.
-    fn add(&mut self, name: &'a [u8]) -> Result<(), AllocError>
+    fn add(&mut self, name: &[u8]) -> Result<(), AllocError>
         ensures { OnOk result (self.new ≡ with_name self.old name.now) }
     {
-        self.names.insert(name)?;
+        if !self.contains(name) {
+            self.names.insert(Vec::from_slice(self.alloc, name)?)?;
+        }
         Ok(())
     }
 }

@@ -103,7 +103,7 @@ impl<'a> Graph<'a> {
     pub(crate) fn reached(
         alloc: Global,
         book: &'a Book,
-        known: &'a Known<'a>,
+        known: &'a Known,
         goals: &[Name],
     ) -> Result<Graph<'a>, AllocError>
         ensures { IfOk result (IsGraph book.now known.now goals.now) }

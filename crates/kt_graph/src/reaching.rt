@@ -18,7 +18,7 @@ use std::alloc::Global;
 pub fn graph<'a>(
     alloc: Global,
     book: &'a Book,
-    known: &'a Known<'a>,
+    known: &'a Known,
     goals: &[Name],
 ) -> Result<Graph<'a>, GraphFault>
     ensures graph { IfOk result (IsSoundGraph book.now known.now goals.now) }

@@ -49,11 +49,7 @@ impl<'a> Search<'a> {
     ghost use Rattle.kt_graph.specs.Search.{Searching};
 
     /// A search that was asked nothing yet.
-    pub fn new(
-        alloc: Global,
-        book: &'a Book,
-        known: &'a Known<'a>,
-    ) -> Result<Search<'a>, AllocError>
+    pub fn new(alloc: Global, book: &'a Book, known: &'a Known) -> Result<Search<'a>, AllocError>
         ensures { IfOk result (λ search. search ≡ record {
           rules = patterns_of book.now;
           known = known.now;

@@ -38,7 +38,7 @@ use std::alloc::{AllocError, Global};
 pub(crate) struct Settling<'a> {
     alloc: Global,
     book: &'a Book,
-    known: &'a Known<'a>,
+    known: &'a Known,
     // Over this book and these names.
     search: Search<'a>,
     pub(crate) numbers: Numbers,
@@ -50,7 +50,7 @@ impl<'a> Settling<'a> {
     pub(crate) fn new(
         alloc: Global,
         book: &'a Book,
-        known: &'a Known<'a>,
+        known: &'a Known,
     ) -> Result<Settling<'a>, AllocError>
         ensures over { IfOk result IsOver }
         ensures begun { IfOk result (λ settling. (settling.book ≡ book.entry) × (settling.known ≡ known.entry)
