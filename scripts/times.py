@@ -17,6 +17,7 @@ import signal
 import subprocess
 import sys
 import tempfile
+import threading
 import time
 from pathlib import Path
 
@@ -91,14 +92,15 @@ class Tool:
             start = time.perf_counter()
             process = subprocess.Popen(words, cwd=folder, stdin=subprocess.DEVNULL, stdout=out, stderr=subprocess.DEVNULL,
                                        start_new_session=True, preexec_fn=self.take_stack)
-            try:
-                status = process.wait(timeout=limit)
-            except subprocess.TimeoutExpired:
-                os.killpg(process.pid, signal.SIGKILL)
-                process.wait()
-                self.status, self.seconds = "no end", None
-                return
+            # A wait with a limit of its own looks only every 50 milliseconds.
+            ends = threading.Timer(limit, os.killpg, (process.pid, signal.SIGKILL))
+            ends.start()
+            status = process.wait()
             seconds = time.perf_counter() - start
+            ends.cancel()
+        if seconds >= limit:
+            self.status, self.seconds = "no end", None
+            return
         self.status = status
         self.seconds = seconds if self.seconds is None else min(self.seconds, seconds)
         self.bytes = max(self.bytes, int(note.read_text().split()[-1]) * 1024)
