@@ -1,8 +1,8 @@
 -- Texts without a backslash, in which nothing is quoted, and texts without a colon, which aren't cut.
-use Rattle.std.proofs.Common.{◌≡◌, ℕ, suc, ◌+◌, ◌<◌, ◌≤◌, Bool, true, false, [], ◌∷◌, Option, None, Some, length, refl, sym, ◌∙◌, ap, arith, true≢false, get_or, take, drop}
-use Rattle.std.specs.Prelude.{◌==◌, ◌||◌, if◌then◌else◌}
+use Rattle.std.proofs.Common.{◌≡◌, ℕ, suc, ◌+◌, ◌<◌, ◌≤◌, Bool, false, [], ◌∷◌, Option, None, Some, length, refl, sym, ◌∙◌, ap, arith, true≢false, get_or, take, drop}
+use Rattle.std.specs.Prelude.{◌==◌, if◌then◌else◌}
 use Rattle.std.specs.List.{list_any, position_or_len}
-use Rattle.std.proofs.lemmas.Bool.{eq-eqb, le-ltb}
+use Rattle.std.proofs.lemmas.Bool.{eq-eqb, le-ltb, or_parts}
 use Rattle.std.proofs.lemmas.List.Folds.{list_any_at}
 use Rattle.memchr.specs.Find.{IsFirstByte, OccursAt, is_byte}
 use Rattle.kt_text.specs.Words.{Text}
@@ -16,14 +16,6 @@ use Rattle.kt_rules.specs.RuleLine.{colon_cut}
 abbrev is_backslash : ℕ → Bool
 is_backslash byte = byte == 92
 
-pub first_false : (a b : Bool) → (a || b) ≡ false → a ≡ false
-first_false false b h = refl
-first_false true b h = h
-
-pub rest_false : (a b : Bool) → (a || b) ≡ false → b ≡ false
-rest_false false b h = h
-rest_false true b h = absurd (true≢false h)
-
 one_stays : (byte : ℕ) (text : Text) → is_backslash byte ≡ false → unquoted (byte ∷ text) ≡ byte ∷ unquoted text
 unfolding unquoted
 one_stays byte text h = rw h refl
@@ -32,8 +24,8 @@ pub quotes_nothing : (text : Text) → list_any is_backslash text ≡ false → 
 unfolding unquoted
 quotes_nothing [] none = refl
 quotes_nothing (byte ∷ text) none =
-    one_stays byte text (first_false (is_backslash byte) (list_any is_backslash text) none)
-    ∙ ap (λ (t : Text). byte ∷ t) (quotes_nothing text (rest_false (is_backslash byte) (list_any is_backslash text) none))
+    one_stays byte text (or_parts (is_backslash byte) (list_any is_backslash text) none).0
+    ∙ ap (λ (t : Text). byte ∷ t) (quotes_nothing text (or_parts (is_backslash byte) (list_any is_backslash text) none).1)
 
 stands_nowhere : (text : Text) → list_any is_backslash text ≡ false → (k : ℕ) → 0 ≤ k → k < length text + 1
     → ¬ OccursAt text (92 ∷ 37 ∷ []) k
@@ -54,8 +46,8 @@ never_cut : (behind : Bool) (text : Text) → list_any (is_byte 58) text ≡ fal
 unfolding cut_place
 never_cut behind [] none = refl
 never_cut behind (byte ∷ text) none =
-    uncut behind byte text (first_false (byte == 58) (list_any (is_byte 58) text) none)
-    ∙ ap (λ n. suc n) (never_cut (byte == 92) text (rest_false (byte == 58) (list_any (is_byte 58) text) none))
+    uncut behind byte text (or_parts (byte == 58) (list_any (is_byte 58) text) none).0
+    ∙ ap (λ n. suc n) (never_cut (byte == 92) text (or_parts (byte == 58) (list_any (is_byte 58) text) none).1)
     ∙ omega arith
 
 not_found : (text : Text) → IsFirstByte (is_byte 58) text None → list_any (is_byte 58) text ≡ false

@@ -1,12 +1,13 @@
 -- Runs of bytes that are their own symbols: where they end, the walk over symbols is.
 use Rattle.std.proofs.Common.{◌≡◌, ◌==◌, ◌||◌, ◌&&◌, ◌≤◌, ◌-◌, ◌+◌, ℕ, zero, suc, Bool, true, false, not, List, [], ◌∷◌, length, take, drop, refl, sym, ap, ◌∙◌, arith, ⊎_elim, true≢false}
-use Rattle.std.proofs.lemmas.Bool.{cases_Bool, eqb-true, eq-eqb, false_from_ne_true}
+use Rattle.std.proofs.lemmas.Bool.{and_right, cases_Bool, eqb-true, or_parts, or_right}
 use Rattle.std.proofs.lemmas.List.{drop-drop}
 use Rattle.std.specs.Prelude.{slice_index, None, is_some}
 use Rattle.std.specs.List.{position_or_len, prefix_len, slice_range}
 use Rattle.kt_text.specs.Words.{Text, is_blank}
+use Rattle.kt_text.proofs.PlaceLemmas.{differ_turned}
 use Rattle.kt_syntax.proofs.Masking.{mask_from-nil, step-outside}
-use Rattle.kt_syntax.proofs.OwnSymbols.{behind_own, or_parts, own_byte}
+use Rattle.kt_syntax.proofs.OwnSymbols.{behind_own, own_byte, run_no, run_yes}
 use Rattle.kt_syntax.specs.Kinds.{name_end, operator_of, past_blanks, past_word}
 use Rattle.kt_syntax.specs.Mask.{inside, mask_byte, mask_from, mask_of, more_masked}
 use Rattle.kt_syntax.specs.inner.OwnRuns.{begins_operator, ends_own_name, ends_own_word, is_mark}
@@ -16,12 +17,6 @@ prefix_yes test byte bytes h = rw h (omega arith)
 
 prefix_no : (test : ℕ → Bool) (byte : ℕ) (bytes : List ℕ) → test byte ≡ false → prefix_len test (byte ∷ bytes) ≡ 0
 prefix_no test byte bytes h = rw h refl
-
-run_yes : (ends : ℕ → Bool) (byte : ℕ) (bytes : List ℕ) → ends byte ≡ true → position_or_len ends (byte ∷ bytes) ≡ 0
-run_yes ends byte bytes h = rw h refl
-
-run_no : (ends : ℕ → Bool) (byte : ℕ) (bytes : List ℕ) → ends byte ≡ false → position_or_len ends (byte ∷ bytes) ≡ suc (position_or_len ends bytes)
-run_no ends byte bytes h = rw h (omega arith)
 
 -- a blank is no mark
 blank_unmarked : (byte : ℕ) → is_blank byte ≡ true → is_mark byte ≡ false
@@ -64,10 +59,6 @@ blanks_run (suc count) symbol (byte ∷ text) h =
     run ∙ sym (blanks_end count symbol byte text other stop))
     (cases_Bool (is_blank byte))
 
-or_true : (a b : Bool) → b ≡ true → (a || b) ≡ true
-or_true true b h = refl
-or_true false b h = h
-
 -- a word, up to a byte that is no mark
 word_run : (count symbol : ℕ) (text : Text) → is_mark (slice_index (take count text) (position_or_len ends_own_word (take count text))) ≡ false
     → position_or_len ends_own_word (take count text) ≡ position_or_len is_blank (take count (mask_from 0 symbol false text))
@@ -75,7 +66,7 @@ word_run zero symbol text h = refl
 word_run (suc count) symbol [] h = ap (λ (mask : List ℕ). position_or_len is_blank (take (suc count) mask)) (sym (mask_from-nil 0 symbol false))
 word_run (suc count) symbol (byte ∷ text) h =
     ⊎_elim (λ (mark : is_mark byte ≡ true).
-    let run = run_yes ends_own_word byte (take count text) (or_true (is_blank byte) (is_mark byte) mark) in
+    let run = run_yes ends_own_word byte (take count text) (or_right (is_blank byte) (is_mark byte) mark) in
     absurd (true≢false (sym mark ∙ ap (λ n. is_mark (slice_index (byte ∷ take count text) n)) (sym run) ∙ h)))
     (λ (free : is_mark byte ≡ false).
     let own = ap (λ (mask : List ℕ). position_or_len is_blank (take (suc count) mask)) (own_byte symbol byte text free) in
@@ -91,13 +82,6 @@ word_run (suc count) symbol (byte ∷ text) h =
     (cases_Bool (is_blank byte)))
     (cases_Bool (is_mark byte))
 
-pub and_false : (a b : Bool) → b ≡ false → (a && b) ≡ false
-and_false true b h = h
-and_false false b h = refl
-
-turned : (byte other : ℕ) → (byte == other) ≡ false → (other == byte) ≡ false
-turned byte other h = false_from_ne_true (other == byte) (λ e. true≢false (sym (eq-eqb byte other (sym (eqb-true other byte e))) ∙ h))
-
 no_operator : (byte : ℕ) (text : Text) → begins_operator byte ≡ false → operator_of (byte ∷ text) ≡ None
 unfolding operator_of
 no_operator byte text h =
@@ -105,7 +89,13 @@ no_operator byte text h =
     let three = or_parts (byte == 61 || byte == 58 || byte == 63) (byte == 43) four.0 in
     let two = or_parts (byte == 61 || byte == 58) (byte == 63) three.0 in
     let one = or_parts (byte == 61) (byte == 58) two.0 in
-    rw (turned byte 61 one.0, turned byte 58 one.1, turned byte 63 two.1, turned byte 43 three.1, turned byte 33 four.1) refl
+    rw (
+      differ_turned byte 61 one.0,
+      differ_turned byte 58 one.1,
+      differ_turned byte 63 two.1,
+      differ_turned byte 43 three.1,
+      differ_turned byte 33 four.1,
+    ) refl
 
 -- such a byte doesn't end a name
 name_goes_on : (place byte : ℕ) (mask : List ℕ) (text : Text) → ends_own_name byte ≡ false
@@ -119,7 +109,7 @@ name_goes_on place byte mask text h =
     let two = or_parts (byte == 61 || byte == 58) (byte == 63) three.0 in
     let one = or_parts (byte == 61) (byte == 58) two.0 in
     let none : (not (byte == inside) && is_some (operator_of (byte ∷ text))) ≡ false
-    = and_false (not (byte == inside)) (is_some (operator_of (byte ∷ text))) (ap is_some (no_operator byte text parts.1)) in
+    = and_right (not (byte == inside)) (is_some (operator_of (byte ∷ text))) (ap is_some (no_operator byte text parts.1)) in
     rw (word.0, none, one.1) refl
 
 name_run : (count place symbol : ℕ) (text : Text)

@@ -1,17 +1,12 @@
 -- Bytes before the first dollar and backslash of a line are their own symbols.
-use Rattle.std.proofs.Common.{◌≡◌, ◌==◌, ◌||◌, ◌≤◌, ◌-◌, ℕ, zero, suc, Bool, true, false, List, [], ◌∷◌, ◌++◌, length, take, drop, refl, sym, ap, ◌∙◌, arith, ⊎_elim, true≢false, length-take-le}
-use Rattle.std.proofs.lemmas.Bool.{cases_Bool}
+use Rattle.std.proofs.Common.{◌≡◌, ◌==◌, ◌≤◌, ◌-◌, ℕ, zero, suc, Bool, true, false, List, [], ◌∷◌, ◌++◌, length, take, drop, refl, sym, ap, ◌∙◌, arith, ⊎_elim, length-take-le}
+use Rattle.std.proofs.lemmas.Bool.{cases_Bool, or_parts}
 use Rattle.std.proofs.Math.Seq.{drop-append_seam}
 use Rattle.std.specs.List.{position_or_len}
 use Rattle.kt_text.specs.Words.{Text}
 use Rattle.kt_syntax.proofs.Masking.{step-outside, take_nil}
 use Rattle.kt_syntax.specs.Mask.{mask_from, mask_of, more_masked, goes_odd}
 use Rattle.kt_syntax.specs.inner.OwnRuns.{is_mark}
-
-pub or_parts : (a b : Bool) → (a || b) ≡ false → (a ≡ false) × (b ≡ false)
-or_parts false false h = (refl, refl)
-or_parts false true h = absurd (true≢false h)
-or_parts true b h = absurd (true≢false h)
 
 -- before a text that nothing reaches into, the last symbol counts for nothing
 same_symbol : (symbol other : ℕ) (text : Text) → mask_from 0 symbol false text ≡ mask_from 0 other false text
@@ -29,11 +24,12 @@ pub own_step : (skip symbol : ℕ) (odd : Bool) (byte : ℕ) (text : Text) → s
 unfolding more_masked
 own_step skip symbol odd byte text none dollar backslash = step-outside skip symbol odd byte text 0 byte none (rw (dollar, backslash) refl) (rw dollar refl)
 
-position-yes : (byte : ℕ) (text : Text) → is_mark byte ≡ true → position_or_len is_mark (byte ∷ text) ≡ 0
-position-yes byte text h = rw h refl
+-- where a run of bytes ends, one byte at a time
+pub run_yes : (ends : ℕ → Bool) (byte : ℕ) (bytes : List ℕ) → ends byte ≡ true → position_or_len ends (byte ∷ bytes) ≡ 0
+run_yes ends byte bytes h = rw h refl
 
-position-no : (byte : ℕ) (text : Text) → is_mark byte ≡ false → position_or_len is_mark (byte ∷ text) ≡ suc (position_or_len is_mark text)
-position-no byte text h = rw h (omega arith)
+pub run_no : (ends : ℕ → Bool) (byte : ℕ) (bytes : List ℕ) → ends byte ≡ false → position_or_len ends (byte ∷ bytes) ≡ suc (position_or_len ends bytes)
+run_no ends byte bytes h = rw h (omega arith)
 
 -- the mask of a text of which the first bytes stand before the first dollar and backslash
 pub own_front : (count most symbol : ℕ) (text : Text) → count ≤ position_or_len is_mark (take most text)
@@ -42,9 +38,9 @@ own_front zero most symbol text h = same_symbol symbol 0 text
 own_front (suc count) zero symbol text h = absurd (omega arith)
 own_front (suc count) (suc most) symbol [] h = absurd (omega arith)
 own_front (suc count) (suc most) symbol (byte ∷ text) h =
-    ⊎_elim (λ (yes_mark : is_mark byte ≡ true). absurd (let none = position-yes byte (take most text) yes_mark in omega arith))
+    ⊎_elim (λ (yes_mark : is_mark byte ≡ true). absurd (let none = run_yes is_mark byte (take most text) yes_mark in omega arith))
     (λ (no_mark : is_mark byte ≡ false).
-    let more = position-no byte (take most text) no_mark in
+    let more = run_no is_mark byte (take most text) no_mark in
     own_byte symbol byte text no_mark ∙ ap (λ m. byte ∷ m) (own_front count most byte text (omega arith)))
     (cases_Bool (is_mark byte))
 

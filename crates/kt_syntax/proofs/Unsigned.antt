@@ -1,13 +1,11 @@
 -- Texts without an equals sign, which each operator ends in: they hold no assignment.
 use Rattle.std.proofs.Common.{◌≡◌, ◌==◌, ℕ, zero, suc, Bool, true, false, List, [], ◌∷◌, Option, Some, None, length, drop, refl, sym, ap, ◌∙◌, ⊎_elim, true≢false, arith}
-use Rattle.std.proofs.lemmas.Bool.{cases_Bool, eqb-true, false_from_ne_true, le-ltb}
+use Rattle.std.proofs.lemmas.Bool.{and_right, cases_Bool, eqb-true, false_from_ne_true, le-ltb, or_parts}
 use Rattle.std.specs.Prelude.{codes, is_some, nat_eq}
 use Rattle.std.specs.List.{list_any, position_or_len, starts_with}
 use Rattle.memchr.specs.Find.{IsFirstByte}
 use Rattle.kt_text.specs.Words.{Text}
 use Rattle.kt_text.proofs.MatchLemmas.{list_any-place}
-use Rattle.kt_syntax.proofs.OwnRuns.{and_false}
-use Rattle.kt_syntax.proofs.OwnSymbols.{or_parts}
 use Rattle.kt_syntax.proofs.SymbolLemmas.{not_found as absent_at}
 use Rattle.kt_syntax.specs.Heads.{assigns_after, colon_place, is_target_specific}
 use Rattle.kt_syntax.specs.Kinds.{assignment_parts, name_end, operator_of, parts_after, past_blanks}
@@ -27,7 +25,7 @@ beginless (byte ∷ needle) (first ∷ text) none some =
     rw differ refl)
     (λ (other : is_sign byte ≡ false).
     let later : list_any is_sign needle ≡ true = rw other at some in
-    and_false (nat_eq byte first) (starts_with nat_eq text needle)
+    and_right (nat_eq byte first) (starts_with nat_eq text needle)
     (beginless needle text (or_parts (is_sign first) (list_any is_sign text) none).1 later))
     (cases_Bool (is_sign byte))
 

@@ -1,2 +1,3 @@
 -- What only contracts of private functions and proofs cite: nothing here has to be read to know what is promised.
 pub mod OwnRuns
+pub mod Places

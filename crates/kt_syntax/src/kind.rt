@@ -4,6 +4,7 @@ ghost use Rattle.std.specs.Str.{bytes_eq};
 ghost use Rattle.kt_syntax.specs.Kinds.{assignment_parts, block_word, directive_of, ends_name, include_word};
 ghost use Rattle.kt_syntax.specs.Kinds.{is_refused_word, kind_of, kind_told, name_end, operator_of, worded};
 ghost use Rattle.kt_syntax.specs.Mask.{mask_of};
+ghost use Rattle.kt_syntax.specs.inner.Places.{ArePartsAt, IsBetween, StandsWithin, first_symbols};
 
 use crate::form::{Directive, Form, Operator};
 use crate::mask::Mask;
@@ -48,10 +49,8 @@ pub(crate) struct Parts {
 pub(crate) fn assignment(text: &[u8], begin: usize, end: usize) -> Option<Parts>
     requires order { begin ≤ end }
     requires within { end ≤ length text.now }
-    ensures value { option_map (λ parts. record { name = parts.name; operator = parts.operator; value = parts.value })
-        result ≡ assignment_parts text.now (take end (mask_of text.now)) begin }
-    ensures bounds { IfSome result (λ parts. (begin ≤ parts.name) × (parts.name ≤ length text.now)
-        × (parts.value ≤ length text.now)) }
+    ensures value { ArePartsAt begin end text.now result }
+    ensures bounds { IfSome result (StandsWithin begin text.now) }
 {
     match memchr(b'=', text) {
         None => None,
@@ -64,10 +63,8 @@ pub(crate) fn assignment(text: &[u8], begin: usize, end: usize) -> Option<Parts>
 fn signed_assignment(text: &[u8], begin: usize, end: usize) -> Option<Parts>
     requires order { begin ≤ end }
     requires within { end ≤ length text.now }
-    ensures value { option_map (λ parts. record { name = parts.name; operator = parts.operator; value = parts.value })
-        result ≡ assignment_parts text.now (take end (mask_of text.now)) begin }
-    ensures bounds { IfSome result (λ parts. (begin ≤ parts.name) × (parts.name ≤ length text.now)
-        × (parts.value ≤ length text.now)) }
+    ensures value { ArePartsAt begin end text.now result }
+    ensures bounds { IfSome result (StandsWithin begin text.now) }
 {
     let name = name_end(text, begin, end)?;
     let place = past_blanks(text, name, end);
@@ -83,8 +80,8 @@ fn signed_assignment(text: &[u8], begin: usize, end: usize) -> Option<Parts>
 fn name_end(text: &[u8], begin: usize, end: usize) -> Option<usize>
     requires order { begin ≤ end }
     requires within { end ≤ length text.now }
-    ensures value { result ≡ name_end begin (drop begin (take end (mask_of text.now))) (drop begin text.now) }
-    ensures bounds { IfSome result (λ place. (begin ≤ place) × (place ≤ end)) }
+    ensures value { result ≡ name_end begin (drop begin (first_symbols end text.now)) (drop begin text.now) }
+    ensures bounds { IfSome result (IsBetween begin end) }
 {
     masked_name_end(text, past_own_name(text, begin, end), end)
 }
@@ -94,8 +91,8 @@ fn name_end(text: &[u8], begin: usize, end: usize) -> Option<usize>
 fn masked_name_end(text: &[u8], begin: usize, end: usize) -> Option<usize>
     requires order { begin ≤ end }
     requires within { end ≤ length text.now }
-    ensures value { result ≡ name_end begin (drop begin (take end (mask_of text.now))) (drop begin text.now) }
-    ensures bounds { IfSome result (λ place. (begin ≤ place) × (place ≤ end)) }
+    ensures value { result ≡ name_end begin (drop begin (first_symbols end text.now)) (drop begin text.now) }
+    ensures bounds { IfSome result (IsBetween begin end) }
 {
     let mut place = begin;
     for symbol in Mask::between(text, begin, end) {
@@ -149,7 +146,7 @@ fn operator_of(text: &[u8]) -> Option<(Operator, usize)>
 fn worded(text: &[u8], begin: usize, end: usize, tab: bool) -> Form<'_>
     requires order { begin ≤ end }
     requires within { end ≤ length text.now }
-    ensures { kind_told result ≡ worded tab text.now (take end (mask_of text.now)) begin }
+    ensures { kind_told result ≡ worded tab text.now (first_symbols end text.now) begin }
 {
     let after = past_word(text, begin, end);
     let word = &text[begin..after];

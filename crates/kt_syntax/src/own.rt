@@ -5,6 +5,7 @@ ghost use Rattle.kt_text.specs.Words.{is_blank};
 ghost use Rattle.kt_syntax.specs.Kinds.{name_end, past_blanks, past_word};
 ghost use Rattle.kt_syntax.specs.Mask.{mask_of};
 ghost use Rattle.kt_syntax.specs.inner.OwnRuns.{ends_own_name, ends_own_word, is_mark};
+ghost use Rattle.kt_syntax.specs.inner.Places.{IsBetween, first_symbols};
 
 use crate::mask::own_length;
 use kt_text::is_blank;
@@ -14,8 +15,8 @@ use kt_text::is_blank;
 pub(crate) fn past_own_blanks(text: &[u8], from: usize, end: usize) -> Option<usize>
     requires order { from ≤ end }
     requires within { end ≤ length text.now }
-    ensures value { IfSome result (λ place. place ≡ past_blanks from (take end (mask_of text.now))) }
-    ensures bounds { IfSome result (λ place. (from ≤ place) × (place ≤ end)) }
+    ensures value { IfSome result (λ place. place ≡ past_blanks from (first_symbols end text.now)) }
+    ensures bounds { IfSome result (IsBetween from end) }
 {
     if has_mark(text, from) {
         return None;
@@ -33,8 +34,8 @@ pub(crate) fn past_own_blanks(text: &[u8], from: usize, end: usize) -> Option<us
 pub(crate) fn past_own_word(text: &[u8], from: usize, end: usize) -> Option<usize>
     requires order { from ≤ end }
     requires within { end ≤ length text.now }
-    ensures value { IfSome result (λ place. place ≡ past_word from (take end (mask_of text.now))) }
-    ensures bounds { IfSome result (λ place. (from ≤ place) × (place ≤ end)) }
+    ensures value { IfSome result (λ place. place ≡ past_word from (first_symbols end text.now)) }
+    ensures bounds { IfSome result (IsBetween from end) }
 {
     if has_mark(text, from) {
         return None;
@@ -52,10 +53,9 @@ pub(crate) fn past_own_word(text: &[u8], from: usize, end: usize) -> Option<usiz
 pub(crate) fn past_own_name(text: &[u8], begin: usize, end: usize) -> usize
     requires order { begin ≤ end }
     requires within { end ≤ length text.now }
-    ensures value { name_end result (drop result (take end (mask_of text.now))) (drop result text.now)
-        ≡ name_end begin (drop begin (take end (mask_of text.now))) (drop begin text.now) }
-    ensures low { begin ≤ result }
-    ensures bound { result ≤ end }
+    ensures value { name_end result (drop result (first_symbols end text.now)) (drop result text.now)
+        ≡ name_end begin (drop begin (first_symbols end text.now)) (drop begin text.now) }
+    ensures bounds { IsBetween begin end result }
 {
     if has_mark(text, begin) {
         return begin;

@@ -4,6 +4,7 @@ ghost use Rattle.std.specs.List.{prefix_len};
 ghost use Rattle.kt_text.specs.Words.{is_blank};
 ghost use Rattle.kt_syntax.specs.Kinds.{before_comment, comment_place, past_blanks, past_word};
 ghost use Rattle.kt_syntax.specs.Mask.{mask_of};
+ghost use Rattle.kt_syntax.specs.inner.Places.{IsBetween, first_symbols};
 
 use crate::mask::Mask;
 use crate::own::{past_own_blanks, past_own_word};
@@ -44,9 +45,8 @@ fn sign_place(text: &[u8]) -> usize
 pub(crate) fn past_blanks(text: &[u8], from: usize, end: usize) -> usize
     requires order { from ≤ end }
     requires within { end ≤ length text.now }
-    ensures value { result ≡ past_blanks from (take end (mask_of text.now)) }
-    ensures low { from ≤ result }
-    ensures bound { result ≤ end }
+    ensures value { result ≡ past_blanks from (first_symbols end text.now) }
+    ensures bounds { IsBetween from end result }
 {
     // The mask is only walked up to where something is left of the line.
     if from == end {
@@ -62,9 +62,8 @@ pub(crate) fn past_blanks(text: &[u8], from: usize, end: usize) -> usize
 fn past_masked_blanks(text: &[u8], from: usize, end: usize) -> usize
     requires order { from ≤ end }
     requires within { end ≤ length text.now }
-    ensures value { result ≡ past_blanks from (take end (mask_of text.now)) }
-    ensures low { from ≤ result }
-    ensures bound { result ≤ end }
+    ensures value { result ≡ past_blanks from (first_symbols end text.now) }
+    ensures bounds { IsBetween from end result }
 {
     let mut place = from;
     for symbol in Mask::between(text, from, end) {
@@ -90,9 +89,8 @@ pub(crate) fn past_line_blanks(text: &[u8], from: usize) -> usize
 pub(crate) fn past_word(text: &[u8], from: usize, end: usize) -> usize
     requires order { from ≤ end }
     requires within { end ≤ length text.now }
-    ensures value { result ≡ past_word from (take end (mask_of text.now)) }
-    ensures low { from ≤ result }
-    ensures bound { result ≤ end }
+    ensures value { result ≡ past_word from (first_symbols end text.now) }
+    ensures bounds { IsBetween from end result }
 {
     match past_own_word(text, from, end) {
         Some(place) => place,
@@ -104,9 +102,8 @@ pub(crate) fn past_word(text: &[u8], from: usize, end: usize) -> usize
 fn past_masked_word(text: &[u8], from: usize, end: usize) -> usize
     requires order { from ≤ end }
     requires within { end ≤ length text.now }
-    ensures value { result ≡ past_word from (take end (mask_of text.now)) }
-    ensures low { from ≤ result }
-    ensures bound { result ≤ end }
+    ensures value { result ≡ past_word from (first_symbols end text.now) }
+    ensures bounds { IsBetween from end result }
 {
     let mut place = from;
     for symbol in Mask::between(text, from, end) {

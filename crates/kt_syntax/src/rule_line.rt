@@ -6,6 +6,7 @@ ghost use Rattle.kt_syntax.specs.Kinds.{comment_place};
 ghost use Rattle.kt_syntax.specs.Heads.{after_colon, after_modifiers, colon_place, first_recipe, head_end, head_text};
 ghost use Rattle.kt_syntax.specs.Heads.{is_modifier, is_target_specific, rule_texts, texts_told};
 ghost use Rattle.kt_syntax.specs.Mask.{mask_of};
+ghost use Rattle.kt_syntax.specs.inner.Places.{first_symbols};
 
 use crate::kind::{assignment, is_word};
 use crate::mask::Mask;
@@ -111,7 +112,7 @@ fn semicolon_place(text: &[u8], comment: usize) -> usize
 // Whether the head of a line, up to a place, assigns a target-specific macro. Each operator ends in an equals sign.
 fn is_target_specific(text: &[u8], end: usize) -> bool
     requires { end ≤ length text.now }
-    ensures { result ≡ is_target_specific text.now (take end (mask_of text.now)) }
+    ensures { result ≡ is_target_specific text.now (first_symbols end text.now) }
 {
     match memchr(b'=', text) {
         None => false,
@@ -123,7 +124,7 @@ fn is_target_specific(text: &[u8], end: usize) -> bool
 #[tactic(auto, unfolding(crate::specs::Heads::is_target_specific))]
 fn assigns_after_colon(text: &[u8], end: usize) -> bool
     requires { end ≤ length text.now }
-    ensures { result ≡ is_target_specific text.now (take end (mask_of text.now)) }
+    ensures { result ≡ is_target_specific text.now (first_symbols end text.now) }
 {
     match colon_place(text, end) {
         None => false,
@@ -138,7 +139,7 @@ fn assigns_after_colon(text: &[u8], end: usize) -> bool
 #[tactic(auto, unfolding(crate::specs::Heads::colon_place))]
 fn colon_place(text: &[u8], end: usize) -> Option<usize>
     requires { end ≤ length text.now }
-    ensures value { result ≡ colon_place 0 0 (take end (mask_of text.now)) }
+    ensures value { result ≡ colon_place 0 0 (first_symbols end text.now) }
     ensures bound { IfSome result (λ place. place < end) }
 {
     let mut place = 0;
@@ -157,7 +158,7 @@ fn colon_place(text: &[u8], end: usize) -> Option<usize>
 fn after_colon(text: &[u8], colon: usize, end: usize) -> usize
     requires order { colon < end }
     requires within { end ≤ length text.now }
-    ensures value { result ≡ after_colon (take end (mask_of text.now)) colon }
+    ensures value { result ≡ after_colon (first_symbols end text.now) colon }
     ensures bound { result ≤ end }
 {
     match Mask::between(text, colon + 1, end).next() {
@@ -170,7 +171,7 @@ fn after_colon(text: &[u8], colon: usize, end: usize) -> usize
 fn after_modifiers(text: &[u8], from: usize, end: usize) -> usize
     requires order { from ≤ end }
     requires within { end ≤ length text.now }
-    ensures value { result ≡ after_modifiers end text.now (take end (mask_of text.now)) from }
+    ensures value { result ≡ after_modifiers end text.now (first_symbols end text.now) from }
     ensures bound { result ≤ end }
 {
     let mut found = from;

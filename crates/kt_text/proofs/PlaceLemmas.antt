@@ -1,6 +1,6 @@
 -- Where a byte stands first, as the searches of `memchr` answer it and as std's words on lists say it.
-use Rattle.std.proofs.Common.{◌≡◌, ℕ, ◌+◌, ◌-◌, ◌≤◌, Bool, true, List, [], ◌∷◌, Option, None, Some, length, get_or, add-sub_cancel, drop, refl, sym, ◌∙◌, ap, unwrap_or, is_some, not, ltb, position, ⊎_elim, arith}
-use Rattle.std.proofs.lemmas.Bool.{ltb-false, cases_Bool, false_from_ne_true}
+use Rattle.std.proofs.Common.{◌≡◌, ◌==◌, ℕ, ◌+◌, ◌-◌, ◌≤◌, Bool, true, false, true≢false, List, [], ◌∷◌, Option, None, Some, length, get_or, add-sub_cancel, drop, refl, sym, ◌∙◌, ap, unwrap_or, is_some, not, ltb, position, ⊎_elim, arith}
+use Rattle.std.proofs.lemmas.Bool.{ltb-false, cases_Bool, eq-eqb, eqb-true, false_from_ne_true}
 use Rattle.std.specs.List.{position_or_len, prefix_len, suffix_len}
 use Rattle.std.proofs.lemmas.List.Sums.{position_or_len_is, suffix_len_is, prefix_len-le-length}
 use Rattle.memchr.specs.Find.{IsFirstByte, IsLastByte, FindsNeedle, first_of, matches}
@@ -15,6 +15,10 @@ first_byte_place test text None h =
 first_byte_place test text (Some place) h =
     let low : place ≤ length text = omega (arith, h.0.high) in
     sym (position_or_len_is test text place 0 low (λ k l. false_from_ne_true _ (h.0.before k (omega arith) l)) (λ l. h.1))
+
+-- bytes that differ, in either order
+pub differ_turned : (byte other : ℕ) → (byte == other) ≡ false → (other == byte) ≡ false
+differ_turned byte other h = false_from_ne_true (other == byte) (λ e. true≢false (sym (eq-eqb byte other (sym (eqb-true other byte e))) ∙ h))
 
 -- a front of passing bytes, one byte at a time
 pub drop-prefix_len : (test : ℕ → Bool) (byte : ℕ) (text : List ℕ) → test byte ≡ true → drop (prefix_len test (byte ∷ text)) (byte ∷ text) ≡ drop (prefix_len test text) text

@@ -14,29 +14,29 @@ use std::marker::Model;
 #[derive(Drop)]
 pub struct SortKey<'a> {
     front: u64,
-    // A short word's bytes, so that writing it needs no look at its text either.
+    // A short text's bytes, so that writing it needs no look at where the text lies either.
     head: [u8; HEAD],
-    word: &'a [u8],
+    text: &'a [u8],
 }
 
 impl<'a> Model for SortKey<'a> {
     ghost Value = { List ℕ };
 
-    ghost view = { λ key. key.word.now };
+    ghost view = { λ key. key.text.now };
 
-    ghost invariant = { λ key. (key.front ≡ front_number 8 key.word.now)
-        × (IsHead key.head key.word.now × All (λ byte. byte < 256) key.word.now) };
+    ghost invariant = { λ key. (key.front ≡ front_number 8 key.text.now)
+        × (IsHead key.head key.text.now × All (λ byte. byte < 256) key.text.now) };
 }
 
 impl<'a> SortKey<'a> {
     /// The key of a text. Takes no memory.
-    pub fn new(word: &'a [u8]) -> SortKey<'a>
-        ensures { result ≡ word.now }
+    pub fn new(text: &'a [u8]) -> SortKey<'a>
+        ensures { result ≡ text.now }
     {
         SortKey {
-            front: front_number(word),
-            head: head(word),
-            word,
+            front: front_number(text),
+            head: head(text),
+            text,
         }
     }
 
@@ -44,7 +44,7 @@ impl<'a> SortKey<'a> {
     pub fn text(&self) -> &[u8]
         ensures { result.now ≡ self.now }
     {
-        self.head.get(..self.word.len()).unwrap_or(self.word)
+        self.head.get(..self.text.len()).unwrap_or(self.text)
     }
 }
 
@@ -89,34 +89,34 @@ impl<'a> Ord for SortKey<'a> {
     }
 }
 
-// A word of so many bytes is held in its key.
+// A text of so many bytes is held in its key.
 const HEAD: usize = 16;
 
-// The bytes of a short word, with zeros after them.
-fn head(word: &[u8]) -> [u8; HEAD]
-    ensures { IsHead result word.now }
+// The bytes of a short text, with zeros after them.
+fn head(text: &[u8]) -> [u8; HEAD]
+    ensures { IsHead result text.now }
 {
     let mut head = [0; HEAD];
-    if word.len() <= HEAD {
-        head[..word.len()].copy_from_slice(word);
+    if text.len() <= HEAD {
+        head[..text.len()].copy_from_slice(text);
     }
     head
 }
 
 // The first eight bytes as a number, the first one the highest.
-fn front_number(word: &[u8]) -> u64
-    ensures { result ≡ front_number 8 word.now }
+fn front_number(text: &[u8]) -> u64
+    ensures { result ≡ front_number 8 text.now }
 {
     let mut front = 0;
     for i in 0..8 {
-        front = front * 256 + u64::from(byte_at(word, i));
+        front = front * 256 + u64::from(byte_at(text, i));
     }
     front
 }
 
 // The byte at a place, or 0 after the end.
-fn byte_at(word: &[u8], i: usize) -> u8
-    ensures { result ≡ slice_index word.now i }
+fn byte_at(text: &[u8], i: usize) -> u8
+    ensures { result ≡ slice_index text.now i }
 {
-    word.get(i).copied().unwrap_or(0)
+    text.get(i).copied().unwrap_or(0)
 }

@@ -14,7 +14,7 @@ overflow_add-front c =
     omega (arith, most, c.byte_at.type_inv, c.from.ensures)
 
 pub loop-i-init : goal.loop-i-init
-loop-i-init c = record { bound = omega arith; value = front_number-start c.args.word.now; small = omega arith }
+loop-i-init c = record { bound = omega arith; value = front_number-start c.args.text.now; small = omega arith }
 
 pub loop-i-preserved : goal.loop-i-preserved
 loop-i-preserved c =
@@ -23,8 +23,8 @@ loop-i-preserved c =
     record {
       bound = omega arith;
       value = rw (c.from.ensures, c.byte_at.ensures)
-          (sym (front_number-more (8 - (i + 1)) i c.loop-i.front c.args.word.now)
-          ∙ ap (λ n. c.loop-i.front * 256 ^ n + front_number n (drop i c.args.word.now)) left ∙ c.loop-i.invariant.value);
+          (sym (front_number-more (8 - (i + 1)) i c.loop-i.front c.args.text.now)
+          ∙ ap (λ n. c.loop-i.front * 256 ^ n + front_number n (drop i c.args.text.now)) left ∙ c.loop-i.invariant.value);
       small = rw c.from.ensures (front_grows c.loop-i.front c.byte_at.result i c.loop-i.invariant.small c.byte_at.type_inv);
     }
 

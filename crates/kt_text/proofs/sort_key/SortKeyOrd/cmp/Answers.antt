@@ -12,8 +12,8 @@ decided_is Greater wanted differs is = sym is
 
 pub returns-in_default : goal.returns-in_default
 returns-in_default c =
-    let front = c.self.inside.word.now in
-    let back = c.other.inside.word.now in
+    let front = c.self.inside.text.now in
+    let back = c.other.inside.text.now in
     let small : AreBytes front = c.self.invariant.1.1 in
     let tiny : AreBytes back = c.other.invariant.1.1 in
     let decided = fronts_decide front back c.self.inside.front c.other.inside.front c.cmp.result c.self.invariant.0 c.other.invariant.0 small tiny c.cmp.ensures in
