@@ -1,6 +1,7 @@
 -- A name without a telling byte is taken.
-use Rattle.std.proofs.Common.{◌≡◌, ◌==◌, ◌||◌, ◌-◌, ℕ, zero, suc, Bool, false, [], ◌∷◌, length, drop, refl}
-use Rattle.std.proofs.lemmas.Bool.{or_parts}
+use Rattle.std.proofs.Common.{◌≡◌, ◌==◌, ◌||◌, ◌-◌, ◌<◌, ◌≤◌, ℕ, zero, suc, Bool, false, [], ◌∷◌, length, drop, refl, sym, ap, ◌∙◌, arith}
+use Rattle.std.proofs.lemmas.Bool.{ne_eqb, or_parts}
+use Rattle.std.proofs.Math.Bool.{or-false}
 use Rattle.std.specs.Prelude.{nat_eq}
 use Rattle.std.specs.Cmp.Lexicographic.{pointwise}
 use Rattle.std.specs.List.{list_any, starts_with}
@@ -8,7 +9,7 @@ use Rattle.kt_text.specs.Words.{Text}
 use Rattle.kt_text.proofs.PlaceLemmas.{differ_turned}
 use Rattle.kt_rules.proofs.BackslashLemmas.{quotes_no_percent}
 use Rattle.kt_rules.specs.Names.{is_member, is_refused_name, is_wildcard}
-use Rattle.kt_rules.specs.inner.Telling.{is_telling}
+use Rattle.kt_rules.specs.inner.Telling.{is_telling, tells_early}
 
 -- a test that no telling byte passes alone fails where no byte tells
 fewer : (test : ℕ → Bool) (text : Text) → ((byte : ℕ) → is_telling byte ≡ false → test byte ≡ false) → list_any is_telling text ≡ false
@@ -27,10 +28,31 @@ record IsNoneOf (byte : ℕ) : Type 0 where
 
 none_of : (byte : ℕ) → is_telling byte ≡ false → IsNoneOf byte
 none_of byte none =
-    let parts = or_parts (is_wildcard byte) (byte == 92 || (byte == 126 || byte == 41)) none in
-    let later = or_parts (byte == 92) (byte == 126 || byte == 41) parts.1 in
-    let last = or_parts (byte == 126) (byte == 41) later.1 in
-    record { wildcard = parts.0; backslash = later.0; tilde = last.0; closing = last.1 }
+    let last = or_parts (tells_early byte) (byte == 126) none in
+    let later = or_parts (is_wildcard byte || byte == 92) (byte == 41) last.0 in
+    let parts = or_parts (is_wildcard byte) (byte == 92) later.0 in
+    record { wildcard = parts.0; backslash = parts.1; tilde = last.1; closing = later.1 }
+
+below : (byte other : ℕ) → other < byte → (byte == other) ≡ false
+below byte other low = ne_eqb byte other (λ e. absurd (omega (arith, e, low)))
+
+-- after the backslash a byte tells as a tilde alone
+pub last_tells : (byte : ℕ) → 92 < byte → (byte == 126) ≡ is_telling byte
+unfolding is_wildcard
+last_tells byte high =
+    rw (
+      below byte 42 (omega (arith, high)),
+      below byte 63 (omega (arith, high)),
+      below byte 91 (omega (arith, high)),
+      below byte 92 high,
+      below byte 41 (omega (arith, high)),
+    ) refl
+
+-- up to it, as one of the others
+pub others_tell : (byte : ℕ) → byte ≤ 92 → tells_early byte ≡ is_telling byte
+others_tell byte within =
+    let none : (byte == 126) ≡ false = ne_eqb byte 126 (λ e. absurd (omega (arith, e, within))) in
+    sym (ap (λ b. tells_early byte || b) none ∙ or-false (tells_early byte))
 
 -- a text that a byte stands nowhere in doesn't begin with it
 begins_otherwise : (byte : ℕ) (text : Text) → list_any (λ b. b == byte) text ≡ false → pointwise nat_eq (byte ∷ []) text ≡ false

@@ -5,7 +5,7 @@ ghost use Rattle.std.specs.Cmp.Lexicographic.{pointwise};
 ghost use Rattle.kt_text.specs.Functions.{quotes_percent};
 ghost use Rattle.kt_rules.specs.Names.{is_member, is_refused_name, is_refused_target, is_special, is_wildcard};
 ghost use Rattle.kt_rules.specs.Names.{is_without_effect};
-ghost use Rattle.kt_rules.specs.inner.Telling.{is_telling};
+ghost use Rattle.kt_rules.specs.inner.Telling.{is_telling, tells_early};
 
 use crate::name::has_backslash;
 use memchr::memmem;
@@ -33,11 +33,23 @@ fn has_telling_byte(name: &[u8]) -> bool
     false
 }
 
-#[tactic(auto, unfolding(crate::specs::Names::is_wildcard))]
+// The tilde is the last of them: small letters, of which most names are, are told by one comparison.
+#[tactic(auto, using(crate::proofs::RefusedLemmas::last_tells, crate::proofs::RefusedLemmas::others_tell))]
 fn is_telling(byte: u8) -> bool
     ensures { result ≡ is_telling byte }
 {
-    matches!(byte, b'*' | b'?' | b'[' | b'\\' | b'~' | b')')
+    if byte > b'\\' {
+        byte == b'~'
+    } else {
+        tells_early(byte)
+    }
+}
+
+#[tactic(auto, unfolding(crate::specs::Names::is_wildcard))]
+fn tells_early(byte: u8) -> bool
+    ensures { result ≡ tells_early byte }
+{
+    matches!(byte, b'*' | b'?' | b'[' | b'\\' | b')')
 }
 
 // The same for a name with such a byte.

@@ -2,6 +2,10 @@
 use Rattle.std.specs.Prelude.{ℕ, Bool, ◌==◌, ◌||◌}
 use Rattle.kt_rules.specs.Names.{is_wildcard}
 
--- each name that isn't taken holds one of these: of a file name pattern, a backslash, a tilde or a closing parenthesis
+-- a byte of a file name pattern, a backslash or a closing parenthesis
+abbrev pub tells_early : ℕ → Bool
+tells_early byte = is_wildcard byte || byte == 92 || byte == 41
+
+-- each name that isn't taken holds one of these, or a tilde
 abbrev pub is_telling : ℕ → Bool
-is_telling byte = is_wildcard byte || (byte == 92 || (byte == 126 || byte == 41))
+is_telling byte = tells_early byte || byte == 126
