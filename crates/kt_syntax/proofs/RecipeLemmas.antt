@@ -10,7 +10,7 @@ use Rattle.kt_syntax.specs.declared.recipe.Joint.{Joint}
 use Rattle.kt_syntax.specs.declared.recipe.Joint.TheVariants.{Edge}
 use Rattle.kt_syntax.specs.Mask.{mask_of}
 use Rattle.kt_syntax.specs.Recipes.{joint_of, recipe_line, recipe_lines, recipe_of}
-use Rattle.kt_syntax.proofs.Runs.{first_byte_place}
+use Rattle.kt_text.proofs.PlaceLemmas.{first_byte_place}
 
 -- how many bytes stand before the first newline
 abbrev run : Text → ℕ

@@ -1,20 +1,10 @@
 -- Runs of bytes without a dollar.
-use Rattle.std.proofs.Common.{◌≡◌, ◌==◌, ◌≤◌, ℕ, suc, Bool, true, false, List, [], ◌∷◌, ◌++◌, Option, Some, None, length, take, drop, refl, sym, ap, subst, ◌∙◌, arith, unwrap_or, ⊎_elim}
-use Rattle.std.proofs.lemmas.Bool.{cases_Bool, eqb-true, eq-eqb, false_from_ne_true}
+use Rattle.std.proofs.Common.{◌≡◌, ◌==◌, ◌≤◌, ℕ, suc, true, false, [], ◌∷◌, ◌++◌, length, take, drop, refl, sym, ap, subst, ◌∙◌, arith, ⊎_elim}
+use Rattle.std.proofs.lemmas.Bool.{cases_Bool, eqb-true, eq-eqb}
 use Rattle.std.specs.List.{position_or_len}
-use Rattle.std.proofs.lemmas.List.Sums.{position_or_len_is}
-use Rattle.memchr.specs.Find.{IsFirstByte}
 use Rattle.kt_text.specs.Words.{Text}
 use Rattle.kt_syntax.specs.Terms.{count_of, EndsRun}
 use Rattle.kt_syntax.proofs.Closing.{count_yes, count_no, count_nil}
-
--- the answer of a search for the first byte that passes, with the length where there is none
-pub first_byte_place : (test : ℕ → Bool) (text : List ℕ) (found : Option ℕ) → IsFirstByte test text found → unwrap_or found (length text) ≡ position_or_len test text
-first_byte_place test text None h =
-    sym (position_or_len_is test text (length text) 0 (omega arith) (λ k l. false_from_ne_true _ (h k (omega arith) l)) (λ l. absurd (omega arith)))
-first_byte_place test text (Some place) h =
-    let low : place ≤ length text = omega (arith, h.0.high) in
-    sym (position_or_len_is test text place 0 low (λ k l. false_from_ne_true _ (h.0.before k (omega arith) l)) (λ l. h.1))
 
 -- how many bytes stand before the first dollar
 abbrev pub run : Text → ℕ

@@ -9,7 +9,7 @@ use Rattle.kt_syntax.specs.Mask.{inside, goes_odd, mask_byte, more_masked, mask_
 use Rattle.kt_syntax.specs.Kinds.{before_comment, comment_place}
 use Rattle.kt_syntax.specs.Heads.{head_end}
 use Rattle.kt_syntax.specs.Comments.{backslashes, uncommented, uncommented_of}
-use Rattle.kt_syntax.proofs.Runs.{first_byte_place}
+use Rattle.kt_text.proofs.PlaceLemmas.{first_byte_place}
 
 -- what stands for other bytes
 abbrev IsOther : ℕ → Type 0
