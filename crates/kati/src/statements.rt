@@ -142,7 +142,7 @@ fn implicit_of(alloc: Global, always: bool) -> Result<Vec<Name>, AllocError>
 fn copied(alloc: Global, name: &[u8]) -> Result<Name, AllocError>
     ensures { IfOk result (λ copy. copy ≡ name.now) }
 {
-    Ok(Sequence::from(Vec::from_slice(alloc, name)?))
+    Name::copied(alloc, name)
 }
 
 fn copies(alloc: Global, names: Inputs) -> Result<Vec<Name>, AllocError>
@@ -225,5 +225,5 @@ fn add(alloc: Global, set: &mut IndexSet<Vec<u8>>, names: Inputs) -> Result<(), 
 fn in_order(alloc: Global, names: IndexSet<Vec<u8>>) -> Result<Vec<Name>, AllocError>
     ensures { IfOk result (λ list. list.items ≡ map (λ name. name.items) names.keys) }
 {
-    names.into_iter().map(Sequence::from).collect(alloc)
+    names.into_iter().map(Name::from).collect(alloc)
 }

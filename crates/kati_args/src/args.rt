@@ -1,9 +1,9 @@
 //! What a command line asks for.
 use crate::word::Word;
-use kt_list::Sequence;
+use kt_list::{Sequence, Text};
 
 /// The bytes of a name.
-pub type Name = Sequence<u8>;
+pub type Name = Text;
 
 /// A macro of the command line.
 #[derive(Debug, Drop)]
@@ -11,7 +11,7 @@ pub struct Macro {
     /// What stands before the first equals sign.
     pub name: Name,
     /// All that stands after it.
-    pub value: Sequence<u8>,
+    pub value: Text,
 }
 
 /// What a command line asks for.

@@ -72,7 +72,7 @@ pub(crate) fn first_bad<'w>(words: &[&'w str]) -> Option<&'w str>
 fn name_of(alloc: Global, text: &str) -> Result<Name, AllocError>
     ensures { IfOk result (λ name. name ≡ text.now) }
 {
-    Ok(Sequence::from(Vec::from_slice(alloc, text.as_bytes())?))
+    Name::copied(alloc, text.as_bytes())
 }
 
 /// The words without an equals sign, which are targets.

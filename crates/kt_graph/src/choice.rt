@@ -1,5 +1,5 @@
 //! What a search chooses.
-use kt_rules::Name;
+use kt_list::Sequence;
 
 /// A pattern rule that makes a name.
 #[derive(Debug, Drop)]
@@ -7,8 +7,8 @@ pub struct Chosen {
     /// Its number among the book's `patterns`.
     pub rule: usize,
     /// What stands before the part of the name that the rule matches.
-    pub directory: Name,
-    pub stem: Name,
+    pub directory: Sequence<u8>,
+    pub stem: Sequence<u8>,
 }
 
 /// The pattern rule that makes a name, if one does.

@@ -3,7 +3,6 @@ ghost use Rattle.std.specs.Prelude.{◌≡◌, map, IfOk, option_to_list};
 ghost use Rattle.kt_graph.specs.Goals.{default_goals, named_goals};
 
 use indexmap::IndexSet;
-use kt_list::Sequence;
 use kt_rules::{Book, Name, without_dots};
 use kt_text::stripped;
 use std::alloc::{AllocError, Global};
@@ -25,7 +24,7 @@ pub fn named_goals(alloc: Global, words: &[Name]) -> Result<Vec<Name>, AllocErro
 fn in_order(alloc: Global, names: IndexSet<Vec<u8>>) -> Result<Vec<Name>, AllocError>
     ensures { IfOk result (λ list. list.items ≡ map (λ name. name.items) names.keys) }
 {
-    names.into_iter().map(Sequence::from).collect(alloc)
+    names.into_iter().map(Name::from).collect(alloc)
 }
 
 /// The goal where the command line names none: that of `.DEFAULT_GOAL`, expanded, or else the first
@@ -47,5 +46,5 @@ pub fn default_goal(alloc: Global, book: &Book, text: &[u8]) -> Result<Option<Na
 fn copied(alloc: Global, name: &[u8]) -> Result<Name, AllocError>
     ensures { IfOk result (λ copy. copy ≡ name.now) }
 {
-    Ok(Sequence::from(Vec::from_slice(alloc, name)?))
+    Name::copied(alloc, name)
 }

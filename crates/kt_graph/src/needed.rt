@@ -101,7 +101,7 @@ impl<'n> Stemming<'n> {
     {
         let mut made = Vec::with_capacity(alloc, names.len())?;
         for name in names {
-            made.push(Sequence::from(self.name(alloc, name.as_slice())?))?;
+            made.push(Name::from(self.name(alloc, name.as_slice())?))?;
         }
         Ok(made)
     }

@@ -1,6 +1,6 @@
 //! What is to be made.
 use crate::asking::{Asked, Question, put_told};
-use crate::reading::{names, takes_all, text};
+use crate::reading::{names, takes_all};
 use crate::telling::put;
 use kt_graph::{default_goal, named_goals};
 use kt_rules::{Book, Name};
@@ -87,7 +87,7 @@ fn of_the_makefile(rt: HostRuntime) -> Result<(), Fail> {
 }
 
 fn put_without_bytes(told: &mut Vec<u8>, alloc: Global) -> Result<(), AllocError> {
-    let words = Vec::from_array(alloc, [text(alloc, b"")?])?;
+    let words = Vec::from_array(alloc, [Name::copied(alloc, b"")?])?;
     put_graph_of(told, alloc, words.as_slice())
 }
 

@@ -52,7 +52,7 @@ pub(crate) fn names(alloc: Global, words: &[u8]) -> Result<Vec<Name>, AllocError
     let mut names = Vec::new(alloc);
     for word in words.split(|byte| *byte == b' ') {
         if !word.is_empty() {
-            names.push(text(alloc, word)?)?;
+            names.push(Name::copied(alloc, word)?)?;
         }
     }
     Ok(names)

@@ -3,9 +3,11 @@
 
 mod sequence;
 mod shared;
+mod text;
 
 pub use sequence::Sequence;
 pub use shared::Shared;
+pub use text::Text;
 
 #[cfg(test)]
 mod tests;

@@ -1,5 +1,5 @@
 //! A list gives back what it was made from.
-use crate::{Sequence, Shared};
+use crate::{Sequence, Shared, Text};
 use std::test::Fail;
 
 #[test]
@@ -37,5 +37,24 @@ fn compares_its_items(rt: HostRuntime) -> Result<(), Fail> {
     let longer = Sequence::from(vec![in rt.alloc(); 3u8, 1, 0]?);
     assert!(rt; list == same);
     assert!(rt; list != longer);
+    Ok(())
+}
+
+#[test]
+fn holds_texts_of_any_size(rt: HostRuntime) -> Result<(), Fail> {
+    let long = b"a text that is longer than what lies in its value".as_slice();
+    for bytes in [
+        b"".as_slice(),
+        b"%".as_slice(),
+        b"a text of all of thirty bytes.".as_slice(),
+        b"a text of all thirty-one bytes.".as_slice(),
+        long,
+    ] {
+        let copied = Text::copied(rt.alloc(), bytes)?;
+        assert_eq!(rt; copied.as_slice(), bytes);
+        let moved = Text::from(Vec::from_slice(rt.alloc(), bytes)?);
+        assert_eq!(rt; moved.as_slice(), bytes);
+        assert!(rt; copied == moved);
+    }
     Ok(())
 }

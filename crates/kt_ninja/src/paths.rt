@@ -20,7 +20,7 @@ fn path(alloc: Global, path: &Spelling, scopes: Scopes) -> Result<Name, Fault>
     if name.is_empty() {
         return Err(Fault::NoReading);
     }
-    Ok(Sequence::from(name))
+    Ok(Name::from(name))
 }
 
 /// Paths, none of which is empty.

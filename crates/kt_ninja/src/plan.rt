@@ -4,10 +4,10 @@ ghost use Rattle.std.specs.Cmp.{partial_equiv_from_equiv};
 ghost use Rattle.kt_ninja.specs.Plan.{same_made, same_plan, same_statement};
 ghost use Rattle.kt_ninja.specs.inner.Equality.{made_laws, plan_laws, statement_laws};
 
-use kt_list::Sequence;
+use kt_list::{Sequence, Text};
 
 /// The bytes of a path, without escapes.
-pub type Name = Sequence<u8>;
+pub type Name = Text;
 
 /// How the outputs of a statement are made.
 #[derive(Debug, Drop)]

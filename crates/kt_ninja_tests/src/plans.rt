@@ -11,7 +11,7 @@ fn names_of(rt: &impl Abort, alloc: Global, field: &[u8]) -> Sequence<Name> {
     let mut name = Vec::new(alloc);
     for byte in field {
         if *byte == b',' {
-            names.push(Sequence::from(name)).ok().expect(rt, "memory");
+            names.push(Name::from(name)).ok().expect(rt, "memory");
             name = Vec::new(alloc);
         } else {
             name.push(*byte).ok().expect(rt, "memory");

@@ -37,7 +37,7 @@ fn names(rt: &impl Abort, alloc: Global, words: &[u8]) -> Vec<Name> {
     let mut names = Vec::new(alloc);
     for word in words.split(|byte| *byte == b'\n') {
         let word = Vec::from_slice(alloc, word).expect(rt, "memory");
-        names.push(Sequence::from(word)).ok().expect(rt, "memory");
+        names.push(Name::from(word)).ok().expect(rt, "memory");
     }
     names
 }

@@ -10,7 +10,7 @@ use Rattle.kt_text.specs.Functions.{quotes_percent}
 use Rattle.kt_text.proofs.MatchLemmas.{list_any-place}
 use Rattle.kt_text.proofs.PlaceLemmas.{first_byte_place, occurs_found}
 use Rattle.kt_rules.specs.declared.cutting.Cut.TheVariants.{Colon}
-use Rattle.kt_rules.specs.Names.{cut_place, unquoted}
+use Rattle.kt_rules.specs.Names.{cut_place, name_of, unquoted, without_dots}
 use Rattle.kt_rules.specs.RuleLine.{colon_cut}
 
 abbrev is_backslash : ℕ → Bool
@@ -63,3 +63,8 @@ unfolding colon_cut
 no_colon text found =
     let place = cut_place Colon false text in
     at_end place (length text) (Some (take place text, drop (place + 1) text)) (never_cut false text (not_found text found))
+
+-- a word without a backslash spells itself
+pub names_itself : (word : Text) → list_any is_backslash word ≡ false → name_of word ≡ without_dots word
+unfolding name_of
+names_itself word none = ap without_dots (quotes_nothing word none)

@@ -3,12 +3,12 @@ ghost use Rattle.std.specs.Prelude.{◌≡◌, [], ◌∷◌, option_map, IfOk, 
 ghost use Rattle.kt_rules.specs.Entry.{needs_for, no_needs, with_line};
 
 use crate::place::Place;
-use kt_list::Sequence;
+use kt_list::{Sequence, Text};
 use std::alloc::{AllocError, Global};
 use std::marker::Model;
 
 /// The bytes of a target or a prerequisite, unquoted and without a leading `./`.
-pub type Name = Sequence<u8>;
+pub type Name = Text;
 
 /// How an entry makes its targets.
 #[derive(Clone, Copy, Debug, PartialEq, Eq)]

@@ -1,16 +1,17 @@
 //! The names of a rule line.
-ghost use Rattle.std.specs.Prelude.{◌≡◌, ◌∷◌, [], map, option_map, IfOk, IfSome};
+ghost use Rattle.std.specs.Prelude.{◌≡◌, ◌≤◌, ◌∷◌, [], length, map, option_map, IfOk, IfSome};
 ghost use Rattle.kt_rules.specs.Names.{name_of, without_repeats, written_words};
 ghost use Rattle.kt_rules.specs.Entry.{empty_line};
 ghost use Rattle.kt_rules.specs.RuleLine.{head_told, is_bar, line_of, needs_of};
 
 use crate::entry::{Name, Needs};
 use crate::head::{Head, Separator};
-use crate::name::name_of;
+use crate::name::{name_of, named};
 use crate::refused::are_same;
 use crate::written::first_word;
 use indexmap::IndexSet;
 use kt_list::Sequence;
+use memchr::memchr_iter;
 use std::alloc::{AllocError, Global};
 
 /// The names of a head, unquoted and without leading `./`.
@@ -75,8 +76,8 @@ fn only_word(text: &[u8]) -> Option<&[u8]>
 fn one_target(alloc: Global, word: &[u8]) -> Result<Sequence<Name>, AllocError>
     ensures { IfOk result (λ names. names ≡ without_repeats (name_of word.now ∷ [])) }
 {
-    let mut names = Vec::new(alloc);
-    names.push(Sequence::from(name_of(alloc, word)?))?;
+    let mut names = Vec::with_capacity(alloc, 1)?;
+    names.push(named(alloc, word)?)?;
     Ok(Sequence::from(names))
 }
 
@@ -96,7 +97,7 @@ fn several_targets(alloc: Global, text: &[u8]) -> Result<Sequence<Name>, AllocEr
 fn listed(alloc: Global, names: IndexSet<Vec<u8>>) -> Result<Sequence<Name>, AllocError>
     ensures { IfOk result (λ list. list ≡ map (λ name. name.items) names.keys) }
 {
-    let list: Vec<Name> = names.into_iter().map(Sequence::from).collect(alloc)?;
+    let list: Vec<Name> = names.into_iter().map(Name::from).collect(alloc)?;
     Ok(Sequence::from(list))
 }
 
@@ -106,7 +107,7 @@ fn pattern(alloc: Global, word: Option<&[u8]>) -> Result<Option<Name>, AllocErro
 {
     match word {
         None => Ok(None),
-        Some(word) => Ok(Some(Sequence::from(name_of(alloc, word)?))),
+        Some(word) => Ok(Some(named(alloc, word)?)),
     }
 }
 
@@ -115,17 +116,18 @@ fn pattern(alloc: Global, word: Option<&[u8]>) -> Result<Option<Name>, AllocErro
 fn needs(alloc: Global, text: &[u8]) -> Result<Needs, AllocError>
     ensures { IfOk result (λ needs. needs ≡ needs_of (written_words text.now)) }
 {
-    let mut prerequisites = Vec::new(alloc);
+    // Most words have one space before them: no room is taken for more names than there are.
+    let mut prerequisites = Vec::with_capacity(alloc, spaces(text))?;
     let mut order_only = Vec::new(alloc);
     let mut behind_bar = false;
     let mut rest = text;
     while let Some((word, after)) = first_word(rest) {
         if behind_bar {
-            order_only.push(Sequence::from(name_of(alloc, word)?))?;
+            order_only.push(named(alloc, word)?)?;
         } else if is_bar(word) {
             behind_bar = true;
         } else {
-            prerequisites.push(Sequence::from(name_of(alloc, word)?))?;
+            prerequisites.push(named(alloc, word)?)?;
         }
         rest = after;
     }
@@ -133,6 +135,12 @@ fn needs(alloc: Global, text: &[u8]) -> Result<Needs, AllocError>
         prerequisites: Sequence::from(prerequisites),
         order_only: Sequence::from(order_only),
     })
+}
+
+fn spaces(text: &[u8]) -> usize
+    ensures { result ≤ length text.now }
+{
+    memchr_iter(b' ', text).count()
 }
 
 #[tactic(auto, unfolding(crate::specs::RuleLine::is_bar))]

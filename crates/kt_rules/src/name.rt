@@ -5,6 +5,7 @@ ghost use Rattle.kt_text.specs.Functions.{with_stem};
 ghost use Rattle.kt_rules.specs.Names.{after_dots, begins_quotable, name_of, unquoted, without_dots};
 
 use crate::cutting::is_quotable;
+use crate::entry::Name;
 use kt_text::push_with_stem;
 use std::alloc::{AllocError, Global};
 
@@ -59,6 +60,18 @@ pub(crate) fn name_of(alloc: Global, word: &[u8]) -> Result<Vec<u8>, AllocError>
     ensures { IfOk result (λ name. name.items ≡ name_of word.now) }
 {
     dotless(alloc, unquoted(alloc, word)?)
+}
+
+// The same, short names without memory of their own. Few words have a backslash.
+#[tactic(auto, using(crate::proofs::BackslashLemmas::names_itself))]
+pub(crate) fn named(alloc: Global, word: &[u8]) -> Result<Name, AllocError>
+    ensures { IfOk result (λ name. name ≡ name_of word.now) }
+{
+    if has_backslash(word) {
+        Ok(Name::from(name_of(alloc, word)?))
+    } else {
+        Name::copied(alloc, without_dots(word))
+    }
 }
 
 /// The text without its leading `./`, as [`without_dots`] has it.

@@ -150,7 +150,7 @@ fn stemmed(alloc: Global, needs: &Needs, stem: &[u8]) -> Result<Stemmed, AllocEr
     ensures { IfOk result (λ given. given ≡ stemmed needs.now stem.now) }
 {
     Ok(Stemmed {
-        stem: Sequence::from(Vec::from_slice(alloc, stem)?),
+        stem: Name::copied(alloc, stem)?,
         needs: Needs {
             prerequisites: stemmed_names(alloc, stem, needs.prerequisites.as_slice())?,
             order_only: stemmed_names(alloc, stem, needs.order_only.as_slice())?,
@@ -165,7 +165,7 @@ fn stemmed_names(alloc: Global, stem: &[u8], names: &[Name]) -> Result<Sequence<
 {
     let mut list = Vec::with_capacity(alloc, names.len())?;
     for name in names {
-        list.push(Sequence::from(stemmed_name(alloc, name.as_slice(), stem)?))?;
+        list.push(Name::from(stemmed_name(alloc, name.as_slice(), stem)?))?;
     }
     Ok(Sequence::from(list))
 }

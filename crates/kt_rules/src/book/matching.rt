@@ -12,7 +12,7 @@ use super::pattern::{Pattern, SuffixForm};
 use super::pattern_set::PatternSet;
 use super::suffix::suffix_cut;
 use super::target_rule::{TargetRule, is_bare, is_made, is_pattern};
-use crate::entry::{Entry, Needs, Target};
+use crate::entry::{Entry, Name, Needs, Target};
 use kt_list::Sequence;
 use std::alloc::{AllocError, Global};
 
@@ -120,10 +120,10 @@ fn suffix_form(alloc: Global, made: &[u8], needed: &[u8]) -> Result<SuffixForm, 
         → form_told rule form ≡ pattern_rule rule (percent ++ made.now, percent ++ needed.now)) }
 {
     let target = Target {
-        name: Sequence::from(with_percent(alloc, made)?),
+        name: Name::from(with_percent(alloc, made)?),
         stemmed: None,
     };
-    let prerequisite = Sequence::from(with_percent(alloc, needed)?);
+    let prerequisite = Name::from(with_percent(alloc, needed)?);
     let targets = Vec::from_array(alloc, [target])?;
     let prerequisites = Vec::from_array(alloc, [prerequisite])?;
     Ok(SuffixForm {
