@@ -87,7 +87,7 @@ fn own_statement(
     }) }
 {
     let mut outs = Vec::with_capacity(alloc, 1)?;
-    outs.push(copied(alloc, node.name())?)?;
+    outs.push(Name::copied(alloc, node.name())?)?;
     let inputs = copies(alloc, node.inputs())?;
     let order_only = copies(alloc, node.order_only())?;
     Ok(Statement {
@@ -134,15 +134,9 @@ fn implicit_of(alloc: Global, always: bool) -> Result<Vec<Name>, AllocError>
 {
     let mut names = Vec::new(alloc);
     if always {
-        names.push(copied(alloc, ALWAYS_BUILD)?)?;
+        names.push(Name::copied(alloc, ALWAYS_BUILD)?)?;
     }
     Ok(names)
-}
-
-fn copied(alloc: Global, name: &[u8]) -> Result<Name, AllocError>
-    ensures { IfOk result (λ copy. copy ≡ name.now) }
-{
-    Name::copied(alloc, name)
 }
 
 fn copies(alloc: Global, names: Inputs) -> Result<Vec<Name>, AllocError>
@@ -150,7 +144,7 @@ fn copies(alloc: Global, names: Inputs) -> Result<Vec<Name>, AllocError>
 {
     let mut list = Vec::with_capacity(alloc, names.len())?;
     for name in names {
-        list.push(copied(alloc, name)?)?;
+        list.push(Name::copied(alloc, name)?)?;
     }
     Ok(list)
 }
@@ -160,7 +154,7 @@ fn outs_of(alloc: Global, group: &[Node]) -> Result<Vec<Name>, AllocError>
 {
     let mut names = Vec::new(alloc);
     for node in group {
-        names.push(copied(alloc, node.name())?)?;
+        names.push(Name::copied(alloc, node.name())?)?;
     }
     Ok(names)
 }

@@ -10,6 +10,9 @@ use std::io::{ErrorKind, Read, Write};
 /// The most bytes, and the most calls, that reading one file takes. With it every read of a file ends.
 const MOST: usize = 1_073_741_824;
 
+/// The bytes that one call reads. The block is cleared once for each file, which for a small file is most of the work.
+const BLOCK: usize = 16_384;
+
 /// One of the process's outputs. Each write is flushed.
 #[derive(Drop)]
 pub struct HostSink<W: Write + Drop> {
@@ -86,7 +89,7 @@ fn read_to_end<R: Read>(rt: &HostRuntime, reader: &mut R) -> Result<Vec<u8>, Fil
     ensures { IfOk result (λ bytes. vec_len bytes ≤ MOST) }
 {
     let mut bytes = Vec::new(rt.alloc());
-    let mut block = [0u8; 65536];
+    let mut block = [0u8; BLOCK];
     for _ in 0..MOST {
         let count = reader.read(&mut block).map_err(|_| FileFault::Device)?;
         if count == 0 {

@@ -35,16 +35,10 @@ pub fn default_goal(alloc: Global, book: &Book, text: &[u8]) -> Result<Option<Na
 {
     let name = stripped(text);
     if !name.is_empty() {
-        return Ok(Some(copied(alloc, without_dots(name))?));
+        return Ok(Some(Name::copied(alloc, without_dots(name))?));
     }
     match book.first_goal() {
-        Some(goal) => Ok(Some(copied(alloc, goal)?)),
+        Some(goal) => Ok(Some(Name::copied(alloc, goal)?)),
         None => Ok(None),
     }
-}
-
-fn copied(alloc: Global, name: &[u8]) -> Result<Name, AllocError>
-    ensures { IfOk result (λ copy. copy ≡ name.now) }
-{
-    Name::copied(alloc, name)
 }
