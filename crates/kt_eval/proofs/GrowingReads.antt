@@ -409,6 +409,12 @@ module _ (reads : Bool) (store : Store) where
   pub reading_grows : (levels : ℕ) (names : List Text) → TakesNothingBack (read_first store (evaluator reads store levels) names)
   reading_grows levels names w = (read_first_related (evaluator reads store levels) (evaluator reads store (suc levels)) (one_more_level reads store levels) store names w).0
 
+  pub tree_grows : (levels : ℕ) (sheet : Sheet) (items : Items) → TakesNothingBack (read_items (evaluator reads store levels) sheet items)
+  tree_grows levels sheet items w = (read_items_related (evaluator reads store levels) (evaluator reads store (suc levels)) (one_more_level reads store levels) sheet items w).0
+
+  pub text_grows : (levels : ℕ) (source : Source) (text : Text) → TakesNothingBack (read_text (evaluator reads store levels) source text)
+  text_grows levels source text w = (read_text_related (evaluator reads store levels) (evaluator reads store (suc levels)) (one_more_level reads store levels) source text w).0
+
   pub expanding_stays : (text : Text) → StaysOneDeeper (λ levels. expanded (evaluator reads store levels) text)
   expanding_stays text levels w deep =
       agreed _ _ deep (expanded_related (evaluator reads store levels) (evaluator reads store (suc levels)) (one_more_level reads store levels) text w).1
@@ -420,3 +426,11 @@ module _ (reads : Bool) (store : Store) where
   pub reading_stays : (names : List Text) → StaysOneDeeper (λ levels. read_first store (evaluator reads store levels) names)
   reading_stays names levels w deep =
       agreed _ _ deep (read_first_related (evaluator reads store levels) (evaluator reads store (suc levels)) (one_more_level reads store levels) store names w).1
+
+  pub tree_stays : (sheet : Sheet) (items : Items) → StaysOneDeeper (λ levels. read_items (evaluator reads store levels) sheet items)
+  tree_stays sheet items levels w deep =
+      agreed _ _ deep (read_items_related (evaluator reads store levels) (evaluator reads store (suc levels)) (one_more_level reads store levels) sheet items w).1
+
+  pub text_stays : (source : Source) (text : Text) → StaysOneDeeper (λ levels. read_text (evaluator reads store levels) source text)
+  text_stays source text levels w deep =
+      agreed _ _ deep (read_text_related (evaluator reads store levels) (evaluator reads store (suc levels)) (one_more_level reads store levels) source text w).1

@@ -1,14 +1,16 @@
 //! Laws of the definitions. These functions do nothing: their contracts are what counts.
 ghost use Rattle.std.specs.Prelude.{ℕ, Bool, List};
 ghost use Rattle.kt_text.specs.Words.{Text};
+ghost use Rattle.kt_syntax.specs.Blocks.{Items};
 ghost use Rattle.kt_eval.specs.declared.function.Function.{Function};
+ghost use Rattle.kt_eval.specs.declared.page.Source.{Source};
 ghost use Rattle.kt_eval.specs.Arguments.{ArgumentLaw};
 ghost use Rattle.kt_eval.specs.Doubling.{DoublingLaw};
 ghost use Rattle.kt_eval.specs.Expansion.{apply, expanded};
 ghost use Rattle.kt_eval.specs.Files.{Store};
 ghost use Rattle.kt_eval.specs.Growing.{StaysOneDeeper, TakesNothingBack};
 ghost use Rattle.kt_eval.specs.Levels.{evaluator};
-ghost use Rattle.kt_eval.specs.Reading.{read_first};
+ghost use Rattle.kt_eval.specs.Reading.{Sheet, read_first, read_items, read_text};
 ghost use Rattle.kt_eval.specs.Rows.{RowsOfAssignments, RowsOfCalls, RowsOfReading, RowsOfReferences};
 
 /// Worked values of references.
@@ -31,7 +33,8 @@ pub fn rows_of_reading()
     ensures { RowsOfReading }
 {}
 
-/// No message is taken back, and no name that was asked for.
+/// No message is taken back, and no name that was asked for: by expanding, by applying a function, and by reading the
+/// first file that is there, the tree of a text's lines, or a text.
 pub fn nothing_is_taken_back()
     ensures expanding { (reads : Bool) (store : Store) (levels : ℕ) (text : Text)
         → TakesNothingBack (expanded (evaluator reads store levels) text) }
@@ -39,9 +42,13 @@ pub fn nothing_is_taken_back()
         → TakesNothingBack (apply (evaluator reads store levels) function arguments) }
     ensures reading { (reads : Bool) (store : Store) (levels : ℕ) (names : List Text)
         → TakesNothingBack (read_first store (evaluator reads store levels) names) }
+    ensures tree { (reads : Bool) (store : Store) (levels : ℕ) (sheet : Sheet) (items : Items)
+        → TakesNothingBack (read_items (evaluator reads store levels) sheet items) }
+    ensures text { (reads : Bool) (store : Store) (levels : ℕ) (source : Source) (text : Text)
+        → TakesNothingBack (read_text (evaluator reads store levels) source text) }
 {}
 
-/// What isn't too deep (E08) with so many levels is the same with one more.
+/// What isn't too deep (E08) with so many levels is the same with one more, whatever the state before it.
 pub fn one_deeper()
     ensures expanding { (reads : Bool) (store : Store) (text : Text)
         → StaysOneDeeper (λ levels. expanded (evaluator reads store levels) text) }
@@ -49,6 +56,10 @@ pub fn one_deeper()
         → StaysOneDeeper (λ levels. apply (evaluator reads store levels) function arguments) }
     ensures reading { (reads : Bool) (store : Store) (names : List Text)
         → StaysOneDeeper (λ levels. read_first store (evaluator reads store levels) names) }
+    ensures tree { (reads : Bool) (store : Store) (sheet : Sheet) (items : Items)
+        → StaysOneDeeper (λ levels. read_items (evaluator reads store levels) sheet items) }
+    ensures text { (reads : Bool) (store : Store) (source : Source) (text : Text)
+        → StaysOneDeeper (λ levels. read_text (evaluator reads store levels) source text) }
 {}
 
 /// Each text is cut into the arguments of a call in exactly one way: with a comma between each two

@@ -1,4 +1,4 @@
-use Rattle.kt_eval.proofs.GrowingReads.{expanding_stays, applying_stays, reading_stays}
+use Rattle.kt_eval.proofs.GrowingReads.{expanding_stays, applying_stays, reading_stays, tree_stays, text_stays}
 use Rattle.kt_eval.proofs.laws.one_deeper.Goals as goal
 
 pub returns-clause-expanding : goal.returns-clause-expanding
@@ -9,3 +9,9 @@ returns-clause-applying c = applying_stays
 
 pub returns-clause-reading : goal.returns-clause-reading
 returns-clause-reading c = reading_stays
+
+pub returns-clause-tree : goal.returns-clause-tree
+returns-clause-tree c = tree_stays
+
+pub returns-clause-text : goal.returns-clause-text
+returns-clause-text c = text_stays
