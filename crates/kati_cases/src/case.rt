@@ -12,7 +12,7 @@ enum Open {
     Err,
 }
 
-/// A case, as its lines tell it. What it doesn't name isn't looked at.
+/// A case, as its lines tell it. What it doesn't name isn't looked at, but for the status, which is 0 then.
 #[derive(Drop)]
 pub struct Case<'a> {
     alloc: Global,

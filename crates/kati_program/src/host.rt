@@ -21,6 +21,7 @@ pub struct HostSink<W: Write + Drop> {
 }
 
 impl<W: Write + Drop> HostSink<W> {
+    /// An output of which no write failed yet.
     pub fn new(output: W) -> HostSink<W>
         ensures { result.failures ≡ 0 }
     {
@@ -63,7 +64,7 @@ impl<W: Write + Drop> Sink for HostSink<W> {
     }
 }
 
-/// The host's files, by paths from the current folder.
+/// The host's files, by paths from the current directory.
 #[derive(Drop)]
 pub struct HostFiles<'a> {
     rt: &'a HostRuntime,
@@ -72,6 +73,7 @@ pub struct HostFiles<'a> {
 }
 
 impl<'a> HostFiles<'a> {
+    /// No file was asked for yet.
     pub fn new(rt: &'a HostRuntime) -> HostFiles<'a>
         ensures asked { result.asked.items ≡ [] }
         ensures failures { result.failures ≡ 0 }
