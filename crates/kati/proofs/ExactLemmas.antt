@@ -249,7 +249,7 @@ plan_told read limit known goals nodes said asked plan fine sound e = by (plan_g
     by (planned heard statements) is f = settled heard statements is (unwritable_in (plan_of statements goals).statements) f
     by (at_fault heard fault) is f = absurd (true≢false (ap has_plan f))
 
-goals_told : (limit : ℕ) (read : Read) (known said asked goals : List Text) (m : Meaning) (plan : Plan) → m.result ≡ Ok plan → IsWritable plan
+pub goals_told : (limit : ℕ) (read : Read) (known said asked goals : List Text) (m : Meaning) (plan : Plan) → m.result ≡ Ok plan → IsWritable plan
     → MeansGoals limit read known said asked goals m → TellsGraph read limit known goals plan
 goals_told limit read known said asked goals m plan ok fine (inl p) =
     plan_told read limit known goals p.nodes said asked plan fine p.graph (sym ok ∙ ap (λ (n : Meaning). n.result) p.means)

@@ -1,5 +1,6 @@
 -- No plan that a run means has a cycle, two outputs of one file or a reserved name.
-use Rattle.std.proofs.Common.{◌≡◌, ◌≢◌, ◌⊎◌, ℕ, Bool, true, false, not, List, [], ◌∷◌, ◌++◌, map, filter, flat_map, Option, Some, None, Result, Ok, refl, sym, ap, ◌∙◌, subst, ⊎_elim, inl, inr, if◌then◌else◌}
+use Rattle.std.proofs.Common.{◌≡◌, ◌≢◌, ◌⊎◌, ℕ, Bool, true, false, not, List, [], ◌∷◌, ◌++◌, map, filter, flat_map, Option, Some, None, Result, Ok, Err, refl, sym, ap, ◌∙◌, subst, ⊎_elim, inl, inr, if◌then◌else◌}
+use Rattle.std.specs.Prelude.{IfOk}
 use Rattle.std.specs.List.{Contains}
 use Rattle.std.specs.Str.{bytes_eq}
 use Rattle.std.proofs.lemmas.Bool.{true≢false}
@@ -9,22 +10,28 @@ use Rattle.kt_text.specs.Words.{Text}
 use Rattle.kt_rules.specs.Entry.{Rule}
 use Rattle.kt_rules.specs.Names.{is_among, without_repeats}
 use Rattle.kt_eval.specs.Files.{Store}
+use Rattle.kt_eval.specs.declared.stop.Stop.{Stop}
 use Rattle.kt_graph.specs.Groups.{groups_of, made_nodes}
 use Rattle.kt_graph.specs.Node.{Node, all_inputs, inputs_of, order_only_of, node_of}
 use Rattle.kt_graph.specs.Known.{known_names}
 use Rattle.kt_graph.specs.Paths.{always_name, canon_of, is_reserved}
-use Rattle.kt_graph.specs.Reach.{HasEdge, IsInGroup, IsMade, Leads, Reaches}
-use Rattle.kt_graph.proofs.MemberLemmas.{Contains-cases, Contains-from_map, Contains-none}
+use Rattle.kt_graph.specs.Reach.{HasEdge, IsInGroup, IsMade, IsReached, Leads, Reaches}
+use Rattle.kt_graph.proofs.MadeLemmas.{input_reached}
+use Rattle.kt_graph.proofs.MemberLemmas.{Contains-cases, Contains-from_map, Contains-map, Contains-none}
 use Rattle.kt_graph.proofs.TroubleLemmas.{from_filter}
 use Rattle.kt_graph.proofs.UnknownLemmas.{from_without_repeats}
 use Rattle.kt_ninja.specs.Plan.{outputs}
 use Rattle.kt_ninja.specs.declared.plan.Plan.{Plan}
 use Rattle.kt_ninja.specs.declared.plan.Statement.{Statement}
+use Rattle.kt_ninja.specs.Writable.{IsWritable}
+use Rattle.kati.specs.Course.{ComesTo}
 use Rattle.kati.specs.Exact.{IsAlwaysBuilt, IsOfGroup, TellsGraph}
 use Rattle.kati.specs.Makefile.{Read}
+use Rattle.kati.specs.Meaning.{MeansGoals}
 use Rattle.kati.specs.Planned.{always_build, always_built, implicit_of, joined_inputs, joined_order_only, outs_of, statement_of}
-use Rattle.kati.specs.Sound.{IsSoundPlan, NeedsInput, NeedsItself, PlansAreSound}
-use Rattle.kati.proofs.ExactLemmas.{are_graphs, of_group}
+use Rattle.kati.specs.Sound.{IsNamed, IsSoundPlan, NeedsInput, NeedsItself, PlansAreSound}
+use Rattle.kati.proofs.ExactLemmas.{are_graphs, goals_told, of_group}
+use Rattle.kati.proofs.MeaningLemmas.{meant}
 use Rattle.kati.proofs.PlanLemmas.{always_reserved, from_flat, in_nodes, law, name_in, node_is, outs_in, to_flat}
 
 -- ---- the inputs of a group's statement
@@ -183,16 +190,49 @@ module _ (read : Read) (limit : ℕ) (known goals : List Text) (plan : Plan) (te
       by (inr always) (inl made_other) = absurd (free other made_other (reserved_by other (sym same ∙ ap canon_of always)))
       by (inr always_one) (inr always_other) = always_one ∙ sym always_other
 
-  unreserved : (name : Text) → Contains (outputs plan.statements) name → name ≢ always_build → is_reserved name ≡ false
-  unreserved name has other = by (tells.only name has)
-    where
-      not_reserved : IsMade read.book known goals name → (b : Bool) → is_reserved name ≡ b → b ≡ false
-      not_reserved made true is = absurd (free name made is)
-      not_reserved made false is = refl
+  -- what a member of a group needs is reached
+  needed_reached : (group : List Node) → Contains (groups_of tells.nodes) group → (input : Text) → IsNeededBy group input
+      → IsReached read.book known goals input
+  needed_reached group is_group input needed =
+      let made = (law read.book known goals tells.nodes tells.graph.1).made group needed.member is_group needed.among in
+      input_reached read.book known goals needed.member.name input
+      (of_group read.book known goals tells.nodes tells.graph.1 needed.member.name group is_group
+      (Contains-map name_in group needed.member needed.among)).reached
+      (subst (λ (one : Node). Contains (all_inputs one) input)
+      (sym (node_is read.book known goals tells.nodes tells.graph.1 needed.member
+      (in_nodes read.book known goals tells.nodes tells.graph.1 needed.member made))) needed.needs)
 
-      by : IsMade read.book known goals name ⊎ (name ≡ always_build) → is_reserved name ≡ false
-      by (inl made) = not_reserved made (is_reserved name) refl
-      by (inr always) = absurd (other always)
+  unreserved : (name : Text) → IsNamed plan.statements name → name ≢ always_build → is_reserved name ≡ false
+  unreserved name named other = by (tells.grouped named.statement named.among)
+    where
+      not_reserved : IsReached read.book known goals name → (b : Bool) → is_reserved name ≡ b → b ≡ false
+      not_reserved reached true is = absurd (tells.graph.0.free.free name (record { reached = reached; reserved = is }))
+      not_reserved reached false is = refl
+
+      of_statement : (group : List Node) (command : Option Text) → Contains (groups_of tells.nodes) group
+          → Contains (statement_of read.book group command).outs name
+          ⊎ Contains ((statement_of read.book group command).inputs ++ ((statement_of read.book group command).implicit ++ (statement_of read.book group command).order_only)) name
+          → is_reserved name ≡ false
+      of_statement group command is_group (inl made) = not_reserved
+          (of_group read.book known goals tells.nodes tells.graph.1 name group is_group (group_makes read.book group command name made)).reached
+          (is_reserved name) refl
+      of_statement group command is_group (inr needed) = ⊎_elim
+          (λ (by_member : IsNeededBy group name). not_reserved (needed_reached group is_group name by_member) (is_reserved name) refl)
+          (λ (always : name ≡ always_build). absurd (other always))
+          (group_needs read.book group command name needed)
+
+      by : IsOfGroup read limit (groups_of tells.nodes) named.statement ⊎ IsAlwaysBuilt plan.statements named.statement
+          → is_reserved name ≡ false
+      by (inl of) =
+          let statement = statement_of read.book of.group of.command in
+          of_statement of.group of.command of.among
+          (Contains-append_cases statement.outs (statement.inputs ++ (statement.implicit ++ statement.order_only)) name
+          (subst (λ (s : Statement). Contains (s.outs ++ (s.inputs ++ (s.implicit ++ s.order_only))) name) of.is named.stands))
+      by (inr always) = ⊎_elim
+          (λ (same : always_build ≡ name). absurd (other (sym same)))
+          (λ (none : Contains [] name). Contains-none name none)
+          (Contains-cases always_build [] name
+          (subst (λ (s : Statement). Contains (s.outs ++ (s.inputs ++ (s.implicit ++ s.order_only))) name) always.0 named.stands))
 
   pub sound_plan : IsSoundPlan plan
   sound_plan = record { uncircled = uncircled; files_differ = differ; unreserved = unreserved }
@@ -201,3 +241,12 @@ pub are_sound : PlansAreSound
 are_sound args store asked m plan means ok =
     let graph = are_graphs args store asked m plan means ok in
     sound_plan graph.read args.limit (known_names graph.read.book graph.list) graph.goals plan graph.tells
+
+-- ---- the plan that a call returns
+
+pub sound_if_ok : (limit : ℕ) (read : Read) (known said goals messages : List Text) (result : Result Plan Stop)
+    → ComesTo result (λ r. MeansGoals limit read known said [] goals (meant messages [] r))
+    → IfOk result IsWritable → IfOk result IsSoundPlan
+sound_if_ok limit read known said goals messages (Ok plan) means fine =
+    sound_plan read limit known goals plan (goals_told limit read known said [] goals (meant messages [] (Ok plan)) plan refl fine means)
+sound_if_ok limit read known said goals messages (Err stop) means fine = tt

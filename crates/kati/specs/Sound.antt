@@ -26,13 +26,19 @@ pub record NeedsItself (statements : List Statement) (name : Text) : Type 0 wher
   pub step : NeedsInput statements name next
   pub path : Reaches (NeedsInput statements) next name
 
+-- a name stands in one of the statements
+pub record IsNamed (statements : List Statement) (name : Text) : Type 0 where
+  pub statement : Statement
+  pub among : Contains statements statement
+  pub stands : Contains
+      (statement.outs ++ (statement.inputs ++ (statement.implicit ++ statement.order_only))) name
+
 pub record IsSoundPlan (plan : Plan) : Type 0 where
   pub uncircled : (name : Text) → ¬ NeedsItself plan.statements name
   pub files_differ : (one other : Text) → Contains (outputs plan.statements) one
       → Contains (outputs plan.statements) other
       → canon_of one ≡ canon_of other → one ≡ other
-  pub unreserved : (name : Text) → Contains (outputs plan.statements) name → name ≢ always_build
-      → is_reserved name ≡ false
+  pub unreserved : (name : Text) → IsNamed plan.statements name → name ≢ always_build → is_reserved name ≡ false
 
 abbrev pub PlansAreSound : Type 0
 PlansAreSound = (args : Args) (store : Store) (asked : List Text) (m : Meaning) (plan : Plan)

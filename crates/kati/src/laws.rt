@@ -35,7 +35,7 @@ pub fn names_are_asked()
 {}
 
 /// No plan has a name that needs itself, two outputs that are one file, or, but for what is always built, a reserved
-/// output.
+/// name among its outputs and inputs.
 pub fn plans_are_sound()
     ensures { PlansAreSound }
 {}

@@ -10,6 +10,7 @@ ghost use Rattle.kati.specs.Headline.{ReadBlames, Translates};
 ghost use Rattle.kati.specs.Course.{Comes, ComesTo, Course, Follows};
 ghost use Rattle.kati.specs.Makefile.{Read, makefile_read};
 ghost use Rattle.kati.specs.Meaning.{EndsAs, MeansGoals, MeansListed, MeansRead, Means};
+ghost use Rattle.kati.specs.Sound.{IsSoundPlan};
 ghost use Rattle.kati.specs.inner.Stops.{IsStopOf};
 ghost use Rattle.kati.specs.inner.Views.{outcome_of, read_of};
 
@@ -38,6 +39,7 @@ pub fn translate<F: Files>(alloc: Global, args: &Args, files: &mut F) -> Result<
     ensures asked { IfSome (F.known files.old)
         (λ store. IsFront (F.names files.new) (names_asked args.now store (F.names files.old))) }
     ensures writable { IfOk result (λ outcome. IfOk outcome.result IsWritable) }
+    ensures sound { IfOk result (λ outcome. IfOk outcome.result IsSoundPlan) }
     ensures keeps { F.known files.new ≡ F.known files.old }
     ensures blames { ReadBlames result (F.failed files.old) (F.failed files.new) (F.names files.new) }
 {
@@ -79,6 +81,7 @@ fn planned<F: Files>(
     ensures keeps { F.known files.new ≡ F.known files.old }
     ensures blames { Blames result (F.failed files.old) (F.failed files.new) (F.names files.new) }
     ensures writable { IfOk result IsWritable }
+    ensures sound { IfOk result IsSoundPlan }
 {
     match listed(alloc, &args.files, files) {
         Ok(list) => planned_listed(alloc, args, list.as_slice(), files, messages),
@@ -103,6 +106,7 @@ fn planned_listed<F: Files>(
     ensures keeps { F.known files.new ≡ F.known files.old }
     ensures blames { Blames result (F.failed files.old) (F.failed files.new) (F.names files.new) }
     ensures writable { IfOk result IsWritable }
+    ensures sound { IfOk result IsSoundPlan }
 {
     let (told, read) = makefile_read(alloc, args, files);
     *messages = told;
@@ -125,6 +129,7 @@ fn planned_if_read(
         })) }
     ensures blames { (old new : ℕ) (names : List Text) → Blames read old new names → Blames result old new names }
     ensures writable { IfOk result IsWritable }
+    ensures sound { IfOk result IsSoundPlan }
 {
     match read {
         Ok(makefile) => {
@@ -148,6 +153,7 @@ fn planned_read(
         → ComesTo result (λ r. MeansRead args.now list.now messages.old.items asked (read_of makefile.now)
         (record { messages = messages.new.items; result = r; asked = asked })) }
     ensures writable { IfOk result IsWritable }
+    ensures sound { IfOk result IsSoundPlan }
 {
     match chosen_goals(alloc, args.goals.as_slice(), args.limit, makefile, messages) {
         Ok(goals) => planned_goals(alloc, args, list, makefile, goals, messages),
@@ -169,6 +175,7 @@ fn planned_goals(
         (known_names makefile.now.book list.now) messages.old.items asked goals.items
         (record { messages = messages.new.items; result = r; asked = asked })) }
     ensures writable { IfOk result IsWritable }
+    ensures sound { IfOk result IsSoundPlan }
 {
     let known = Known::of(alloc, &makefile.book, list)?;
     let planned = planned_known(alloc, args, &known, makefile, goals, messages);
@@ -189,6 +196,7 @@ fn planned_known(
         known.now messages.old.items asked goals.items
         (record { messages = messages.new.items; result = r; asked = asked })) }
     ensures writable { IfOk result IsWritable }
+    ensures sound { IfOk result IsSoundPlan }
 {
     match graph(alloc, &makefile.book, known, goals.as_slice()) {
         Ok(graph) => {
