@@ -1,16 +1,14 @@
 -- Each plan that a run means is the graph of what its goals need.
-use Rattle.std.proofs.Common.{◌≡◌, ◌≢◌, ◌⊎◌, ℕ, zero, suc, Bool, true, false, not, ◌||◌, cond, List, [], ◌∷◌, ◌++◌, map, flat_map, Option, Some, None, Result, Ok, Err, refl, sym, ap, ◌∙◌, subst, ⊎_elim, inl, inr, arith}
+use Rattle.std.proofs.Common.{◌≡◌, ◌≢◌, ◌⊎◌, ℕ, zero, suc, Bool, true, false, not, cond, List, [], ◌∷◌, ◌++◌, map, Option, Some, None, Ok, refl, sym, ap, ◌∙◌, subst, ⊎_elim, inl, inr, arith}
 use Rattle.std.specs.List.{AllPairs, Contains, list_any}
 use Rattle.std.proofs.lemmas.Bool.{false≢true, true≢false}
 use Rattle.std.proofs.lemmas.List.Concat.{flat_map-cons}
-use Rattle.std.proofs.lemmas.List.Elements.{Contains-append_cases, Contains-append_left, Contains-append_right}
+use Rattle.std.proofs.lemmas.List.Elements.{Contains-append_cases, Contains-append_right}
 use Rattle.kt_text.specs.Words.{Text}
 use Rattle.kt_rules.specs.Entry.{Rule}
-use Rattle.kt_eval.specs.Files.{Store}
 use Rattle.kt_eval.specs.declared.fault.Fault.{Fault}
-use Rattle.kt_eval.specs.Table.{Table}
 use Rattle.kt_graph.specs.Faults.{IsSoundGraph}
-use Rattle.kt_graph.specs.Groups.{IsInOne, groups_of, made_nodes}
+use Rattle.kt_graph.specs.Groups.{groups_of, made_nodes}
 use Rattle.kt_graph.specs.Known.{known_names}
 use Rattle.kt_graph.specs.Node.{Node, is_leaf, node_of}
 use Rattle.kt_graph.specs.Reach.{IsGraph, IsMade}
@@ -21,16 +19,14 @@ use Rattle.kt_ninja.specs.Writable.{IsWritable}
 use Rattle.kt_ninja.specs.declared.plan.Plan.{Plan}
 use Rattle.kt_ninja.specs.declared.plan.Statement.{Statement}
 use Rattle.kt_recipe.specs.Shell.{Progress, goes_on, ends}
-use Rattle.kati_args.specs.declared.args.Args.{Args}
 use Rattle.kati.specs.Chosen.{chosen_goals}
-use Rattle.kati.specs.Course.{Course, on_course, off_course}
-use Rattle.kati.specs.Exact.{IsAlwaysBuilt, IsGraphOf, IsMadeOnce, IsOfGroup, PlansAreGraphs, TellsGraph}
+use Rattle.kati.specs.Exact.{IsAlwaysBuilt, IsMadeOnce, IsOfGroup, PlansAreGraphs, TellsGraph}
 use Rattle.kati.specs.Listing.{listed}
 use Rattle.kati.specs.Makefile.{Read, makefile_read}
-use Rattle.kati.specs.Meaning.{EndsAs, Meaning, Means, MeansGoals, MeansListed, MeansRead, meaning_of}
+use Rattle.kati.specs.Meaning.{Meaning, MeansGoals, MeansListed, MeansRead, meaning_of}
 use Rattle.kati.specs.Planned.{Planning, planned, at_fault, after_command, always_build, always_built, command_for, course_of_plan, has_implicit, outs_of, plan_course, plan_groups, plan_of, plan_unless, statement_of, unwritable_in, with_always_built, written}
-use Rattle.kati.proofs.PlanLemmas.{from_flat, law, in_nodes, name_in, name_reached, node_is, outs_in, outs_told, statements_in, is_planned, to_flat}
-use Rattle.kati.proofs.ReadBackLemmas.{WentOn, has_plan, plan_in, read_back, went_on}
+use Rattle.kati.proofs.PlanLemmas.{from_flat, law, name_in, name_reached, node_is, outs_in, outs_told, statements_in, is_planned, to_flat}
+use Rattle.kati.proofs.ReadBackLemmas.{has_plan, plan_in, read_back, went_on}
 
 -- ---- names that differ
 

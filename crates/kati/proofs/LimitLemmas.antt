@@ -1,5 +1,5 @@
 -- What isn't too deep with a limit is the same with a larger one.
-use Rattle.std.proofs.Common.{◌≡◌, ℕ, zero, suc, ◌+◌, ◌-◌, ◌≤◌, true, false, List, [], ◌∷◌, ◌++◌, Option, Some, None, Result, Ok, Err, refl, sym, ap, ◌∙◌, subst, inl, inr, arith}
+use Rattle.std.proofs.Common.{◌≡◌, ℕ, zero, suc, ◌+◌, ◌-◌, true, false, List, [], ◌∷◌, ◌++◌, Option, None, refl, sym, ap, ◌∙◌, subst, inl, inr, arith}
 use Rattle.std.specs.Prelude.{codes}
 use Rattle.kt_text.specs.Words.{Text}
 use Rattle.kt_rules.specs.Entry.{Rule}
@@ -11,14 +11,13 @@ use Rattle.kt_eval.specs.Levels.{evaluator}
 use Rattle.kt_eval.specs.Machines as machines
 use Rattle.kt_eval.specs.Machines.{first_world, predefined}
 use Rattle.kt_eval.specs.Reading.{read_first}
-use Rattle.kt_eval.specs.State.{World, frozen_world}
+use Rattle.kt_eval.specs.State.{frozen_world}
 use Rattle.kt_eval.specs.Step.{Outcome, Gave, Stopped, ending}
 use Rattle.kt_eval.specs.Table.{Table}
 use Rattle.kt_eval.proofs.GrowingReads.{expanding_stays, reading_stays}
 use Rattle.kt_graph.specs.Groups.{groups_of}
 use Rattle.kt_graph.specs.Known.{known_names}
 use Rattle.kt_graph.specs.Node.{Node}
-use Rattle.kt_ninja.specs.declared.plan.Plan.{Plan}
 use Rattle.kt_ninja.specs.declared.plan.Statement.{Statement}
 use Rattle.kt_recipe.specs.Shell.{Progress, goes_on, ends, shell_of}
 use Rattle.kt_recipe.proofs.DeeperLemmas.{command_stays}
@@ -28,8 +27,8 @@ use Rattle.kati.specs.Course.{Course, on_course, off_course}
 use Rattle.kati.specs.Limits.{IsTooDeep, OnlyCuts, with_limit}
 use Rattle.kati.specs.Listing.{listed}
 use Rattle.kati.specs.Makefile.{Read, command_line_table, course_of_reading, makefile_names, makefile_read}
-use Rattle.kati.specs.Meaning.{EndsAs, Meaning, Means, MeansGoals, MeansListed, MeansPlan, MeansRead, meaning_of}
-use Rattle.kati.specs.Planned.{Planning, planned, at_fault, after_command, command_for, course_of_plan, plan_course, plan_groups, statement_of, written}
+use Rattle.kati.specs.Meaning.{EndsAs, Meaning, Means, MeansGoals, MeansListed, MeansRead, meaning_of}
+use Rattle.kati.specs.Planned.{Planning, planned, at_fault, after_command, command_for, course_of_plan, plan_course, plan_groups, statement_of}
 
 -- a course means no less where what comes after it does
 ends_on : {A : Type 0} (course : Course A) (Next More : List Text → List Text → A → Meaning → Type 0) (m : Meaning)

@@ -1,11 +1,10 @@
 -- A run has one meaning.
-use Rattle.std.proofs.Common.{◌≡◌, List, [], ◌∷◌, map, Option, Some, None, refl, sym, ap, ◌∙◌, subst, ⊎_elim, inl, inr}
+use Rattle.std.proofs.Common.{◌≡◌, List, [], ◌∷◌, map, Some, None, refl, sym, ap, ◌∙◌, ⊎_elim, inl, inr}
 use Rattle.std.specs.List.{Contains}
 use Rattle.std.specs.List.Sorted.{IsStrictlySortedBy}
-use Rattle.std.specs.Ordering.{is_lt, nat_cmp, ordering_reverse}
+use Rattle.std.specs.Ordering.{is_lt, ordering_reverse}
 use Rattle.std.specs.declared.cmp.Ordering.{Ordering}
 use Rattle.std.specs.declared.cmp.Ordering.TheVariants.{Less, Equal, Greater}
-use Rattle.std.specs.Cmp.Lexicographic.{slice_cmp}
 use Rattle.std.proofs.lemmas.Bool.{true≢false}
 use Rattle.std.proofs.lemmas.Cmp.{nat_list_cmp_total}
 use Rattle.std.proofs.lemmas.List.Elements.{All-contains}
@@ -15,7 +14,6 @@ use Rattle.std.proofs.lemmas.Map.Views.{All-after_first}
 use Rattle.std.proofs.lemmas.Option.{none-some, same_Some}
 use Rattle.kt_text.specs.Words.{Text}
 use Rattle.kt_rules.specs.Entry.{Rule}
-use Rattle.kt_eval.specs.Files.{Store}
 use Rattle.kt_eval.specs.Step.{fault_at}
 use Rattle.kt_graph.specs.Faults.{fault_number, fault_words}
 use Rattle.kt_graph.specs.Known.{known_names}
@@ -27,7 +25,7 @@ use Rattle.kati.specs.Chosen.{chosen_goals}
 use Rattle.kati.specs.Course.{Course, on_course, off_course}
 use Rattle.kati.specs.Listing.{listed}
 use Rattle.kati.specs.Makefile.{Read, makefile_read}
-use Rattle.kati.specs.Meaning.{EndsAs, Meaning, Means, MeansGoals, MeansListed, MeansRead, meaning_of}
+use Rattle.kati.specs.Meaning.{EndsAs, Meaning, MeansGoals, MeansListed, MeansRead, meaning_of}
 use Rattle.kati.specs.Once.{HasOneMeaning}
 use Rattle.kati.specs.Planned.{plan_course}
 use Rattle.kati.proofs.PlanLemmas.{name_in, not_less, order}

@@ -1,5 +1,5 @@
 -- Each plan that a run means can be written, and is read back.
-use Rattle.std.proofs.Common.{◌≡◌, ℕ, Bool, true, false, List, [], ◌∷◌, Option, Some, None, Result, Ok, Err, refl, sym, ap, ◌∙◌, subst, inl, inr}
+use Rattle.std.proofs.Common.{◌≡◌, ℕ, Bool, true, false, List, [], Option, Some, None, Result, Ok, Err, refl, sym, ap, ◌∙◌, subst, inl, inr}
 use Rattle.std.specs.Option.{option_and_then}
 use Rattle.std.proofs.lemmas.Bool.{false≢true, true≢false}
 use Rattle.kt_text.specs.Words.{Text}
@@ -13,7 +13,7 @@ use Rattle.kt_graph.specs.Known.{known_names}
 use Rattle.kt_graph.specs.Node.{Node}
 use Rattle.kt_ninja.specs.declared.plan.Plan.{Plan}
 use Rattle.kt_ninja.specs.declared.plan.Statement.{Statement}
-use Rattle.kt_ninja.specs.Writable.{HasWritableTexts, IsWritable, Trouble, no_output, bad_name, bad_command, repeated, not_an_output, trouble_of_statements}
+use Rattle.kt_ninja.specs.Writable.{IsWritable, Trouble, no_output, bad_name, bad_command, repeated, not_an_output, trouble_of_statements}
 use Rattle.kt_ninja.proofs.Deciding.{texts_exactly}
 use Rattle.kt_ninja.proofs.PrintThenRead.{printed_is_read}
 use Rattle.kati_args.specs.declared.args.Args.{Args}

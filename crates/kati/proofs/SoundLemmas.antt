@@ -1,5 +1,5 @@
 -- No plan that a run means has a cycle, two outputs of one file or a reserved name.
-use Rattle.std.proofs.Common.{◌≡◌, ◌≢◌, ◌⊎◌, ℕ, Bool, true, false, not, List, [], ◌∷◌, ◌++◌, map, filter, flat_map, Option, Some, None, Result, Ok, Err, refl, sym, ap, ◌∙◌, subst, ⊎_elim, inl, inr, if◌then◌else◌}
+use Rattle.std.proofs.Common.{◌≡◌, ◌≢◌, ◌⊎◌, ℕ, Bool, true, false, not, List, [], ◌∷◌, ◌++◌, flat_map, Option, Result, Ok, Err, refl, sym, ap, ◌∙◌, subst, ⊎_elim, inl, inr}
 use Rattle.std.specs.Prelude.{IfOk}
 use Rattle.std.specs.List.{Contains}
 use Rattle.std.specs.Str.{bytes_eq}
@@ -9,13 +9,12 @@ use Rattle.std.proofs.lemmas.Slice.Eq.{bytes_eq-Decides}
 use Rattle.kt_text.specs.Words.{Text}
 use Rattle.kt_rules.specs.Entry.{Rule}
 use Rattle.kt_rules.specs.Names.{is_among, without_repeats}
-use Rattle.kt_eval.specs.Files.{Store}
 use Rattle.kt_eval.specs.declared.stop.Stop.{Stop}
-use Rattle.kt_graph.specs.Groups.{groups_of, made_nodes}
-use Rattle.kt_graph.specs.Node.{Node, all_inputs, inputs_of, order_only_of, node_of}
+use Rattle.kt_graph.specs.Groups.{groups_of}
+use Rattle.kt_graph.specs.Node.{Node, all_inputs, inputs_of, order_only_of}
 use Rattle.kt_graph.specs.Known.{known_names}
 use Rattle.kt_graph.specs.Paths.{always_name, canon_of, is_reserved}
-use Rattle.kt_graph.specs.Reach.{HasEdge, IsInGroup, IsMade, IsReached, Leads, Reaches}
+use Rattle.kt_graph.specs.Reach.{HasEdge, IsInGroup, IsMade, IsReached, Leads}
 use Rattle.kt_graph.proofs.MadeLemmas.{input_reached}
 use Rattle.kt_graph.proofs.MemberLemmas.{Contains-cases, Contains-from_map, Contains-map, Contains-none}
 use Rattle.kt_graph.proofs.TroubleLemmas.{from_filter}
@@ -28,7 +27,7 @@ use Rattle.kati.specs.Course.{ComesTo}
 use Rattle.kati.specs.Exact.{IsAlwaysBuilt, IsOfGroup, TellsGraph}
 use Rattle.kati.specs.Makefile.{Read}
 use Rattle.kati.specs.Meaning.{MeansGoals}
-use Rattle.kati.specs.Planned.{always_build, always_built, implicit_of, joined_inputs, joined_order_only, outs_of, statement_of}
+use Rattle.kati.specs.Planned.{always_build, implicit_of, joined_inputs, joined_order_only, outs_of, statement_of}
 use Rattle.kati.specs.Sound.{IsNamed, IsSoundPlan, NeedsInput, NeedsItself, PlansAreSound}
 use Rattle.kati.proofs.ExactLemmas.{are_graphs, goals_told, of_group}
 use Rattle.kati.proofs.MeaningLemmas.{meant}

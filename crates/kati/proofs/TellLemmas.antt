@@ -1,5 +1,5 @@
 -- What a sink is told in pieces.
-use Rattle.std.proofs.Common.{◌≡◌, ◌≤◌, ℕ, ◌++◌, ◌⊎◌, Option, Result, Ok, Err, inl, inr, arith}
+use Rattle.std.proofs.Common.{◌≡◌, ◌≤◌, ℕ, ◌++◌, Option, Result, Ok, Err, inl, inr, arith}
 use Rattle.std.specs.Prelude.{OnErr, OnOk}
 use Rattle.kt_list.specs.Counters.{Rises}
 use Rattle.kt_text.specs.Words.{Text}

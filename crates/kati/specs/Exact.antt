@@ -1,6 +1,6 @@
 -- What the statements of a plan are: the graph of what the goals need, and nothing else (kati's own; Ninja manual,
 -- "Build statements").
-use Rattle.std.specs.Prelude.{◌≡◌, ◌⊎◌, ℕ, true, List, Option, Result, Ok}
+use Rattle.std.specs.Prelude.{◌≡◌, ◌⊎◌, ℕ, true, List, Option, Ok}
 use Rattle.std.specs.List.{Contains, list_any}
 use Rattle.kt_text.specs.Words.{Text}
 use Rattle.kt_eval.specs.Files.{Store}
@@ -16,7 +16,7 @@ use Rattle.kt_ninja.specs.declared.plan.Statement.{Statement}
 use Rattle.kt_recipe.specs.Shell.{goes_on}
 use Rattle.kati_args.specs.declared.args.Args.{Args}
 use Rattle.kati.specs.Chosen.{chosen_goals}
-use Rattle.kati.specs.Course.{Course, on_course}
+use Rattle.kati.specs.Course.{on_course}
 use Rattle.kati.specs.Listing.{listed}
 use Rattle.kati.specs.Makefile.{Read, makefile_read}
 use Rattle.kati.specs.Meaning.{Meaning, Means}

@@ -1,6 +1,6 @@
 -- What no plan has: a name that needs itself, two outputs that are one file, a name that is kati's own (kati's own;
 -- Ninja manual, "Build statements").
-use Rattle.std.specs.Prelude.{◌≡◌, ◌≢◌, false, List, ◌++◌, Result, Ok}
+use Rattle.std.specs.Prelude.{◌≡◌, ◌≢◌, false, List, ◌++◌, Ok}
 use Rattle.std.specs.List.{Contains}
 use Rattle.kt_text.specs.Words.{Text}
 use Rattle.kt_eval.specs.Files.{Store}

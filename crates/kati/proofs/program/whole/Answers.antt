@@ -1,6 +1,6 @@
-use Rattle.std.proofs.Common.{refl, rules, ap}
+use Rattle.std.proofs.Common.{refl, ap}
 use Rattle.std.proofs.lemmas.Result.{IfErr-weaker}
-use Rattle.kati.specs.Told.{Tells, fault_words}
+use Rattle.kati.specs.Told.{fault_words}
 use Rattle.kati.proofs.BlameLemmas.{blames_on, on_ok_weaker}
 use Rattle.kati.proofs.TellLemmas.{told_since}
 use Rattle.kati.proofs.program.whole.Goals as goal
