@@ -5,7 +5,7 @@ ghost use Rattle.kt_rules.specs.Suffixes.{all_needs, special_needs, suffixes_of}
 ghost use Rattle.kt_graph.specs.Known.{known_names, listed_names, named_by, named_with};
 
 use bstr::ByteSlice;
-use indexmap::IndexSet;
+use kt_list::Names;
 use kt_rules::{Book, Entry, Name, Needs, TargetRule, without_dots};
 use std::alloc::{AllocError, Global};
 use std::marker::Model;
@@ -15,16 +15,15 @@ use std::marker::Model;
 /// A known name needs no rule where a pattern rule needs it.
 #[derive(Drop)]
 pub struct Known {
-    alloc: Global,
-    names: IndexSet<Vec<u8>>,
+    names: Names,
 }
 
 impl Model for Known {
-    ghost use Rattle.std.specs.Prelude.{ℕ, List, map};
+    ghost use Rattle.std.specs.Prelude.{ℕ, List};
 
     ghost Value = { List (List ℕ) };
 
-    ghost view = { λ known. map (λ name. name.items) known.names.keys };
+    ghost view = { λ known. known.names };
 }
 
 impl Known {
@@ -53,8 +52,7 @@ impl Known {
         ensures { result ≡ [] }
     {
         Known {
-            alloc,
-            names: IndexSet::new(alloc),
+            names: Names::new(alloc),
         }
     }
 
@@ -116,10 +114,7 @@ impl Known {
     fn add(&mut self, name: &[u8]) -> Result<(), AllocError>
         ensures { OnOk result (self.new ≡ with_name self.old name.now) }
     {
-        if !self.contains(name) {
-            self.names.insert(Vec::from_slice(self.alloc, name)?)?;
-        }
-        Ok(())
+        self.names.add(name)
     }
 }
 

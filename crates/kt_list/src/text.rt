@@ -1,10 +1,15 @@
 //! A text in a public type.
 ghost use Rattle.std.specs.Prelude.{◌≡◌, ◌≤◌, length, nat_eq, IfOk, IfSome};
+ghost use Rattle.std.proofs.Common.{ap};
+ghost use Rattle.std.specs.Hash as fed;
+ghost use Rattle.std.specs.Cmp.Lexicographic.{bytes_decides};
 ghost use Rattle.kt_list.specs.Texts.{text_of};
 ghost use Rattle.std.specs.Cmp.{partial_equiv_from_equiv};
 ghost use Rattle.std.specs.Cmp.Lexicographic.{pointwise, nat_list_eq_equiv};
 
+use indexmap::Equivalent;
 use std::alloc::{AllocError, Global};
+use std::hash::{Hash, Hasher};
 use std::marker::Model;
 
 /// The bytes of a name, say, in a public struct or enum. A short text lies in the value itself and takes no memory.
@@ -16,7 +21,7 @@ pub struct Text {
 }
 
 // A text of so many bytes is short: as many as lie beside a size and a tag in the room of a vector and a tag.
-const SHORT: usize = 30;
+pub(crate) const SHORT: usize = 30;
 
 #[derive(Debug, Drop)]
 enum Form {
@@ -83,6 +88,29 @@ impl PartialEq for Text {
 
 impl Eq for Text {
     ghost laws = { nat_list_eq_equiv };
+}
+
+impl Hash for Text {
+    ghost hash_input = { λ text. fed.slice fed.u8 text };
+
+    ghost respects_eq = { λ x y h. ap (fed.slice fed.u8) ((bytes_decides x y).0 h) };
+
+    fn hash<H: Hasher>(&self, state: &mut H) {
+        self.as_slice().hash(state);
+    }
+}
+
+// A text is looked up by its bytes.
+impl Equivalent<Text> for &[u8] {
+    ghost equivalent = { λ bytes text. pointwise nat_eq bytes.now text };
+
+    ghost respects_hash = { λ bytes text h. ap (fed.slice fed.u8) ((bytes_decides bytes.now text).0 h) };
+
+    ghost respects_eq = { λ bytes x y. nat_list_eq_equiv.congr bytes.now x y };
+
+    fn equivalent(&self, key: &Text) -> bool {
+        *self == key.as_slice()
+    }
 }
 
 // The form of few bytes.

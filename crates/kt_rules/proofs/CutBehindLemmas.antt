@@ -1,11 +1,9 @@
 -- Names cut after a suffix that they begin with.
-use Rattle.std.proofs.Common.{◌≡◌, ℕ, zero, suc, ◌+◌, ◌<◌, ◌≤◌, Bool, true, false, cond, ◌&&◌, ◌||◌, List, [], ◌∷◌, find, length, take, drop, map, Option, Some, None, IfSome, refl, sym, ap, subst, ◌∙◌, true≢false, arith, get_or}
+use Rattle.std.proofs.Common.{◌≡◌, ℕ, zero, suc, ◌+◌, ◌<◌, ◌≤◌, Bool, true, false, cond, ◌&&◌, ◌||◌, List, [], ◌∷◌, find, length, take, drop, Option, Some, None, IfSome, refl, sym, ap, subst, ◌∙◌, true≢false, arith, get_or}
 use Rattle.std.specs.Prelude.{min, nat_eq, nat_lt, if◌then◌else◌}
 use Rattle.std.proofs.lemmas.Bool.{ltb-true, ltb-false, lt-ltb}
 use Rattle.std.specs.List.{range_with_len}
 use Rattle.std.specs.Cmp.Lexicographic.{pointwise}
-use Rattle.std.specs.declared.vec.Vec.{Vec}
-use Rattle.std.specs.declared.alloc.Global.{Global}
 use Rattle.std.proofs.lemmas.Bool.Decides.{Decides-eqb}
 use Rattle.std.proofs.lemmas.Slice.Eq.{slice_eq-Decides}
 use Rattle.std.proofs.lemmas.Option.{IfSome_then}
@@ -109,25 +107,22 @@ earlier_assoc (Some x) None c = refl
 earlier_assoc (Some x) (Some y) None = refl
 earlier_assoc (Some x) (Some y) (Some z) = let e : min (min x y) z ≡ min x (min y z) = omega arith in ap Some e
 
-abbrev pub names_in : List (Vec ℕ Global) → List Text
-names_in names = map (λ name. name.items) names
-
 -- a prefix from a place on is tried
-pub cut_at : (suffixes : List Text) (names : List (Vec ℕ Global)) (i : ℕ) (front : Vec ℕ Global) (name : Text) (first cut next : Option ℕ) → i < length names
-    → front ≡ get_or names i front → cut ≡ cut_behind suffixes name front.items → next ≡ earlier first cut
-    → earlier next (first_cut suffixes (names_in (drop (i + 1) names)) name) ≡ earlier first (first_cut suffixes (names_in (drop i names)) name)
+pub cut_at : (suffixes : List Text) (names : List Text) (i : ℕ) (front : Text) (name : Text) (first cut next : Option ℕ) → i < length names
+    → front ≡ get_or names i front → cut ≡ cut_behind suffixes name front → next ≡ earlier first cut
+    → earlier next (first_cut suffixes (drop (i + 1) names) name) ≡ earlier first (first_cut suffixes (drop i names) name)
 cut_at suffixes names i front name first cut next h e at both =
-    ap (λ o. earlier o (first_cut suffixes (names_in (drop (i + 1) names)) name)) (both ∙ ap (earlier first) at)
-    ∙ earlier_assoc first (cut_behind suffixes name front.items) (first_cut suffixes (names_in (drop (i + 1) names)) name)
-    ∙ ap (earlier first) (sym (more_cuts suffixes front.items (names_in (drop (i + 1) names)) name))
-    ∙ ap (λ (x : Vec ℕ Global). earlier first (first_cut suffixes (names_in (x ∷ drop (i + 1) names)) name)) e
-    ∙ ap (λ xs. earlier first (first_cut suffixes (names_in xs) name)) (sym (drop_more names i front h))
+    ap (λ o. earlier o (first_cut suffixes (drop (i + 1) names) name)) (both ∙ ap (earlier first) at)
+    ∙ earlier_assoc first (cut_behind suffixes name front) (first_cut suffixes (drop (i + 1) names) name)
+    ∙ ap (earlier first) (sym (more_cuts suffixes front (drop (i + 1) names) name))
+    ∙ ap (λ (x : Text). earlier first (first_cut suffixes (x ∷ drop (i + 1) names) name)) e
+    ∙ ap (λ xs. earlier first (first_cut suffixes xs name)) (sym (drop_more names i front h))
 
 -- nothing is left
-pub cut_end : (suffixes : List Text) (names : List (Vec ℕ Global)) (i : ℕ) (name : Text) (first : Option ℕ) → length names ≤ i
-    → earlier first (first_cut suffixes (names_in (drop i names)) name) ≡ first
+pub cut_end : (suffixes : List Text) (names : List Text) (i : ℕ) (name : Text) (first : Option ℕ) → length names ≤ i
+    → earlier first (first_cut suffixes (drop i names) name) ≡ first
 cut_end suffixes names i name first h =
-    ap (λ xs. earlier first (first_cut suffixes (names_in xs) name)) (drop_all i names h)
+    ap (λ xs. earlier first (first_cut suffixes xs name)) (drop_all i names h)
     ∙ ap (earlier first) (no_cut suffixes name) ∙ earlier_none first
 
 -- ---- one beginning

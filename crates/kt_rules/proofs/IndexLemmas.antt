@@ -11,23 +11,23 @@ use Rattle.kt_rules.specs.Indexes.{noted_in}
 
 -- the entries of a map of names
 abbrev Entries : Type 0 → Type 0
-Entries A = List (Vec ℕ Global × Vec A Global)
+Entries A = List (Text × Vec A Global)
 
 -- what a look-up found
 abbrev pub items_of : {A : Type 0} → Option (Vec A Global) → List A
 items_of {A} found = unwrap_or (option_map (λ (items : Vec A Global). items.items) found) []
 
 -- where two names are two, no key is both
-apart : (name other : Text) → bytes_eq other name ≡ false → (key : Vec ℕ Global) → bytes_eq name key.items ≡ true → bytes_eq other key.items ≡ false
+apart : (name other : Text) → bytes_eq other name ≡ false → (key : Text) → bytes_eq name key ≡ true → bytes_eq other key ≡ false
 apart name other differ key is =
-    nat_list_eq_equiv.symm other key.items
-    ∙ sym (nat_list_eq_equiv.congr name key.items other is)
+    nat_list_eq_equiv.symm other key
+    ∙ sym (nat_list_eq_equiv.congr name key other is)
     ∙ nat_list_eq_equiv.symm name other ∙ differ
 
 -- more was noted at one name, and all others keep theirs
 pub noted : {A : Type 0} (old new : Entries A) (name : Text) (items : Vec A Global) (more : List A)
-    → KeepsOthers (λ (x y : Vec ℕ Global). bytes_eq x.items y.items) (λ (key : Vec ℕ Global). bytes_eq name key.items) old new
-    → lookup (λ (key : Vec ℕ Global). bytes_eq name key.items) new ≡ Some items
+    → KeepsOthers (λ (x y : Text). bytes_eq x y) (λ (key : Text). bytes_eq name key) old new
+    → lookup (λ (key : Text). bytes_eq name key) new ≡ Some items
     → items.items ≡ noted_in old name ++ more
     → (other : Text) → noted_in new other ≡ noted_in old other ++ (if bytes_eq other name then more else [])
 unfolding KeepsOthers
@@ -40,15 +40,15 @@ noted {A} old new name items more others found grown other = by (bytes_eq other 
         subst P (sym same) (ap (λ o. unwrap_or (option_map (λ (s : Vec A Global). s.items) o) []) found ∙ grown)
     by false e =
         ap (λ o. unwrap_or (option_map (λ (s : Vec A Global). s.items) o) [])
-        (others (λ (key : Vec ℕ Global). bytes_eq other key.items)
-        (λ x y h. nat_list_eq_equiv.congr other x.items y.items h)
+        (others (λ (key : Text). bytes_eq other key)
+        (λ x y h. nat_list_eq_equiv.congr other x y h)
         (λ key h. apart name other e key h))
         ∙ sym (append-nil _)
 
 -- nothing more was noted at a name, and all others keep theirs
 pub kept : {A : Type 0} (old new : Entries A) (name : Text) (items : Vec A Global)
-    → KeepsOthers (λ (x y : Vec ℕ Global). bytes_eq x.items y.items) (λ (key : Vec ℕ Global). bytes_eq name key.items) old new
-    → lookup (λ (key : Vec ℕ Global). bytes_eq name key.items) new ≡ Some items
+    → KeepsOthers (λ (x y : Text). bytes_eq x y) (λ (key : Text). bytes_eq name key) old new
+    → lookup (λ (key : Text). bytes_eq name key) new ≡ Some items
     → items.items ≡ noted_in old name
     → (other : Text) → noted_in new other ≡ noted_in old other
 kept {A} old new name items others found same other =

@@ -6,6 +6,7 @@ mod NeedsLemmas
 mod TestingLemmas
 pub mod IndexLemmas
 pub mod NameSetLemmas
+mod SpecialLemmas
 pub mod RefusedLemmas
 pub mod SlotLemmas
 pub mod FindLemmas

@@ -7,9 +7,9 @@ use Rattle.kt_text.specs.Words.{Text}
 use Rattle.kt_rules.specs.declared.index.Index.{Index}
 
 -- what was noted at a name in the entries of a map
-abbrev pub noted_in : {A : Type 0} → List (Vec ℕ Global × Vec A Global) → Text → List A
+abbrev pub noted_in : {A : Type 0} → List (Text × Vec A Global) → Text → List A
 noted_in entries name =
-    unwrap_or (option_map (λ noted. noted.items) (lookup (λ key. bytes_eq name key.items) entries)) []
+    unwrap_or (option_map (λ noted. noted.items) (lookup (λ key. bytes_eq name key) entries)) []
 
 -- what was noted at a name
 abbrev pub noted_at : {A : Type 0} → Index A → Text → List A

@@ -6,6 +6,8 @@ use Rattle.std.specs.List.{list_any, onto_first, suffix_len, starts_with, ends_w
 use Rattle.std.specs.Cmp.Lexicographic.{pointwise}
 use Rattle.kt_text.specs.Words.{Text, is_nonempty, is_separator, stripped_start}
 use Rattle.kt_text.specs.Functions.{quotes_percent}
+pub use Rattle.kt_list.specs.Names.{is_among, with_name}
+unfoldable pub use Rattle.kt_list.specs.Names.{without_repeats}
 use Rattle.kt_rules.specs.declared.cutting.Cut.{Cut}
 use Rattle.kt_rules.specs.declared.cutting.Cut.TheVariants.{Colon, Separator}
 
@@ -76,18 +78,6 @@ without_dots name =
 -- the name that a word spells
 unfoldable pub name_of : Text → Text
 name_of word = without_dots (unquoted word)
-
--- whether a name is among others
-abbrev pub is_among : List Text → Text → Bool
-is_among names name = list_any (pointwise nat_eq name) names
-
--- a name after others, if it isn't among them
-abbrev pub with_name : List Text → Text → List Text
-with_name names name = if is_among names name then names else names ++ name ∷ []
-
--- names without repeats, each at its first place
-unfoldable pub without_repeats : List Text → List Text
-without_repeats names = fold with_name [] names
 
 -- a byte of file name patterns (GNU make manual, "Using Wildcard Characters in File Names")
 unfoldable pub is_wildcard : ℕ → Bool

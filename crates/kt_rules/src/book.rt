@@ -1,5 +1,5 @@
 //! The rules of a makefile, as a list of entries.
-ghost use Rattle.std.specs.Prelude.{◌≡◌, ◌++◌, ◌∷◌, [], IfOk, OnErr, OnOk, None, map, option_map};
+ghost use Rattle.std.specs.Prelude.{◌≡◌, ◌++◌, ◌∷◌, [], IfOk, OnErr, OnOk, None, option_map};
 ghost use Rattle.kt_rules.specs.Book.{GroupsStandAlone, added, explicit_rules, first_goal_of, is_explicit, is_phony};
 ghost use Rattle.kt_rules.specs.Book.{override_messages, patterns_of, refusal_of};
 ghost use Rattle.kt_rules.specs.Refusals.{Answers};
@@ -10,7 +10,6 @@ mod entries;
 mod explicit;
 mod goal;
 mod matching;
-mod name_set;
 mod noting;
 mod numbers;
 mod overriding;
@@ -22,15 +21,14 @@ mod spot;
 mod suffix;
 mod target_rule;
 
-use crate::entry::Entry;
+use crate::entry::{Entry, Name};
 use crate::fault::RuleFault;
 use crate::index::Index;
 pub use entries::Entries;
 pub use explicit::Explicit;
 use explicit::skips_bare;
-use kt_list::Sequence;
+use kt_list::{Names, Sequence};
 use matching::{candidates, unrepeated};
-use name_set::NameSet;
 use noting::learn;
 pub use pattern::Pattern;
 use refusing::fault_of;
@@ -56,8 +54,8 @@ pub struct Book {
     // The targets that are made by their names, and those of them whose rule has a recipe.
     targets: Index<Spot>,
     recipes: Index<Spot>,
-    phony: NameSet,
-    suffixes: NameSet,
+    phony: Names,
+    suffixes: Names,
 }
 
 impl Model for Book {
@@ -82,7 +80,7 @@ impl Book {
         let slots = Vec::new(alloc);
         let targets = Index::new(alloc);
         let recipes = Index::new(alloc);
-        let phony = NameSet::new(alloc);
+        let phony = Names::new(alloc);
         Ok(Book {
             alloc,
             slots,
@@ -148,8 +146,8 @@ impl Book {
     }
 
     /// The suffixes, in order (POSIX.1-2024 make, "Inference Rules"). Takes no memory.
-    pub fn suffixes(&self) -> &[Vec<u8>]
-        ensures { map (λ suffix. suffix.items) result.now ≡ suffixes_of self.now }
+    pub fn suffixes(&self) -> &[Name]
+        ensures { result.now ≡ suffixes_of self.now }
     {
         self.suffixes.as_slice()
     }

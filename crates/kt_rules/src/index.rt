@@ -3,6 +3,7 @@ ghost use Rattle.std.specs.Prelude.{◌≡◌, ◌++◌, ◌∷◌, [], OnErr, O
 ghost use Rattle.kt_text.specs.Words.{Text};
 ghost use Rattle.kt_rules.specs.Indexes.{noted_at};
 
+use crate::entry::Name;
 use indexmap::IndexMap;
 use std::alloc::{AllocError, Global};
 
@@ -10,7 +11,7 @@ use std::alloc::{AllocError, Global};
 #[derive(Drop)]
 pub struct Index<T: Copy> {
     alloc: Global,
-    lists: IndexMap<Vec<u8>, Vec<T>>,
+    lists: IndexMap<Name, Vec<T>>,
 }
 
 impl<T: Copy> Index<T> {
@@ -45,7 +46,7 @@ impl<T: Copy> Index<T> {
                 noted.push(item)?;
             }
             None => {
-                let key = Vec::from_slice(self.alloc, name)?;
+                let key = Name::copied(self.alloc, name)?;
                 let mut first = Vec::with_capacity(self.alloc, 1)?;
                 first.push(item)?;
                 self.lists.insert(key, first)?;

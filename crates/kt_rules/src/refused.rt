@@ -5,7 +5,7 @@ ghost use Rattle.std.specs.Cmp.Lexicographic.{pointwise};
 ghost use Rattle.kt_text.specs.Functions.{quotes_percent};
 ghost use Rattle.kt_rules.specs.Names.{is_member, is_refused_name, is_refused_target, is_special, is_wildcard};
 ghost use Rattle.kt_rules.specs.Names.{is_without_effect};
-ghost use Rattle.kt_rules.specs.inner.Telling.{is_telling, tells_early};
+ghost use Rattle.kt_rules.specs.inner.Telling.{begins_with_dot, is_telling, tells_early};
 
 use crate::name::has_backslash;
 use memchr::memmem;
@@ -118,17 +118,39 @@ pub(crate) fn is_without_effect(name: &[u8]) -> bool
         || are_same(name, b".NOTPARALLEL")
 }
 
-// Whether the name is that of a special target that is accepted.
-#[tactic(auto, unfolding(crate::specs::Names::is_special))]
+// Whether the name is that of a special target that is accepted. Few names begin with a dot.
+#[tactic(auto, using(crate::proofs::SpecialLemmas::plain_name))]
 pub(crate) fn is_special(name: &[u8]) -> bool
+    ensures { result ≡ is_special name.now }
+{
+    begins_with_dot(name) && is_special_name(name)
+}
+
+// The same for a name that begins with a dot.
+#[tactic(auto, unfolding(crate::specs::Names::is_special))]
+fn is_special_name(name: &[u8]) -> bool
     ensures { result ≡ is_special name.now }
 {
     are_same(name, b".PHONY") || are_same(name, b".SUFFIXES") || is_without_effect(name)
 }
 
-// Whether the name is that of a special target that kati doesn't take.
-#[tactic(auto, unfolding(crate::specs::Names::is_refused_target))]
+fn begins_with_dot(name: &[u8]) -> bool
+    ensures { result ≡ begins_with_dot name.now }
+{
+    matches!(name, [b'.', ..])
+}
+
+// Whether the name is that of a special target that kati doesn't take. Few names begin with a dot.
+#[tactic(auto, using(crate::proofs::SpecialLemmas::plain_target))]
 pub(crate) fn is_refused_target(name: &[u8]) -> bool
+    ensures { result ≡ is_refused_target name.now }
+{
+    begins_with_dot(name) && is_refused_special(name)
+}
+
+// The same for a name that begins with a dot.
+#[tactic(auto, unfolding(crate::specs::Names::is_refused_target))]
+fn is_refused_special(name: &[u8]) -> bool
     ensures { result ≡ is_refused_target name.now }
 {
     are_same(name, b".SECONDEXPANSION")

@@ -1,5 +1,6 @@
 -- Bytes by which names that aren't taken are told (kati's own).
-use Rattle.std.specs.Prelude.{ℕ, Bool, ◌==◌, ◌||◌}
+use Rattle.std.specs.Prelude.{ℕ, Bool, false, ◌==◌, ◌||◌, [], ◌∷◌}
+use Rattle.kt_text.specs.Words.{Text}
 use Rattle.kt_rules.specs.Names.{is_wildcard}
 
 -- a byte of a file name pattern, a backslash or a closing parenthesis
@@ -9,3 +10,8 @@ tells_early byte = is_wildcard byte || byte == 92 || byte == 41
 -- each name that isn't taken holds one of these, or a tilde
 abbrev pub is_telling : ℕ → Bool
 is_telling byte = tells_early byte || byte == 126
+
+-- a name that may be special
+abbrev pub begins_with_dot : Text → Bool
+begins_with_dot [] = false
+begins_with_dot (byte ∷ name) = byte == 46

@@ -6,11 +6,11 @@ ghost use Rattle.kt_rules.specs.Slots.{explicit_left, explicit_rule, rule_told};
 ghost use Rattle.kt_rules.specs.inner.SuffixCuts.{is_bare_at};
 ghost use Rattle.kt_rules.specs.Suffixes.{suffix_patterns};
 
-use super::name_set::NameSet;
 use super::spot::Spot;
 use super::suffix::is_suffix_name;
 use super::target_rule::{TargetRule, has_bare, is_bare, rule_at};
 use crate::entry::Entry;
+use kt_list::Names;
 use std::marker::Model;
 
 /// The explicit rules of a target, in order.
@@ -67,7 +67,7 @@ impl<'a> Iterator for Explicit<'a> {
 /// Whether the rules of this name at the spots that have the form of suffix rules are suffix rules.
 /// Where none has it, the name isn't looked at.
 pub(crate) fn skips_bare(
-    suffixes: &NameSet,
+    suffixes: &Names,
     slots: &[Option<Entry>],
     spots: &[Spot],
     name: &[u8],

@@ -4,13 +4,13 @@ ghost use Rattle.std.specs.List.{list_any};
 ghost use Rattle.kt_rules.specs.Book.{begins_with_dot, first_goal_by, goal_in, is_goal, may_be_goal};
 ghost use Rattle.kt_rules.specs.Slots.{rule_told, rules_in, slot_goal};
 
-use super::name_set::NameSet;
 use super::suffix::is_suffix_name;
 use super::target_rule::{TargetRule, is_bare, is_made};
 use crate::entry::{Entry, Target};
+use kt_list::Names;
 
 /// The first target of an explicit rule that may be the default goal.
-pub(crate) fn first_goal<'a>(suffixes: &NameSet, slots: &'a [Option<Entry>]) -> Option<&'a [u8]>
+pub(crate) fn first_goal<'a>(suffixes: &Names, slots: &'a [Option<Entry>]) -> Option<&'a [u8]>
     ensures { option_map (λ name. name.now) result ≡ first_goal_by suffixes.now (rules_in slots.now) }
 {
     for slot in slots {
@@ -22,7 +22,7 @@ pub(crate) fn first_goal<'a>(suffixes: &NameSet, slots: &'a [Option<Entry>]) -> 
     None
 }
 
-fn goal_in_slot<'a>(suffixes: &NameSet, slot: &'a Option<Entry>) -> Option<&'a [u8]>
+fn goal_in_slot<'a>(suffixes: &Names, slot: &'a Option<Entry>) -> Option<&'a [u8]>
     ensures { option_map (λ name. name.now) result ≡ slot_goal suffixes.now slot.now }
 {
     match slot {
@@ -32,7 +32,7 @@ fn goal_in_slot<'a>(suffixes: &NameSet, slot: &'a Option<Entry>) -> Option<&'a [
 }
 
 // The first of an entry's targets that may be the default goal.
-fn goal_in<'a>(suffixes: &NameSet, entry: &'a Entry) -> Option<&'a [u8]>
+fn goal_in<'a>(suffixes: &Names, entry: &'a Entry) -> Option<&'a [u8]>
     ensures { option_map (λ name. name.now) result ≡ goal_in suffixes.now entry.now }
 {
     for target in entry.targets() {
@@ -43,7 +43,7 @@ fn goal_in<'a>(suffixes: &NameSet, entry: &'a Entry) -> Option<&'a [u8]>
     None
 }
 
-fn is_goal(suffixes: &NameSet, rule: TargetRule) -> bool
+fn is_goal(suffixes: &Names, rule: TargetRule) -> bool
     ensures { result ≡ is_goal suffixes.now (rule_told rule.entry) }
 {
     let name = rule.target.name.as_slice();

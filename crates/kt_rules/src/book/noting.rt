@@ -7,12 +7,12 @@ ghost use Rattle.kt_rules.specs.Names.{with_name};
 ghost use Rattle.kt_rules.specs.Slots.{GotRecipes, GotSpots, GrewIn, target_spots};
 ghost use Rattle.kt_rules.specs.Suffixes.{suffixes_after};
 
-use super::name_set::NameSet;
 use super::special::{learn_phony, learn_suffixes};
 use super::spot::Spot;
 use super::target_rule::{has_recipe, is_made};
 use crate::entry::{Entry, Target};
 use crate::index::Index;
+use kt_list::Names;
 use std::alloc::AllocError;
 
 /// Notes what the entry in a slot says. Where memory is refused, some targets may be noted, and the
@@ -20,8 +20,8 @@ use std::alloc::AllocError;
 pub(crate) fn learn(
     targets: &mut Index<Spot>,
     recipes: &mut Index<Spot>,
-    phony: &mut NameSet,
-    suffixes: &mut NameSet,
+    phony: &mut Names,
+    suffixes: &mut Names,
     entry: &Entry,
     place: usize,
 ) -> Result<(), AllocError>
@@ -51,7 +51,7 @@ fn note_recipes(recipes: &mut Index<Spot>, entry: &Entry, place: usize) -> Resul
 }
 
 // Learns the names that the entry's special targets need, or none where memory is refused.
-fn learn_names(phony: &mut NameSet, suffixes: &mut NameSet, entry: &Entry) -> Result<(), AllocError>
+fn learn_names(phony: &mut Names, suffixes: &mut Names, entry: &Entry) -> Result<(), AllocError>
     ensures phony_learned { OnOk result (phony.new ≡ fold with_name phony.old (phony_of entry.now)) }
     ensures suffixes_learned { OnOk result (suffixes.new ≡ suffixes_after suffixes.old entry.now) }
     ensures phony_refused { OnErr result (phony.new ≡ phony.old) }

@@ -5,18 +5,18 @@ ghost use Rattle.kt_rules.specs.Book.{phony_of};
 ghost use Rattle.kt_rules.specs.Names.{with_name};
 ghost use Rattle.kt_rules.specs.Suffixes.{all_needs, special_needs, start_suffixes, suffixes_after};
 
-use super::name_set::NameSet;
 use super::target_rule::needs_nothing;
-use crate::entry::{Entry, Needs, Target};
+use crate::entry::{Entry, Name, Needs, Target};
+use kt_list::Names;
 use kt_text::words;
 use std::alloc::{AllocError, Global};
 
 /// The suffixes that are known before any rule.
 #[tactic(auto, unfolding(crate::specs::Suffixes::start_suffixes))]
-pub(crate) fn start_suffixes(alloc: Global) -> Result<NameSet, AllocError>
+pub(crate) fn start_suffixes(alloc: Global) -> Result<Names, AllocError>
     ensures { IfOk result (λ suffixes. suffixes ≡ start_suffixes) }
 {
-    let mut suffixes = NameSet::new(alloc);
+    let mut suffixes = Names::new(alloc);
     for suffix in words(b".o .c .cc .cpp .s .S .y .l .h .sh .a .f") {
         suffixes.add(suffix)?;
     }
@@ -24,7 +24,7 @@ pub(crate) fn start_suffixes(alloc: Global) -> Result<NameSet, AllocError>
 }
 
 /// Makes the names phony that the entry's `.PHONY` needs.
-pub(crate) fn learn_phony(phony: &mut NameSet, entry: &Entry) -> Result<(), AllocError>
+pub(crate) fn learn_phony(phony: &mut Names, entry: &Entry) -> Result<(), AllocError>
     ensures learned { OnOk result (phony.new ≡ fold with_name phony.old (phony_of entry.now)) }
     ensures refused { OnErr result (phony.new ≡ phony.old) }
 {
@@ -35,7 +35,7 @@ pub(crate) fn learn_phony(phony: &mut NameSet, entry: &Entry) -> Result<(), Allo
 }
 
 /// Changes the suffixes by the entry's `.SUFFIXES`.
-pub(crate) fn learn_suffixes(suffixes: &mut NameSet, entry: &Entry) -> Result<(), AllocError>
+pub(crate) fn learn_suffixes(suffixes: &mut Names, entry: &Entry) -> Result<(), AllocError>
     ensures learned { OnOk result (suffixes.new ≡ suffixes_after suffixes.old entry.now) }
     ensures refused { OnErr result (suffixes.new ≡ suffixes.old) }
 {
@@ -64,7 +64,7 @@ fn named_target<'a>(targets: &'a [Target], name: &[u8]) -> Option<&'a Target>
 }
 
 // Adds all names that are needed, or none where memory is refused.
-fn add_needs(names: &mut NameSet, needs: &Needs) -> Result<(), AllocError>
+fn add_needs(names: &mut Names, needs: &Needs) -> Result<(), AllocError>
     ensures added { OnOk result (names.new ≡ fold with_name names.old (all_needs needs.now)) }
     ensures refused { OnErr result (names.new ≡ names.old) }
 {
@@ -77,10 +77,21 @@ fn add_needs(names: &mut NameSet, needs: &Needs) -> Result<(), AllocError>
 }
 
 // Adds all names that are needed, or some of them where memory is refused.
-fn add_some_needs(names: &mut NameSet, needs: &Needs) -> Result<(), AllocError>
+fn add_some_needs(names: &mut Names, needs: &Needs) -> Result<(), AllocError>
     ensures added { OnOk result (names.new ≡ fold with_name names.old (all_needs needs.now)) }
     ensures refused { OnErr result ((more : List Text) × (names.new ≡ names.old ++ more)) }
 {
-    names.add_all(needs.prerequisites.as_slice())?;
-    names.add_all(needs.order_only.as_slice())
+    add_all(names, needs.prerequisites.as_slice())?;
+    add_all(names, needs.order_only.as_slice())
+}
+
+// Adds names in turn. Where memory is refused, some of them may be added.
+fn add_all(names: &mut Names, more: &[Name]) -> Result<(), AllocError>
+    ensures added { OnOk result (names.new ≡ fold with_name names.old more.now) }
+    ensures refused { OnErr result ((added : List Text) × (names.new ≡ names.old ++ added)) }
+{
+    for name in more {
+        names.add(name.as_slice())?;
+    }
+    Ok(())
 }

@@ -1,19 +1,20 @@
 //! Names of suffix rules.
-ghost use Rattle.std.specs.Prelude.{◌≡◌, ◌≤◌, length, map, is_some, IfSome};
+ghost use Rattle.std.specs.Prelude.{◌≡◌, ◌≤◌, length, is_some, IfSome};
 ghost use Rattle.kt_rules.specs.inner.SuffixCuts.{cut_behind, earlier, first_cut, goes_on, is_cut_behind};
 ghost use Rattle.kt_rules.specs.Suffixes.{suffix_cut, suffix_patterns};
 
-use super::name_set::NameSet;
+use crate::entry::Name;
+use kt_list::Names;
 
 /// Whether a suffix rule may have the name: it is a suffix, or two.
-pub(crate) fn is_suffix_name(suffixes: &NameSet, name: &[u8]) -> bool
+pub(crate) fn is_suffix_name(suffixes: &Names, name: &[u8]) -> bool
     ensures { result ≡ is_some (suffix_patterns suffixes.now name.now) }
 {
     suffixes.contains(name) || suffix_cut(suffixes, name).is_some()
 }
 
 /// The first place at which the name is cut into two suffixes.
-pub(crate) fn suffix_cut(suffixes: &NameSet, name: &[u8]) -> Option<usize>
+pub(crate) fn suffix_cut(suffixes: &Names, name: &[u8]) -> Option<usize>
     ensures cut { result ≡ suffix_cut suffixes.now name.now }
     ensures within { IfSome result (λ place. place ≤ length name.now) }
 {
@@ -22,8 +23,8 @@ pub(crate) fn suffix_cut(suffixes: &NameSet, name: &[u8]) -> Option<usize>
 
 // The first place at which the name is cut into one of some beginnings and a suffix. Each of them is
 // tried, so that of a long name without suffixes nothing is hashed.
-fn first_cut(suffixes: &NameSet, fronts: &[Vec<u8>], name: &[u8]) -> Option<usize>
-    ensures { result ≡ first_cut suffixes.now (map (λ front. front.items) fronts.now) name.now }
+fn first_cut(suffixes: &Names, fronts: &[Name], name: &[u8]) -> Option<usize>
+    ensures { result ≡ first_cut suffixes.now fronts.now name.now }
 {
     let mut first = None;
     for front in fronts {
@@ -34,7 +35,7 @@ fn first_cut(suffixes: &NameSet, fronts: &[Vec<u8>], name: &[u8]) -> Option<usiz
 
 // The place at which the name is cut into this beginning and a suffix.
 #[tactic(auto, using(crate::proofs::CutBehindLemmas::cut_behind_is))]
-fn cut_behind(suffixes: &NameSet, front: &[u8], name: &[u8]) -> Option<usize>
+fn cut_behind(suffixes: &Names, front: &[u8], name: &[u8]) -> Option<usize>
     ensures { result ≡ cut_behind suffixes.now name.now front.now }
 {
     if goes_on(suffixes, front, name) {
@@ -45,13 +46,13 @@ fn cut_behind(suffixes: &NameSet, front: &[u8], name: &[u8]) -> Option<usize>
 }
 
 // Whether the name begins with this beginning, and goes on with a suffix.
-fn goes_on(suffixes: &NameSet, front: &[u8], name: &[u8]) -> bool
+fn goes_on(suffixes: &Names, front: &[u8], name: &[u8]) -> bool
     ensures { result ≡ goes_on suffixes.now name.now front.now }
 {
     front.len() < name.len() && is_cut_behind(suffixes, front, name)
 }
 
-fn is_cut_behind(suffixes: &NameSet, front: &[u8], name: &[u8]) -> bool
+fn is_cut_behind(suffixes: &Names, front: &[u8], name: &[u8]) -> bool
     requires { length front.now ≤ length name.now }
     ensures { result ≡ is_cut_behind suffixes.now name.now front.now (length front.now) }
 {

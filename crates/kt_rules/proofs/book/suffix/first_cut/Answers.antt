@@ -5,8 +5,8 @@ use Rattle.kt_rules.proofs.book.suffix.first_cut.Goals as goal
 
 pub loop-front-preserved : goal.loop-front-preserved
 loop-front-preserved c =
-    let cut : c.cut_behind.result ≡ cut_behind c.args.suffixes.now c.args.name.now c.front-item.result.items
-    = c.cut_behind.ensures ∙ ap (cut_behind c.args.suffixes.now c.args.name.now) c.as_slice.ensures.value in
+    let cut : c.cut_behind.result ≡ cut_behind c.args.suffixes.now c.args.name.now c.front-item.result
+    = c.cut_behind.ensures ∙ ap (cut_behind c.args.suffixes.now c.args.name.now) c.as_slice.ensures in
     cut_at c.args.suffixes.now c.args.fronts.now c.loop-front.front-index c.front-item.result c.args.name.now c.loop-front.first c.cut_behind.result c.earlier-first.result
     c.loop-front-test.true c.front-item.is cut c.earlier-first.ensures
     ∙ c.loop-front.invariant

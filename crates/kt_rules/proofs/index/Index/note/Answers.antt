@@ -24,7 +24,7 @@ returns-in_ok-push-in-Some-clause-noted g c =
 pub returns-in_ok-insert-in-None-clause-noted : goal.returns-in_ok-insert-in-None-clause-noted
 returns-in_ok-insert-in-None-clause-noted g c =
     let value = c.in-None.ensures.value in
-    let key = c.in_ok-key-in-None.ensures.items in
+    let key = c.in_ok-key-in-None.ensures in
     let none = c.get_mut.follows.holds-at-none in
     let updates = c.in_ok-insert-in-None.ensures.updates in
     let grown : c.push-in-None.new.self.items ≡ noted_at c.args.self.now c.args.name.now ++ c.args.item ∷ []

@@ -1,0 +1,16 @@
+-- A name that doesn't begin with a dot is no special target.
+use Rattle.std.proofs.Common.{◌≡◌, false, [], ◌∷◌, refl}
+use Rattle.kt_text.specs.Words.{Text}
+use Rattle.kt_rules.specs.Names.{is_special, is_refused_target, is_without_effect}
+use Rattle.kt_rules.specs.inner.Telling.{begins_with_dot}
+
+-- such a name
+pub plain_name : (name : Text) → begins_with_dot name ≡ false → is_special name ≡ false
+unfolding is_special is_without_effect
+plain_name [] none = refl
+plain_name (byte ∷ name) none = rw none refl
+
+pub plain_target : (name : Text) → begins_with_dot name ≡ false → is_refused_target name ≡ false
+unfolding is_refused_target
+plain_target [] none = refl
+plain_target (byte ∷ name) none = rw none refl
