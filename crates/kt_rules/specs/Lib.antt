@@ -1,5 +1,6 @@
 pub mod Places
 pub mod Entry
+pub mod FaultKinds
 pub mod Refusals
 pub mod Names
 pub mod RuleLine

@@ -1,11 +1,14 @@
--- What is refused of a rule, and what its fault line says; the numbers and the words are kati's own.
-use Rattle.std.specs.Prelude.{◌≡◌, ℕ, ◌++◌, codes, Result, Ok, Err}
+-- What is refused of a rule, and its fault (kati's own).
+use Rattle.std.specs.Prelude.{◌≡◌, ℕ, [], Result, Ok, Err}
 use Rattle.kt_text.specs.Words.{Text}
+use Rattle.kt_rules.specs.declared.fault_kind.FaultKind.{FaultKind}
+use Rattle.kt_rules.specs.declared.fault_kind.FaultKind.TheVariants as kind
 use Rattle.kt_rules.specs.declared.place.Place.{Place}
 use Rattle.kt_rules.specs.declared.fault.RuleFault.{RuleFault}
 use Rattle.kt_rules.specs.declared.fault.RuleFault.TheVariants.{Memory, Refused}
 use Rattle.kt_rules.specs.declared.refusal.Refusal.{Refusal as Told}
 use Rattle.kt_rules.specs.declared.refusal.Refusal.TheVariants as told
+use Rattle.kt_rules.specs.FaultKinds.{number_of, words_with}
 
 -- what is wrong: with a rule line, or, from `both_colons` on, with a rule beside the rules before it
 pub data Refusal : Type 0 where
@@ -27,25 +30,15 @@ refusal_told told.BadGroup = bad_group
 refusal_told (told.BothColons name) = both_colons name.now
 refusal_told (told.TwoRecipes name) = two_recipes name.now
 
--- the number of its fault
-abbrev pub fault_number : Refusal → ℕ
-fault_number missing_separator = 5
-fault_number (refused_name name) = 20
-fault_number (bad_static_pattern name) = 21
-fault_number (refused_target name) = 22
-fault_number bad_group = 35
-fault_number (both_colons name) = 24
-fault_number (two_recipes name) = 36
-
--- the words of its fault
-abbrev pub fault_words : Refusal → Text
-fault_words missing_separator = codes "missing separator"
-fault_words (refused_name name) = codes "refused name " ++ name
-fault_words (bad_static_pattern name) = codes "bad static pattern " ++ name
-fault_words (refused_target name) = codes "refused target " ++ name
-fault_words bad_group = codes "bad group"
-fault_words (both_colons name) = codes "single and double colon on " ++ name
-fault_words (two_recipes name) = codes "two recipes on " ++ name
+-- the kind of its fault, and the name that it is told by, empty where there is none
+abbrev pub kind_and_name : Refusal → FaultKind × Text
+kind_and_name missing_separator = (kind.MissingSeparator, [])
+kind_and_name (refused_name name) = (kind.RefusedName, name)
+kind_and_name (bad_static_pattern name) = (kind.BadStaticPattern, name)
+kind_and_name (refused_target name) = (kind.RefusedTarget, name)
+kind_and_name bad_group = (kind.BadGroup, [])
+kind_and_name (both_colons name) = (kind.SingleAndDoubleColon, name)
+kind_and_name (two_recipes name) = (kind.TwoRecipes, name)
 
 -- a fault of a makefile
 pub record Fault : Type 0 where
@@ -55,7 +48,9 @@ pub record Fault : Type 0 where
 
 -- the fault of what is refused at a place
 abbrev pub fault_at : Place → Refusal → Fault
-fault_at place refusal = record { number = fault_number refusal; place = place; words = fault_words refusal }
+fault_at place refusal =
+    let told = kind_and_name refusal in
+    record { number = number_of told.0; place = place; words = words_with told.0 told.1 }
 
 -- the same of what may be refused
 abbrev pub faults_at : {A : Type 0} → Place → Result A Refusal → Result A Fault

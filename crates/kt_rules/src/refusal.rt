@@ -1,11 +1,12 @@
 //! What is refused of a rule, without memory.
-ghost use Rattle.std.specs.Prelude.{◌≡◌, ◌++◌, IfOk};
-ghost use Rattle.kt_rules.specs.Refusals.{Tells, fault_at, fault_number, fault_words, refusal_told};
+ghost use Rattle.std.specs.Prelude.{◌≡◌};
+ghost use Rattle.kt_rules.specs.Refusals.{Tells, fault_at, refusal_told, kind_and_name};
 
 use crate::fault::RuleFault;
+use crate::fault_kind::FaultKind;
 use crate::place::Place;
 use kt_list::Sequence;
-use std::alloc::{AllocError, Global};
+use std::alloc::Global;
 
 /// What is wrong with a rule, with the name that it is told by.
 #[derive(Clone, Copy, Debug)]
@@ -21,14 +22,15 @@ pub(crate) enum Refusal<'a> {
     TwoRecipes(&'a [u8]),
 }
 
-impl Refusal<'_> {
+impl<'a> Refusal<'a> {
     /// The fault at a place.
     pub(crate) fn at(self, alloc: Global, place: Place) -> RuleFault
         ensures { Tells result (fault_at place (refusal_told self.entry)) }
     {
-        match self.words(alloc) {
+        let (kind, name) = self.kind_and_name();
+        match kind.words_with(alloc, name) {
             Ok(words) => RuleFault::Refused {
-                number: self.number(),
+                number: kind.number(),
                 place,
                 words: Sequence::from(words),
             },
@@ -36,39 +38,18 @@ impl Refusal<'_> {
         }
     }
 
-    fn number(self) -> u8
-        ensures { result ≡ fault_number (refusal_told self.entry) }
+    // The kind of its fault, and the name that it is told by, empty where there is none.
+    fn kind_and_name(self) -> (FaultKind, &'a [u8])
+        ensures { (result.0, result.1.now) ≡ kind_and_name (refusal_told self.entry) }
     {
         match self {
-            Refusal::MissingSeparator => 5,
-            Refusal::RefusedName(_) => 20,
-            Refusal::BadStaticPattern(_) => 21,
-            Refusal::RefusedTarget(_) => 22,
-            Refusal::BadGroup => 35,
-            Refusal::BothColons(_) => 24,
-            Refusal::TwoRecipes(_) => 36,
+            Refusal::MissingSeparator => (FaultKind::MissingSeparator, b""),
+            Refusal::RefusedName(name) => (FaultKind::RefusedName, name),
+            Refusal::BadStaticPattern(name) => (FaultKind::BadStaticPattern, name),
+            Refusal::RefusedTarget(name) => (FaultKind::RefusedTarget, name),
+            Refusal::BadGroup => (FaultKind::BadGroup, b""),
+            Refusal::BothColons(name) => (FaultKind::SingleAndDoubleColon, name),
+            Refusal::TwoRecipes(name) => (FaultKind::TwoRecipes, name),
         }
     }
-
-    fn words(self, alloc: Global) -> Result<Vec<u8>, AllocError>
-        ensures { IfOk result (λ words. words.items ≡ fault_words (refusal_told self.entry)) }
-    {
-        match self {
-            Refusal::MissingSeparator => joined(alloc, b"missing separator", b""),
-            Refusal::RefusedName(name) => joined(alloc, b"refused name ", name),
-            Refusal::BadStaticPattern(name) => joined(alloc, b"bad static pattern ", name),
-            Refusal::RefusedTarget(name) => joined(alloc, b"refused target ", name),
-            Refusal::BadGroup => joined(alloc, b"bad group", b""),
-            Refusal::BothColons(name) => joined(alloc, b"single and double colon on ", name),
-            Refusal::TwoRecipes(name) => joined(alloc, b"two recipes on ", name),
-        }
-    }
-}
-
-fn joined(alloc: Global, words: &[u8], name: &[u8]) -> Result<Vec<u8>, AllocError>
-    ensures { IfOk result (λ text. text.items ≡ words.now ++ name.now) }
-{
-    let mut text = Vec::from_slice(alloc, words)?;
-    text.extend_from_slice(name)?;
-    Ok(text)
 }

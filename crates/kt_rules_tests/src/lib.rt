@@ -7,6 +7,8 @@ mod adding;
 #[cfg(test)]
 mod asking;
 #[cfg(test)]
+mod fault_kinds;
+#[cfg(test)]
 mod noting;
 #[cfg(test)]
 mod reading;
