@@ -1,5 +1,5 @@
 //! A list gives back what it was made from.
-use crate::{Sequence, Shared, Text};
+use crate::{Names, Sequence, Shared, Text};
 use std::test::Fail;
 
 #[test]
@@ -56,5 +56,29 @@ fn holds_texts_of_any_size(rt: HostRuntime) -> Result<(), Fail> {
         assert_eq!(rt; moved.as_slice(), bytes);
         assert!(rt; copied == moved);
     }
+    Ok(())
+}
+
+#[test]
+fn numbers_each_name_once(rt: HostRuntime) -> Result<(), Fail> {
+    let long = b"a name that is longer than what lies in its value".as_slice();
+    let mut names = Names::new(rt.alloc());
+    assert_eq!(rt; names.number(b"b")?, 0);
+    assert_eq!(rt; names.number(long)?, 1);
+    assert_eq!(rt; names.number(b"")?, 2);
+    names.add(b"a")?;
+    for (name, number) in [(b"b".as_slice(), 0), (long, 1), (b"", 2), (b"a", 3)] {
+        assert_eq!(rt; names.number(name)?, number);
+        assert_eq!(rt; names.number_of(name), Some(number));
+        assert_eq!(rt; names.get(number), Some(name));
+        assert!(rt; names.contains(name));
+    }
+    assert_eq!(rt; names.len(), 4);
+    assert_eq!(rt; names.number_of(b"ab"), None);
+    names.truncate(2);
+    assert!(rt; !names.contains(b"a"));
+    assert_eq!(rt; names.as_slice().len(), 2);
+    names.clear();
+    assert_eq!(rt; names.number(b"a")?, 0);
     Ok(())
 }
