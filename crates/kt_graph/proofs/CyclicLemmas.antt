@@ -19,7 +19,7 @@ use Rattle.kt_graph.proofs.MemberLemmas.{Contains-here, Contains-map}
 use Rattle.kt_graph.proofs.TroubleLemmas.{in_cut, none_below}
 use Rattle.kt_graph.proofs.WholeLemmas.{cyclic_back, is_cyclic, reached_number}
 
-module _ (names : List (Vec ℕ Global)) (instances : List Held) (nodes : List Settled) (order : List ℕ) (whole : IsWhole names instances nodes order)
+module _ (names : List Text) (instances : List Held) (nodes : List Settled) (order : List ℕ) (whole : IsWhole names instances nodes order)
     (rules : List Rule) (known goals : List Text) (graph : IsGraph rules known goals (nodes_told names instances nodes order))
     (edges : Edges) (drawn : AreEdgesOf nodes edges) where
   pub none_cyclic : All (λ vertex. ¬ LeadsBack edges vertex) order → (name : Text) → ¬ IsCyclic rules known goals name

@@ -50,19 +50,19 @@ places_apart same told is keys apart one other x y at there e = ⊎_elim
     h)
     (cases_order one other)
 
-name_there : (names : List (Vec ℕ Global)) (number : ℕ) → number < length names → (name : Vec ℕ Global) × (slice_get names number ≡ Some name) × (name_at names number ≡ name.items)
+name_there : (names : List Text) (number : ℕ) → number < length names → (name : Text) × (slice_get names number ≡ Some name) × (name_at names number ≡ name)
 name_there names number within =
-    let at : (name : Vec ℕ Global) × (slice_get names number ≡ Some name) = at_place names number within in
-    (at.0, at.1, ap (λ (o : Option (Vec ℕ Global)). Rattle.std.specs.Option.unwrap_or (option_map (λ (name : Vec ℕ Global). name.items) o) []) at.1)
+    let at : (name : Text) × (slice_get names number ≡ Some name) = at_place names number within in
+    (at.0, at.1, ap (λ (o : Option (Text)). Rattle.std.specs.Option.unwrap_or (option_o) []) at.1)
 
-pub names_distinct : (names : List (Vec ℕ Global))
-    → ((i j : ℕ) (d : Vec ℕ Global) → i < j → j < length names → bytes_eq (get_or names i d).items (get_or names j d).items ≡ Rattle.std.proofs.Common.false)
+pub names_distinct : (names : List Text)
+    → ((i j : ℕ) (d : Text) → i < j → j < length names → bytes_eq (get_or names i d) (get_or names j d) ≡ Rattle.std.proofs.Common.false)
     → AreDistinct names
 names_distinct names apart one other first second e =
-    let x : (name : Vec ℕ Global) × (slice_get names one ≡ Some name) × (name_at names one ≡ name.items) = name_there names one first in
-    let y : (name : Vec ℕ Global) × (slice_get names other ≡ Some name) × (name_at names other ≡ name.items) = name_there names other second in
-    places_apart (λ (a b : Vec ℕ Global). bytes_eq a.items b.items) (λ (a : Vec ℕ Global). a.items)
-    (λ a b same. (bytes_eq-Decides a.items b.items).1 same) names apart one other x.0 y.0 x.1 y.1 (sym x.2 ∙ e ∙ y.2)
+    let x : (name : Text) × (slice_get names one ≡ Some name) × (name_at names one ≡ name) = name_there names one first in
+    let y : (name : Text) × (slice_get names other ≡ Some name) × (name_at names other ≡ name) = name_there names other second in
+    places_apart bytes_eq (λ (a : Text). a)
+    (λ a b same. (bytes_eq-Decides a b).1 same) names apart one other x.0 y.0 x.1 y.1 (sym x.2 ∙ e ∙ y.2)
 
 pub makings_apart : (same : Held → Held → Bool) → ((x y : Held) → instance_told x ≡ instance_told y → same x y ≡ true) → (instances : List Held)
     → ((i j : ℕ) (d : Held) → i < j → j < length instances → same (get_or instances i d) (get_or instances j d) ≡ Rattle.std.proofs.Common.false)
@@ -76,7 +76,7 @@ makings_apart same is instances apart one other first second e =
 
 -- ---- what the nodes are
 
-module _ (names : List (Vec ℕ Global)) (instances : List Held) (nodes : List Settled) (order : List ℕ) (whole : IsWhole names instances nodes order)
+module _ (names : List Text) (instances : List Held) (nodes : List Settled) (order : List ℕ) (whole : IsWhole names instances nodes order)
     (rules : List Rule) (known goals : List Text) (done : IsDone rules known goals names instances nodes) where
   is_told : (number : ℕ) (node : Settled) → slice_get nodes number ≡ Some node → node_told names instances number node ≡ node_of rules known (name_at names number)
   is_told number node at = (done.settled number node at).told number refl
@@ -124,20 +124,18 @@ module _ (names : List (Vec ℕ Global)) (instances : List Held) (nodes : List S
 
   goal_at : (goal : Text) → Contains goals goal → (number : ℕ) × (number < length names) × (name_at names number ≡ goal)
   goal_at goal has =
-      let from : (name : Vec ℕ Global) × Contains names name × (name.items ≡ goal) =
-      Contains-from_map (λ (name : Vec ℕ Global). name.items) names goal
-      (All-contains (λ (g : Text). Contains (map (λ (name : Vec ℕ Global). name.items) names) g) goals goal done.named has) in
-      let at : (number : ℕ) × (slice_get names number ≡ Some from.0) = slice_get-Contains names from.0 from.1 in (
+      let has_name : Contains names goal = All-contains (Contains names) goals goal done.named has in
+      let at : (number : ℕ) × (slice_get names number ≡ Some goal) = slice_get-Contains names goal has_name in (
         at.0,
-        slice_get_within names at.0 from.0 at.1,
-        ap (λ (o : Option (Vec ℕ Global)). Rattle.std.specs.Option.unwrap_or (option_map (λ (name : Vec ℕ Global). name.items) o) []) at.1 ∙ from.2,
+        slice_get_within names at.0 goal at.1,
+        ap (λ (o : Option Text). Rattle.std.specs.Option.unwrap_or o []) at.1,
       )
 
   name_reached : (number : ℕ) → number < length names → IsReached rules known goals (name_at names number)
   name_reached number below =
-      let at : (name : Vec ℕ Global) × (slice_get names number ≡ Some name) × (name_at names number ≡ name.items) = name_there names number below in
+      let at : (name : Text) × (slice_get names number ≡ Some name) × (name_at names number ≡ name) = name_there names number below in
       subst (IsReached rules known goals) (sym at.2)
-      (All-contains (λ (name : Vec ℕ Global). IsReached rules known goals name.items) names at.0 done.reached (Contains-slice_get names number at.0 at.1))
+      (All-contains (IsReached rules known goals) names at.0 done.reached (Contains-slice_get names number at.0 at.1))
 
   pub graph_is : IsGraph rules known goals (nodes_told names instances nodes order)
   graph_is = record {
@@ -160,26 +158,26 @@ module _ (names : List (Vec ℕ Global)) (instances : List Held) (nodes : List S
 
 -- ---- names by keys
 
-abbrev is_key : Text → Vec ℕ Global → Bool
-is_key name key = bytes_eq name key.items
+abbrev is_key : Text → Text → Bool
+is_key name key = bytes_eq name key
 
-indexed : (names : List (Vec ℕ Global)) (name : Text) (number : ℕ) → position (is_key name) names ≡ Some number
+indexed : (names : List Text) (name : Text) (number : ℕ) → position (is_key name) names ≡ Some number
     → (number < length names) × (name_at names number ≡ name)
 indexed names name number is =
     let below : number < length names = (position-Some (is_key name) names number (vec_of names number is) is).0 in
-    let at : (key : Vec ℕ Global) × (slice_get names number ≡ Some key) × (name_at names number ≡ key.items) = name_there names number below in
+    let at : (key : Text) × (slice_get names number ≡ Some key) × (name_at names number ≡ key) = name_there names number below in
     let passes : is_key name (get_or names number at.0) ≡ true = (position-Some (is_key name) names number at.0 is).1 in (
       below,
-      at.2 ∙ ap (λ (key : Vec ℕ Global). key.items) (sym (get_or_from_slice_get names number at.0 at.0 at.1))
-          ∙ sym ((bytes_eq-Decides name (get_or names number at.0).items).0 passes),
+      at.2 ∙ sym (get_or_from_slice_get names number at.0 at.0 at.1)
+          ∙ sym ((bytes_eq-Decides name (get_or names number at.0)).0 passes),
     )
   where
-    vec_of : (xs : List (Vec ℕ Global)) (n : ℕ) → position (is_key name) xs ≡ Some n → Vec ℕ Global
+    vec_of : (xs : List Text) (n : ℕ) → position (is_key name) xs ≡ Some n → Text
     vec_of [] n e = absurd (Rattle.std.proofs.lemmas.Option.none-some n e)
     vec_of (x ∷ xs) n e = x
 
 -- the node of a name, by its number, is the one that is found
-pub node_found : (names : List (Vec ℕ Global)) (instances : List Held) (nodes : List Settled) (order : List ℕ) → IsWhole names instances nodes order
+pub node_found : (names : List Text) (instances : List Held) (nodes : List Settled) (order : List ℕ) → IsWhole names instances nodes order
     → (name : Text) (number : ℕ) → position (is_key name) names ≡ Some number
     → node_at names instances nodes number ≡ find (λ (one : Node). bytes_eq name one.name) (nodes_told names instances nodes order)
 node_found names instances nodes order whole name number is =
@@ -187,19 +185,19 @@ node_found names instances nodes order whole name number is =
     let held : (node : Settled) × (slice_get nodes number ≡ Some node) = node_there names instances nodes order whole number at.0 in
     ap (option_map (node_told names instances number)) held.1 ∙ sym (find_there names instances nodes order whole name number held.0 held.1 at.1)
 
-pub node_missing : (names : List (Vec ℕ Global)) (instances : List Held) (nodes : List Settled) (order : List ℕ) → IsWhole names instances nodes order
+pub node_missing : (names : List Text) (instances : List Held) (nodes : List Settled) (order : List ℕ) → IsWhole names instances nodes order
     → (name : Text) → list_any (is_key name) names ≡ Rattle.std.proofs.Common.false
     → find (λ (one : Node). bytes_eq name one.name) (nodes_told names instances nodes order) ≡ None
 node_missing names instances nodes order whole name none =
     find_nowhere names instances nodes order whole name
     (λ number below e.
-    let at : (key : Vec ℕ Global) × (slice_get names number ≡ Some key) × (name_at names number ≡ key.items) = name_there names number below in
+    let at : (key : Text) × (slice_get names number ≡ Some key) × (name_at names number ≡ key) = name_there names number below in
     false≢true (sym (any_nowhere (is_key name) names none at.0 (Contains-slice_get names number at.0 at.1))
-    ∙ (bytes_eq-Decides name at.0.items).1 (sym e ∙ at.2)))
+    ∙ (bytes_eq-Decides name at.0).1 (sym e ∙ at.2)))
 
 -- ---- nodes that were settled
 
-pub all_numbered : (rules : List Rule) (known goals : List Text) (names : List (Vec ℕ Global)) (instances : List Held) (nodes : List Settled)
+pub all_numbered : (rules : List Rule) (known goals names : List Text) (instances : List Held) (nodes : List Settled)
     → IsDone rules known goals names instances nodes → All (HasNumbers (length names) (length instances)) nodes
 all_numbered rules known goals names instances nodes done k d within =
     (done.settled k (get_or nodes k d) (Rattle.std.proofs.lemmas.Option.slice_get-get_or nodes k d within)).numbers

@@ -229,7 +229,7 @@ none_grouped instances places groups is none =
       makings = λ one. refl;
     })
 
-pub nodes_with : (names : List (Vec ℕ Global)) (instances : List Held) (nodes : List Settled) (before : List ℕ) (number : ℕ) (o : Option Settled) → slice_get nodes number ≡ o
+pub nodes_with : (names : List Text) (instances : List Held) (nodes : List Settled) (before : List ℕ) (number : ℕ) (o : Option Settled) → slice_get nodes number ≡ o
     → made_nodes (nodes_told names instances nodes (before ++ number ∷ []))
     ≡ made_nodes (nodes_told names instances nodes before) ++ made_nodes (cons_option (option_map (node_told names instances number) o) [])
 nodes_with names instances nodes before number o is =
@@ -238,7 +238,7 @@ nodes_with names instances nodes before number o is =
     ∙ ap (λ (p : Option Settled). made_nodes (nodes_told names instances nodes before) ++ made_nodes (cons_option (option_map (node_told names instances number) p) [])) is
 
 -- names that rise are none of them equal
-pub other_names : (names : List (Vec ℕ Global)) (instances : List Held) (nodes : List Settled) (before : List ℕ) (number : ℕ) (later : List ℕ)
+pub other_names : (names : List Text) (instances : List Held) (nodes : List Settled) (before : List ℕ) (number : ℕ) (later : List ℕ)
     → IsStrictlySortedBy (slice_cmp nat_cmp) (names_at names (before ++ number ∷ later))
     → list_any (λ (node : Node). bytes_eq node.name (name_at names number)) (made_nodes (nodes_told names instances nodes before)) ≡ false
 other_names names instances nodes [] number later rises = refl
@@ -264,7 +264,7 @@ other_names names instances nodes (first ∷ before) number later rises =
     by None rest = rest
     by (Some settled) rest = made (not (is_leaf settled.kind)) (node_told names instances first settled) refl rest
 
-may_follow : (names : List (Vec ℕ Global)) (instances : List Held) (nodes : List Settled) (before : List ℕ) (number : ℕ) (settled : Settled)
+may_follow : (names : List Text) (instances : List Held) (nodes : List Settled) (before : List ℕ) (number : ℕ) (settled : Settled)
     → AreHeld names instances nodes → slice_get nodes number ≡ Some settled → IsAfter names instances nodes before number
     → MayFollow instances (made_nodes (nodes_told names instances nodes before)) settled.made_with (node_told names instances number settled)
 may_follow names instances nodes before number settled held at after = record {
@@ -274,7 +274,7 @@ may_follow names instances nodes before number settled held at after = record {
   other = after;
 }
 
-pub number_put : (names : List (Vec ℕ Global)) (instances : List Held) (nodes : List Settled) (number : ℕ) (settled : Settled) (node : Node) (old new : Grouping)
+pub number_put : (names : List Text) (instances : List Held) (nodes : List Settled) (number : ℕ) (settled : Settled) (node : Node) (old new : Grouping)
     → AreHeld names instances nodes → slice_get nodes number ≡ Some settled → node ≡ node_told names instances number settled
     → ((instances : List Held) (nodes : List Node) → IsGrouping instances nodes old → MayFollow instances nodes settled.made_with node
     → IsGrouping instances (nodes ++ made_nodes (node ∷ [])) new)
@@ -287,7 +287,7 @@ number_put names instances nodes number settled node old new held at is put befo
     (put instances (made_nodes (nodes_told names instances nodes before)) grouped
     (subst (λ (n : Node). MayFollow instances (made_nodes (nodes_told names instances nodes before)) settled.made_with n) (sym is) follows))
 
-pub number_without : (names : List (Vec ℕ Global)) (instances : List Held) (nodes : List Settled) (number : ℕ) (grouping : Grouping) → slice_get nodes number ≡ None
+pub number_without : (names : List Text) (instances : List Held) (nodes : List Settled) (number : ℕ) (grouping : Grouping) → slice_get nodes number ≡ None
     → (before : List ℕ) → IsGroupingOf names instances nodes before grouping → IsGroupingOf names instances nodes (before ++ number ∷ []) grouping
 number_without names instances nodes number grouping at before grouped =
     subst (λ (ns : List Node). IsGrouping instances ns grouping)
@@ -295,7 +295,7 @@ number_without names instances nodes number grouping at before grouped =
 
 -- ---- a step of the loop, its beginning and its end
 
-pub next_after : (names : List (Vec ℕ Global)) (instances : List Held) (nodes : List Settled) (order : List ℕ) (place d : ℕ) → IsWhole names instances nodes order
+pub next_after : (names : List Text) (instances : List Held) (nodes : List Settled) (order : List ℕ) (place d : ℕ) → IsWhole names instances nodes order
     → place < length order → IsAfter names instances nodes (take place order) (get_or order place d)
 next_after names instances nodes order place d whole within =
     other_names names instances nodes (take place order) (get_or order place d) (drop (suc place) order)
@@ -303,7 +303,7 @@ next_after names instances nodes order place d whole within =
     (sym (take-append-drop place order) ∙ ap (λ (ns : List ℕ). take place order ++ ns) (drop-cons order place d within))
     whole.rises.rises)
 
-pub grouped_as_told : (names : List (Vec ℕ Global)) (instances : List Held) (nodes : List Settled) (order : List ℕ) (grouping : Grouping) → IsWhole names instances nodes order
+pub grouped_as_told : (names : List Text) (instances : List Held) (nodes : List Settled) (order : List ℕ) (grouping : Grouping) → IsWhole names instances nodes order
     → IsGroupingOf names instances nodes order grouping → groups_held grouping ≡ groups_of (nodes_told names instances nodes order)
 grouped_as_told names instances nodes order grouping whole grouped =
     let rises : IsStrictlySortedBy (slice_cmp nat_cmp) (map (λ (node : Node). node.name) (nodes_told names instances nodes order))

@@ -19,20 +19,20 @@ use Rattle.kt_graph.specs.Views.{name_at, names_at, node_told, part_told}
 
 -- ---- parts
 
-pub part_there : (names : List (Vec ℕ Global)) (parts : List HeldPart) (place : ℕ) (part : HeldPart) → place < length parts → part ≡ get_or parts place part
+pub part_there : (names : List Text) (parts : List HeldPart) (place : ℕ) (part : HeldPart) → place < length parts → part ≡ get_or parts place part
     → slice_get (map (part_told names) parts) place ≡ Some (part_told names part)
 part_there names parts place part within is =
     slice_get-map (part_told names) parts place
     ∙ ap (Rattle.std.specs.Option.option_map (part_told names)) (slice_get_read parts (length parts) place part refl within is)
 
-pub part_none : (names : List (Vec ℕ Global)) (parts : List HeldPart) (place : ℕ) → length parts ≤ place → slice_get (map (part_told names) parts) place ≡ None
+pub part_none : (names : List Text) (parts : List HeldPart) (place : ℕ) → length parts ≤ place → slice_get (map (part_told names) parts) place ≡ None
 part_none names parts place past =
     slice_get-map (part_told names) parts place ∙ ap (Rattle.std.specs.Option.option_map (part_told names)) (slice_get_past parts place past)
 
 -- ---- numbers of names
 
 -- two numbers are equal where their names are
-pub same_number : (names : List (Vec ℕ Global)) → AreDistinct names → (one other : ℕ) → one < length names → other < length names
+pub same_number : (names : List Text) → AreDistinct names → (one other : ℕ) → one < length names → other < length names
     → bytes_eq (name_at names one) (name_at names other) ≡ nat_eq one other
 same_number names distinct one other first second = ⊎_elim
     (λ (e : one ≡ other). (bytes_eq-Decides (name_at names one) (name_at names other)).1 (ap (name_at names) e) ∙ sym (eq-eqb one other e))
@@ -44,7 +44,7 @@ same_number names distinct one other first second = ⊎_elim
     by differ true e = absurd (differ (distinct one other first second ((bytes_eq-Decides (name_at names one) (name_at names other)).0 e)))
 
 -- so a name is among others where its number is among theirs
-pub among_numbers : (names : List (Vec ℕ Global)) → AreDistinct names → (numbers : List ℕ) (number : ℕ) → number < length names → AreBelow (length names) numbers
+pub among_numbers : (names : List Text) → AreDistinct names → (numbers : List ℕ) (number : ℕ) → number < length names → AreBelow (length names) numbers
     → is_among (names_at names numbers) (name_at names number) ≡ list_any (nat_eq number) numbers
 among_numbers names distinct [] number below all = refl
 among_numbers names distinct (first ∷ numbers) number below all =
@@ -53,7 +53,7 @@ among_numbers names distinct (first ∷ numbers) number below all =
     ∙ ap (λ b. nat_eq number first || b) (among_numbers names distinct numbers number below (All-tail (λ n. n < length names) first numbers all))
 
 -- a name is put after others where its number is
-with_one : (names : List (Vec ℕ Global)) → AreDistinct names → (numbers : List ℕ) (number : ℕ) → number < length names → AreBelow (length names) numbers
+with_one : (names : List Text) → AreDistinct names → (numbers : List ℕ) (number : ℕ) → number < length names → AreBelow (length names) numbers
     → with_name (names_at names numbers) (name_at names number) ≡ names_at names (with_number numbers number)
 with_one names distinct numbers number below all =
     ap (λ b. if b then names_at names numbers else names_at names numbers ++ name_at names number ∷ []) (among_numbers names distinct numbers number below all)
@@ -71,7 +71,7 @@ below_one count numbers number below all = by (list_any (nat_eq number) numbers)
     by true = all
     by false = All-push (λ n. n < count) numbers number all below
 
-pub with_all : (names : List (Vec ℕ Global)) → AreDistinct names → (more numbers : List ℕ) → AreBelow (length names) more → AreBelow (length names) numbers
+pub with_all : (names : List Text) → AreDistinct names → (more numbers : List ℕ) → AreBelow (length names) more → AreBelow (length names) numbers
     → fold with_name (names_at names numbers) (names_at names more) ≡ names_at names (fold with_number numbers more)
 with_all names distinct [] numbers below all = refl
 with_all names distinct (number ∷ more) numbers below all =
@@ -88,7 +88,7 @@ below_all count (number ∷ more) numbers below all =
 
 -- ---- what passes a test
 
-names_pass : (names : List (Vec ℕ Global)) (p : ℕ → Bool) (q : Text → Bool) (numbers : List ℕ) → All (λ n. q (name_at names n) ≡ p n) numbers
+names_pass : (names : List Text) (p : ℕ → Bool) (q : Text → Bool) (numbers : List ℕ) → All (λ n. q (name_at names n) ≡ p n) numbers
     → filter q (names_at names numbers) ≡ names_at names (filter p numbers)
 names_pass names p q [] same = refl
 names_pass names p q (number ∷ numbers) same =
@@ -154,14 +154,14 @@ needed_numbers parts = flat_map (λ (part : HeldPart). part.needs.prerequisites.
 abbrev other_numbers : List HeldPart → List ℕ
 other_numbers parts = flat_map (λ (part : HeldPart). part.needs.order_only.items) parts
 
-needed_told : (names : List (Vec ℕ Global)) (parts : List HeldPart)
+needed_told : (names : List Text) (parts : List HeldPart)
     → flat_map (λ (part : Part). part.needs.prerequisites) (map (part_told names) parts) ≡ names_at names (needed_numbers parts)
 needed_told names [] = refl
 needed_told names (part ∷ parts) =
     ap (λ (rest : List Text). names_at names part.needs.prerequisites.items ++ rest) (needed_told names parts)
     ∙ sym (map-append (name_at names) part.needs.prerequisites.items (needed_numbers parts))
 
-other_told : (names : List (Vec ℕ Global)) (parts : List HeldPart)
+other_told : (names : List Text) (parts : List HeldPart)
     → flat_map (λ (part : Part). part.needs.order_only) (map (part_told names) parts) ≡ names_at names (other_numbers parts)
 other_told names [] = refl
 other_told names (part ∷ parts) =
@@ -198,7 +198,7 @@ others_below names makings node numbers =
     (All-nil (λ n. n < names)))
 
 -- the names of a node's inputs
-pub inputs_are : (names : List (Vec ℕ Global)) (instances : List Held) (number : ℕ) (node : Settled) → AreDistinct names
+pub inputs_are : (names : List Text) (instances : List Held) (number : ℕ) (node : Settled) → AreDistinct names
     → HasNumbers (length names) (length instances) node → names_at names node.inputs.items ≡ inputs_of (node_told names instances number node)
 unfolding inputs_of without_repeats
 inputs_are names instances number node distinct numbers =
@@ -206,7 +206,7 @@ inputs_are names instances number node distinct numbers =
     ∙ sym (with_all names distinct (needed_numbers node.parts.items) [] (needed_below (length names) node.parts.items numbers.parts) (All-nil (λ n. n < length names)))
     ∙ ap (fold with_name []) (sym (needed_told names node.parts.items))
 
-pub others_are : (names : List (Vec ℕ Global)) (instances : List Held) (number : ℕ) (node : Settled) → AreDistinct names
+pub others_are : (names : List Text) (instances : List Held) (number : ℕ) (node : Settled) → AreDistinct names
     → HasNumbers (length names) (length instances) node → names_at names node.order_only.items ≡ order_only_of (node_told names instances number node)
 unfolding order_only_of without_repeats
 others_are names instances number node distinct numbers =

@@ -13,7 +13,6 @@ use Rattle.kt_text.specs.Words.{Text}
 use Rattle.kt_rules.specs.declared.entry.Needs.{Needs}
 use Rattle.kt_rules.specs.Names.{is_among, with_name}
 use Rattle.kt_rules.specs.Suffixes.{all_needs}
-use Rattle.kt_rules.proofs.NameSetLemmas.{among_keys}
 use Rattle.kt_graph.specs.Node.{Part}
 use Rattle.kt_graph.specs.declared.settled.Numbered.{Numbered}
 use Rattle.kt_graph.specs.declared.settled.Part.{Part as HeldPart}
@@ -65,34 +64,6 @@ stand_more names new earlier name numbers number grown at h =
     let kept : StandFor new earlier numbers = subst (λ l. StandFor l earlier numbers) (sym grown) (stand_kept names (name ∷ []) earlier numbers h) in
     map-append (slice_get new) numbers (number ∷ []) ∙ ap (λ o. map (slice_get new) numbers ++ o ∷ []) at ∙ ap (λ l. l ++ Some name ∷ []) kept
     ∙ sym (map-append Some earlier (name ∷ []))
-
--- ---- a name's number
-
-at_key : (keys : List (Vec ℕ Global)) (name : Text) (place : ℕ) (key : Vec ℕ Global) → slice_get keys place ≡ Some key → bytes_eq name key.items ≡ true
-    → slice_get (map (λ (k : Vec ℕ Global). k.items) keys) place ≡ Some name
-at_key keys name place key at same =
-    slice_get-map (λ (k : Vec ℕ Global). k.items) keys place ∙ ap (option_map (λ (k : Vec ℕ Global). k.items)) at
-    ∙ ap Some (sym ((bytes_eq-Decides name key.items).0 same))
-
--- the number of a name that was found
-pub number_found : (keys : List (Vec ℕ Global)) (name : Text) (place : ℕ) → position (λ (k : Vec ℕ Global). bytes_eq name k.items) keys ≡ Some place
-    → slice_get (map (λ (k : Vec ℕ Global). k.items) keys) place ≡ Some name
-number_found [] name place h = cc
-number_found (key ∷ keys) name place h =
-    let at = position-Some (λ (k : Vec ℕ Global). bytes_eq name k.items) (key ∷ keys) place key h in
-    at_key (key ∷ keys) name place (get_or (key ∷ keys) place key) (slice_get-get_or (key ∷ keys) place key at.0) at.1
-
--- a name that was found isn't put after the others
-pub name_there : (keys : List (Vec ℕ Global)) (name : Text) → list_any (λ (k : Vec ℕ Global). bytes_eq name k.items) keys ≡ true
-    → map (λ (k : Vec ℕ Global). k.items) keys ≡ with_name (map (λ (k : Vec ℕ Global). k.items) keys) name
-name_there keys name h =
-    let names = map (λ (k : Vec ℕ Global). k.items) keys in
-    sym (ap (λ b. if b then names else names ++ name ∷ []) (sym (among_keys keys name) ∙ h))
-
--- the number of a name that was put there
-pub number_put : (keys : List (Vec ℕ Global)) (name : Text) (key stored : Vec ℕ Global) (place : ℕ) → key.items ≡ name → slice_get keys place ≡ Some stored
-    → bytes_eq key.items stored.items ≡ true → slice_get (map (λ (k : Vec ℕ Global). k.items) keys) place ≡ Some name
-number_put keys name key stored place is at same = at_key keys name place stored at (subst (λ n. bytes_eq n stored.items ≡ true) is same)
 
 -- ---- parts
 

@@ -103,11 +103,11 @@ abbrev pub Numbered : Type 0
 Numbered = Text × ℕ
 
 -- each name has its number
-pub record AreNumbered (names : List (Vec ℕ Global)) (count : ℕ) (pairs : List Numbered) : Type 0 where
+pub record AreNumbered (names : List Text) (count : ℕ) (pairs : List Numbered) : Type 0 where
   pub numbers : map (λ (pair : Numbered). pair.1) pairs ≡ range_with_len 0 count
   pub named : All (λ (pair : Numbered). pair.0 ≡ name_at names pair.1) pairs
 
-names_of : (names : List (Vec ℕ Global)) (pairs : List Numbered) → All (λ (pair : Numbered). pair.0 ≡ name_at names pair.1) pairs
+names_of : (names : List Text) (pairs : List Numbered) → All (λ (pair : Numbered). pair.0 ≡ name_at names pair.1) pairs
     → map (λ (pair : Numbered). pair.0) pairs ≡ names_at names (map (λ (pair : Numbered). pair.1) pairs)
 names_of names [] named = refl
 names_of names (pair ∷ pairs) named =
@@ -136,7 +136,7 @@ unfolding IsSingle
 single_at order single i j in_i in_j same = single i j 0 in_i in_j same
 
 -- names that are sorted with their numbers are in byte order
-pub sorted_order : (names : List (Vec ℕ Global)) (pairs sorted : List Numbered) → AreDistinct names → AreNumbered names (length names) pairs
+pub sorted_order : (names : List Text) (pairs sorted : List Numbered) → AreDistinct names → AreNumbered names (length names) pairs
     → IsPermutation pairs sorted → IsSorted pair_cmp sorted → IsByteOrder names (map (λ (pair : Numbered). pair.1) sorted)
 sorted_order names pairs sorted distinct numbered moved up =
     let order : List ℕ = map (λ (pair : Numbered). pair.1) sorted in
@@ -160,7 +160,7 @@ sorted_order names pairs sorted distinct numbered moved up =
 
 -- ---- one more
 
-pub numbered_none : (names : List (Vec ℕ Global)) (pairs : List Numbered) → pairs ≡ [] → AreNumbered names 0 pairs
+pub numbered_none : (names : List Text) (pairs : List Numbered) → pairs ≡ [] → AreNumbered names 0 pairs
 numbered_none names pairs none = record {
   numbers = ap (map (λ (pair : Numbered). pair.1)) none;
   named = subst (λ xs. All (λ (pair : Numbered). pair.0 ≡ name_at names pair.1) xs) (sym none) (All-nil (λ (pair : Numbered). pair.0 ≡ name_at names pair.1));
@@ -174,13 +174,13 @@ range_more a (suc n) =
     let last : a + suc n ≡ a + 1 + n = omega arith in
     rw (more, last) (ap (λ rest. a ∷ rest) (range_more (a + 1) n ∙ ap (range_with_len (a + 1)) next))
 
-pub numbered_more : (names : List (Vec ℕ Global)) (number : ℕ) (name : Vec ℕ Global) (pairs more : List Numbered) (pair : Numbered) → AreNumbered names number pairs
-    → number < length names → name ≡ get_or names number name → pair.0 ≡ name.items → pair.1 ≡ number → more ≡ pairs ++ pair ∷ []
+pub numbered_more : (names : List Text) (number : ℕ) (name : Text) (pairs more : List Numbered) (pair : Numbered) → AreNumbered names number pairs
+    → number < length names → name ≡ get_or names number name → pair.0 ≡ name → pair.1 ≡ number → more ≡ pairs ++ pair ∷ []
     → AreNumbered names (number + 1) more
 numbered_more names number name pairs more pair numbered within is text at grown =
     let found : slice_get names number ≡ Some name = slice_get_read names (length names) number name refl within is in
     let told : pair.0 ≡ name_at names pair.1
-    = text ∙ sym (ap (λ o. unwrap_or (option_map (λ (n : Vec ℕ Global). n.items) o) []) (ap (slice_get names) at ∙ found)) in
+    = text ∙ sym (ap (λ o. unwrap_or (option_o) []) (ap (slice_get names) at ∙ found)) in
     record {
       numbers = ap (map (λ (p : Numbered). p.1)) grown ∙ map-append (λ (p : Numbered). p.1) pairs (pair ∷ [])
           ∙ ap (λ front. front ++ pair.1 ∷ []) numbered.numbers ∙ ap (λ k. range_with_len 0 number ++ k ∷ []) (at ∙ omega arith) ∙ range_more 0 number;

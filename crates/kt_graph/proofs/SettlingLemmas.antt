@@ -150,8 +150,7 @@ settled_under rules same_rules known same_known goals names after instances new 
 -- ---- at the end
 
 -- no name is left
-pub none_left : (found : Option (Vec ℕ Global)) (at : Option Text) → ((x : Vec ℕ Global) → found ≡ Some x → ⊥) → option_map (λ (x : Vec ℕ Global). x.items) found ≡ at
-    → None ≡ at
+pub none_left : (found at : Option Text) → ((x : Text) → found ≡ Some x → ⊥) → found ≡ at → None ≡ at
 none_left None at h e = e
 none_left (Some x) at h e = absurd (h x refl)
 
@@ -176,18 +175,18 @@ parts_numbered names (one ∷ expected) (part ∷ parts) h =
     })
     (parts_numbered names expected parts h.1)
 
-name_read : (keys : List (Vec ℕ Global)) (number : ℕ) (name : Text) → slice_get (map (λ (k : Vec ℕ Global). k.items) keys) number ≡ Some name
+name_read : (keys : List Text) (number : ℕ) (name : Text) → slice_get keys number ≡ Some name
     → name_at keys number ≡ name
-name_read keys number name at = ap (λ (o : Option Text). unwrap_or o []) (sym (slice_get-map (λ (k : Vec ℕ Global). k.items) keys number) ∙ at)
+name_read keys number name at = ap (λ (o : Option Text). unwrap_or o []) at
 
-names_read : (keys : List (Vec ℕ Global)) (expected : List Text) (numbers : List ℕ) → StandFor (map (λ (k : Vec ℕ Global). k.items) keys) expected numbers
+names_read : (keys expected : List Text) (numbers : List ℕ) → StandFor keys expected numbers
     → names_at keys numbers ≡ expected
 names_read keys [] [] h = refl
 names_read keys [] (number ∷ numbers) h = cc
 names_read keys (name ∷ expected) [] h = cc
 names_read keys (name ∷ expected) (number ∷ numbers) h =
-    let first : slice_get (map (λ (k : Vec ℕ Global). k.items) keys) number ≡ Some name = cc in
-    let rest : StandFor (map (λ (k : Vec ℕ Global). k.items) keys) expected numbers = cc in
+    let first : slice_get keys number ≡ Some name = cc in
+    let rest : StandFor keys expected numbers = cc in
     let e = name_read keys number name first in
     let es = names_read keys expected numbers rest in
     cc
@@ -199,7 +198,7 @@ part_from recipe stem prerequisites order_only =
 abbrev node_from : Text → NodeKind → List Part → Option Instance → Node
 node_from name kind parts made_with = record { name = name; kind = kind; parts = parts; made_with = made_with }
 
-part_read : (keys : List (Vec ℕ Global)) (expected : Part) (part : HeldPart) → SaysPart (map (λ (k : Vec ℕ Global). k.items) keys) expected part
+part_read : (keys : List Text) (expected : Part) (part : HeldPart) → SaysPart keys expected part
     → part_told keys part ≡ expected
 part_read keys expected part h =
     let first = names_read keys expected.needs.prerequisites part.needs.prerequisites.items h.needs.prerequisites in
@@ -209,7 +208,7 @@ part_read keys expected part h =
     ∙ ap (λ l. part_from expected.recipe expected.stem l (names_at keys part.needs.order_only.items)) first
     ∙ ap (λ l. part_from expected.recipe expected.stem expected.needs.prerequisites l) second
 
-parts_read : (keys : List (Vec ℕ Global)) (expected : List Part) (parts : List HeldPart) → SayParts (map (λ (k : Vec ℕ Global). k.items) keys) expected parts
+parts_read : (keys : List Text) (expected : List Part) (parts : List HeldPart) → SayParts keys expected parts
     → map (part_told keys) parts ≡ expected
 parts_read keys [] [] h = refl
 parts_read keys [] (part ∷ parts) h = absurd h
@@ -220,12 +219,11 @@ parts_read keys (one ∷ expected) (part ∷ parts) h =
     cc
 
 -- what a node says where the names are keys
-says_told : (keys : List (Vec ℕ Global)) (instances : List Held) (name : Text) (expected : Node) (node : Settled) → expected.name ≡ name
-    → SaysNode (map (λ (k : Vec ℕ Global). k.items) keys) instances expected node → Says keys instances name expected node
+says_told : (keys : List Text) (instances : List Held) (name : Text) (expected : Node) (node : Settled) → expected.name ≡ name
+    → SaysNode keys instances expected node → Says keys instances name expected node
 says_told keys instances name expected node named h = record {
   numbers = record {
-    parts = subst (λ n. All (λ part. IsNumbered n part.needs) node.parts.items) (length-map keys (λ (k : Vec ℕ Global). k.items))
-        (parts_numbered (map (λ (k : Vec ℕ Global). k.items) keys) expected.parts node.parts.items h.parts);
+    parts = parts_numbered keys expected.parts node.parts.items h.parts;
     inputs = h.inputs;
     order_only = h.order_only;
     made_with = h.making.numbers;
@@ -257,21 +255,20 @@ past [] k e = omega arith
 past (x ∷ xs) zero e = cc
 past (x ∷ xs) (suc k) e = omega (arith, past xs k e)
 
-named_at : (keys : List (Vec ℕ Global)) (number : ℕ) → number < length keys
-    → slice_get (map (λ (key : Vec ℕ Global). key.items) keys) number ≡ Some (name_at keys number)
+named_at : (keys : List Text) (number : ℕ) → number < length keys
+    → slice_get keys number ≡ Some (name_at keys number)
 named_at [] number h = absurd (omega arith)
 named_at (key ∷ keys) zero h = refl
 named_at (key ∷ keys) (suc number) h = named_at keys number (omega arith)
 
-keys_done : (rules : List Rule) (known goals : List Text) (keys : List (Vec ℕ Global)) (instances : List Held) (nodes : List Settled)
-    → IsUnderWay rules known goals (map (λ key. key.items) keys) instances nodes → None ≡ slice_get (map (λ (key : Vec ℕ Global). key.items) keys) (length nodes)
+keys_done : (rules : List Rule) (known goals keys : List Text) (instances : List Held) (nodes : List Settled)
+    → IsUnderWay rules known goals keys instances nodes → None ≡ slice_get keys (length nodes)
     → IsDone rules known goals keys instances nodes
 keys_done rules known goals keys instances nodes h none =
     let count : length nodes ≡ length keys
-    = omega (arith, h.within, past (map (λ (key : Vec ℕ Global). key.items) keys) (length nodes) none, length-map keys (λ (key : Vec ℕ Global). key.items)) in
+    = omega (arith, h.within, past keys (length nodes) none) in
     record {
-      reached = λ k d l. subst (IsReached rules known goals) (get_or-map (λ (key : Vec ℕ Global). key.items) keys k d d.items l)
-          (h.reached k d.items (omega (arith, l, length-map keys (λ (key : Vec ℕ Global). key.items))));
+      reached = h.reached;
       named = h.named;
       settled = λ number node at.
           let name = name_at keys number in
@@ -283,13 +280,10 @@ keys_done rules known goals keys instances nodes h none =
 -- nothing is left
 pub all_done : (rules : List Rule) (known goals names : List Text) (instances : List Held) (nodes : List Settled)
     → IsUnderWay rules known goals names instances nodes → None ≡ slice_get names (length nodes)
-    → (keys : List (Vec ℕ Global)) → map (λ key. key.items) keys ≡ names → IsDone rules known goals keys instances nodes
-all_done rules known goals names instances nodes h none keys told =
-    keys_done rules known goals keys instances nodes
-    (subst (λ l. IsUnderWay rules known goals l instances nodes) (sym told) h)
-    (none ∙ ap (λ l. slice_get l (length nodes)) (sym told))
+    → IsDone rules known goals names instances nodes
+all_done rules known goals names instances nodes h none = keys_done rules known goals names instances nodes h none
 
 -- each node has the numbers of names and makings alone
-pub done_numbers : (rules : List Rule) (known goals : List Text) (names : List (Vec ℕ Global)) (instances : List Held) (nodes : List Settled)
+pub done_numbers : (rules : List Rule) (known goals names : List Text) (instances : List Held) (nodes : List Settled)
     → IsDone rules known goals names instances nodes → All (HasNumbers (length names) (length instances)) nodes
 done_numbers rules known goals names instances nodes h = λ k d l. (h.settled k (get_or nodes k d) (slice_get-get_or nodes k d l)).numbers

@@ -98,7 +98,7 @@ pub group_cases : (rules : List Rule) (known goals : List Text) (name member : T
 group_cases rules known goals name _ itself = inl refl
 group_cases rules known goals name _ (beside reached made) = inr (reached, made)
 
-module _ (names : List (Vec ℕ Global)) (instances : List Held) (nodes : List Settled) (order : List ℕ) (whole : IsWhole names instances nodes order) where
+module _ (names : List Text) (instances : List Held) (nodes : List Settled) (order : List ℕ) (whole : IsWhole names instances nodes order) where
   pub numbers_of : (number : ℕ) (node : Settled) → slice_get nodes number ≡ Some node → HasNumbers (length names) (length instances) node
   numbers_of number node at = All-contains (HasNumbers (length names) (length instances)) nodes node whole.held.numbers (Contains-slice_get nodes number node at)
 

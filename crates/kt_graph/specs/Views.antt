@@ -103,10 +103,10 @@ asked_told question = (question.name.items, question.used.items)
 -- ---- nodes
 
 -- the name of a number
-abbrev pub name_at : List (Vec ℕ Global) → ℕ → Text
-name_at names number = unwrap_or (option_map (λ name. name.items) (slice_get names number)) []
+abbrev pub name_at : List Text → ℕ → Text
+name_at names number = unwrap_or (slice_get names number) []
 
-abbrev pub names_at : List (Vec ℕ Global) → List ℕ → List Text
+abbrev pub names_at : List Text → List ℕ → List Text
 names_at names numbers = map (name_at names) numbers
 
 abbrev pub instance_told : Held → Instance
@@ -116,7 +116,7 @@ instance_told (held.Pattern rule directory stem) = of_pattern rule directory.ite
 abbrev pub instance_at : List Held → Option ℕ → Option Instance
 instance_at instances number = option_map instance_told (option_and_then (slice_get instances) number)
 
-abbrev pub part_told : List (Vec ℕ Global) → HeldPart → Part
+abbrev pub part_told : List Text → HeldPart → Part
 part_told names part = record {
   recipe = option_map (λ lines. lines.now) part.recipe;
   stem = part.stem.items;
@@ -140,7 +140,7 @@ abbrev pub part_order_only : Option Part → List Text
 part_order_only part = unwrap_or (option_map (λ some. some.needs.order_only) part) []
 
 -- the node of a number
-abbrev pub node_told : List (Vec ℕ Global) → List Held → ℕ → Settled → Node
+abbrev pub node_told : List Text → List Held → ℕ → Settled → Node
 node_told names instances number settled = record {
   name = name_at names number;
   kind = settled.kind;
@@ -148,11 +148,11 @@ node_told names instances number settled = record {
   made_with = instance_at instances settled.made_with;
 }
 
-abbrev pub node_at : List (Vec ℕ Global) → List Held → List Settled → ℕ → Option Node
+abbrev pub node_at : List Text → List Held → List Settled → ℕ → Option Node
 node_at names instances nodes number = option_map (node_told names instances number) (slice_get nodes number)
 
 -- the nodes of numbers, in order
-abbrev pub nodes_told : List (Vec ℕ Global) → List Held → List Settled → List ℕ → List Node
+abbrev pub nodes_told : List Text → List Held → List Settled → List ℕ → List Node
 nodes_told names instances nodes order = filter_map (node_at names instances nodes) order
 
 -- ---- answers

@@ -15,7 +15,7 @@ ghost use Rattle.kt_graph.specs.Views.{instance_told};
 
 use crate::named::{Named, NamedPart};
 use crate::node::{Instance, NodeKind};
-use kt_rules::{Entry, Kind, Needs, Target, TargetRule};
+use kt_rules::{Entry, Kind, Name, Needs, Target, TargetRule};
 use std::alloc::{AllocError, Global};
 
 /// The rule whose recipe is used, and the rules before it and after it.
@@ -49,12 +49,11 @@ pub(crate) fn used_rule<'a, 'r>(rules: &'r [TargetRule<'a>]) -> Option<Used<'a, 
 /// Each rule is a part.
 pub(crate) fn double_node<'a>(
     alloc: Global,
-    suffixes: &[Vec<u8>],
+    suffixes: &[Name],
     rules: &[TargetRule<'a>],
 ) -> Result<Named<'a, 'a>, AllocError>
     ensures { IfOk result (λ named. (name : Text)
-        → named_told name named ≡ double_node (map
-        (λ suffix. suffix.items) suffixes.now) name (map rule_told rules.now)) }
+        → named_told name named ≡ double_node suffixes.now name (map rule_told rules.now)) }
 {
     let mut parts = Vec::with_capacity(alloc, rules.len())?;
     for rule in rules {
@@ -71,12 +70,11 @@ pub(crate) fn double_node<'a>(
 /// The rule whose recipe is used comes first with what it needs.
 pub(crate) fn explicit_node<'a>(
     alloc: Global,
-    suffixes: &[Vec<u8>],
+    suffixes: &[Name],
     used: Used<'a, '_>,
 ) -> Result<Named<'a, 'a>, AllocError>
     ensures { IfOk result (λ named. (name : Text) (rules : List (Rule × HeldTarget)) → IsCut rules used.entry
-        → named_told name named ≡ explicit_node (map
-        (λ suffix. suffix.items) suffixes.now) name rules (rule_told used.entry.rule)) }
+        → named_told name named ≡ explicit_node suffixes.now name rules (rule_told used.entry.rule)) }
 {
     let rule = used.rule;
     let mut needs = Vec::from_array(alloc, [rule.entry.needs(rule.target)])?;
@@ -94,13 +92,13 @@ pub(crate) fn explicit_node<'a>(
 /// Where no recipe makes the name.
 pub(crate) fn plain_node<'a>(
     alloc: Global,
-    suffixes: &[Vec<u8>],
+    suffixes: &[Name],
     name: &[u8],
     rules: &[TargetRule<'a>],
     is_phony: bool,
 ) -> Result<Named<'a, 'a>, AllocError>
     ensures { IfOk result (λ named. named_told name.now named
-        ≡ plain_node (map (λ suffix. suffix.items) suffixes.now) name.now (map rule_told rules.now) is_phony) }
+        ≡ plain_node suffixes.now name.now (map rule_told rules.now) is_phony) }
 {
     let mut needs = Vec::new(alloc);
     add_needs(&mut needs, rules)?;
@@ -166,12 +164,12 @@ fn is_double(rule: TargetRule) -> bool
 // A rule of its target with what it needs.
 fn rule_part<'a>(
     alloc: Global,
-    suffixes: &[Vec<u8>],
+    suffixes: &[Name],
     rule: TargetRule<'a>,
     needs: Vec<&'a Needs>,
 ) -> Result<NamedPart<'a, 'a>, AllocError>
     ensures { IfOk result (λ part. part_named part
-        ≡ part_of (map (λ suffix. suffix.items) suffixes.now) (rule_told rule.entry) (put_together (map
+        ≡ part_of suffixes.now (rule_told rule.entry) (put_together (map
         (λ some. some.now) needs.entry.items))) }
 {
     Ok(NamedPart {
@@ -215,8 +213,8 @@ fn kind_without(rules: &[TargetRule], is_phony: bool) -> NodeKind
 }
 
 // The stem in an explicit rule: that of its static pattern, if it has one.
-fn stem_for<'r>(suffixes: &[Vec<u8>], rule: TargetRule<'r>) -> &'r [u8]
-    ensures { result.now ≡ stem_for (map (λ suffix. suffix.items) suffixes.now) (rule_told rule.entry) }
+fn stem_for<'r>(suffixes: &[Name], rule: TargetRule<'r>) -> &'r [u8]
+    ensures { result.now ≡ stem_for suffixes.now (rule_told rule.entry) }
 {
     match &rule.target.stemmed {
         Some(stemmed) => stemmed.stem.as_slice(),
@@ -226,8 +224,8 @@ fn stem_for<'r>(suffixes: &[Vec<u8>], rule: TargetRule<'r>) -> &'r [u8]
 
 // The name without the first of the suffixes that it ends with; without one there is no stem.
 #[tactic(auto, unfolding(crate::specs::Node::suffix_stem))]
-fn suffix_stem<'n>(suffixes: &[Vec<u8>], name: &'n [u8]) -> &'n [u8]
-    ensures { result.now ≡ suffix_stem (map (λ suffix. suffix.items) suffixes.now) name.now }
+fn suffix_stem<'n>(suffixes: &[Name], name: &'n [u8]) -> &'n [u8]
+    ensures { result.now ≡ suffix_stem suffixes.now name.now }
 {
     match suffix_of(suffixes, name) {
         Some(suffix) => &name[..name.len().saturating_sub(suffix.len())],
@@ -236,9 +234,9 @@ fn suffix_stem<'n>(suffixes: &[Vec<u8>], name: &'n [u8]) -> &'n [u8]
 }
 
 // The first of the suffixes that the name ends with.
-fn suffix_of<'s>(suffixes: &'s [Vec<u8>], name: &[u8]) -> Option<&'s [u8]>
+fn suffix_of<'s>(suffixes: &'s [Name], name: &[u8]) -> Option<&'s [u8]>
     ensures { option_map (λ suffix. suffix.now) result ≡ find
-        (λ suffix. ends_with nat_eq name.now suffix) (map (λ suffix. suffix.items) suffixes.now) }
+        (λ suffix. ends_with nat_eq name.now suffix) suffixes.now }
 {
     for suffix in suffixes {
         if name.ends_with(suffix.as_slice()) {

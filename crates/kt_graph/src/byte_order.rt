@@ -2,11 +2,12 @@
 ghost use Rattle.std.specs.Prelude.{◌≡◌, map, IfOk};
 ghost use Rattle.kt_graph.specs.inner.Files.{AreDistinct, IsByteOrder};
 
+use kt_rules::Name;
 use kt_text::SortKey;
 use std::alloc::{AllocError, Global};
 
 /// The numbers of names, in byte order of these.
-pub(crate) fn byte_order(alloc: Global, names: &[Vec<u8>]) -> Result<Vec<usize>, AllocError>
+pub(crate) fn byte_order(alloc: Global, names: &[Name]) -> Result<Vec<usize>, AllocError>
     requires { AreDistinct names.now }
     ensures { IfOk result (λ order. IsByteOrder names.now order.items) }
 {

@@ -10,12 +10,13 @@ ghost use Rattle.kt_graph.specs.inner.Whole.{AreHeld, IsWhole};
 
 use crate::node::{Instance, Node};
 use crate::settled::Settled;
+use kt_rules::Name;
 use std::alloc::{AllocError, Global};
 
 /// The made nodes of an order, those of one making together.
 pub(crate) fn grouped<'g>(
     alloc: Global,
-    names: &'g [Vec<u8>],
+    names: &'g [Name],
     instances: &'g [Instance],
     nodes: &'g [Settled<'g>],
     order: &[usize],
@@ -33,7 +34,7 @@ pub(crate) fn grouped<'g>(
 
 // Puts the node of a number into its group, if a rule makes it.
 fn put_number<'g>(
-    names: &'g [Vec<u8>],
+    names: &'g [Name],
     instances: &'g [Instance],
     nodes: &'g [Settled<'g>],
     number: usize,

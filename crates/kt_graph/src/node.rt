@@ -5,7 +5,7 @@ ghost use Rattle.kt_graph.specs.Node.{inputs_of, is_leaf, order_only_of};
 ghost use Rattle.kt_graph.specs.Views.{instance_told, name_at, part_lines, part_needed, part_order_only, part_stem};
 
 use crate::settled::Settled;
-use kt_rules::RecipeLine;
+use kt_rules::{Name, RecipeLine};
 use std::marker::Model;
 
 /// What makes a name.
@@ -44,7 +44,7 @@ pub enum Instance {
 /// alone. Of a part that it doesn't have, a node tells nothing.
 #[derive(Drop)]
 pub struct Node<'g> {
-    names: &'g [Vec<u8>],
+    names: &'g [Name],
     instances: &'g [Instance],
     number: usize,
     settled: &'g Settled<'g>,
@@ -69,7 +69,7 @@ impl<'g> Node<'g> {
     ghost use Rattle.kt_graph.specs.inner.Whole.{IsHeld};
 
     pub(crate) fn new(
-        names: &'g [Vec<u8>],
+        names: &'g [Name],
         instances: &'g [Instance],
         number: usize,
         settled: &'g Settled<'g>,
@@ -173,7 +173,7 @@ impl<'g> Node<'g> {
 /// Names that a node needs, in order.
 #[derive(Drop)]
 pub struct Inputs<'g> {
-    names: &'g [Vec<u8>],
+    names: &'g [Name],
     numbers: &'g [usize],
 }
 
@@ -190,7 +190,7 @@ impl<'g> Model for Inputs<'g> {
 impl<'g> Inputs<'g> {
     ghost use Rattle.kt_graph.specs.Views.{names_at};
 
-    fn of(names: &'g [Vec<u8>], numbers: &'g [usize]) -> Inputs<'g>
+    fn of(names: &'g [Name], numbers: &'g [usize]) -> Inputs<'g>
         ensures { result ≡ names_at names.now numbers.now }
     {
         Inputs { names, numbers }
@@ -219,7 +219,7 @@ impl<'g> Iterator for Inputs<'g> {
 }
 
 /// The name of a number.
-pub(crate) fn name_of(names: &[Vec<u8>], number: usize) -> &[u8]
+pub(crate) fn name_of(names: &[Name], number: usize) -> &[u8]
     ensures { result.now ≡ name_at names.now number }
 {
     match names.get(number) {

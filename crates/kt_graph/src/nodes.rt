@@ -27,6 +27,7 @@ use crate::settled::Settled;
 use crate::settling::Settling;
 use crate::trouble::Trouble;
 use indexmap::IndexSet;
+use kt_list::Names;
 use kt_rules::{Book, Name};
 use std::alloc::{AllocError, Global};
 use std::marker::Model;
@@ -37,7 +38,7 @@ use std::marker::Model;
 #[derive(Drop)]
 pub struct Graph<'a> {
     alloc: Global,
-    names: IndexSet<Vec<u8>>,
+    names: Names,
     nodes: Vec<Settled<'a>>,
     instances: IndexSet<Instance>,
     // The numbers in byte order of the names.
@@ -52,11 +53,11 @@ impl<'a> Model for Graph<'a> {
 
     ghost use Rattle.kt_graph.specs.Views.{nodes_told};
 
-    ghost view = { λ graph. nodes_told graph.names.keys graph.instances.keys graph.nodes.items graph.order.items };
+    ghost view = { λ graph. nodes_told graph.names graph.instances.keys graph.nodes.items graph.order.items };
 
     ghost use Rattle.kt_graph.specs.inner.Whole.{IsWhole};
 
-    ghost invariant = { λ graph. IsWhole graph.names.keys graph.instances.keys graph.nodes.items graph.order.items };
+    ghost invariant = { λ graph. IsWhole graph.names graph.instances.keys graph.nodes.items graph.order.items };
 }
 
 impl<'a> Graph<'a> {
@@ -79,7 +80,7 @@ impl<'a> Graph<'a> {
         let names = self.names.as_slice();
         let instances = self.instances.as_slice();
         let nodes = self.nodes.as_slice();
-        match self.names.get_index_of(name) {
+        match self.names.number_of(name) {
             Some(number) => node_at(names, instances, nodes, number),
             None => None,
         }
@@ -123,14 +124,14 @@ impl<'a> Graph<'a> {
     // The graph of names and their nodes.
     fn whole(
         alloc: Global,
-        names: IndexSet<Vec<u8>>,
+        names: Names,
         nodes: Vec<Settled<'a>>,
         instances: IndexSet<Instance>,
     ) -> Result<Graph<'a>, AllocError>
-        requires numbers { All (HasNumbers (length names.keys) (length instances.keys)) nodes.items }
-        requires all { length nodes.items ≡ length names.keys }
+        requires numbers { All (HasNumbers (length names) (length instances.keys)) nodes.items }
+        requires all { length nodes.items ≡ length names }
         ensures { IfOk result (λ graph. (rules : List Rule) (known goals : List Text)
-            → IsDone rules known goals names.keys instances.keys nodes.entry.items → IsGraph rules known goals graph) }
+            → IsDone rules known goals names instances.keys nodes.entry.items → IsGraph rules known goals graph) }
     {
         let order = byte_order(alloc, names.as_slice())?;
         // A slice of a set tells that no two of its values are equal.
@@ -224,7 +225,7 @@ impl<'a> Graph<'a> {
 /// The nodes of a graph, in byte order of their names.
 #[derive(Drop)]
 pub struct Nodes<'g> {
-    names: &'g [Vec<u8>],
+    names: &'g [Name],
     instances: &'g [Instance],
     nodes: &'g [Settled<'g>],
     numbers: &'g [usize],
@@ -261,7 +262,7 @@ impl<'g> Iterator for Nodes<'g> {
 
 // The first node of numbers, and the numbers after it.
 fn first_node<'g>(
-    names: &'g [Vec<u8>],
+    names: &'g [Name],
     instances: &'g [Instance],
     nodes: &'g [Settled<'g>],
     numbers: &'g [usize],
@@ -283,7 +284,7 @@ fn first_node<'g>(
 
 // The node of a number.
 fn node_at<'g>(
-    names: &'g [Vec<u8>],
+    names: &'g [Name],
     instances: &'g [Instance],
     nodes: &'g [Settled<'g>],
     number: usize,

@@ -9,7 +9,7 @@ ghost use Rattle.kt_graph.specs.inner.Numbering.{SaysNeeds, SaysPart, SayParts, 
 
 use crate::named::NamedPart;
 use crate::settled::{Numbered, Part};
-use indexmap::IndexSet;
+use kt_list::Names;
 use kt_rules::{Name, Needs};
 use std::alloc::{AllocError, Global};
 use std::marker::Model;
@@ -18,15 +18,15 @@ use std::marker::Model;
 #[derive(Drop)]
 pub(crate) struct Numbers {
     alloc: Global,
-    names: IndexSet<Vec<u8>>,
+    names: Names,
 }
 
 impl Model for Numbers {
-    ghost use Rattle.std.specs.Prelude.{ℕ, List, map};
+    ghost use Rattle.std.specs.Prelude.{ℕ, List};
 
     ghost Value = { List (List ℕ) };
 
-    ghost view = { λ numbers. map (λ name. name.items) numbers.names.keys };
+    ghost view = { λ numbers. numbers.names };
 }
 
 impl Numbers {
@@ -35,12 +35,12 @@ impl Numbers {
     {
         Numbers {
             alloc,
-            names: IndexSet::new(alloc),
+            names: Names::new(alloc),
         }
     }
 
-    pub(crate) fn into_names(self) -> IndexSet<Vec<u8>>
-        ensures { map (λ name. name.items) result.keys ≡ self }
+    pub(crate) fn into_names(self) -> Names
+        ensures { result ≡ self }
     {
         let Numbers { alloc: _, names } = self;
         names
@@ -55,11 +55,11 @@ impl Numbers {
     }
 
     /// A copy of the name with a number.
-    pub(crate) fn name(&self, number: usize) -> Result<Option<Vec<u8>>, AllocError>
-        ensures { IfOk result (λ name. option_map (λ some. some.items) name ≡ slice_get self.now number) }
+    pub(crate) fn name(&self, number: usize) -> Result<Option<Name>, AllocError>
+        ensures { IfOk result (λ name. name ≡ slice_get self.now number) }
     {
-        match self.names.get_index(number) {
-            Some(name) => Ok(Some(Vec::from_slice(self.alloc, name.as_slice())?)),
+        match self.names.get(number) {
+            Some(name) => Ok(Some(Name::copied(self.alloc, name)?)),
             None => Ok(None),
         }
     }
@@ -69,13 +69,7 @@ impl Numbers {
         ensures numbered { IfOk result (λ number. slice_get self.new number ≡ Some name.now) }
         ensures reached { OnOk result (self.new ≡ with_name self.old name.now) }
     {
-        match self.names.get_index_of(name) {
-            Some(number) => Ok(number),
-            None => {
-                let (number, _) = self.names.insert_full(Vec::from_slice(self.alloc, name)?)?;
-                Ok(number)
-            }
-        }
+        self.names.number(name)
     }
 
     /// Reaches names.

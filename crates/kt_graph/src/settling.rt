@@ -88,9 +88,8 @@ impl<'a> Settling<'a> {
     }
 
     // The first name that has no node yet.
-    fn next_name(&self) -> Result<Option<Vec<u8>>, AllocError>
-        ensures next { IfOk result (λ name. option_map (λ some. some.items) name
-            ≡ slice_get self.now.numbers (length self.now.nodes.items)) }
+    fn next_name(&self) -> Result<Option<Name>, AllocError>
+        ensures next { IfOk result (λ name. name ≡ slice_get self.now.numbers (length self.now.nodes.items)) }
         ensures small { length self.now.numbers < 2 ^ 63 }
     {
         let _count = self.numbers.len();

@@ -1,5 +1,7 @@
 //! Names by numbers.
-ghost use Rattle.std.specs.Prelude.{◌≡◌, ◌^◌, ◌<◌, [], Some, length, option_map, slice_get, take, IfOk, OnErr, OnOk};
+ghost use Rattle.std.specs.Prelude.{◌≡◌, ◌^◌, ◌<◌, [], Some, is_some, length, option_map, slice_get, take, IfOk, OnErr, OnOk};
+ghost use Rattle.std.specs.List.{IsDistinct};
+ghost use Rattle.std.specs.Str.{bytes_eq};
 ghost use Rattle.kt_list.specs.Names.{is_among, place_of, with_name};
 
 use crate::text::{SHORT, Text};
@@ -46,7 +48,8 @@ impl Names {
 
     /// The names, by their numbers.
     pub fn as_slice(&self) -> &[Text]
-        ensures { result.now ≡ self.now }
+        ensures names { result.now ≡ self.now }
+        ensures differ { IsDistinct bytes_eq self.now }
     {
         self.names.as_slice()
     }
@@ -67,7 +70,8 @@ impl Names {
 
     /// The number of a name, if it has one. Takes no memory.
     pub fn number_of(&self, name: &[u8]) -> Option<usize>
-        ensures { result ≡ place_of self.now name.now }
+        ensures place { result ≡ place_of self.now name.now }
+        ensures found { is_some result ≡ is_among self.now name.now }
     {
         self.names.get_index_of(name)
     }

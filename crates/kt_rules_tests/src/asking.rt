@@ -1,6 +1,6 @@
 //! What books answer, as texts: their rules are a line each, the head, and a recipe after the first `;`.
 use crate::telling::{put, put_fault, put_needs, put_place, read};
-use kt_rules::{Book, Entry, Explicit, Pattern, RuleFault, TargetRule, Warnings};
+use kt_rules::{Book, Entry, Explicit, Name, Pattern, RuleFault, TargetRule, Warnings};
 use memchr::memchr;
 use std::alloc::{AllocError, Global};
 use std::process::Abort;
@@ -79,7 +79,7 @@ fn put_targets(told: &mut Vec<u8>, book: &Book, entry: &Entry) {
     }
 }
 
-fn put_suffixes(told: &mut Vec<u8>, suffixes: &[Vec<u8>]) {
+fn put_suffixes(told: &mut Vec<u8>, suffixes: &[Name]) {
     for suffix in suffixes {
         put(told, suffix.as_slice());
     }

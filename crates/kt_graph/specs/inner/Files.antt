@@ -38,11 +38,11 @@ abbrev pub HasFiles : Files → List Text → Type 0
 HasFiles files names = (file : Text) → held_for files.several.entries file ≡ several_in names file
 
 -- no two names are equal
-abbrev pub AreDistinct : List (Vec ℕ Global) → Type 0
+abbrev pub AreDistinct : List Text → Type 0
 AreDistinct names = (one other : ℕ) → one < length names → other < length names
     → name_at names one ≡ name_at names other → one ≡ other
 
 -- the numbers of all names, in byte order of these
-pub record IsByteOrder (names : List (Vec ℕ Global)) (order : List ℕ) : Type 0 where
+pub record IsByteOrder (names : List Text) (order : List ℕ) : Type 0 where
   pub rises : IsStrictlySortedBy (slice_cmp nat_cmp) (names_at names order)
   pub all : (number : ℕ) → Contains order number ↔ (number < length names)

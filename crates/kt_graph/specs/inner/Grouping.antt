@@ -66,12 +66,12 @@ pub record MayFollow (instances : List Held) (nodes : List Node) (making : Optio
   pub other : list_any (λ before. bytes_eq before.name node.name) nodes ≡ false
 
 -- the groups of the made nodes of numbers
-abbrev pub IsGroupingOf : List (Vec ℕ Global) → List Held → List Settled → List ℕ → Grouping → Type 0
+abbrev pub IsGroupingOf : List Text → List Held → List Settled → List ℕ → Grouping → Type 0
 IsGroupingOf names instances nodes numbers grouping = IsGrouping instances
     (made_nodes (nodes_told names instances nodes numbers)) grouping
 
 -- none of these has the name of this number
-abbrev pub IsAfter : List (Vec ℕ Global) → List Held → List Settled → List ℕ → ℕ → Type 0
+abbrev pub IsAfter : List Text → List Held → List Settled → List ℕ → ℕ → Type 0
 IsAfter names instances nodes numbers number =
     list_any (λ before. bytes_eq before.name (name_at names number))
     (made_nodes (nodes_told names instances nodes numbers)) ≡ false

@@ -56,7 +56,7 @@ pub record HasNumbers (names makings : ℕ) (node : Settled) : Type 0 where
   pub made_with : IfSome node.made_with (λ making. making < makings)
 
 -- what is held for a name says a node
-pub record Says (names : List (Vec ℕ Global)) (instances : List Held) (name : Text) (expected : Node)
+pub record Says (names : List Text) (instances : List Held) (name : Text) (expected : Node)
     (node : Settled) : Type 0 where
   pub numbers : HasNumbers (length names) (length instances) node
   pub told : (number : ℕ) → name_at names number ≡ name → node_told names instances number node ≡ expected

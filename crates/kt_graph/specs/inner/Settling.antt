@@ -46,10 +46,10 @@ pub record IsUnderWay (rules : List Rule) (known goals names : List Text) (insta
       → SaysNode names instances (node_of rules known name) node
 
 -- each name has its node
-pub record IsDone (rules : List Rule) (known goals : List Text) (names : List (Vec ℕ Global)) (instances : List Held)
+pub record IsDone (rules : List Rule) (known goals : List Text) (names : List Text) (instances : List Held)
     (nodes : List Settled) : Type 0 where
-  pub reached : All (λ name. IsReached rules known goals name.items) names
-  pub named : All (λ goal. Contains (map (λ name. name.items) names) goal) goals
+  pub reached : All (IsReached rules known goals) names
+  pub named : All (Contains names) goals
   pub settled : (number : ℕ) (node : Settled) → slice_get nodes number ≡ Some node
       → Says names instances (name_at names number) (node_of rules known (name_at names number)) node
   pub all : length nodes ≡ length names
@@ -57,5 +57,4 @@ pub record IsDone (rules : List Rule) (known goals : List Text) (names : List (V
 -- nothing is left to be settled
 abbrev pub IsSettled : List Rule → List Text → List Text → Settling → Type 0
 IsSettled rules known goals settling =
-    (names : List (Vec ℕ Global)) → map (λ name. name.items) names ≡ settling.numbers
-    → IsDone rules known goals names settling.instances.keys settling.nodes.items
+    IsDone rules known goals settling.numbers settling.instances.keys settling.nodes.items

@@ -18,19 +18,19 @@ AreApart instances =
     ≡ instance_at instances (Some other) → one ≡ other
 
 -- a node's numbers are those of names and makings, and no two of these are equal
-pub record IsHeld (names : List (Vec ℕ Global)) (instances : List Held) (node : Settled) : Type 0 where
+pub record IsHeld (names : List Text) (instances : List Held) (node : Settled) : Type 0 where
   pub distinct : AreDistinct names
   pub apart : AreApart instances
   pub numbers : HasNumbers (length names) (length instances) node
 
 -- so are those of several
-pub record AreHeld (names : List (Vec ℕ Global)) (instances : List Held) (nodes : List Settled) : Type 0 where
+pub record AreHeld (names : List Text) (instances : List Held) (nodes : List Settled) : Type 0 where
   pub distinct : AreDistinct names
   pub apart : AreApart instances
   pub numbers : All (HasNumbers (length names) (length instances)) nodes
 
 -- each name has its node, and the order is that of the names
-pub record IsWhole (names : List (Vec ℕ Global)) (instances : List Held) (nodes : List Settled)
+pub record IsWhole (names : List Text) (instances : List Held) (nodes : List Settled)
     (order : List ℕ) : Type 0 where
   pub held : AreHeld names instances nodes
   pub as_many : length nodes ≡ length names

@@ -6,5 +6,5 @@ use Rattle.kt_graph.proofs.building.double_node.Given as goal
 
 abbrev pub invariant-loop-rule : goal.invariant-loop-rule
 invariant-loop-rule l =
-    map part_named l.parts.items ++ map (own_part (map (λ suffix. suffix.items) l.suffixes)) (map rule_told (drop l.rule-index l.rules))
-    ≡ map (own_part (map (λ suffix. suffix.items) l.suffixes)) (map rule_told l.rules)
+    map part_named l.parts.items ++ map (own_part l.suffixes) (map rule_told (drop l.rule-index l.rules))
+    ≡ map (own_part l.suffixes) (map rule_told l.rules)

@@ -9,7 +9,7 @@ pub returns : goal.returns
 returns c = λ name rules cut.
     let earlier = map rule_told c.args.used.earlier.now in
     let later = map rule_told c.args.used.later.now in
-    explicit_told (map (λ suffix. suffix.items) c.args.suffixes.now) name rules earlier later (rule_told c.args.used.rule)
+    explicit_told c.args.suffixes.now name rules earlier later (rule_told c.args.used.rule)
     (record { kind = Explicit; parts = c.in_ok-parts.parts; making = c.in_ok-group_of.field-0 }) c.in_ok-part.part
     (map (λ needs. needs.now) c.add_needs-2.new.needs.items)
     refl c.in_ok-parts.ensures.items c.in_ok-group_of.ensures c.in_ok-part.ensures

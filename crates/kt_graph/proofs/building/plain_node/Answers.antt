@@ -6,7 +6,7 @@ use Rattle.kt_graph.proofs.building.plain_node.Goals as goal
 
 pub returns : goal.returns
 returns c =
-    plain_told (map (λ suffix. suffix.items) c.args.suffixes.now) c.args.name.now (map rule_told c.args.rules.now) c.args.is_phony
+    plain_told c.args.suffixes.now c.args.name.now (map rule_told c.args.rules.now) c.args.is_phony
     (record { kind = c.kind_without.result; parts = c.in_ok-from_array.field-0; making = None })
     (record { recipe = None; stem = c.in_ok-from_slice.field-0; needs = c.add_needs.new.needs })
     c.kind_without.ensures c.in_ok-from_array.ensures.items refl refl (c.in_ok-from_slice.ensures.items ∙ c.suffix_stem.ensures)

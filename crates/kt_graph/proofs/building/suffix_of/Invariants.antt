@@ -4,5 +4,5 @@ use Rattle.kt_graph.proofs.building.suffix_of.Given as goal
 
 abbrev pub invariant-loop-suffix : goal.invariant-loop-suffix
 invariant-loop-suffix l =
-    find (λ suffix. ends_with nat_eq l.name suffix) (map (λ suffix. suffix.items) (drop l.suffix-index l.suffixes))
-    ≡ find (λ suffix. ends_with nat_eq l.name suffix) (map (λ suffix. suffix.items) l.suffixes)
+    find (λ suffix. ends_with nat_eq l.name suffix) (drop l.suffix-index l.suffixes)
+    ≡ find (λ suffix. ends_with nat_eq l.name suffix) l.suffixes

@@ -7,7 +7,7 @@ use Rattle.kt_graph.proofs.byte_order.byte_order.Goals as goal
 pub loop-number-preserved : goal.loop-number-preserved
 loop-number-preserved c =
     numbered_more c.args.names.now c.loop-number.number c.index-names-number.result c.loop-number.named.items c.push.new.self.items (c.new.result, c.loop-number.number)
-    c.loop-number.invariant c.loop-number-test.true c.index-names-number.is (c.new.ensures ∙ c.as_slice.ensures.value) refl c.in_ok-push.ensures.items
+    c.loop-number.invariant c.loop-number-test.true c.index-names-number.is (c.new.ensures ∙ c.as_slice.ensures) refl c.in_ok-push.ensures.items
 
 pub returns : goal.returns
 returns c =

@@ -6,10 +6,10 @@ pub returns-in-None : goal.returns-in-None
 returns-in-None c =
     let graph = c.self.inside in
     rw (← c.self.view_is)
-    (sym (node_missing graph.names.keys graph.instances.keys graph.nodes.items graph.order.items c.self.invariant c.args.name.now (sym c.in-None.ensures.found)))
+    (sym (node_missing graph.names graph.instances.keys graph.nodes.items graph.order.items c.self.invariant c.args.name.now (sym c.in-None.ensures.found)))
 
 pub returns-in-Some : goal.returns-in-Some
 returns-in-Some c =
     let graph = c.self.inside in
-    rw (← c.self.view_is, c.node_at.ensures, c.as_slice-names.ensures.keys, c.as_slice-instances.ensures.keys, c.as_slice-nodes.ensures.value)
-    (node_found graph.names.keys graph.instances.keys graph.nodes.items graph.order.items c.self.invariant c.args.name.now c.in-Some.number (sym c.in-Some.ensures.index))
+    rw (← c.self.view_is, c.node_at.ensures, c.as_slice-names.ensures.names, c.as_slice-instances.ensures.keys, c.as_slice-nodes.ensures.value)
+    (node_found graph.names graph.instances.keys graph.nodes.items graph.order.items c.self.invariant c.args.name.now c.in-Some.number (sym c.in-Some.ensures.place))

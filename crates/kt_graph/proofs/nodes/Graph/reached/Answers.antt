@@ -18,8 +18,9 @@ whole-requires-clause-numbers c =
       nodes = ap (λ (s : Settling). s.nodes.items) reach ∙ start.3;
     } in
     let self = c.settle_all.new.self in
-    done_numbers c.reach.new.self.book.now c.reach.new.self.known.now c.args.goals.now c.into_names.result.keys self.instances.keys self.nodes.items
-    (c.in_ok-settle_all.ensures c.args.goals.now begun c.into_names.result.keys c.into_names.ensures)
+    rw c.into_names.ensures
+    (done_numbers c.reach.new.self.book.now c.reach.new.self.known.now c.args.goals.now self.numbers self.instances.keys self.nodes.items
+    (c.in_ok-settle_all.ensures c.args.goals.now begun))
 
 pub returns : goal.returns
 returns c =
@@ -31,7 +32,7 @@ returns c =
       nodes = ap (λ (s : Settling). s.nodes.items) reach ∙ start.3;
     } in
     let self = c.settle_all.new.self in
-    let keys = c.into_names.result.keys in
+    let keys = c.into_names.result in
     let by_book : c.reach.new.self.book.now ≡ c.args.book.now
     = ap (λ (s : Settling). s.book.now) reach ∙ ap (λ (b : Bor (List Rule)). b.now) start.0 in
     let by_known : c.reach.new.self.known.now ≡ c.args.known.now
@@ -39,7 +40,7 @@ returns c =
     let done : IsDone c.args.book.now c.args.known.now goals keys self.instances.keys self.nodes.items
     = subst (λ r. IsDone r c.args.known.now goals keys self.instances.keys self.nodes.items) by_book
     (subst (λ k. IsDone c.reach.new.self.book.now k goals keys self.instances.keys self.nodes.items) by_known
-    (c.in_ok-settle_all.ensures goals begun keys c.into_names.ensures)) in
+    (rw c.into_names.ensures (c.in_ok-settle_all.ensures goals begun))) in
     IfOk-weaker c.whole.result
     (λ graph. (rules : List Rule) (known others : List Text) → IsDone rules known others keys self.instances.keys self.nodes.items → IsGraph rules known others graph)
     (IsGraph c.args.book.now c.args.known.now goals) (λ graph h. h c.args.book.now c.args.known.now goals done) c.whole.ensures

@@ -42,32 +42,32 @@ told_same (held.Pattern rule directory stem) (held.Pattern other beside rest) e 
 
 pub byte_order-requires : goal.byte_order-requires
 byte_order-requires c =
-    rw c.as_slice.ensures.keys
-    (names_distinct c.args.names.keys (λ i j d less within. apart_from_distinct _ c.args.names.keys i j d c.as_slice.ensures.unique less within))
+    rw c.as_slice.ensures.names
+    (names_distinct c.args.names (λ i j d less within. apart_from_distinct _ c.args.names i j d c.as_slice.ensures.differ less within))
 
 pub invariant_of-result : goal.invariant_of-result
 invariant_of-result c = record {
   held = record {
-    distinct = names_distinct c.args.names.keys (λ i j d less within. apart_from_distinct _ c.args.names.keys i j d c.as_slice.ensures.unique less within);
+    distinct = names_distinct c.args.names (λ i j d less within. apart_from_distinct _ c.args.names i j d c.as_slice.ensures.differ less within);
     apart = makings_apart eq-value.it told_same c.args.instances.keys
         (λ i j d less within. apart_from_distinct eq-value.it c.args.instances.keys i j d c.as_slice-2.ensures.unique less within);
     numbers = c.requires.numbers;
   };
   as_many = c.requires.all;
-  rises = rw c.as_slice.ensures.keys at c.in_ok-order.ensures;
+  rises = rw c.as_slice.ensures.names at c.in_ok-order.ensures;
 }
 
 pub returns : goal.returns
 returns c = λ rules known goals done.
-    graph_is c.args.names.keys c.args.instances.keys c.args.nodes.items c.in_ok-order.order.items
+    graph_is c.args.names c.args.instances.keys c.args.nodes.items c.in_ok-order.order.items
     record {
       held = record {
-        distinct = names_distinct c.args.names.keys (λ i j d less within. apart_from_distinct _ c.args.names.keys i j d c.as_slice.ensures.unique less within);
+        distinct = names_distinct c.args.names (λ i j d less within. apart_from_distinct _ c.args.names i j d c.as_slice.ensures.differ less within);
         apart = makings_apart eq-value.it told_same c.args.instances.keys
             (λ i j d less within. apart_from_distinct eq-value.it c.args.instances.keys i j d c.as_slice-2.ensures.unique less within);
         numbers = c.requires.numbers;
       };
       as_many = c.requires.all;
-      rises = rw c.as_slice.ensures.keys at c.in_ok-order.ensures;
+      rises = rw c.as_slice.ensures.names at c.in_ok-order.ensures;
     }
     rules known goals done

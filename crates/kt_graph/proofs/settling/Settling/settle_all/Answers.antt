@@ -22,7 +22,7 @@ loop-name-preserved c =
     let self = c.loop-name.self in
     let inv = c.loop-name.invariant in
     let grown = c.in_ok-node.ensures.grown in
-    let text : c.as_slice.result.now ≡ c.in-Some.name.items = search rules in
+    let text : c.as_slice.result.now ≡ c.in-Some.name = search rules in
     record {
       over = record {
         rules = grown.searched_rules ∙ inv.over.rules ∙ ap (λ (x : Bor (List Rule)). patterns_of x.now) (sym grown.book);
@@ -34,13 +34,13 @@ loop-name-preserved c =
           settled_under c.args.self.now.book.now self.book.now c.args.self.now.known.now self.known.now goals self.numbers c.settle.new.self.numbers
           self.instances.keys c.settle.new.self.instances.keys self.nodes.items c.push.new.self.items c.as_slice.result.now c.in_ok-node.node
           (ap (λ (x : Bor (List Rule)). x.now) inv.book) (ap (λ (x : Bor (List Text)). x.now) inv.known_names) (inv.right goals b)
-          (sym c.in_ok-name.ensures.next ∙ ap (option_map (λ (x : Vec ℕ Global). x.items)) c.in-Some.is ∙ ap Some (sym text))
+          (sym c.in_ok-name.ensures.next ∙ c.in-Some.is ∙ ap Some (sym text))
           grown.instances grown.names c.in_ok-node.ensures.says
           (c.in_ok-push.ensures.items ∙ ap (λ (v : Vec Settled Global). v.items ++ c.in_ok-node.node ∷ []) grown.nodes);
     }
 
 pub returns : goal.returns
-returns c = λ goals b names told.
+returns c = λ goals b.
     let self = c.loop-name.self in
     all_done c.args.self.now.book.now c.args.self.now.known.now goals self.numbers self.instances.keys self.nodes.items
-    (c.loop-name.invariant.right goals b) (none_left c.in_ok-name.field-0 _ c.in_default.not-Some c.in_ok-name.ensures.next) names told
+    (c.loop-name.invariant.right goals b) (none_left _ _ c.in_default.not-Some c.in_ok-name.ensures.next)
