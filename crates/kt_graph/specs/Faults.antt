@@ -1,26 +1,29 @@
--- What is told where there is no graph; the numbers and the words are kati's own.
-use Rattle.std.specs.Prelude.{◌≡◌, ℕ, List, ◌++◌, codes, Option, None, Some}
+-- What is told where there is no graph (kati's own).
+use Rattle.std.specs.Prelude.{◌≡◌, ℕ, List, [], Option, None, Some}
 use Rattle.kt_text.specs.Words.{Text}
+use Rattle.kt_rules.specs.declared.fault_kind.FaultKind.{FaultKind}
+use Rattle.kt_rules.specs.declared.fault_kind.FaultKind.TheVariants as kind
 use Rattle.kt_rules.specs.Entry.{Rule}
+use Rattle.kt_rules.specs.FaultKinds.{number_of, words_with}
 use Rattle.kt_graph.specs.declared.fault.GraphFault.{GraphFault}
 use Rattle.kt_graph.specs.declared.fault.GraphFault.TheVariants.{Memory, Refused}
 use Rattle.kt_graph.specs.Node.{Node}
 use Rattle.kt_graph.specs.Reach.{Trouble, no_rule, circular, reserved_name, one_file, ComesFirst, IsDoubled, IsFirst}
 use Rattle.kt_graph.specs.Reach.{IsGraph, IsReserved}
 
--- the number of its fault
-abbrev pub fault_number : Trouble → ℕ
-fault_number (no_rule goal) = 27
-fault_number (circular name) = 28
-fault_number reserved_name = 33
-fault_number (one_file name) = 31
+-- the kind of its fault, and the name that it is told by, empty where there is none
+abbrev pub kind_and_name : Trouble → FaultKind × Text
+kind_and_name (no_rule goal) = (kind.NoRule, goal)
+kind_and_name (circular name) = (kind.Circular, name)
+kind_and_name reserved_name = (kind.ReservedName, [])
+kind_and_name (one_file name) = (kind.TwoTargetsOfOneFile, name)
 
--- the words of its fault
+-- the number and the words of its fault
+abbrev pub fault_number : Trouble → ℕ
+fault_number trouble = number_of (kind_and_name trouble).0
+
 abbrev pub fault_words : Trouble → Text
-fault_words (no_rule goal) = codes "no rule for " ++ goal
-fault_words (circular name) = codes "circular: " ++ name
-fault_words reserved_name = codes "reserved name"
-fault_words (one_file name) = codes "two targets of one file: " ++ name
+fault_words trouble = let told = kind_and_name trouble in words_with told.0 told.1
 
 -- the call returns just this fault; that memory was refused is always excused
 abbrev pub Tells : GraphFault → Trouble → Type 0

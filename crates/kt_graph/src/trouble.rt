@@ -1,11 +1,12 @@
 //! What is wrong with the names that goals need, without memory.
-ghost use Rattle.std.specs.Prelude.{◌≡◌, ◌++◌, IfOk};
-ghost use Rattle.kt_graph.specs.Faults.{Tells, fault_number, fault_words};
+ghost use Rattle.std.specs.Prelude.{◌≡◌};
+ghost use Rattle.kt_graph.specs.Faults.{Tells, kind_and_name};
 ghost use Rattle.kt_graph.specs.Views.{trouble_told};
 
 use crate::fault::GraphFault;
 use kt_list::Sequence;
-use std::alloc::{AllocError, Global};
+use kt_rules::FaultKind;
+use std::alloc::Global;
 
 /// What is wrong, with the name that it is told by.
 #[derive(Clone, Copy, Debug)]
@@ -20,47 +21,30 @@ pub(crate) enum Trouble<'g> {
     OneFile(&'g [u8]),
 }
 
-impl Trouble<'_> {
+impl<'g> Trouble<'g> {
     /// The fault that tells of it.
     pub(crate) fn fault(self, alloc: Global) -> GraphFault
         ensures { Tells result (trouble_told self.entry) }
     {
-        match self.words(alloc) {
+        let (kind, name) = self.kind_and_name();
+        match kind.words_with(alloc, name) {
             Ok(words) => GraphFault::Refused {
-                number: self.number(),
+                number: kind.number(),
                 words: Sequence::from(words),
             },
             Err(_refused) => GraphFault::Memory,
         }
     }
 
-    fn number(self) -> u8
-        ensures { result ≡ fault_number (trouble_told self.entry) }
+    // The kind of its fault, and the name that it is told by, empty where there is none.
+    fn kind_and_name(self) -> (FaultKind, &'g [u8])
+        ensures { (result.0, result.1.now) ≡ kind_and_name (trouble_told self.entry) }
     {
         match self {
-            Trouble::NoRule(_) => 27,
-            Trouble::Circular(_) => 28,
-            Trouble::Reserved => 33,
-            Trouble::OneFile(_) => 31,
+            Trouble::NoRule(goal) => (FaultKind::NoRule, goal),
+            Trouble::Circular(name) => (FaultKind::Circular, name),
+            Trouble::Reserved => (FaultKind::ReservedName, b""),
+            Trouble::OneFile(name) => (FaultKind::TwoTargetsOfOneFile, name),
         }
     }
-
-    fn words(self, alloc: Global) -> Result<Vec<u8>, AllocError>
-        ensures { IfOk result (λ words. words.items ≡ fault_words (trouble_told self.entry)) }
-    {
-        match self {
-            Trouble::NoRule(name) => joined(alloc, b"no rule for ", name),
-            Trouble::Circular(name) => joined(alloc, b"circular: ", name),
-            Trouble::Reserved => joined(alloc, b"reserved name", b""),
-            Trouble::OneFile(name) => joined(alloc, b"two targets of one file: ", name),
-        }
-    }
-}
-
-fn joined(alloc: Global, words: &[u8], name: &[u8]) -> Result<Vec<u8>, AllocError>
-    ensures { IfOk result (λ text. text.items ≡ words.now ++ name.now) }
-{
-    let mut text = Vec::from_slice(alloc, words)?;
-    text.extend_from_slice(name)?;
-    Ok(text)
 }
