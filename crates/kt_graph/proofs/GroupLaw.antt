@@ -336,6 +336,13 @@ module _ (rules : List Rule) (known goals : List Text) (nodes : List Node) (grap
   pub are_groups : AreGroups rules known goals nodes (groups_among (made_nodes nodes))
   unfolding groups_among
   are_groups = record {
+    filled = λ group there.
+        let leader = group_of_leader group there in
+        let has = (of_leader leader.0 leader.1).0 in (
+          leader.0,
+          subst (λ (members : List Node). Contains members leader.0) leader.2
+              (in_group leader.0 leader.0 has (by_test leader.0 leader.0 has has (itself_together leader.0))),
+        );
     made = λ group node there inside.
         let leader = group_of_leader group there in
         (stands_in leader.0 leader.1 node group leader.2 inside).0;

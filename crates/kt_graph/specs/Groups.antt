@@ -62,6 +62,8 @@ leader_name (node ∷ nodes) = node.name
 -- the groups of the nodes of a graph
 pub record AreGroups (rules : List Rule) (known goals : List Text) (nodes : List Node)
     (groups : List (List Node)) : Type 0 where
+  -- each has a member
+  pub filled : (group : List Node) → Contains groups group → (node : Node) × Contains group node
   -- they have made nodes alone, and each of these exactly once
   pub made : (group : List Node) (node : Node) → Contains groups group → Contains group node
       → Contains (made_nodes nodes) node

@@ -4,8 +4,6 @@ use Rattle.std.specs.Prelude.{map, take, filter, flat_map, filter_map, Option, S
 use Rattle.std.specs.Prelude.{slice_get, if◌then◌else◌}
 use Rattle.std.specs.List.{list_any, range_with_len, slice_range}
 use Rattle.std.specs.Option.{option_and_then}
-use Rattle.std.specs.declared.vec.Vec.{Vec}
-use Rattle.std.specs.declared.alloc.Global.{Global}
 use Rattle.kt_text.specs.Words.{Text}
 use Rattle.kt_rules.specs.declared.entry.RecipeLine.{RecipeLine}
 use Rattle.kt_rules.specs.Entry.{Rule}

@@ -94,17 +94,22 @@ impl Book {
     /// Adds the rules of an entry, and gives the messages on targets that get a second recipe.
     ///
     /// Refused are, in this order: a group without a recipe; a target that has rules with one colon
-    /// and with two; a target with two recipes, one of them a group's.
+    /// and with two; a target with two recipes, one of them a group's. So a group shares no target
+    /// with another entry that has a recipe.
     #[tactic(auto, using(crate::proofs::AddLemmas::answers_refused))]
     pub fn add(&mut self, entry: Entry) -> Result<Warnings, RuleFault>
         ensures answers { Answers result (added self.old entry (refusal_of self.old entry)) }
         ensures grown { OnOk result (self.new ≡ self.old ++ entry ∷ []) }
         ensures refused { OnErr result (self.new ≡ self.old) }
+        ensures groups { GroupsStandAlone self.new }
     {
-        match self.refusal(&entry) {
+        let result = match self.refusal(&entry) {
             Some(refusal) => Err(fault_of(self.alloc, entry.place(), refusal)),
-            None => Ok(self.accept(entry)?),
-        }
+            None => self.add_accepted(entry),
+        };
+        // What the book holds tells that its groups stand alone.
+        let _slots = &self.slots;
+        result
     }
 
     /// All entries, in order. Takes no memory.
@@ -168,6 +173,15 @@ impl Book {
     {
         let candidates = candidates(self.alloc, &self.suffixes, self.slots.as_slice())?;
         Ok(unrepeated(self.alloc, candidates)?)
+    }
+
+    fn add_accepted(&mut self, entry: Entry) -> Result<Warnings, RuleFault>
+        requires { refusal_of self.old entry ≡ None }
+        ensures answers { Answers result (added self.old entry None) }
+        ensures grown { OnOk result (self.new ≡ self.old ++ entry ∷ []) }
+        ensures refused { OnErr result (self.new ≡ self.old) }
+    {
+        Ok(self.accept(entry)?)
     }
 
     // Adds an entry that isn't refused, and tells of second recipes.

@@ -2,8 +2,7 @@
 use Rattle.std.specs.Prelude.{◌≡◌, ◌↔◌, ℕ, ◌<◌, false, List, [], ◌∷◌, ◌++◌, bytes_eq, filter, get_or, length, map, set}
 use Rattle.std.specs.Prelude.{IfSome, Option, Some, None, if◌then◌else◌}
 use Rattle.std.specs.List.{list_any}
-use Rattle.std.specs.declared.vec.Vec.{Vec}
-use Rattle.std.specs.declared.alloc.Global.{Global}
+use Rattle.kt_text.specs.Words.{Text}
 use Rattle.kt_graph.specs.declared.grouping.Grouping.{Grouping}
 use Rattle.kt_graph.specs.declared.node.Instance.{Instance as Held}
 use Rattle.kt_graph.specs.declared.settled.Settled.{Settled}

@@ -2,8 +2,6 @@
 use Rattle.std.specs.Prelude.{◌≡◌, ℕ, ◌<◌, Bool, true, not, ◌&&◌, nat_eq, nat_lt, List, [], ◌∷◌, ◌++◌, length, map}
 use Rattle.std.specs.Prelude.{filter, flat_map, fold, All, Option, Some, IfSome, option_map, slice_get, if◌then◌else◌}
 use Rattle.std.specs.List.{AllZip, list_any}
-use Rattle.std.specs.declared.vec.Vec.{Vec}
-use Rattle.std.specs.declared.alloc.Global.{Global}
 use Rattle.kt_text.specs.Words.{Text}
 use Rattle.kt_rules.specs.declared.entry.Needs.{Needs}
 use Rattle.kt_graph.specs.declared.node.Instance.{Instance as Held}

@@ -1,8 +1,6 @@
 -- The names that were reached so far, and the nodes of the first of them, as the code holds them (kati's own).
 use Rattle.std.specs.Prelude.{◌≡◌, ℕ, ◌≤◌, List, [], length, map, fold, take, All, Some, slice_get}
 use Rattle.std.specs.List.{Contains}
-use Rattle.std.specs.declared.vec.Vec.{Vec}
-use Rattle.std.specs.declared.alloc.Global.{Global}
 use Rattle.kt_text.specs.Words.{Text}
 use Rattle.kt_rules.specs.Book.{patterns_of}
 use Rattle.kt_rules.specs.Entry.{Rule}

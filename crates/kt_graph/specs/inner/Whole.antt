@@ -1,8 +1,6 @@
 -- What a graph holds by numbers: names, makings and nodes (kati's own).
 use Rattle.std.specs.Prelude.{◌≡◌, ℕ, ◌<◌, Bool, false, not, bytes_eq, find, List, length, All, Some}
 use Rattle.std.specs.Option.{option_map_or}
-use Rattle.std.specs.declared.vec.Vec.{Vec}
-use Rattle.std.specs.declared.alloc.Global.{Global}
 use Rattle.kt_graph.specs.declared.node.Instance.{Instance as Held}
 use Rattle.kt_graph.specs.declared.settled.Settled.{Settled}
 use Rattle.kt_graph.specs.inner.Files.{AreDistinct, IsByteOrder}
