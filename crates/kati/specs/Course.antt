@@ -1,10 +1,9 @@
 -- Steps in a row, each of which may end the run at a fault (kati's own).
-use Rattle.std.specs.Prelude.{◌≡◌, List, ◌++◌, None, Result, Ok, Err}
+use Rattle.std.specs.Prelude.{◌≡◌, List, None, Result, Ok, Err}
 use Rattle.kt_text.specs.Words.{Text}
+use Rattle.kt_rules.specs.declared.fault_kind.FaultKind.{FaultKind}
 use Rattle.kt_eval.specs.declared.fault.Fault.{Fault}
-use Rattle.kt_eval.specs.declared.kind.FaultKind.{FaultKind}
-use Rattle.kt_eval.specs.Faults.{number_of, wording}
-use Rattle.kt_eval.specs.Step.{fault_at}
+use Rattle.kt_eval.specs.Step.{fault_of}
 use Rattle.kt_eval.specs.declared.stop.Stop.{Stop}
 use Rattle.kt_eval.specs.declared.stop.Stop.TheVariants as stops
 
@@ -15,7 +14,7 @@ pub data Course (A : Type 0) : Type 0 where
 
 -- a fault that tells of a name, and is at no line
 abbrev pub fault_nowhere : FaultKind → Text → Fault
-fault_nowhere kind name = fault_at None (number_of kind) (wording kind ++ name)
+fault_nowhere kind name = fault_of None kind name
 
 -- what a call returned, seen by `see`, with the messages and the names asked for that it left, is this step; where
 -- memory was refused or a device failed, nothing is said of it

@@ -2,10 +2,9 @@
 use Rattle.std.specs.Prelude.{ℕ, List, [], ◌∷◌, ◌++◌, length, Bool, true, false, nat_lt, Option, Some, None}
 use Rattle.kt_text.specs.Words.{Text}
 use Rattle.kt_text.specs.Lines.{nul_line}
+use Rattle.kt_rules.specs.declared.fault_kind.FaultKind.TheVariants.{FileTooLarge, NoFile, NulByte}
 use Rattle.kt_eval.specs.declared.fault.Fault.{Fault}
-use Rattle.kt_eval.specs.declared.kind.FaultKind.TheVariants.{FileTooLarge, NoFile, NulByte}
-use Rattle.kt_eval.specs.Faults.{number_of, wording}
-use Rattle.kt_eval.specs.Step.{fault_at}
+use Rattle.kt_eval.specs.Step.{fault_of}
 use Rattle.kt_eval.specs.Files.{Store, look}
 use Rattle.kati.specs.Course.{Course, on_course, off_course, fault_nowhere}
 
@@ -14,7 +13,7 @@ abbrev pub most_bytes : ℕ
 most_bytes = 16777216
 
 abbrev pub nul_fault : Text → ℕ → Fault
-nul_fault name line = fault_at (Some (record { file = name; line = line })) (number_of NulByte) (wording NulByte ++ [])
+nul_fault name line = fault_of (Some (record { file = name; line = line })) NulByte []
 
 -- by the line of the first NUL, if there is one
 abbrev pub if_without_nul : Text → Text → List Text → Option ℕ → Course Text

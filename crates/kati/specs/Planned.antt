@@ -9,7 +9,7 @@ use Rattle.kt_rules.specs.Names.{is_among, without_repeats}
 use Rattle.kt_rules.specs.Entry.{Rule}
 use Rattle.kt_rules.specs.Book.{is_phony}
 use Rattle.kt_eval.specs.declared.fault.Fault.{Fault}
-use Rattle.kt_eval.specs.declared.kind.FaultKind.TheVariants.{CommandNotWritable, NameNotWritable}
+use Rattle.kt_rules.specs.declared.fault_kind.FaultKind.TheVariants.{CommandNotWritable, NameNotWritable}
 use Rattle.kt_eval.specs.Table.{Table}
 use Rattle.kt_graph.specs.Node.{Node, inputs_of, order_only_of}
 use Rattle.kt_graph.specs.Groups.{groups_of}

@@ -9,10 +9,10 @@ ghost use Rattle.kati.specs.inner.Views.{read_of};
 
 use crate::reading::Makefile;
 use crate::words::stop_on;
-use kt_eval::{FaultKind, Macros, NoAutomatic, Stop};
+use kt_eval::{Macros, NoAutomatic, Stop};
 use kt_graph::{default_goal, named_goals};
 use kt_list::Sequence;
-use kt_rules::{Book, Name};
+use kt_rules::{Book, FaultKind, Name};
 use std::alloc::Global;
 
 /// The goals of the command line, or else the one that the makefile names or begins with.

@@ -10,9 +10,9 @@ ghost use Rattle.kati.specs.inner.Stops.{IsFaultOf};
 
 use crate::words::stop_on;
 use kati_args::Word;
-use kt_eval::{FaultKind, FileFault, Files, Stop};
+use kt_eval::{FileFault, Files, Stop};
 use kt_list::Shared;
-use kt_rules::Place;
+use kt_rules::{FaultKind, Place};
 use kt_text::nul_line;
 use std::alloc::{AllocError, Global};
 

@@ -16,12 +16,12 @@ ghost use Rattle.kati.specs.inner.Views.{Plans, is_text_trouble};
 use crate::reading::Makefile;
 use crate::statements::{always_built, statement_of};
 use crate::words::stop_on;
-use kt_eval::{FaultKind, Macros, Stop};
+use kt_eval::{Macros, Stop};
 use kt_graph::{Graph, Node};
 use kt_list::Sequence;
 use kt_ninja::{Plan, Statement, Unwritable, texts_can_be_written};
 use kt_recipe::command;
-use kt_rules::Name;
+use kt_rules::{FaultKind, Name};
 use std::alloc::{AllocError, Global};
 
 /// A statement for each group, in order, and before them that of what is always built.

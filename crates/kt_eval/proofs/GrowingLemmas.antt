@@ -12,7 +12,7 @@ use Rattle.kt_syntax.specs.Terms.{Piece, literal, dollar, reference, unclosed, t
 use Rattle.kt_syntax.specs.Comments.{plain_of}
 use Rattle.kt_eval.specs.declared.function.Function.{Function}
 use Rattle.kt_eval.specs.declared.function.Function.TheVariants as function
-use Rattle.kt_eval.specs.declared.function.TextFunction.{TextFunction}
+use Rattle.kt_eval.specs.declared.text_functions.TextFunction.{TextFunction}
 use Rattle.kt_eval.specs.declared.macros.Flavour.{Flavour}
 use Rattle.kt_eval.specs.declared.macros.Flavour.TheVariants.{Deferred, Immediate}
 use Rattle.kt_eval.specs.declared.state.Found.{Found}
@@ -21,7 +21,8 @@ use Rattle.kt_eval.specs.Table.{Assigning, keeps, defers, expands, escapes, assi
 use Rattle.kt_eval.specs.Fronts.{IsFront}
 use Rattle.kt_eval.specs.State.{World, lookup, bind, unbind, say}
 use Rattle.kt_eval.specs.Step.{Step, Outcome, Gave, Stopped, then_do, world_of}
-use Rattle.kt_eval.specs.Calls.{Asked, calls, refuses, refers, asked_by, Naming, plainly, substituting, naming_of, arity, text_result, text_function_name, is_function_name}
+use Rattle.kt_eval.specs.Calls.{Asked, calls, refuses, refers, asked_by, Naming, plainly, substituting, naming_of, is_function_name}
+use Rattle.kt_eval.specs.TextFunctions.{arity, text_result, text_function_name}
 use Rattle.kt_eval.specs.Conditions.{trimmed}
 use Rattle.kt_eval.specs.Expansion.{Evaluator, flavoured, value_of, each_argument, accepted, apply_text, apply_if, apply_or, apply_and, each_word, apply_foreach, called, call_by_name, apply_call, apply_value, apply_eval, apply_error, apply_warning, apply_info, apply_other, apply, body_of, value_named, referred, term_of, each_term, expanded}
 use Rattle.kt_eval.specs.Assignments.{assign, is_bad_name, assign_named, assign_line, define}

@@ -14,6 +14,7 @@ use Rattle.kt_syntax.specs.Blocks.{Items, Branches, none, line, fault, definitio
 use Rattle.kt_syntax.specs.Comments.{plain_of}
 use Rattle.kt_syntax.specs.Heads.{RuleTexts, line_parts}
 use Rattle.kt_syntax.specs.Recipes.{recipe_of}
+use Rattle.kt_rules.specs.declared.fault_kind.FaultKind.TheVariants as kinds
 use Rattle.kt_rules.specs.Entry.{Rule, rule_of}
 use Rattle.kt_rules.specs.Refusals.{Fault as RuleFault}
 use Rattle.kt_rules.specs.Book.{added, refusal_of}
@@ -340,8 +341,8 @@ module _ (e e' : Evaluator) (h : Related e e') where
   pub read_file_related : (name text : Text) (w : World) → Relates w (read_file e name text w) (read_file e' name text w)
   unfolding read_file
   read_file_related name text w =
-      related_cond (nat_lt largest (length text)) (stop 2 (codes "file too large: " ++ name)) (read_text e (File name) text)
-      (stop 2 (codes "file too large: " ++ name)) (read_text e' (File name) text) w
+      related_cond (nat_lt largest (length text)) (stop kinds.FileTooLarge name) (read_text e (File name) text)
+      (stop kinds.FileTooLarge name) (read_text e' (File name) text) w
       (plain_step w _ (still w)) (read_text_related (File name) text w)
 
   pub read_included_related : (optional : Bool) (name : Text) (found : Option Text) (w : World) → Relates w (read_included e optional name found w) (read_included e' optional name found w)

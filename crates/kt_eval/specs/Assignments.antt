@@ -1,6 +1,6 @@
 -- What an assignment and a define do (POSIX.1-2024 make, "Macros"; GNU make manual, "Setting Variables" and "Defining
 -- Multi-Line Variables").
-use Rattle.std.specs.Prelude.{Bool, ◌==◌, ◌||◌, List, ◌++◌, length, map, codes, if◌then◌else◌}
+use Rattle.std.specs.Prelude.{Bool, ◌==◌, ◌||◌, List, [], ◌++◌, length, map, codes, if◌then◌else◌}
 use Rattle.std.specs.List.{list_any, join_with_byte}
 use Rattle.kt_text.specs.Words.{Text, is_separator}
 use Rattle.kt_text.specs.Lines.{condensed_of}
@@ -8,6 +8,7 @@ use Rattle.kt_syntax.specs.declared.form.Operator.{Operator}
 use Rattle.kt_syntax.specs.declared.form.Operator.TheVariants as operator
 use Rattle.kt_syntax.specs.Kinds.{Kind, assignment}
 use Rattle.kt_syntax.specs.Comments.{plain_of}
+use Rattle.kt_rules.specs.declared.fault_kind.FaultKind.TheVariants as kinds
 use Rattle.kt_eval.specs.declared.macros.Flavour.TheVariants.{Deferred, Immediate}
 use Rattle.kt_eval.specs.Table.{Assigning, keeps, defers, expands, escapes, assigning, set_by_makefile, doubled, find}
 use Rattle.kt_eval.specs.State.{set_macro}
@@ -28,7 +29,7 @@ assign e name text escapes = do
 
 -- a form that isn't taken, by its word (kati's own)
 abbrev pub refused_form : {A : Type 0} → Text → Step A
-refused_form form = stop 17 (codes "refused form " ++ form)
+refused_form form = stop kinds.RefusedForm form
 
 -- a name that no macro may have (kati's own)
 abbrev pub is_bad_name : Text → Bool
@@ -37,7 +38,7 @@ is_bad_name name = length name == 0 || list_any is_separator name
 -- an assignment to an expanded name; what it does is found before its text is expanded
 unfoldable pub assign_named : Evaluator → Operator → Text → Text → Step (Unit {0})
 assign_named e operator text name =
-    if is_bad_name name then stop 9 (codes "bad macro name")
+    if is_bad_name name then stop kinds.BadMacroName []
     else (λ w. assign e name text (assigning operator (find name w.table)) w)
 
 -- an assignment by its operator; `!=` is refused before its name is expanded

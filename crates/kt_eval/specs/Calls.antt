@@ -5,45 +5,12 @@ use Rattle.std.specs.Prelude.{take, drop, Option, Some, None, codes, bytes_eq, i
 use Rattle.std.specs.List.{position_or_len, before_first, after_first, list_any}
 use Rattle.kt_text.specs.Words.{Text, is_separator, stripped_start}
 use Rattle.kt_text.specs.Match.{has_percent}
-use Rattle.kt_text.specs.Functions.{subst_of, patsubst_of, strip_of, findstring_of, filter_of, filter_out_of, sort_of}
-use Rattle.kt_text.specs.Functions.{word_of, wordlist_of, words_count_of, firstword_of, lastword_of, dir_of, notdir_of}
-use Rattle.kt_text.specs.Functions.{suffix_of, basename_of, addsuffix_of, addprefix_of, join_of}
 use Rattle.kt_syntax.specs.declared.term.Mark.{Mark}
 use Rattle.kt_syntax.specs.declared.term.Mark.TheVariants.{Byte, Parentheses, Braces}
-use Rattle.kt_eval.specs.declared.function.TextFunction.{TextFunction}
-use Rattle.kt_eval.specs.declared.function.TextFunction.TheVariants.{Subst, Patsubst, Strip, Findstring, Filter}
-use Rattle.kt_eval.specs.declared.function.TextFunction.TheVariants.{FilterOut, Sort, Word, Wordlist, Words, Firstword}
-use Rattle.kt_eval.specs.declared.function.TextFunction.TheVariants.{Lastword, Dir, Notdir, Suffix, Basename, Addsuffix}
-use Rattle.kt_eval.specs.declared.function.TextFunction.TheVariants.{Addprefix, Join}
 use Rattle.kt_eval.specs.declared.function.Function.{Function}
 use Rattle.kt_eval.specs.declared.function.Function.TheVariants as function
-
--- the functions of texts by their names [GNU make manual, "Functions for String Substitution and Analysis"]
-unfoldable pub string_function : Text → Option TextFunction
-string_function name =
-    if bytes_eq name (codes "subst") then Some Subst
-    else (if bytes_eq name (codes "patsubst") then Some Patsubst
-    else (if bytes_eq name (codes "strip") then Some Strip
-    else (if bytes_eq name (codes "findstring") then Some Findstring
-    else (if bytes_eq name (codes "filter") then Some Filter
-    else (if bytes_eq name (codes "filter-out") then Some FilterOut
-    else (if bytes_eq name (codes "sort") then Some Sort
-    else (if bytes_eq name (codes "word") then Some Word
-    else (if bytes_eq name (codes "wordlist") then Some Wordlist
-    else (if bytes_eq name (codes "words") then Some Words
-    else (if bytes_eq name (codes "firstword") then Some Firstword
-    else (if bytes_eq name (codes "lastword") then Some Lastword else None)))))))))))
-
--- and those of file names [GNU make manual, "Functions for File Names"]
-unfoldable pub name_function : Text → Option TextFunction
-name_function name =
-    if bytes_eq name (codes "dir") then Some Dir
-    else (if bytes_eq name (codes "notdir") then Some Notdir
-    else (if bytes_eq name (codes "suffix") then Some Suffix
-    else (if bytes_eq name (codes "basename") then Some Basename
-    else (if bytes_eq name (codes "addsuffix") then Some Addsuffix
-    else (if bytes_eq name (codes "addprefix") then Some Addprefix
-    else (if bytes_eq name (codes "join") then Some Join else None))))))
+use Rattle.kt_eval.specs.declared.text_functions.TextFunction.{TextFunction}
+use Rattle.kt_eval.specs.TextFunctions.{arity, text_function}
 
 -- the functions that expand by themselves, bind, read or tell
 unfoldable pub other_function : Text → Option Function
@@ -66,7 +33,7 @@ text_or (Some first) other = Some (function.Text first)
 
 -- the function of a name
 unfoldable pub function_of : Text → Option Function
-function_of name = text_or (string_function name) (text_or (name_function name) (other_function name))
+function_of name = text_or (text_function name) (other_function name)
 
 -- the functions that are refused: they ask the host, or for more than a translation keeps (kati's own)
 unfoldable pub is_refused_function : Text → Bool
@@ -75,50 +42,6 @@ is_refused_function name =
     || (bytes_eq name (codes "abspath") || (bytes_eq name (codes "origin") || (bytes_eq name (codes "flavor")
     || (bytes_eq name (codes "file") || (bytes_eq name (codes "guile") || (bytes_eq name (codes "let")
     || bytes_eq name (codes "intcmp")))))))))
-
--- how many arguments a function of texts has
-abbrev pub arity : TextFunction → ℕ
-arity Subst = 3
-arity Patsubst = 3
-arity Strip = 1
-arity Findstring = 2
-arity Filter = 2
-arity FilterOut = 2
-arity Sort = 1
-arity Word = 2
-arity Wordlist = 3
-arity Words = 1
-arity Firstword = 1
-arity Lastword = 1
-arity Dir = 1
-arity Notdir = 1
-arity Suffix = 1
-arity Basename = 1
-arity Addsuffix = 2
-arity Addprefix = 2
-arity Join = 2
-
--- a function's name
-abbrev pub text_function_name : TextFunction → Text
-text_function_name Subst = codes "subst"
-text_function_name Patsubst = codes "patsubst"
-text_function_name Strip = codes "strip"
-text_function_name Findstring = codes "findstring"
-text_function_name Filter = codes "filter"
-text_function_name FilterOut = codes "filter-out"
-text_function_name Sort = codes "sort"
-text_function_name Word = codes "word"
-text_function_name Wordlist = codes "wordlist"
-text_function_name Words = codes "words"
-text_function_name Firstword = codes "firstword"
-text_function_name Lastword = codes "lastword"
-text_function_name Dir = codes "dir"
-text_function_name Notdir = codes "notdir"
-text_function_name Suffix = codes "suffix"
-text_function_name Basename = codes "basename"
-text_function_name Addsuffix = codes "addsuffix"
-text_function_name Addprefix = codes "addprefix"
-text_function_name Join = codes "join"
 
 -- the arguments of a function are cut at so many commas at most, or at all; what comes after is the last one's
 abbrev pub commas : Function → Option ℕ
@@ -133,29 +56,6 @@ commas function.Eval = Some 0
 commas function.Error = Some 0
 commas function.Warning = Some 0
 commas function.Info = Some 0
-
--- what a text function makes of its arguments, if they are ones that it takes
-unfoldable pub text_result : TextFunction → List Text → Option Text
-text_result Subst (from ∷ to ∷ text ∷ []) = Some (subst_of from to text)
-text_result Patsubst (pattern ∷ replacement ∷ text ∷ []) = patsubst_of pattern replacement text
-text_result Strip (text ∷ []) = Some (strip_of text)
-text_result Findstring (needle ∷ text ∷ []) = Some (findstring_of needle text)
-text_result Filter (patterns ∷ text ∷ []) = filter_of patterns text
-text_result FilterOut (patterns ∷ text ∷ []) = filter_out_of patterns text
-text_result Sort (text ∷ []) = Some (sort_of text)
-text_result Word (at ∷ text ∷ []) = word_of at text
-text_result Wordlist (first ∷ last ∷ text ∷ []) = wordlist_of first last text
-text_result Words (text ∷ []) = Some (words_count_of text)
-text_result Firstword (text ∷ []) = Some (firstword_of text)
-text_result Lastword (text ∷ []) = Some (lastword_of text)
-text_result Dir (names ∷ []) = Some (dir_of names)
-text_result Notdir (names ∷ []) = Some (notdir_of names)
-text_result Suffix (names ∷ []) = Some (suffix_of names)
-text_result Basename (names ∷ []) = Some (basename_of names)
-text_result Addsuffix (suffix ∷ names ∷ []) = Some (addsuffix_of suffix names)
-text_result Addprefix (prefix ∷ names ∷ []) = Some (addprefix_of prefix names)
-text_result Join (first ∷ second ∷ []) = Some (join_of first second)
-text_result other arguments = None
 
 -- the marks of a reference
 abbrev pub opener : Mark → ℕ

@@ -1,18 +1,19 @@
 -- Which conditions hold (GNU make manual, "Syntax of Conditionals").
-use Rattle.std.specs.Prelude.{Bool, true, false, not, List, [], ◌∷◌, take, drop, bytes_eq, codes, Option, Some, None}
+use Rattle.std.specs.Prelude.{Bool, true, false, not, List, [], ◌∷◌, take, drop, bytes_eq, Option, Some, None}
 use Rattle.std.specs.List.{prefix_len}
 use Rattle.kt_text.specs.Words.{Text, is_blank, is_nonempty, trimmed_start, words_of}
 use Rattle.kt_syntax.specs.declared.form.Directive.{Directive}
 use Rattle.kt_syntax.specs.declared.form.Directive.TheVariants as word
 use Rattle.kt_syntax.specs.Kinds.{Kind, directive, kind_of}
 use Rattle.kt_syntax.specs.Comments.{plain_of}
+use Rattle.kt_rules.specs.declared.fault_kind.FaultKind.TheVariants as kinds
 use Rattle.kt_eval.specs.State.{lookup, raw_value}
 use Rattle.kt_eval.specs.Step.{Step, Gave, ◌>>=◌, done, stop}
 use Rattle.kt_eval.specs.Conditions.{Compared, compared_of}
 use Rattle.kt_eval.specs.Expansion.{Evaluator, expanded}
 
 abbrev pub bad_conditional : {A : Type 0} → Step A
-bad_conditional = stop 15 (codes "bad conditional")
+bad_conditional = stop kinds.BadConditional []
 
 -- whether the one macro that is named has a value, as it stands
 unfoldable pub is_set : List Text → Step Bool

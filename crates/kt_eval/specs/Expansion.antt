@@ -5,9 +5,10 @@ use Rattle.std.specs.List.{list_any}
 use Rattle.kt_text.specs.Words.{Text, words_of, stripped}
 use Rattle.kt_text.specs.Functions.{patsubst_of}
 use Rattle.kt_syntax.specs.Terms.{Piece, literal, dollar, reference, unclosed, terms_of}
+use Rattle.kt_rules.specs.declared.fault_kind.FaultKind.TheVariants as kinds
 use Rattle.kt_eval.specs.declared.macros.Flavour.{Flavour}
 use Rattle.kt_eval.specs.declared.macros.Flavour.TheVariants.{Deferred, Immediate}
-use Rattle.kt_eval.specs.declared.function.TextFunction.{TextFunction}
+use Rattle.kt_eval.specs.declared.text_functions.TextFunction.{TextFunction}
 use Rattle.kt_eval.specs.declared.function.Function.{Function}
 use Rattle.kt_eval.specs.declared.function.Function.TheVariants as function
 use Rattle.kt_eval.specs.declared.state.Found.{Found}
@@ -15,7 +16,8 @@ use Rattle.kt_eval.specs.declared.state.Frame.TheVariants.{Loop, Call}
 use Rattle.kt_eval.specs.State.{lookup, raw_value, bind, unbind, say, warn}
 use Rattle.kt_eval.specs.Step.{Step, Gave, ◌>>=◌, ◌>>◌, done, stop, change}
 use Rattle.kt_eval.specs.Calls.{Asked, calls, refuses, refers, asked_by, Naming, plainly, substituting, naming_of}
-use Rattle.kt_eval.specs.Calls.{arity, text_result, text_function_name, is_function_name}
+use Rattle.kt_eval.specs.Calls.{is_function_name}
+use Rattle.kt_eval.specs.TextFunctions.{arity, text_result, text_function_name}
 
 -- what may be done one level deeper: expand a text, read the text of an `eval`, read an included file, which may be
 -- absent or not; and whether anything may be read at all
@@ -27,13 +29,13 @@ pub record Evaluator : Type 0 where
 
 -- the fault where no level is left
 abbrev pub too_deep : {A : Type 0} → Step A
-too_deep = stop 8 (codes "nesting too deep")
+too_deep = stop kinds.NestingTooDeep []
 
 abbrev pub bad_argument : {A : Type 0} → Text → Step A
-bad_argument name = stop 18 (codes "bad argument of " ++ name)
+bad_argument name = stop kinds.BadArgument name
 
 abbrev pub refused_function : {A : Type 0} → Text → Step A
-refused_function name = stop 16 (codes "refused function " ++ name)
+refused_function name = stop kinds.RefusedFunction name
 
 -- a value by its flavour: a deferred one is expanded
 abbrev pub flavoured : Evaluator → Flavour → Text → Step Text
@@ -139,13 +141,13 @@ apply_eval e text =
       x ← e.expand text
       e.eval x
       done [])
-    else stop 32 (codes "eval in a recipe")
+    else stop kinds.EvalInRecipe []
 
 -- `error`, `warning` and `info` [GNU make manual, "Functions That Control Make"]
 unfoldable pub apply_error : Evaluator → Text → Step Text
 apply_error e text = do
   x ← e.expand text
-  stop 19 x
+  stop kinds.ErrorCalled x
 
 unfoldable pub apply_warning : Evaluator → Text → Step Text
 apply_warning e text = do
@@ -209,7 +211,7 @@ unfoldable pub term_of : Evaluator → Piece → Step Text
 term_of e (literal bytes) = done bytes
 term_of e dollar = done (codes "$")
 term_of e (reference mark body) = referred e (asked_by mark body)
-term_of e unclosed = stop 7 (codes "unterminated reference")
+term_of e unclosed = stop kinds.UnterminatedReference []
 
 -- each term in turn, after what came before
 unfoldable pub each_term : Evaluator → Text → List Piece → Step Text

@@ -1,8 +1,9 @@
 -- The names of an include (GNU make manual, "Including Other Makefiles").
-use Rattle.std.specs.Prelude.{Bool, false, ◌==◌, ◌||◌, List, [], ◌∷◌, ◌++◌, codes, if◌then◌else◌}
+use Rattle.std.specs.Prelude.{Bool, false, ◌==◌, ◌||◌, List, [], ◌∷◌, if◌then◌else◌}
 use Rattle.std.specs.List.{list_any}
 use Rattle.std.specs.Str.{is_utf8}
 use Rattle.kt_text.specs.Words.{Text, words_of}
+use Rattle.kt_rules.specs.declared.fault_kind.FaultKind.TheVariants as kinds
 use Rattle.kt_eval.specs.Step.{Step, ◌>>=◌, ◌>>◌, done, stop}
 use Rattle.kt_eval.specs.Expansion.{Evaluator, expanded}
 
@@ -13,8 +14,8 @@ is_pattern (first ∷ name) = first == 126 || list_any (λ byte. byte == 42 || (
 
 unfoldable pub include_named : Evaluator → Bool → Text → Step (Unit {0})
 include_named e optional name =
-    if is_utf8 name then (if is_pattern name then stop 20 (codes "refused name " ++ name) else e.include optional name)
-    else stop 34 (codes "include name is not UTF-8")
+    if is_utf8 name then (if is_pattern name then stop kinds.RefusedName name else e.include optional name)
+    else stop kinds.IncludeNameNotUtf8 []
 
 -- each name in turn
 unfoldable pub each_include : Evaluator → Bool → List Text → Step (Unit {0})

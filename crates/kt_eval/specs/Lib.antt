@@ -4,6 +4,7 @@ pub mod Table
 pub mod Fronts
 pub mod State
 pub mod Step
+pub mod TextFunctions
 pub mod Calls
 pub mod Expansion
 pub mod Conditions

@@ -1,7 +1,7 @@
 -- What the lines of a makefile do, one after another (POSIX.1-2024 make, "Makefile Syntax"; GNU make manual, "Writing
 -- Makefiles" and "Conditional Parts of Makefiles").
-use Rattle.std.specs.Prelude.{ℕ, ◌+◌, Bool, true, false, nat_lt, List, [], ◌∷◌, ◌++◌, length, map, Option, Some, None}
-use Rattle.std.specs.Prelude.{codes, unwrap_or, if◌then◌else◌}
+use Rattle.std.specs.Prelude.{ℕ, ◌+◌, Bool, true, false, nat_lt, List, [], ◌∷◌, length, map, Option, Some, None}
+use Rattle.std.specs.Prelude.{unwrap_or, if◌then◌else◌}
 use Rattle.std.specs.List.{slice_get, slice_range}
 use Rattle.kt_text.specs.declared.line.Line.{Line}
 use Rattle.kt_text.specs.Words.{Text}
@@ -16,6 +16,7 @@ use Rattle.kt_syntax.specs.declared.part.Missing.{Missing}
 use Rattle.kt_syntax.specs.declared.part.Missing.TheVariants as missing
 use Rattle.kt_syntax.specs.declared.part.Stray.{Stray}
 use Rattle.kt_syntax.specs.declared.part.Stray.TheVariants as stray
+use Rattle.kt_rules.specs.declared.fault_kind.FaultKind.TheVariants as kinds
 use Rattle.kt_rules.specs.Entry.{Rule}
 use Rattle.kt_eval.specs.declared.page.Source.{Source}
 use Rattle.kt_eval.specs.declared.page.Source.TheVariants.{File, Held}
@@ -85,7 +86,7 @@ read_kind e text rule = do
 unfoldable pub read_bare_tab : Evaluator → Kind → Step (Unit {0})
 read_bare_tab e blank = done tt
 read_bare_tab e (assignment name operator value) = assign_line e (plain_of name) operator (plain_of value)
-read_bare_tab e other = stop 6 (codes "recipe before a target")
+read_bare_tab e other = stop kinds.RecipeBeforeTarget []
 
 -- a line that begins with a tab is one of the open rule's recipe, if there is one
 abbrev pub read_tab_in : Evaluator → Text → Option Rule → Step (Unit {0})
@@ -111,10 +112,10 @@ read_define e other body = done tt
 
 -- a line that continues or ends no block
 unfoldable pub read_stray : Stray → Step (Unit {0})
-read_stray stray.Else = stop 10 (codes "stray else")
-read_stray stray.LateElse = stop 10 (codes "stray else")
-read_stray stray.Endif = stop 11 (codes "stray endif")
-read_stray stray.Endef = stop 13 (codes "stray endef")
+read_stray stray.Else = stop kinds.StrayElse []
+read_stray stray.LateElse = stop kinds.StrayElse []
+read_stray stray.Endif = stop kinds.StrayEndif []
+read_stray stray.Endef = stop kinds.StrayEndef []
 
 -- the first late `else` of branches, met after the branch that was read
 unfoldable pub late_else : Sheet → Branches → Step (Unit {0})
@@ -164,10 +165,10 @@ unfoldable pub read_end : Source → Option Missing → Step (Unit {0})
 read_end source None = done tt
 read_end source (Some (missing.Endif number)) = do
   change (at_number source number)
-  stop 12 (codes "missing endif")
+  stop kinds.MissingEndif []
 read_end source (Some (missing.Endef number)) = do
   change (at_number source number)
-  stop 14 (codes "missing endef")
+  stop kinds.MissingEndef []
 
 -- the tree of a text's lines; at its end the open rule is closed, and then the missing end is met
 unfoldable pub read_sheet : Evaluator → Sheet → Step (Unit {0})
@@ -181,7 +182,7 @@ abbrev pub read_without_nul : Evaluator → Source → Text → Option ℕ → S
 read_without_nul e source text None = read_sheet e (sheet_of source text)
 read_without_nul e source text (Some number) = do
   change (at_number source number)
-  stop 1 (codes "NUL byte")
+  stop kinds.NulByte []
 
 unfoldable pub read_text : Evaluator → Source → Text → Step (Unit {0})
 read_text e source text = read_without_nul e source text (nul_line text)
@@ -201,12 +202,12 @@ largest = 16777216
 -- a file that is there, if it isn't too large
 unfoldable pub read_file : Evaluator → Text → Text → Step (Unit {0})
 read_file e name text =
-    if nat_lt largest (length text) then stop 2 (codes "file too large: " ++ name) else read_text e (File name) text
+    if nat_lt largest (length text) then stop kinds.FileTooLarge name else read_text e (File name) text
 
 -- an included file; the place is then that of the include again
 abbrev pub read_included : Evaluator → Bool → Text → Option Text → Step (Unit {0})
 read_included e true name None w = Gave w tt
-read_included e false name None w = stop 4 (codes "no file " ++ name) w
+read_included e false name None w = stop kinds.NoFile name w
 read_included e optional name (Some text) w =
     (do
       read_file e name text
@@ -228,7 +229,7 @@ read_or e name (Some text) others = read_file e name text
 
 -- the first of these files that is there
 unfoldable pub read_first : Store → Evaluator → List Text → Step (Unit {0})
-read_first store e [] = stop 3 (codes "no makefile")
+read_first store e [] = stop kinds.NoMakefile []
 read_first store e (name ∷ names) = do
   found ← read_bytes store name
   read_or e name found (read_first store e names)

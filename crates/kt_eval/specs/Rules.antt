@@ -1,10 +1,11 @@
 -- How rules are opened, go on and are closed (POSIX.1-2024 make, "Target Rules"; GNU make manual, "Rule Syntax" and
 -- "Recipe Syntax"). When a rule is closed is kati's own.
-use Rattle.std.specs.Prelude.{List, [], ◌∷◌, ◌++◌, drop, Option, Some, None, option_map, Result, Ok, Err, codes}
+use Rattle.std.specs.Prelude.{List, [], ◌∷◌, ◌++◌, drop, Option, Some, None, option_map, Result, Ok, Err}
 use Rattle.kt_text.specs.Words.{Text}
 use Rattle.kt_syntax.specs.Comments.{plain_of}
 use Rattle.kt_syntax.specs.Heads.{RuleTexts, line_parts}
 use Rattle.kt_syntax.specs.Recipes.{recipe_of}
+use Rattle.kt_rules.specs.declared.fault_kind.FaultKind.TheVariants as kinds
 use Rattle.kt_rules.specs.declared.place.Place.{Place}
 use Rattle.kt_rules.specs.Entry.{Rule, rule_of, with_line}
 use Rattle.kt_rules.specs.Refusals.{Fault}
@@ -51,7 +52,7 @@ open_rule recipe head w = opened (rule_of head recipe (rule_place w.place)) w
 
 -- a rule line by its parts
 unfoldable pub rule_of_parts : Evaluator → Option RuleTexts → Step (Unit {0})
-rule_of_parts e None = stop 23 (codes "target-specific macro")
+rule_of_parts e None = stop kinds.TargetSpecificMacro []
 rule_of_parts e (Some parts) = do
   head ← expanded e (plain_of parts.head)
   open_rule (option_map recipe_of parts.recipe) head

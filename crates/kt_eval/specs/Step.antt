@@ -4,7 +4,9 @@ use Rattle.std.specs.Prelude.{Err, Vec, string_bytes}
 use Rattle.std.specs.declared.alloc.Global.{Global}
 use Rattle.kt_list.specs.Counters.{Rises}
 use Rattle.kt_text.specs.Words.{Text}
+use Rattle.kt_rules.specs.declared.fault_kind.FaultKind.{FaultKind}
 use Rattle.kt_rules.specs.declared.place.Place.{Place}
+use Rattle.kt_rules.specs.FaultKinds.{number_of, words_with}
 use Rattle.kt_eval.specs.declared.fault.Fault.{Fault}
 use Rattle.kt_eval.specs.declared.stop.Stop.{Stop}
 use Rattle.kt_eval.specs.declared.stop.Stop.TheVariants as stops
@@ -73,9 +75,13 @@ done x w = Gave w x
 abbrev pub fault_at : Option Place → ℕ → Text → Fault
 fault_at place number words = record { place = place; number = number; words = words }
 
--- a fault at the place where the world stands
-abbrev pub stop : {A : Type 0} → ℕ → Text → Step A
-stop number words w = Stopped w (fault_at w.place number words)
+-- a fault of this kind, which tells of this name, or of none where it is empty
+abbrev pub fault_of : Option Place → FaultKind → Text → Fault
+fault_of place kind name = fault_at place (number_of kind) (words_with kind name)
+
+-- such a fault at the place where the world stands
+abbrev pub stop : {A : Type 0} → FaultKind → Text → Step A
+stop kind name w = Stopped w (fault_of w.place kind name)
 
 -- a change of the world
 abbrev pub change : (World → World) → Step (Unit {0})

@@ -13,10 +13,10 @@ use crate::assigning::{Assigning, doubled};
 use crate::compared::trimmed;
 use crate::evaluation::Evaluation;
 use crate::files::Files;
-use crate::kind::FaultKind;
 use crate::macros::Flavour;
 use crate::scope::Scope;
 use crate::stop::Stop;
+use kt_rules::FaultKind;
 use kt_syntax::{Form, Operator, plain};
 use kt_text::is_separator;
 

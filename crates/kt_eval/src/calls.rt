@@ -4,13 +4,13 @@ ghost use Rattle.std.specs.Prelude.{drop, take, Some, position, MatchOption, tru
 ghost use Rattle.std.specs.List.{after_first, before_first, list_any, position_or_len};
 ghost use Rattle.std.specs.Str.{bytes_eq};
 ghost use Rattle.kt_text.specs.Words.{is_separator};
-ghost use Rattle.kt_eval.specs.Calls.{arguments_of, arity, asked_by, asked_of, byte_name, closer, commas, cuts};
-ghost use Rattle.kt_eval.specs.Calls.{function_of, is_function_name, is_refused_function, may_cut, name_function};
-ghost use Rattle.kt_eval.specs.Calls.{naming_of, nested, one_less, opener, other_function, string_function};
-ghost use Rattle.kt_eval.specs.Calls.{text_function_name};
+ghost use Rattle.kt_eval.specs.Calls.{arguments_of, asked_by, asked_of, byte_name, closer, commas, cuts};
+ghost use Rattle.kt_eval.specs.Calls.{function_of, is_function_name, is_refused_function, may_cut, naming_of, nested};
+ghost use Rattle.kt_eval.specs.Calls.{one_less, opener, other_function};
 ghost use Rattle.kt_eval.specs.inner.Views.{asked_told, naming_told};
 
-use crate::function::{Function, TextFunction};
+use crate::function::Function;
+use crate::text_functions::TextFunction;
 use kt_syntax::Mark;
 use kt_text::{has_percent, is_separator, stripped_start};
 use memchr::memchr;
@@ -216,68 +216,9 @@ fn behind_percent(alloc: Global, text: &[u8]) -> Result<Vec<u8>, AllocError>
 fn function_of(name: &[u8]) -> Option<Function>
     ensures { result ≡ function_of name.now }
 {
-    if let Some(function) = string_function(name) {
-        return Some(Function::Text(function));
-    }
-    if let Some(function) = name_function(name) {
-        return Some(Function::Text(function));
-    }
-    other_function(name)
-}
-
-#[tactic(auto, unfolding(crate::specs::Calls::string_function))]
-fn string_function(name: &[u8]) -> Option<TextFunction>
-    ensures { result ≡ string_function name.now }
-{
-    if is_name(name, b"subst") {
-        Some(TextFunction::Subst)
-    } else if is_name(name, b"patsubst") {
-        Some(TextFunction::Patsubst)
-    } else if is_name(name, b"strip") {
-        Some(TextFunction::Strip)
-    } else if is_name(name, b"findstring") {
-        Some(TextFunction::Findstring)
-    } else if is_name(name, b"filter") {
-        Some(TextFunction::Filter)
-    } else if is_name(name, b"filter-out") {
-        Some(TextFunction::FilterOut)
-    } else if is_name(name, b"sort") {
-        Some(TextFunction::Sort)
-    } else if is_name(name, b"word") {
-        Some(TextFunction::Word)
-    } else if is_name(name, b"wordlist") {
-        Some(TextFunction::Wordlist)
-    } else if is_name(name, b"words") {
-        Some(TextFunction::Words)
-    } else if is_name(name, b"firstword") {
-        Some(TextFunction::Firstword)
-    } else if is_name(name, b"lastword") {
-        Some(TextFunction::Lastword)
-    } else {
-        None
-    }
-}
-
-#[tactic(auto, unfolding(crate::specs::Calls::name_function))]
-fn name_function(name: &[u8]) -> Option<TextFunction>
-    ensures { result ≡ name_function name.now }
-{
-    if is_name(name, b"dir") {
-        Some(TextFunction::Dir)
-    } else if is_name(name, b"notdir") {
-        Some(TextFunction::Notdir)
-    } else if is_name(name, b"suffix") {
-        Some(TextFunction::Suffix)
-    } else if is_name(name, b"basename") {
-        Some(TextFunction::Basename)
-    } else if is_name(name, b"addsuffix") {
-        Some(TextFunction::Addsuffix)
-    } else if is_name(name, b"addprefix") {
-        Some(TextFunction::Addprefix)
-    } else if is_name(name, b"join") {
-        Some(TextFunction::Join)
-    } else {
-        None
+    match TextFunction::named(name) {
+        Some(function) => Some(Function::Text(function)),
+        None => other_function(name),
     }
 }
 

@@ -12,9 +12,9 @@ ghost use Rattle.kt_eval.specs.inner.Views.{compared_told};
 use crate::compared::{Compared, compared_texts, text_after_word, word_before_blank};
 use crate::evaluation::Evaluation;
 use crate::files::Files;
-use crate::kind::FaultKind;
 use crate::scope::Scope;
 use crate::stop::Stop;
+use kt_rules::FaultKind;
 use kt_syntax::{Directive, Form, classify, plain};
 use kt_text::words;
 

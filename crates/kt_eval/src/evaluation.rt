@@ -6,14 +6,13 @@ use crate::assigning::{Assigning, assignment_of};
 use crate::fault::{Fault, append_place};
 use crate::files::{FileFault, Files};
 use crate::frames::innermost;
-use crate::kind::FaultKind;
 use crate::macros::{Flavour, Macro};
 use crate::page::{Page, RawLine, Source};
 use crate::scope::Scope;
 use crate::state::{Found, Frame};
 use crate::stop::Stop;
 use kt_list::{Sequence, Shared};
-use kt_rules::{Entry, Place, read_rule};
+use kt_rules::{Entry, FaultKind, Place, read_rule};
 use kt_syntax::{Operator, recipe_text};
 use kt_text::TextFault;
 use std::alloc::{AllocError, Global};
@@ -60,8 +59,7 @@ impl<'a, M: Scope, F: Files> Evaluation<'a, M, F> {
     ghost use Rattle.kt_eval.specs.Expansion.{accepted, bad_argument};
     ghost use Rattle.kt_eval.specs.Step.{Blames, Gives};
     ghost use Rattle.kt_eval.specs.State.{bind, unbind, say, warn, message_place};
-    ghost use Rattle.kt_eval.specs.Faults.{number_of, wording};
-    ghost use Rattle.kt_eval.specs.Step.{fault_at};
+    ghost use Rattle.kt_eval.specs.Step.{fault_of};
 
     // What a name stands for.
     #[tactic(auto, unfolding(crate::specs::State::lookup))]
@@ -128,8 +126,7 @@ impl<'a, M: Scope, F: Files> Evaluation<'a, M, F> {
 
     // A fault of this kind at the place that is being read, which tells of this name.
     pub(crate) fn fault(&self, kind: FaultKind, name: &[u8]) -> Result<Fault, AllocError>
-        ensures { IfOk result (λ fault. fault ≡ fault_at self.now.world.place (number_of kind) (wording kind
-            ++ name.now)) }
+        ensures { IfOk result (λ fault. fault ≡ fault_of self.now.world.place kind name.now) }
     {
         let place = self.place()?;
         Fault::new(self.alloc, kind, name, place)

@@ -1,13 +1,12 @@
 //! What can be wrong with a makefile.
 ghost use Rattle.std.specs.Prelude.{◌≡◌, ◌++◌, IfOk, OnOk, option_map};
-ghost use Rattle.kt_eval.specs.Faults.{fault_line, number_of, two_digits, wording};
+ghost use Rattle.kt_eval.specs.Faults.{fault_line, two_digits};
 ghost use Rattle.kt_eval.specs.State.{message_place};
-ghost use Rattle.kt_eval.specs.Step.{fault_at};
+ghost use Rattle.kt_eval.specs.Step.{fault_of};
 
-use crate::kind::FaultKind;
 use itoa::Buffer;
 use kt_list::Sequence;
-use kt_rules::Place;
+use kt_rules::{FaultKind, Place};
 use std::alloc::{AllocError, Global};
 
 /// A fault of a makefile, which ends its reading.
@@ -29,10 +28,9 @@ impl Fault {
         name: &[u8],
         place: Option<Place>,
     ) -> Result<Fault, AllocError>
-        ensures { IfOk result (λ fault. fault ≡ fault_at place (number_of kind) (wording kind ++ name.now)) }
+        ensures { IfOk result (λ fault. fault ≡ fault_of place kind name.now) }
     {
-        let mut words = Vec::from_slice(alloc, kind.words())?;
-        words.extend_from_slice(name)?;
+        let words = kind.words_with(alloc, name)?;
         Ok(Fault {
             place,
             number: kind.number(),

@@ -11,11 +11,11 @@ ghost use Rattle.kt_eval.specs.Step.{AreKnown, Blames, Gives, Keeps, store_of};
 
 use crate::evaluation::Evaluation;
 use crate::files::Files;
-use crate::kind::FaultKind;
 use crate::page::Source;
 use crate::scope::Scope;
 use crate::stop::Stop;
 use kt_list::Shared;
+use kt_rules::FaultKind;
 use kt_text::words;
 use std::str::from_utf8;
 

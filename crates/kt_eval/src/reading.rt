@@ -21,11 +21,11 @@ ghost use Rattle.kt_eval.specs.inner.Views.{raw_told};
 use crate::evaluation::Evaluation;
 use crate::fault::Fault;
 use crate::files::Files;
-use crate::kind::FaultKind;
 use crate::page::{Page, RawLine, Source};
 use crate::scope::Scope;
 use crate::stop::Stop;
 use kt_list::Sequence;
+use kt_rules::FaultKind;
 use kt_syntax::{
     Directive, Form, Missing, Operator, Step, Stray, TargetSpecific, classify, plain, recipe_text,
     rule_parts,

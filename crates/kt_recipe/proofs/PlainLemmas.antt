@@ -11,7 +11,8 @@ use Rattle.kt_syntax.proofs.Splitting.{terms_of-nil, term_first}
 use Rattle.kt_eval.specs.declared.macros.Flavour.{Flavour}
 use Rattle.kt_eval.specs.declared.macros.Flavour.TheVariants.{Deferred, Immediate}
 use Rattle.kt_eval.specs.declared.macros.Macro.{Macro}
-use Rattle.kt_eval.specs.Calls.{string_function, name_function, other_function, function_of, is_refused_function, asked_of, asked_by, naming_of}
+use Rattle.kt_eval.specs.Calls.{other_function, function_of, is_refused_function, asked_of, asked_by, naming_of}
+use Rattle.kt_eval.specs.TextFunctions.{text_function}
 use Rattle.kt_eval.specs.Expansion.{Evaluator, flavoured, value_of, body_of, value_named, referred, term_of, each_term, expanded}
 use Rattle.kt_eval.specs.Files.{Store}
 use Rattle.kt_eval.specs.Levels.{above, evaluator}
@@ -82,7 +83,7 @@ terms_are_values : (e : Evaluator) (node : Node) (part : ℕ) (table : Table) (p
     value_of e (option_map found_of (find (codes "SHELL") table)) w ≡ Gave w shell
     → value_of e (option_map found_of (find (codes ".SHELLFLAGS") table)) w ≡ Gave w flags
     → expanded e shell_text w ≡ Gave w ((shell ++ codes " ") ++ flags)
-unfolding listing is_separator is_blank seen innermost lookup string_function name_function other_function function_of is_refused_function asked_of asked_by naming_of body_of value_named referred term_of each_term expanded
+unfolding listing is_separator is_blank seen innermost lookup text_function other_function function_of is_refused_function asked_of asked_by naming_of body_of value_named referred term_of each_term expanded
 terms_are_values e node part table place said shell flags first second =
     rw (shell_terms, first, second) refl
 

@@ -10,7 +10,8 @@ use Rattle.kt_eval.specs.Files.{Store}
 use Rattle.kt_eval.specs.Table.{Table, find}
 use Rattle.kt_eval.specs.State.{seen, innermost, lookup}
 use Rattle.kt_eval.specs.Step.{with_text, with_fault, fault_at}
-use Rattle.kt_eval.specs.Calls.{string_function, name_function, other_function, function_of, is_refused_function, text_result, arguments_from, arguments_of, asked_of, asked_by, naming_of}
+use Rattle.kt_eval.specs.Calls.{other_function, function_of, is_refused_function, arguments_from, arguments_of, asked_of, asked_by, naming_of}
+use Rattle.kt_eval.specs.TextFunctions.{text_function, text_result}
 use Rattle.kt_eval.specs.Expansion.{value_of, each_argument, each_word, apply_foreach, apply_eval, apply_error, apply_info, apply, body_of, value_named, referred, term_of, each_term, expanded}
 use Rattle.kt_eval.specs.Levels.{above, none_left, evaluator}
 use Rattle.kt_graph.specs.Node.{Node}
@@ -24,7 +25,7 @@ use Rattle.kt_recipe.proofs.TermLemmas.{terms_are, splitting, shell_terms}
 
 -- `unfolding expanding` opens what a text is expanded to, and `making` how a command comes about
 unfoldable expanding : Unit {0}
-unfolding listing splitting is_separator is_blank words_of find seen innermost lookup string_function name_function other_function function_of is_refused_function text_result arguments_from arguments_of asked_of asked_by naming_of value_of each_argument apply_foreach each_word apply_eval apply_error apply_info apply body_of value_named referred term_of each_term expanded above none_left evaluator expansion
+unfolding listing splitting is_separator is_blank words_of find seen innermost lookup text_function other_function function_of is_refused_function text_result arguments_from arguments_of asked_of asked_by naming_of value_of each_argument apply_foreach each_word apply_eval apply_error apply_info apply body_of value_named referred term_of each_term expanded above none_left evaluator expansion
 expanding = tt
 
 unfoldable making : Unit {0}

@@ -1,5 +1,5 @@
 use Rattle.std.proofs.Common.{ap, sym, ◌∙◌}
-use Rattle.kt_eval.specs.declared.kind.FaultKind.TheVariants.{CommandNotWritable, NameNotWritable}
+use Rattle.kt_rules.specs.declared.fault_kind.FaultKind.TheVariants.{CommandNotWritable, NameNotWritable}
 use Rattle.kt_ninja.specs.Writable.{told_trouble}
 use Rattle.kati.specs.Course.{fault_nowhere}
 use Rattle.kati.specs.Planned.{text_fault}
