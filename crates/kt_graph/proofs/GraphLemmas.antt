@@ -53,7 +53,7 @@ places_apart same told is keys apart one other x y at there e = ⊎_elim
 name_there : (names : List Text) (number : ℕ) → number < length names → (name : Text) × (slice_get names number ≡ Some name) × (name_at names number ≡ name)
 name_there names number within =
     let at : (name : Text) × (slice_get names number ≡ Some name) = at_place names number within in
-    (at.0, at.1, ap (λ (o : Option (Text)). Rattle.std.specs.Option.unwrap_or (option_o) []) at.1)
+    (at.0, at.1, ap (λ (o : Option Text). Rattle.std.specs.Option.unwrap_or o []) at.1)
 
 pub names_distinct : (names : List Text)
     → ((i j : ℕ) (d : Text) → i < j → j < length names → bytes_eq (get_or names i d) (get_or names j d) ≡ Rattle.std.proofs.Common.false)

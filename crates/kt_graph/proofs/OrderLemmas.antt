@@ -180,7 +180,7 @@ pub numbered_more : (names : List Text) (number : ℕ) (name : Text) (pairs more
 numbered_more names number name pairs more pair numbered within is text at grown =
     let found : slice_get names number ≡ Some name = slice_get_read names (length names) number name refl within is in
     let told : pair.0 ≡ name_at names pair.1
-    = text ∙ sym (ap (λ o. unwrap_or (option_o) []) (ap (slice_get names) at ∙ found)) in
+    = text ∙ sym (ap (λ o. unwrap_or o []) (ap (slice_get names) at ∙ found)) in
     record {
       numbers = ap (map (λ (p : Numbered). p.1)) grown ∙ map-append (λ (p : Numbered). p.1) pairs (pair ∷ [])
           ∙ ap (λ front. front ++ pair.1 ∷ []) numbered.numbers ∙ ap (λ k. range_with_len 0 number ++ k ∷ []) (at ∙ omega arith) ∙ range_more 0 number;

@@ -39,6 +39,28 @@ loop-name-preserved c =
           (c.in_ok-push.ensures.items ∙ ap (λ (v : Vec Settled Global). v.items ++ c.in_ok-node.node ∷ []) grown.nodes);
     }
 
+pub loop-name-preserved-in_ok-push : goal.loop-name-preserved-in_ok-push
+loop-name-preserved-in_ok-push c =
+    let self = c.loop-name.self in
+    let inv = c.loop-name.invariant in
+    let grown = c.in_ok-node.ensures.grown in
+    let text : c.as_slice.result.now ≡ c.in-Some.name = search rules in
+    record {
+      over = record {
+        rules = grown.searched_rules ∙ inv.over.rules ∙ ap (λ (x : Bor (List Rule)). patterns_of x.now) (sym grown.book);
+        known_names = grown.searched_names ∙ inv.over.known_names ∙ ap (λ (x : Bor (List Text)). x.now) (sym grown.known_names);
+      };
+      book = grown.book ∙ inv.book;
+      known_names = grown.known_names ∙ inv.known_names;
+      right = λ goals b.
+          settled_under c.args.self.now.book.now self.book.now c.args.self.now.known.now self.known.now goals self.numbers c.settle.new.self.numbers
+          self.instances.keys c.settle.new.self.instances.keys self.nodes.items c.push.new.self.items c.as_slice.result.now c.in_ok-node.node
+          (ap (λ (x : Bor (List Rule)). x.now) inv.book) (ap (λ (x : Bor (List Text)). x.now) inv.known_names) (inv.right goals b)
+          (sym c.in_ok-name.ensures.next ∙ c.in-Some.is ∙ ap Some (sym text))
+          grown.instances grown.names c.in_ok-node.ensures.says
+          (c.in_ok-push.ensures.items ∙ ap (λ (v : Vec Settled Global). v.items ++ c.in_ok-node.node ∷ []) grown.nodes);
+    }
+
 pub returns : goal.returns
 returns c = λ goals b.
     let self = c.loop-name.self in
