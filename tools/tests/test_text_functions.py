@@ -66,7 +66,7 @@ class TextFunctions(unittest.TestCase):
         shown = numbers_in_list(text_of(LANGUAGE))
         for _, name, arguments in self.code:
             with self.subTest(name):
-                self.assertEqual(shown[name], arguments)
+                self.assertEqual(shown.get(name), arguments)
 
 
 if __name__ == "__main__":
