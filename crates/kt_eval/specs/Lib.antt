@@ -3,6 +3,7 @@ pub mod Memory
 pub mod Table
 pub mod Fronts
 pub mod State
+pub mod Outcome
 pub mod Step
 pub mod Calls
 pub mod Expansion
@@ -14,6 +15,7 @@ pub mod Rules
 pub mod Reading
 pub mod Faults
 pub mod Levels
+pub mod Pure
 pub mod Growing
 pub mod Arguments
 pub mod Doubling
