@@ -7,18 +7,16 @@ use Rattle.kt_eval.specs.declared.stop.Stop.TheVariants as stops
 use Rattle.kt_eval.specs.Files.{Store, look}
 use Rattle.kt_eval.specs.Fronts.{IsFront}
 use Rattle.kt_eval.specs.Machines.{ComesBefore, Read, Trace, predefined, read_of, traced}
-use Rattle.kt_eval.specs.Outcome.{Gives, IfCut, Outcome, Gave, Stopped, StepOver, left_of, then_do, done}
-use Rattle.kt_graph.specs.Known.{known_names}
+use Rattle.kt_eval.specs.Outcome.{Gives, IfCut, Outcome, Gave, Stopped, left_of, then_do}
 use Rattle.kt_graph.specs.Node.{Node}
 use Rattle.kt_ninja.specs.declared.plan.Plan.{Plan}
 use Rattle.kt_eval.proofs.GrowingLemmas.{front_next, front_same}
 use Rattle.kt_eval.proofs.MachineLemmas.{before_reading}
 use Rattle.kati_args.specs.declared.args.Args.{Args}
 use Rattle.kati.specs.Asked.{NamesAreAsked, names_asked}
-use Rattle.kati.specs.Chosen.{chosen_goals}
 use Rattle.kati.specs.Listing.{if_small, if_without_nul, list_in, listed}
 use Rattle.kati.specs.Makefile.{command_line_table, makefile_names, makefile_read}
-use Rattle.kati.specs.Meaning.{Meaning, MeansAfter, MeansGoals, Wanted, meaning_of, prepared}
+use Rattle.kati.specs.Meaning.{Meaning, MeansAfter, MeansGoals, Wanted, meaning_of, prepared, wanted_by}
 use Rattle.kati.specs.Planned.{planned}
 use Rattle.kati.specs.Steps.{telling}
 use Rattle.kati.proofs.OutcomeLemmas.{asked_then, telling_asks}
@@ -59,35 +57,21 @@ before_makefile args store trace =
 
 -- ---- after the makefile no name is asked for
 
-abbrev pub goals_found : Args → Text → Read → StepOver Trace Wanted
-goals_found args list read trace = then_do (telling (chosen_goals args.limit read args.goals) trace)
-    (λ goals. done (record { read = read; known = known_names read.book list; goals = goals }))
-
-after_then : {A B : Type 0} (trace : Trace) (o : Outcome Trace A) (make : A → B) → (left_of o).asked ≡ trace.asked
-    → (left_of (then_do o (λ x. done (make x)))).asked ≡ trace.asked
-after_then trace (Gave left x) make is = is
-after_then trace (Stopped left fault) make is = is
-
-goals_ask : (args : Args) (list : Text) (read : Read) (trace : Trace) → (left_of (goals_found args list read trace)).asked ≡ trace.asked
-goals_ask args list read trace = after_then trace (telling (chosen_goals args.limit read args.goals) trace)
-    (λ goals. record { read = read; known = known_names read.book list; goals = goals })
-    (telling_asks trace (chosen_goals args.limit read args.goals))
-
--- names asked for up to the end of the makefile come first in the whole
-goals_front : (args : Args) (list : Text) (read : Read) (trace : Trace) → IsFront trace.asked (left_of (goals_found args list read trace)).asked
+goals_front : (args : Args) (list : Text) (read : Read) (trace : Trace) → IsFront trace.asked (left_of (telling (wanted_by args list read) trace)).asked
 goals_front args list read trace =
-    subst (λ (names : List Text). IsFront trace.asked names) (sym (goals_ask args list read trace)) (front_same trace.asked)
+    subst (λ (names : List Text). IsFront trace.asked names) (sym (telling_asks trace (wanted_by args list read))) (front_same trace.asked)
 
-pub makefile_stops : (args : Args) (store : Store) (list : Text) (trace : Trace) (names : List Text)
+makefile_stops : (args : Args) (store : Store) (list : Text) (trace : Trace) (names : List Text)
     → IsFront names (left_of (makefile_read args store trace)).asked
-    → IsFront names (left_of (then_do (makefile_read args store trace) (goals_found args list))).asked
-makefile_stops args store list trace names h = asked_then names (makefile_read args store trace) (goals_found args list) (goals_front args list) h
+    → IsFront names (left_of (then_do (makefile_read args store trace) (λ read. telling (wanted_by args list read)))).asked
+makefile_stops args store list trace names h =
+    asked_then names (makefile_read args store trace) (λ read. telling (wanted_by args list read)) (goals_front args list) h
 
 -- where the list was stopped
 pub list_stops : (args : Args) (store : Store) (asked names : List Text) → IsFront names (left_of (listed store args.files (traced [] asked))).asked
     → IsFront names (names_asked args store asked)
 list_stops args store asked names h = asked_then names (listed store args.files (traced [] asked))
-    (λ list trace. then_do (makefile_read args store trace) (goals_found args list))
+    (λ list trace. then_do (makefile_read args store trace) (λ read. telling (wanted_by args list read)))
     (λ list trace. makefile_stops args store list trace trace.asked (before_makefile args store trace)) h
 
 -- where the list was read, and the makefile came to an end or was stopped
@@ -95,7 +79,7 @@ pub list_read : (args : Args) (store : Store) (asked middle names : List Text) (
     → listed store args.files (traced [] asked) ≡ Gave (traced [] middle) list
     → IsFront names (left_of (makefile_read args store (traced [] middle))).asked → IsFront names (names_asked args store asked)
 list_read args store asked middle names list is h =
-    subst (λ (o : Outcome Trace Text). IsFront names (left_of (then_do o (λ list trace. then_do (makefile_read args store trace) (goals_found args list)))).asked)
+    subst (λ (o : Outcome Trace Text). IsFront names (left_of (then_do o (λ list trace. then_do (makefile_read args store trace) (λ read. telling (wanted_by args list read))))).asked)
     (sym is) (makefile_stops args store list (traced [] middle) names h)
 
 -- ---- the whole

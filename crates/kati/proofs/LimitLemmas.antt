@@ -24,7 +24,7 @@ use Rattle.kati.specs.Chosen.{chosen_goals, default_goal_text}
 use Rattle.kati.specs.Limits.{IsTooDeep, OnlyCuts, with_limit}
 use Rattle.kati.specs.Listing.{listed}
 use Rattle.kati.specs.Makefile.{command_line_table, makefile_names, makefile_read}
-use Rattle.kati.specs.Meaning.{Meaning, Means, MeansAfter, MeansGoals, Wanted, meaning_of, prepared}
+use Rattle.kati.specs.Meaning.{Meaning, Means, MeansAfter, MeansGoals, Wanted, meaning_of, prepared, wanted_by}
 use Rattle.kati.specs.Planned.{command_for, plan_groups, plan_of, planned, statement_of, written}
 use Rattle.kati.specs.Steps.{telling}
 
@@ -59,10 +59,9 @@ prepared_deeper args store limit trace =
     then_stays (listed store args.files trace) (listed store args.files trace) _ _ (λ deep. refl)
     (λ list middle. then_stays (makefile_read (with_limit limit args) store middle) (makefile_read (with_limit (suc limit) args) store middle) _ _
     (makefile_deeper args store limit middle)
-    (λ read last. then_stays (telling (chosen_goals limit read args.goals) last) (telling (chosen_goals (suc limit) read args.goals) last) _ _
-    (telling_stays last (chosen_goals limit read args.goals last.said) (chosen_goals (suc limit) read args.goals last.said)
-    (goals_deeper limit read args.goals last.said))
-    (λ goals left deep. refl)))
+    (λ read last. telling_stays last (wanted_by (with_limit limit args) list read last.said) (wanted_by (with_limit (suc limit) args) list read last.said)
+    (then_stays (chosen_goals limit read args.goals last.said) (chosen_goals (suc limit) read args.goals last.said) _ _
+    (goals_deeper limit read args.goals last.said) (λ goals left deep. refl))))
 
 -- ---- the statements
 

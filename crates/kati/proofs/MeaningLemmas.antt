@@ -7,7 +7,7 @@ use Rattle.kt_eval.specs.declared.stop.Stop.{Stop}
 use Rattle.kt_eval.specs.declared.stop.Stop.TheVariants as stops
 use Rattle.kt_eval.specs.Machines.{Trace, traced}
 use Rattle.kt_eval.specs.Files.{Store}
-use Rattle.kt_eval.specs.Outcome.{AsksNothing, Ends, Fails, Gives, Outcome, Gave, Stopped}
+use Rattle.kt_eval.specs.Outcome.{Ends, Fails, IsOfNoDevice, Gives, Outcome, Gave, Stopped}
 use Rattle.kt_eval.specs.Step.{fault_at}
 use Rattle.kt_graph.specs.declared.fault.GraphFault.{GraphFault}
 use Rattle.kt_graph.specs.declared.fault.GraphFault.TheVariants as graphs
@@ -49,7 +49,7 @@ trouble_means limit want trace (stops.Device name) first = tt
 trouble_means limit want trace stops.Memory first = tt
 
 -- nothing that is wrong with a graph is a device's failure
-pub first_asks : {A : Type 0} (rules : List Rule) (known goals : List Text) (stop : Stop) → IsFirstStop rules known goals stop → AsksNothing {A = A} (Err stop)
+pub first_asks : (rules : List Rule) (known goals : List Text) (stop : Stop) → IsFirstStop rules known goals stop → IsOfNoDevice stop
 first_asks rules known goals (stops.Fault fault) first = tt
 first_asks rules known goals (stops.Device name) first = first
 first_asks rules known goals stops.Memory first = tt

@@ -1,12 +1,17 @@
 -- What a step leaves, and what comes after it.
-use Rattle.std.proofs.Common.{◌≡◌, ℕ, List, [], Option, Some, None, Result, Ok, Err, refl, sym, ap, ◌∙◌, subst}
+use Rattle.std.proofs.Common.{◌≡◌, List, [], Result, Ok, Err, refl}
 use Rattle.kt_text.specs.Words.{Text}
 use Rattle.kt_eval.specs.declared.stop.Stop.{Stop}
 use Rattle.kt_eval.specs.declared.stop.Stop.TheVariants as stops
+use Rattle.kt_eval.specs.Files.{Store}
 use Rattle.kt_eval.specs.Fronts.{IsFront}
-use Rattle.kt_eval.specs.Machines.{Trace, traced}
-use Rattle.kt_eval.specs.Outcome.{AsksNothing, Fails, Gives, Outcome, Gave, Stopped, StepOver, left_of, then_do}
+use Rattle.kt_eval.specs.Machines.{Read, Trace, traced}
+use Rattle.kt_eval.specs.Outcome.{Gives, Outcome, Gave, Stopped, StepOver, leaving, left_of, then_do}
 use Rattle.kt_eval.proofs.GrowingLemmas.{front_next}
+use Rattle.kati_args.specs.declared.args.Args.{Args}
+use Rattle.kati.specs.Listing.{listed}
+use Rattle.kati.specs.Makefile.{makefile_read}
+use Rattle.kati.specs.Meaning.{Wanted, prepared, wanted_by}
 use Rattle.kati.specs.Steps.{telling}
 
 -- two steps that came to a value
@@ -21,29 +26,10 @@ pub gave_both : {L A B : Type 0} (first : Outcome L A) (next : A → StepOver L 
 gave_both (Gave middle x) next left value e = record { middle = middle; given = x; is = refl; rest = e }
 gave_both (Stopped middle fault) next left value e = absurd (cc e)
 
--- a step that stops, stops what it begins
-pub fails_then : {L A B : Type 0} (stop : Stop) (left : L) (first : Outcome L A) (next : A → StepOver L B) → Fails stop left first
-    → Fails stop left (then_do first next)
-fails_then (stops.Fault fault) left first next h = ap (λ o. then_do o next) h
-fails_then (stops.Device name) left first next h = tt
-fails_then stops.Memory left first next h = tt
-
--- the same after a step that came to a value
-pub fails_after : {L A B : Type 0} (stop : Stop) (left middle : L) (first : Outcome L A) (x : A) (next : A → StepOver L B) → first ≡ Gave middle x
-    → Fails stop left (next x middle) → Fails stop left (then_do first next)
-fails_after {L} {A} {B} stop left middle first x next is h = subst (λ (o : Outcome L A). Fails {A = B} stop left (then_do o next)) (sym is) h
-
--- messages alone, as a step of a run
-pub fails_telling : {A : Type 0} (stop : Stop) (heard : List Text) (trace : Trace) (step : StepOver (List Text) A) → Fails stop heard (step trace.said)
-    → Fails stop (traced heard trace.asked) (telling step trace)
-fails_telling (stops.Fault fault) heard trace step h = rw h refl
-fails_telling (stops.Device name) heard trace step h = tt
-fails_telling stops.Memory heard trace step h = tt
-
 pub telling_asks : {A : Type 0} (trace : Trace) (step : StepOver (List Text) A) → (left_of (telling step trace)).asked ≡ trace.asked
 telling_asks {A} trace step = by (step trace.said)
   where
-    by : (o : Outcome (List Text) A) → (left_of (Rattle.kt_eval.specs.Outcome.leaving (λ said. traced said trace.asked) o)).asked ≡ trace.asked
+    by : (o : Outcome (List Text) A) → (left_of (leaving (λ said. traced said trace.asked) o)).asked ≡ trace.asked
     by (Gave said x) = refl
     by (Stopped said fault) = refl
 
@@ -53,3 +39,13 @@ pub asked_then : {A B : Type 0} (names : List Text) (first : Outcome Trace A) (n
     → IsFront names (left_of (then_do first next)).asked
 asked_then names (Gave trace x) next more h = front_next names trace.asked (left_of (next x trace)).asked h (more x trace)
 asked_then names (Stopped trace fault) next more h = h
+
+-- the goals are chosen after the list and the makefile are read
+pub chosen_after : {A : Type 0} (see : A → Wanted) (args : Args) (store : Store) (asked middle names said heard : List Text) (list : Text) (read : Read)
+    (result : Result A Stop) → listed store args.files (traced [] asked) ≡ Gave (traced [] middle) list
+    → makefile_read args store (traced [] middle) ≡ Gave (traced said names) read → Gives see result heard (wanted_by args list read said)
+    → Gives see result (traced heard names) (prepared args store (traced [] asked))
+chosen_after see args store asked middle names said heard list read (Ok x) is also h = rw is (rw also (rw h refl))
+chosen_after see args store asked middle names said heard list read (Err (stops.Fault fault)) is also h = rw is (rw also (rw h refl))
+chosen_after see args store asked middle names said heard list read (Err (stops.Device name)) is also h = tt
+chosen_after see args store asked middle names said heard list read (Err stops.Memory) is also h = tt

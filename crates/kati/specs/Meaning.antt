@@ -36,12 +36,16 @@ pub record Wanted : Type 0 where
   pub known : List Text
   pub goals : List Text
 
+abbrev pub wanted_by : Args → Text → Read → StepOver (List Text) Wanted
+wanted_by args list read = do
+  goals ← chosen_goals args.limit read args.goals
+  done (record { read = read; known = known_names read.book list; goals = goals })
+
 abbrev pub prepared : Args → Store → StepOver Trace Wanted
 prepared args store = do
   list ← listed store args.files
   read ← makefile_read args store
-  goals ← telling (chosen_goals args.limit read args.goals)
-  done (record { read = read; known = known_names read.book list; goals = goals })
+  telling (wanted_by args list read)
 
 -- ---- then there is the plan of the graph that the goals need, or what comes first of what is wrong with it
 

@@ -9,10 +9,10 @@ ghost use Rattle.kt_eval.specs.Outcome.{AsksNothing, Ends, Gives};
 ghost use Rattle.kt_eval.specs.Step.{Blames};
 ghost use Rattle.kati.specs.Asked.{names_asked};
 ghost use Rattle.kati.specs.Headline.{ReadBlames, Translates};
-ghost use Rattle.kati.specs.Meaning.{prepared};
+ghost use Rattle.kati.specs.Meaning.{prepared, wanted_by};
 ghost use Rattle.kati.specs.Sound.{IsSoundPlan};
 ghost use Rattle.kati.specs.inner.Stops.{IsFirstStop, IsStopOf};
-ghost use Rattle.kati.specs.inner.Views.{EndMeans, GoalsEnd, outcome_of, wanted_told};
+ghost use Rattle.kati.specs.inner.Views.{EndMeans, GoalsEnd, outcome_of, read_told, wanted_told};
 
 use crate::faults::RunFault;
 use crate::goals::chosen_goals;
@@ -115,15 +115,45 @@ fn prepared<F: Files>(
     let (told, read) = makefile_read(alloc, args, files);
     *messages = told;
     let makefile = read?;
-    let goals = chosen_goals(
-        alloc,
-        args.goals.as_slice(),
-        args.limit,
-        &makefile,
-        messages,
-    )?;
-    let known = Known::of(alloc, &makefile.book, list.as_slice())?;
-    Ok((Sources { makefile, known }, goals))
+    chosen(alloc, args, list.as_slice(), makefile, messages)
+}
+
+// The goals, with what they are made from.
+fn chosen(
+    alloc: Global,
+    args: &Args,
+    list: &[u8],
+    makefile: Makefile,
+    messages: &mut Vec<Sequence<u8>>,
+) -> Result<(Sources, Vec<Name>), Stop>
+    ensures gives { Gives (λ found. wanted_told found.0 found.1.items) result messages.new.items
+        (wanted_by args.now list.now (read_told makefile) messages.old.items) }
+    ensures asks_nothing { AsksNothing result }
+{
+    match goals_and_names(alloc, args, list, &makefile, messages) {
+        Ok((goals, known)) => Ok((Sources { makefile, known }, goals)),
+        Err(stop) => Err(stop),
+    }
+}
+
+// The goals, and the names that are known.
+fn goals_and_names(
+    alloc: Global,
+    args: &Args,
+    list: &[u8],
+    makefile: &Makefile,
+    messages: &mut Vec<Sequence<u8>>,
+) -> Result<(Vec<Name>, Known), Stop>
+    ensures gives { Gives (λ found. record {
+      read = read_told makefile.now;
+      known = found.1;
+      goals = found.0.items;
+    }) result messages.new.items (wanted_by args.now list.now (read_told makefile.now) messages.old.items) }
+    ensures asks_nothing { AsksNothing result }
+{
+    let goals = chosen_goals(alloc, args.goals.as_slice(), args.limit, makefile, messages)?;
+    let known = Known::of(alloc, &makefile.book, list)?;
+    Ok((goals, known))
 }
 
 // The plan of these goals.

@@ -2,7 +2,6 @@ use Rattle.std.proofs.Common.{[], rules}
 use Rattle.std.proofs.lemmas.Result.{err_from_is_err_and}
 use Rattle.kt_eval.specs.Machines.{traced}
 use Rattle.kt_graph.specs.Faults.{IsSoundGraph}
-use Rattle.kt_ninja.specs.declared.plan.Plan.{Plan}
 use Rattle.kati.specs.inner.Views.{wanted_told}
 use Rattle.kati.proofs.MeaningLemmas.{first_asks, plan_means, trouble_means}
 use Rattle.kati.proofs.SoundLemmas.{sound_if_ok}
@@ -18,7 +17,7 @@ returns-in_err-graph-clause-means c = λ asked.
 pub returns-in_err-graph-clause-asks_nothing : goal.returns-in_err-graph-clause-asks_nothing
 returns-in_err-graph-clause-asks_nothing c =
     let p = err_from_is_err_and c.from_residual.result c.from_residual.ensures.1 in
-    rw (p.1, p.2) (first_asks {A = Plan} _ _ _ c.in_err-graph.field-0.0 c.in_err-graph.ensures.first)
+    rw (p.1, p.2) (first_asks _ _ _ c.in_err-graph.field-0.0 c.in_err-graph.ensures.first)
 
 pub returns-clause-means : goal.returns-clause-means
 returns-clause-means c = λ asked.

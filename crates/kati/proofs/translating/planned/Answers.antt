@@ -1,0 +1,11 @@
+use Rattle.std.proofs.Common.{[]}
+use Rattle.kt_eval.specs.Machines.{traced}
+use Rattle.kati.proofs.BlameLemmas.{if_some-weaker}
+use Rattle.kati.proofs.MeaningLemmas.{then_means}
+use Rattle.kati.proofs.translating.planned.Goals as goal
+
+pub returns-clause-means : goal.returns-clause-means
+returns-clause-means g c = if_some-weaker (g.F.Files.known c.args.files.now) _ _
+    (λ store is. then_means c.args.args.now store (g.F.Files.names c.args.files.now) _ _ _ c.planned_goals-plan.result is
+    (c.planned_goals-plan.ensures.means (g.F.Files.names c.prepared.new.files)))
+    c.in_ok-sources.ensures.gives
