@@ -14,9 +14,10 @@ use Rattle.kt_eval.specs.State.{World, bind, unbind}
 use Rattle.kt_eval.specs.declared.state.Frame.TheVariants.{Loop}
 use Rattle.kt_eval.specs.Outcome.{Outcome, Gave, Stopped, Fails, IfCutBy, then_do, left_of}
 use Rattle.kt_eval.specs.Step.{Step, trail, GoesOn}
+use Rattle.kt_eval.specs.Calls.{is_function_name}
 use Rattle.kt_eval.specs.Conditions.{Compared}
 use Rattle.kt_eval.specs.Conditionals.{are_equal}
-use Rattle.kt_eval.specs.Expansion.{expanded, each_argument, apply_or, apply_and, apply_eval, apply_foreach, each_word}
+use Rattle.kt_eval.specs.Expansion.{expanded, each_argument, apply_or, apply_and, apply_eval, apply_foreach, call_by_name, each_word}
 use Rattle.kt_eval.specs.Rules.{close_rule}
 use Rattle.kt_eval.specs.Levels.{evaluator}
 use Rattle.kt_eval.specs.Reading.{Sheet, at_line, line_at, body_at, branch_holds, late_else, read_bytes, read_define, read_first, read_items, read_branches, read_or, read_sheet}
@@ -24,7 +25,7 @@ use Rattle.kt_eval.proofs.LevelLemmas.{evaluator_reads}
 use Rattle.kt_eval.proofs.ReadingLemmas.{Tries}
 use Rattle.kt_eval.proofs.GrowingLemmas.{front_next}
 use Rattle.kt_eval.proofs.GrowingReads.{behind_first_related, behind_branch_related, read_first_related, read_or_related, one_more_level}
-use Rattle.kt_eval.proofs.StepLemmas.{grown_front, expand_front, eval_front, each_word_front, expanded_front, each_argument_front, apply_or_front, apply_and_front, read_items_front, close_rule_front, read_end_front}
+use Rattle.kt_eval.proofs.StepLemmas.{called_front, grown_front, expand_front, eval_front, each_word_front, expanded_front, each_argument_front, apply_or_front, apply_and_front, read_items_front, close_rule_front, read_end_front}
 
 -- a call that was stopped ended as a step does, or was cut before its end
 abbrev pub Early : {A : Type 0} → Stop → World → Outcome World A → Type 0
@@ -91,6 +92,16 @@ module _ (reads : Bool) (store : Store) (levels : ℕ) where
       fails_then stop v (expanded (evaluator reads store levels) compared.first w) _
       (λ x u. early_then u (expanded (evaluator reads store levels) compared.second u) _ (λ y t. stands t) (expanded_front reads store levels compared.second u)) h
 
+  -- the arguments of a call, of which the first is the name
+  pub call_fails : (stop : Stop) (w v : World) (name : Text) (first texts : List Text) → is_function_name name ≡ false → first ≡ name ∷ []
+      → Early stop v (each_argument (evaluator reads store levels) first texts w) → Early stop v (call_by_name (evaluator reads store levels) name texts w)
+  unfolding call_by_name
+  call_fails stop w v name first texts other is h =
+      rw other
+      (fails_then stop v (each_argument (evaluator reads store levels) (name ∷ []) texts w) _
+      (λ arguments u. called_front reads store levels name arguments u)
+      (subst (λ (begun : List Text). Early stop v (each_argument (evaluator reads store levels) begun texts w)) is h))
+
   pub argument_fails : (stop : Stop) (w v : World) (out : List Text) (text : Text) (texts : List Text)
       → Early stop v ((evaluator reads store levels).expand text w) → Early stop v (each_argument (evaluator reads store levels) out (text ∷ texts) w)
   unfolding each_argument
@@ -145,6 +156,13 @@ module _ (reads : Bool) (store : Store) (levels : ℕ) (sheet : Sheet) where
   sheet_fails stop w v h =
       fails_then stop v (read_items (evaluator reads store levels) sheet (tree_of sheet.blocks.steps) w) _
       (λ _ u. early_then u (close_rule u) _ (λ _ t. read_end_front sheet.source sheet.blocks.missing t) (close_rule_front u)) h
+
+  -- the rule that is open at the end
+  pub close_fails : (stop : Stop) (w u v : World) (x : Unit {0}) → read_items (evaluator reads store levels) sheet (tree_of sheet.blocks.steps) w ≡ Gave u x
+      → Early stop v (close_rule u) → Early stop v (read_sheet (evaluator reads store levels) sheet w)
+  unfolding read_sheet
+  close_fails stop w u v x is h =
+      rw is (fails_then stop v (close_rule u) _ (λ _ t. read_end_front sheet.source sheet.blocks.missing t) h)
 
   pub definition_fails : (stop : Stop) (w v : World) (items next : Items) (place end : ℕ) (kind : Kind) (body : Text) → items ≡ definition place end next
       → kind ≡ line_kind (line_at sheet.lines place).text false → body ≡ body_at sheet (place + 1) end

@@ -10,6 +10,7 @@ use Rattle.kt_syntax.specs.Terms.{Piece}
 use Rattle.kt_syntax.specs.Blocks.{Items}
 use Rattle.kt_syntax.specs.Heads.{RuleTexts}
 use Rattle.kt_rules.specs.Entry.{Rule}
+use Rattle.kt_eval.specs.declared.function.Function.{Function}
 use Rattle.kt_eval.specs.declared.state.Found.{Found}
 use Rattle.kt_eval.specs.declared.page.Source.{Source}
 use Rattle.kt_eval.specs.Table.{Assigning}
@@ -18,7 +19,7 @@ use Rattle.kt_eval.specs.State.{World}
 use Rattle.kt_eval.specs.Outcome.{Outcome, left_of}
 use Rattle.kt_eval.specs.Step.{Trail, told, asked_for, one_of, trail, GoesOn}
 use Rattle.kt_eval.specs.Calls.{Asked, Naming}
-use Rattle.kt_eval.specs.Expansion.{value_of, each_argument, accepted, apply_or, apply_and, each_word, called, call_by_name, value_named, referred, each_term, expanded}
+use Rattle.kt_eval.specs.Expansion.{value_of, each_argument, accepted, apply, apply_or, apply_and, each_word, called, call_by_name, value_named, referred, each_term, expanded}
 use Rattle.kt_eval.specs.Assignments.{assign, assign_named, assign_line, define}
 use Rattle.kt_eval.specs.Conditionals.{is_set, holds, text_holds}
 use Rattle.kt_eval.specs.Including.{each_include, include_line}
@@ -26,7 +27,7 @@ use Rattle.kt_eval.specs.Rules.{enter_rule, close_rule, open_rule, rule_of_parts
 use Rattle.kt_eval.specs.Reading.{Sheet, branch_holds, read_bare_tab, read_define, read_kind, read_items, read_end, read_sheet, read_without_nul, read_text, read_file, read_included, read_first}
 use Rattle.kt_eval.specs.Levels.{evaluator}
 use Rattle.kt_eval.specs.Growing.{Grows}
-use Rattle.kt_eval.proofs.GrowingLemmas.{front_more, value_of_related, each_argument_related, accepted_related, apply_or_related, apply_and_related, each_word_related, called_related, call_by_name_related, value_named_related, referred_related, each_term_related, expanded_related, assign_related, assign_named_related, assign_line_related, define_related}
+use Rattle.kt_eval.proofs.GrowingLemmas.{front_more, value_of_related, each_argument_related, accepted_related, apply_related, apply_or_related, apply_and_related, each_word_related, called_related, call_by_name_related, value_named_related, referred_related, each_term_related, expanded_related, assign_related, assign_named_related, assign_line_related, define_related}
 use Rattle.kt_eval.proofs.GrowingReads.{read_items_related, branch_holds_related, read_first_related, one_more_level, read_bare_tab_related, read_define_related, read_kind_related, holds_related, text_holds_related, each_include_related, include_line_related, rule_of_parts_related, rule_line_related, read_sheet_related, read_text_related, read_without_nul_related, read_file_related, read_included_related, is_set_grows, close_rule_grows, open_rule_grows, read_end_grows, enter_rule_grows}
 
 on_longer : (of : Trail) (v w : World) → Grows v w → length (trail of v) ≤ length (trail of w)
@@ -179,6 +180,15 @@ module _ (reads : Bool) (store : Store) (levels : ℕ) where
 
   pub value_named_same : (of : Trail) (naming : Naming) (w : World) (count : ℕ) → count ≤ length (trail of w) → take count (trail of (left_of (value_named (evaluator reads store levels) naming w))) ≡ take count (trail of w)
   value_named_same of naming w count le = (value_named_front naming w).1 of count le
+
+  pub apply_front : (function : Function) (arguments : List Text) (w : World) → GoesOn w (left_of (apply (evaluator reads store levels) function arguments w))
+  apply_front function arguments w = grown_front w (apply (evaluator reads store levels) function arguments w) ((apply_related (evaluator reads store levels) (evaluator reads store (suc levels)) (one_more_level reads store levels) function arguments w).0)
+
+  pub apply_longer : (of : Trail) (function : Function) (arguments : List Text) (w : World) → length (trail of w) ≤ length (trail of (left_of (apply (evaluator reads store levels) function arguments w)))
+  apply_longer of function arguments w = (apply_front function arguments w).0 of
+
+  pub apply_same : (of : Trail) (function : Function) (arguments : List Text) (w : World) (count : ℕ) → count ≤ length (trail of w) → take count (trail of (left_of (apply (evaluator reads store levels) function arguments w))) ≡ take count (trail of w)
+  apply_same of function arguments w count le = (apply_front function arguments w).1 of count le
 
   pub referred_front : (asked : Asked) (w : World) → GoesOn w (left_of (referred (evaluator reads store levels) asked w))
   referred_front asked w = grown_front w (referred (evaluator reads store levels) asked w) ((referred_related (evaluator reads store levels) (evaluator reads store (suc levels)) (one_more_level reads store levels) asked w).0)

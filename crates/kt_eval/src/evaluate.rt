@@ -144,7 +144,7 @@ impl<'a, M: Scope, F: Files> Evaluation<'a, M, F> {
 
     // A function by its name. Its clauses are the parts of `Does`: arms without a name close only by themselves.
     #[cycle(evaluate)]
-    #[tactic(auto, unfolding(crate::specs::Expansion::apply))]
+    #[tactic(auto, using(crate::proofs::Steps::apply_goes), unfolding(crate::specs::Expansion::apply))]
     pub(crate) fn apply(
         &mut self,
         below: u64,

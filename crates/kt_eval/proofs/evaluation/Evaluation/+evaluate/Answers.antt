@@ -6,7 +6,7 @@ use Rattle.kt_eval.specs.Outcome.{Gave, Outcome, left_of}
 use Rattle.kt_eval.specs.State.{World}
 use Rattle.kt_eval.specs.Step.{AreKnown, GoesOn, store_of}
 use Rattle.std.proofs.lemmas.Result.{err_from_is_err_and}
-use Rattle.kt_eval.proofs.EarlyLemmas.{Early, eval_fails, foreach_fails, word_fails, sheet_fails, equal_fails, argument_at_fails, argument_at_front, or_at_fails, and_at_fails, definition_fails, first_fails, branch_fails}
+use Rattle.kt_eval.proofs.EarlyLemmas.{Early, call_fails, close_fails, eval_fails, foreach_fails, word_fails, sheet_fails, equal_fails, argument_at_fails, argument_at_front, or_at_fails, and_at_fails, definition_fails, first_fails, branch_fails}
 use Rattle.kt_eval.proofs.StepLemmas.{call_by_name_front, rule_of_parts_front}
 use Rattle.std.specs.Prelude.{Some, option_map, map}
 use Rattle.kt_eval.specs.Levels.{evaluator}
@@ -75,6 +75,18 @@ call_by_name-returns-in_err-push g t c =
       gives = λ known. rw (p.1, p.2) tt;
       cut = λ known. rw (p.1, p.2)
           (call_by_name_front g.M.Scope.writable (store_of c.args.self.now.known) c.args.below c.args.name.now (map (λ a. a.now) c.args.texts.now) c.args.self.now.world);
+      kept = search rules;
+      blames = search rules;
+    }
+
+pub call_by_name-returns-in_err-arguments : goal.call_by_name-returns-in_err-arguments
+call_by_name-returns-in_err-arguments g t c =
+    let p = err_from_is_err_and c.from_residual-in_err-arguments.result c.from_residual-in_err-arguments.ensures.1 in
+    let early = λ (known : AreKnown c.args.self.now.known).
+    (call_fails g.M.Scope.writable (store_of c.args.self.now.known) c.args.below c.in_err-arguments.field-0.0 c.args.self.now.world c.each_argument.new.self.world c.args.name.now c.push.new.self.items (map (λ a. a.now) c.args.texts.now) (search rules) (search rules) (c.in_err-arguments.ensures.gives known, c.in_err-arguments.ensures.cut known)) in
+    record {
+      gives = λ known. rw (p.1, p.2) (early known).0;
+      cut = λ known. rw (p.1, p.2) (early known).1;
       kept = search rules;
       blames = search rules;
     }
@@ -174,6 +186,18 @@ read_page-returns-in_err-read_items g t c =
     let p = err_from_is_err_and c.from_residual.result c.from_residual.ensures.1 in
     let early = λ (known : AreKnown c.args.self.now.known).
     (sheet_fails g.M.Scope.writable (store_of c.args.self.now.known) c.args.below c.args.page.now c.in_err-read_items.field-0.0 c.args.self.now.world c.read_items.new.self.world (c.in_err-read_items.ensures.gives known, c.in_err-read_items.ensures.cut known)) in
+    record {
+      gives = λ known. rw (p.1, p.2) (early known).0;
+      cut = λ known. rw (p.1, p.2) (early known).1;
+      kept = search rules;
+      blames = search rules;
+    }
+
+pub read_page-returns-in_err-close_rule : goal.read_page-returns-in_err-close_rule
+read_page-returns-in_err-close_rule g t c =
+    let p = err_from_is_err_and c.from_residual-in_err-close_rule.result c.from_residual-in_err-close_rule.ensures.1 in
+    let early = λ (known : AreKnown c.args.self.now.known).
+    (close_fails g.M.Scope.writable (store_of c.args.self.now.known) c.args.below c.args.page.now c.in_err-close_rule.field-0.0 c.args.self.now.world c.read_items.new.self.world c.close_rule.new.self.world _ (c.in_ok-read_items.ensures.gives known) (c.in_err-close_rule.ensures.gives, c.in_err-close_rule.ensures.cut)) in
     record {
       gives = λ known. rw (p.1, p.2) (early known).0;
       cut = λ known. rw (p.1, p.2) (early known).1;
