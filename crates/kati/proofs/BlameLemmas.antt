@@ -4,26 +4,18 @@ use Rattle.std.specs.Prelude.{IfSome, OnOk}
 use Rattle.kt_text.specs.Words.{Text}
 use Rattle.kt_eval.specs.declared.stop.Stop.{Stop}
 use Rattle.kt_eval.specs.declared.stop.Stop.TheVariants as stops
+use Rattle.kt_eval.specs.Outcome.{AsksNothing}
 use Rattle.kt_eval.specs.Step.{Blames}
 use Rattle.kati.specs.declared.faults.RunFault.{RunFault}
 use Rattle.kati.specs.declared.faults.RunFault.TheVariants as faults
 use Rattle.kati.specs.declared.status.Status.{Status}
 use Rattle.kati.specs.Headline.{Blames as RunBlames}
-use Rattle.kati.specs.Course.{Course, Computes, Follows}
 
-pub computes_blames : {A B : Type 0} (see : A → B) (result : Result A Stop) (said asked : List Text) (course : Course B) (old new : ℕ) (names : List Text)
-    → new ≡ old → Computes see result said asked course → Blames result old new names
-computes_blames see (Ok x) said asked course old new names same h = same
-computes_blames see (Err (stops.Fault fault)) said asked course old new names same h = same
-computes_blames see (Err (stops.Device name)) said asked course old new names same h = absurd h
-computes_blames see (Err stops.Memory) said asked course old new names same h = same
-
-pub computes_follows : {A B : Type 0} (see : A → B) (result : Result A Stop) (said asked : List Text) (course : Course B)
-    → Computes see result said asked course → Follows see result said asked course
-computes_follows see (Ok x) said asked course h = h
-computes_follows see (Err (stops.Fault fault)) said asked course h = h
-computes_follows see (Err (stops.Device name)) said asked course h = tt
-computes_follows see (Err stops.Memory) said asked course h = tt
+pub asks_blames : {A : Type 0} (result : Result A Stop) (old new : ℕ) (names : List Text) → new ≡ old → AsksNothing result → Blames result old new names
+asks_blames (Ok x) old new names same h = same
+asks_blames (Err (stops.Fault fault)) old new names same h = same
+asks_blames (Err (stops.Device name)) old new names same h = absurd h
+asks_blames (Err stops.Memory) old new names same h = same
 
 pub if_some-each : {T : Type 0} (o : Option T) (P : T → Type 0) → ((x : T) → P x) → IfSome o P
 if_some-each None P each = tt

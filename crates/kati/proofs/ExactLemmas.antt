@@ -6,10 +6,10 @@ use Rattle.std.proofs.lemmas.List.Concat.{flat_map-cons}
 use Rattle.std.proofs.lemmas.List.Elements.{Contains-append_cases, Contains-append_right}
 use Rattle.kt_text.specs.Words.{Text}
 use Rattle.kt_rules.specs.Entry.{Rule}
-use Rattle.kt_eval.specs.declared.fault.Fault.{Fault}
+use Rattle.kt_eval.specs.Machines.{Read, Trace, traced}
+use Rattle.kt_eval.specs.Outcome.{Gave}
 use Rattle.kt_graph.specs.Faults.{IsSoundGraph}
 use Rattle.kt_graph.specs.Groups.{groups_of, made_nodes}
-use Rattle.kt_graph.specs.Known.{known_names}
 use Rattle.kt_graph.specs.Node.{Node, is_leaf, node_of}
 use Rattle.kt_graph.specs.Reach.{IsGraph, IsMade}
 use Rattle.kt_graph.proofs.MemberLemmas.{Contains-cases, Contains-from_map, Contains-here, Contains-map, Contains-none, Contains-there}
@@ -18,15 +18,12 @@ use Rattle.kt_ninja.specs.Plan.{outputs}
 use Rattle.kt_ninja.specs.Writable.{IsWritable}
 use Rattle.kt_ninja.specs.declared.plan.Plan.{Plan}
 use Rattle.kt_ninja.specs.declared.plan.Statement.{Statement}
-use Rattle.kt_recipe.specs.Shell.{Progress, goes_on, ends}
-use Rattle.kati.specs.Chosen.{chosen_goals}
 use Rattle.kati.specs.Exact.{IsAlwaysBuilt, IsMadeOnce, IsOfGroup, PlansAreGraphs, TellsGraph}
-use Rattle.kati.specs.Listing.{listed}
-use Rattle.kati.specs.Makefile.{Read, makefile_read}
-use Rattle.kati.specs.Meaning.{Meaning, MeansGoals, MeansListed, MeansRead, meaning_of}
-use Rattle.kati.specs.Planned.{Planning, planned, at_fault, after_command, always_build, always_built, command_for, course_of_plan, has_implicit, outs_of, plan_course, plan_groups, plan_of, plan_unless, statement_of, unwritable_in, with_always_built, written}
-use Rattle.kati.proofs.PlanLemmas.{from_flat, law, name_in, name_reached, node_is, outs_in, outs_told, statements_in, is_planned, to_flat}
-use Rattle.kati.proofs.ReadBackLemmas.{has_plan, plan_in, read_back, went_on}
+use Rattle.kati.specs.Meaning.{Meaning, MeansGoals, Wanted, prepared}
+use Rattle.kati.specs.Planned.{always_build, always_built, command_for, has_implicit, outs_of, plan_groups, plan_of, statement_of, with_always_built}
+use Rattle.kati.proofs.OutcomeLemmas.{gave_both}
+use Rattle.kati.proofs.PlanLemmas.{from_flat, law, name_in, name_reached, node_is, outs_in, outs_told, statements_in, to_flat}
+use Rattle.kati.proofs.ReadBackLemmas.{has_plan, plan_given, read_back, went_on}
 
 -- ---- names that differ
 
@@ -80,17 +77,21 @@ group_later read limit first groups statement of = record {
   is = of.is;
 }
 
-groups_told : (read : Read) (limit : ℕ) (groups : List (List Node)) (said : List Text) (before : List Statement) (heard : List Text)
-    (statements : List Statement) → plan_groups read.book read.table limit groups said before ≡ planned heard statements
+groups_told : (read : Read) (limit : ℕ) (groups : List (List Node)) (before : List Statement) (said : List Text) (heard : List Text)
+    (statements : List Statement) → plan_groups read.book read.table limit groups before said ≡ Gave heard statements
     → (statement : Statement) → Contains statements statement → Contains before statement ⊎ IsOfGroup read limit groups statement
 unfolding plan_groups
-groups_told read limit [] said before heard statements e statement has =
+groups_told read limit [] before said heard statements e statement has =
     inl (subst (λ (ss : List Statement). Contains ss statement) (sym (ap statements_in e)) has)
-groups_told read limit (group ∷ groups) said before heard statements e statement has =
-    by (λ told command f. groups_told read limit groups told (before ++ statement_of read.book group command ∷ []) heard statements f statement has)
-    (command_for read.table limit group said) refl e
+groups_told read limit (group ∷ groups) before said heard statements e statement has =
+    let both = gave_both (command_for read.table limit group said)
+    (λ command. plan_groups read.book read.table limit groups (before ++ statement_of read.book group command ∷ [])) heard statements e in
+    ⊎_elim
+    (λ (among : Contains (before ++ statement_of read.book group both.given ∷ []) statement). of_this both.middle both.given both.is among)
+    (λ (of : IsOfGroup read limit groups statement). inr (group_later read limit group groups statement of))
+    (groups_told read limit groups (before ++ statement_of read.book group both.given ∷ []) both.middle heard statements both.rest statement has)
   where
-    of_this : (told : List Text) (command : Option Text) → command_for read.table limit group said ≡ goes_on told command
+    of_this : (told : List Text) (command : Option Text) → command_for read.table limit group said ≡ Gave told command
         → Contains (before ++ statement_of read.book group command ∷ []) statement
         → Contains before statement ⊎ IsOfGroup read limit (group ∷ groups) statement
     of_this told command is among = ⊎_elim
@@ -106,18 +107,6 @@ groups_told read limit (group ∷ groups) said before heard statements e stateme
               (Contains-cases (statement_of read.book group command) [] statement here);
         }))
         (Contains-append_cases before (statement_of read.book group command ∷ []) statement among)
-
-    by : ((told : List Text) (command : Option Text)
-        → plan_groups read.book read.table limit groups told (before ++ statement_of read.book group command ∷ []) ≡ planned heard statements
-        → Contains (before ++ statement_of read.book group command ∷ []) statement ⊎ IsOfGroup read limit groups statement)
-        → (progress : Progress) → command_for read.table limit group said ≡ progress
-        → after_command progress (λ told command. plan_groups read.book read.table limit groups told (before ++ statement_of read.book group command ∷ []))
-        ≡ planned heard statements → Contains before statement ⊎ IsOfGroup read limit (group ∷ groups) statement
-    by more (goes_on told command) is f = ⊎_elim
-        (λ (among : Contains (before ++ statement_of read.book group command ∷ []) statement). of_this told command is among)
-        (λ (of : IsOfGroup read limit groups statement). inr (group_later read limit group groups statement of))
-        (more told command f)
-    by more (ends told fault) is f = absurd (false≢true (ap is_planned f))
 
 -- ---- the plan of a sound graph
 
@@ -141,7 +130,7 @@ module _ (rules : List Rule) (known goals : List Text) (nodes : List Node) (grap
 
 module _ (read : Read) (limit : ℕ) (known goals : List Text) (nodes : List Node) (sound : IsSoundGraph read.book known goals nodes)
     (said heard : List Text) (statements : List Statement)
-    (groups_are : plan_groups read.book read.table limit (groups_of nodes) said [] ≡ planned heard statements)
+    (groups_are : plan_groups read.book read.table limit (groups_of nodes) [] said ≡ Gave heard statements)
     (fine : IsWritable (plan_of statements goals)) where
   abbrev all : List Statement
   all = with_always_built statements
@@ -155,7 +144,7 @@ module _ (read : Read) (limit : ℕ) (known goals : List Text) (nodes : List Nod
       by false = has
 
   outs : map outs_in statements ≡ map outs_of (groups_of nodes)
-  outs = outs_told read.book read.table limit (groups_of nodes) said [] heard statements groups_are
+  outs = outs_told read.book read.table limit (groups_of nodes) [] said heard statements groups_are
 
   -- the node of a made name
   node_named : (name : Text) → IsMade read.book known goals name → (node : Node) × Contains (made_nodes nodes) node × (node.name ≡ name)
@@ -210,7 +199,7 @@ module _ (read : Read) (limit : ℕ) (known goals : List Text) (nodes : List Nod
       of h = ⊎_elim
           (λ (none : Contains [] statement). Contains-none statement none)
           (λ (is : IsOfGroup read limit (groups_of nodes) statement). is)
-          (groups_told read limit (groups_of nodes) said [] heard statements groups_are statement h)
+          (groups_told read limit (groups_of nodes) [] said heard statements groups_are statement h)
 
       by : (b : Bool) → list_any has_implicit statements ≡ b → Contains (cond b (always_built ∷ statements) statements) statement
           → IsOfGroup read limit (groups_of nodes) statement ⊎ IsAlwaysBuilt (cond b (always_built ∷ statements) statements) statement
@@ -225,52 +214,23 @@ module _ (read : Read) (limit : ℕ) (known goals : List Text) (nodes : List Nod
 
 -- ---- the whole
 
-plan_told : (read : Read) (limit : ℕ) (known goals : List Text) (nodes : List Node) (said asked : List Text) (plan : Plan) → IsWritable plan
-    → IsSoundGraph read.book known goals nodes → Ok plan ≡ (meaning_of (plan_course read.book read.table limit goals nodes said asked)).result
-    → TellsGraph read limit known goals plan
-unfolding plan_course written
-plan_told read limit known goals nodes said asked plan fine sound e = by (plan_groups read.book read.table limit (groups_of nodes) said []) refl e
-  where
-    settled : (heard : List Text) (statements : List Statement) → plan_groups read.book read.table limit (groups_of nodes) said [] ≡ planned heard statements
-        → (trouble : Option Fault) → Ok plan ≡ (meaning_of (plan_unless heard asked (plan_of statements goals) trouble)).result
-        → TellsGraph read limit known goals plan
-    settled heard statements is None f =
-        let same : plan ≡ plan_of statements goals = ap (λ r. plan_in r plan) f in
-        subst (λ (p : Plan). TellsGraph read limit known goals p) (sym same)
-        (tells_graph read limit known goals nodes sound said heard statements is (subst IsWritable same fine))
-    settled heard statements is (Some fault) f = absurd (true≢false (ap has_plan f))
-
-    by : (planning : Planning) → plan_groups read.book read.table limit (groups_of nodes) said [] ≡ planning
-        → Ok plan ≡ (meaning_of (course_of_plan goals asked planning)).result → TellsGraph read limit known goals plan
-    by (planned heard statements) is f = settled heard statements is (unwritable_in (plan_of statements goals).statements) f
-    by (at_fault heard fault) is f = absurd (true≢false (ap has_plan f))
-
-pub goals_told : (limit : ℕ) (read : Read) (known said asked goals : List Text) (m : Meaning) (plan : Plan) → m.result ≡ Ok plan → IsWritable plan
-    → MeansGoals limit read known said asked goals m → TellsGraph read limit known goals plan
-goals_told limit read known said asked goals m plan ok fine (inl p) =
-    plan_told read limit known goals p.nodes said asked plan fine p.graph (sym ok ∙ ap (λ (n : Meaning). n.result) p.means)
-goals_told limit read known said asked goals m plan ok fine (inr trouble) =
+-- a run whose goals are chosen
+pub goals_told : (limit : ℕ) (want : Wanted) (trace : Trace) (m : Meaning) (plan : Plan) → m.result ≡ Ok plan → IsWritable plan
+    → MeansGoals limit want trace m → TellsGraph want.read limit want.known want.goals plan
+goals_told limit want trace m plan ok fine (inl p) =
+    let of = plan_given limit want p.nodes trace plan (sym (ap (λ (n : Meaning). n.result) p.means) ∙ ok) in
+    subst (λ (q : Plan). TellsGraph want.read limit want.known want.goals q) (sym of.is)
+    (tells_graph want.read limit want.known want.goals p.nodes p.graph trace.said of.heard of.statements of.groups (subst IsWritable of.is fine))
+goals_told limit want trace m plan ok fine (inr trouble) =
     absurd (false≢true (sym (ap (λ (n : Meaning). has_plan n.result) trouble.means) ∙ ap has_plan ok))
 
 pub are_graphs : PlansAreGraphs
 are_graphs args store asked m plan means ok =
     let fine = (read_back args store asked m plan means ok).0 in
-    let list = went_on (listed store asked args.files) (MeansListed args store) m plan ok means in
-    let read = went_on (makefile_read args store list.asked) (MeansRead args list.value) m plan ok list.next in
-    let goals = went_on (chosen_goals args.limit read.value read.said read.asked args.goals)
-    (MeansGoals args.limit read.value (known_names read.value.book list.value)) m plan ok read.next in
+    let found = went_on args.limit (prepared args store (traced [] asked)) m plan ok means in
     record {
-      list = list.value;
-      before_list = list.said;
-      after_list = list.asked;
-      is_listed = list.is;
-      read = read.value;
-      told = read.said;
-      names = read.asked;
-      is_read = read.is;
-      goals = goals.value;
-      heard = goals.said;
-      same_names = goals.asked;
-      is_chosen = goals.is;
-      tells = goals_told args.limit read.value (known_names read.value.book list.value) goals.said goals.asked goals.value m plan ok fine goals.next;
+      want = found.want;
+      trace = found.trace;
+      is_prepared = found.is;
+      tells = goals_told args.limit found.want found.trace m plan ok fine found.next;
     }

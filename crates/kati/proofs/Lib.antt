@@ -11,3 +11,4 @@ pub mod ExactLemmas
 pub mod SoundLemmas
 pub mod OnceLemmas
 pub mod SingleLemmas
+pub mod OutcomeLemmas

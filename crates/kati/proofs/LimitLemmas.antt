@@ -1,158 +1,124 @@
 -- What isn't too deep with a limit is the same with a larger one.
-use Rattle.std.proofs.Common.{◌≡◌, ℕ, zero, suc, ◌+◌, ◌-◌, true, false, List, [], ◌∷◌, ◌++◌, Option, None, refl, sym, ap, ◌∙◌, subst, inl, inr, arith}
+use Rattle.std.proofs.Common.{◌≡◌, ℕ, zero, suc, ◌+◌, ◌-◌, true, false, List, [], ◌∷◌, ◌++◌, None, refl, sym, ap, ◌∙◌, subst, inl, inr, arith}
 use Rattle.std.specs.Prelude.{codes}
 use Rattle.kt_text.specs.Words.{Text}
 use Rattle.kt_rules.specs.Entry.{Rule}
-use Rattle.kt_eval.specs.declared.fault.Fault.{Fault}
 use Rattle.kt_eval.specs.Expansion.{expanded}
 use Rattle.kt_eval.specs.Files.{Store}
 use Rattle.kt_eval.specs.Growing as growing
 use Rattle.kt_eval.specs.Levels.{evaluator}
-use Rattle.kt_eval.specs.Machines as machines
-use Rattle.kt_eval.specs.Machines.{first_world, predefined}
+use Rattle.kt_eval.specs.Machines.{Read, Trace, first_read, first_world, predefined, read_of, trace_of, traced}
+use Rattle.kt_eval.specs.Outcome.{Outcome, Gave, Stopped, leaving}
 use Rattle.kt_eval.specs.Reading.{read_first}
 use Rattle.kt_eval.specs.State.{frozen_world}
-use Rattle.kt_eval.specs.Step.{Outcome, Gave, Stopped, ending}
 use Rattle.kt_eval.specs.Table.{Table}
 use Rattle.kt_eval.proofs.GrowingReads.{expanding_stays, reading_stays}
 use Rattle.kt_graph.specs.Groups.{groups_of}
 use Rattle.kt_graph.specs.Known.{known_names}
 use Rattle.kt_graph.specs.Node.{Node}
+use Rattle.kt_ninja.specs.declared.plan.Plan.{Plan}
 use Rattle.kt_ninja.specs.declared.plan.Statement.{Statement}
-use Rattle.kt_recipe.specs.Shell.{Progress, goes_on, ends, shell_of}
-use Rattle.kt_recipe.proofs.DeeperLemmas.{command_stays}
+use Rattle.kt_recipe.proofs.DeeperLemmas.{Stays, command_stays, leaving_stays, then_stays}
 use Rattle.kati_args.specs.declared.args.Args.{Args}
-use Rattle.kati.specs.Chosen.{chosen_goals, default_goal_text, goals_by_text}
-use Rattle.kati.specs.Course.{Course, on_course, off_course}
+use Rattle.kati.specs.Chosen.{chosen_goals, default_goal_text}
 use Rattle.kati.specs.Limits.{IsTooDeep, OnlyCuts, with_limit}
 use Rattle.kati.specs.Listing.{listed}
-use Rattle.kati.specs.Makefile.{Read, command_line_table, course_of_reading, makefile_names, makefile_read}
-use Rattle.kati.specs.Meaning.{EndsAs, Meaning, Means, MeansGoals, MeansListed, MeansRead, meaning_of}
-use Rattle.kati.specs.Planned.{Planning, planned, at_fault, after_command, command_for, course_of_plan, plan_course, plan_groups, statement_of}
+use Rattle.kati.specs.Makefile.{command_line_table, makefile_names, makefile_read}
+use Rattle.kati.specs.Meaning.{Meaning, Means, MeansAfter, MeansGoals, Wanted, meaning_of, prepared, wanted_by}
+use Rattle.kati.specs.Planned.{command_for, plan_groups, plan_of, planned, statement_of, written}
+use Rattle.kati.specs.Steps.{telling}
 
--- a course means no less where what comes after it does
-ends_on : {A : Type 0} (course : Course A) (Next More : List Text → List Text → A → Meaning → Type 0) (m : Meaning)
-    → ((said asked : List Text) (x : A) → Next said asked x m → More said asked x m) → EndsAs course Next m → EndsAs course More m
-ends_on (on_course said asked x) Next More m more h = more said asked x h
-ends_on (off_course said asked fault) Next More m more h = h
+-- ---- the steps
 
--- ---- the reading
+makefile_deeper : (args : Args) (store : Store) (limit : ℕ) (trace : Trace)
+    → Stays (makefile_read (with_limit limit args) store trace) (makefile_read (with_limit (suc limit) args) store trace)
+makefile_deeper args store limit trace =
+    let names = makefile_names args.makefile in
+    let w = first_world (read_of (predefined (command_line_table args.macros)) []) trace in
+    leaving_stays trace_of (first_read store (evaluator true store limit) names w) (first_read store (evaluator true store (suc limit)) names w)
+    (then_stays (read_first store (evaluator true store limit) names w) (read_first store (evaluator true store (suc limit)) names w) _ _
+    (reading_stays true store names limit w) (λ x v deep. refl))
 
-reading_deeper : (outcome deeper : Outcome (Unit {0})) (Next : List Text → List Text → Read → Meaning → Type 0) (m : Meaning)
-    → ((growing.IsTooDeep outcome → ⊥) → deeper ≡ outcome) → (IsTooDeep m.result → ⊥)
-    → EndsAs (course_of_reading (machines.ending outcome)) Next m → EndsAs (course_of_reading (machines.ending deeper)) Next m
-reading_deeper (Gave w x) deeper Next m stays fine h =
-    subst (λ (o : Outcome (Unit {0})). EndsAs (course_of_reading (machines.ending o)) Next m) (sym (stays (λ never. never))) h
-reading_deeper (Stopped w fault) deeper Next m stays fine h =
-    subst (λ (o : Outcome (Unit {0})). EndsAs (course_of_reading (machines.ending o)) Next m)
-    (sym (stays (λ deep. fine (subst (λ (n : Meaning). IsTooDeep n.result) (sym h) deep)))) h
-
--- ---- the goals
-
-goal_deeper : (outcome deeper : Outcome Text) (rules : List Rule) (asked : List Text) (Next : List Text → List Text → List Text → Meaning → Type 0) (m : Meaning)
-    → ((growing.IsTooDeep outcome → ⊥) → deeper ≡ outcome) → (IsTooDeep m.result → ⊥)
-    → EndsAs (goals_by_text rules asked (ending outcome)) Next m → EndsAs (goals_by_text rules asked (ending deeper)) Next m
-goal_deeper (Gave w x) deeper rules asked Next m stays fine h =
-    subst (λ (o : Outcome Text). EndsAs (goals_by_text rules asked (ending o)) Next m) (sym (stays (λ never. never))) h
-goal_deeper (Stopped w fault) deeper rules asked Next m stays fine h =
-    subst (λ (o : Outcome Text). EndsAs (goals_by_text rules asked (ending o)) Next m)
-    (sym (stays (λ deep. fine (subst (λ (n : Meaning). IsTooDeep n.result) (sym h) deep)))) h
-
-goals_deeper : (limit : ℕ) (read : Read) (said asked words : List Text) (Next : List Text → List Text → List Text → Meaning → Type 0) (m : Meaning)
-    → (IsTooDeep m.result → ⊥) → EndsAs (chosen_goals limit read said asked words) Next m → EndsAs (chosen_goals (suc limit) read said asked words) Next m
+goals_deeper : (limit : ℕ) (read : Read) (words said : List Text) → Stays (chosen_goals limit read words said) (chosen_goals (suc limit) read words said)
 unfolding default_goal_text
-goals_deeper limit read said asked (word ∷ words) Next m fine h = h
-goals_deeper limit read said asked [] Next m fine h =
-    goal_deeper (expanded (evaluator false [] limit) (codes "$(.DEFAULT_GOAL)") (frozen_world read.table [] None said))
-    (expanded (evaluator false [] (suc limit)) (codes "$(.DEFAULT_GOAL)") (frozen_world read.table [] None said)) read.book asked Next m
-    (expanding_stays false [] (codes "$(.DEFAULT_GOAL)") limit (frozen_world read.table [] None said)) fine h
+goals_deeper limit read (word ∷ words) said = λ deep. refl
+goals_deeper limit read [] said =
+    let w = frozen_world read.table [] None said in
+    then_stays (default_goal_text limit read.table said) (default_goal_text (suc limit) read.table said) _ _
+    (leaving_stays (λ w. w.said) (expanded (evaluator false [] limit) (codes "$(.DEFAULT_GOAL)") w)
+    (expanded (evaluator false [] (suc limit)) (codes "$(.DEFAULT_GOAL)") w) (expanding_stays false [] (codes "$(.DEFAULT_GOAL)") limit w))
+    (λ text heard deep. refl)
+
+telling_stays : {A : Type 0} (trace : Trace) (before after : Outcome (List Text) A) → Stays before after
+    → Stays (leaving (λ said. traced said trace.asked) before) (leaving (λ said. traced said trace.asked) after)
+telling_stays trace before after is = leaving_stays (λ said. traced said trace.asked) before after is
+
+prepared_deeper : (args : Args) (store : Store) (limit : ℕ) (trace : Trace)
+    → Stays (prepared (with_limit limit args) store trace) (prepared (with_limit (suc limit) args) store trace)
+prepared_deeper args store limit trace =
+    then_stays (listed store args.files trace) (listed store args.files trace) _ _ (λ deep. refl)
+    (λ list middle. then_stays (makefile_read (with_limit limit args) store middle) (makefile_read (with_limit (suc limit) args) store middle) _ _
+    (makefile_deeper args store limit middle)
+    (λ read last. telling_stays last (wanted_by (with_limit limit args) list read last.said) (wanted_by (with_limit (suc limit) args) list read last.said)
+    (then_stays (chosen_goals limit read args.goals last.said) (chosen_goals (suc limit) read args.goals last.said) _ _
+    (goals_deeper limit read args.goals last.said) (λ goals left deep. refl))))
 
 -- ---- the statements
 
--- a planning that ends too deep
-DeepPlanning : Planning → Type 0
-DeepPlanning (planned said statements) = ⊥
-DeepPlanning (at_fault said fault) = fault.number ≡ 8
-
 command_deeper : (table : Table) (limit : ℕ) (group : List Node) (said : List Text)
-    → ((heard : List Text) (fault : Fault) → command_for table limit group said ≡ ends heard fault → fault.number ≡ 8 → ⊥)
-    → command_for table (suc limit) group said ≡ command_for table limit group said
-command_deeper table limit [] said fine = refl
-command_deeper table limit (least ∷ others) said fine = command_stays table least said limit (λ deep. by (shell_of table limit least said) refl deep)
-  where
-    by : (progress : Progress) → shell_of table limit least said ≡ progress → Rattle.kt_recipe.specs.Deeper.IsTooDeep progress → ⊥
-    by (goes_on heard command) is deep = deep
-    by (ends heard fault) is deep = fine heard fault is deep
+    → Stays (command_for table limit group said) (command_for table (suc limit) group said)
+command_deeper table limit [] said = λ deep. refl
+command_deeper table limit (least ∷ others) said = command_stays table least limit said
 
-groups_deeper : (rules : List Rule) (table : Table) (limit : ℕ) (groups : List (List Node)) (said : List Text) (before : List Statement)
-    → (DeepPlanning (plan_groups rules table limit groups said before) → ⊥)
-    → plan_groups rules table (suc limit) groups said before ≡ plan_groups rules table limit groups said before
-unfolding plan_groups DeepPlanning
-groups_deeper rules table limit [] said before fine = refl
-groups_deeper rules table limit (group ∷ groups) said before fine =
-    by (λ heard command f. groups_deeper rules table limit groups heard (before ++ statement_of rules group command ∷ []) f)
-    (command_for table limit group said) (command_for table (suc limit) group said) (command_deeper table limit group said) fine
-  where
-    next : ℕ → List Text → Option Text → Planning
-    next levels heard command = plan_groups rules table levels groups heard (before ++ statement_of rules group command ∷ [])
+groups_deeper : (rules : List Rule) (table : Table) (limit : ℕ) (groups : List (List Node)) (before : List Statement) (said : List Text)
+    → Stays (plan_groups rules table limit groups before said) (plan_groups rules table (suc limit) groups before said)
+unfolding plan_groups
+groups_deeper rules table limit [] before said = λ deep. refl
+groups_deeper rules table limit (group ∷ groups) before said =
+    then_stays (command_for table limit group said) (command_for table (suc limit) group said) _ _ (command_deeper table limit group said)
+    (λ command heard. groups_deeper rules table limit groups (before ++ statement_of rules group command ∷ []) heard)
 
-    by : ((heard : List Text) (command : Option Text) → (DeepPlanning (plan_groups rules table limit groups heard (before ++ statement_of rules group command ∷ [])) → ⊥)
-        → plan_groups rules table (suc limit) groups heard (before ++ statement_of rules group command ∷ [])
-        ≡ plan_groups rules table limit groups heard (before ++ statement_of rules group command ∷ []))
-        → (progress deeper : Progress)
-        → (((heard : List Text) (fault : Fault) → progress ≡ ends heard fault → fault.number ≡ 8 → ⊥) → deeper ≡ progress)
-        → (DeepPlanning (after_command progress (λ heard command. plan_groups rules table limit groups heard (before ++ statement_of rules group command ∷ []))) → ⊥)
-        → after_command deeper (λ heard command. plan_groups rules table (suc limit) groups heard (before ++ statement_of rules group command ∷ []))
-        ≡ after_command progress (λ heard command. plan_groups rules table limit groups heard (before ++ statement_of rules group command ∷ []))
-    by more (goes_on told command) deeper same f =
-        ap (λ (p : Progress). after_command p (λ heard command'. plan_groups rules table (suc limit) groups heard (before ++ statement_of rules group command' ∷ [])))
-        (same (λ heard fault e. absurd (cc e)))
-        ∙ more told command f
-    by more (ends told fault) deeper same f =
-        ap (λ (p : Progress). after_command p (λ heard command'. plan_groups rules table (suc limit) groups heard (before ++ statement_of rules group command' ∷ [])))
-        (same (λ heard other e deep. f (ap (λ (p : Progress). number_in p) e ∙ deep)))
-      where
-        number_in : Progress → ℕ
-        number_in (goes_on heard command) = 0
-        number_in (ends heard fault) = fault.number
-
-plan_deeper : (rules : List Rule) (table : Table) (limit : ℕ) (goals : List Text) (nodes : List Node) (said asked : List Text) (m : Meaning)
-    → (IsTooDeep m.result → ⊥) → m ≡ meaning_of (plan_course rules table limit goals nodes said asked)
-    → m ≡ meaning_of (plan_course rules table (suc limit) goals nodes said asked)
-unfolding plan_course DeepPlanning
-plan_deeper rules table limit goals nodes said asked m fine is =
-    is ∙ ap (λ (p : Planning). meaning_of (course_of_plan goals asked p))
-    (sym (groups_deeper rules table limit (groups_of nodes) said [] (λ deep. by (plan_groups rules table limit (groups_of nodes) said []) is deep)))
-  where
-    by : (p : Planning) → m ≡ meaning_of (course_of_plan goals asked p) → DeepPlanning p → ⊥
-    by (planned heard statements) e deep = deep
-    by (at_fault heard fault) e deep = fine (subst (λ (n : Meaning). IsTooDeep n.result) (sym e) deep)
+plan_deeper : (rules : List Rule) (table : Table) (limit : ℕ) (goals : List Text) (nodes : List Node) (said : List Text)
+    → Stays (planned rules table limit goals nodes said) (planned rules table (suc limit) goals nodes said)
+unfolding planned
+plan_deeper rules table limit goals nodes said =
+    then_stays (plan_groups rules table limit (groups_of nodes) [] said) (plan_groups rules table (suc limit) (groups_of nodes) [] said) _ _
+    (groups_deeper rules table limit (groups_of nodes) [] said) (λ statements heard deep. refl)
 
 -- ---- the whole
 
-goals_mean : (limit : ℕ) (read : Read) (known said asked goals : List Text) (m : Meaning) → (IsTooDeep m.result → ⊥)
-    → MeansGoals limit read known said asked goals m → MeansGoals (suc limit) read known said asked goals m
-goals_mean limit read known said asked goals m fine (inl plan) =
-    inl (record { nodes = plan.nodes; graph = plan.graph; means = plan_deeper read.book read.table limit goals plan.nodes said asked m fine plan.means })
-goals_mean limit read known said asked goals m fine (inr trouble) = inr trouble
+-- an outcome that is too deep means a fault that is
+deep_means : (o : Outcome Trace Plan) → growing.IsTooDeep o → IsTooDeep (meaning_of o).result
+deep_means (Gave trace plan) deep = deep
+deep_means (Stopped trace fault) deep = deep
+
+goals_mean : (limit : ℕ) (want : Wanted) (trace : Trace) (m : Meaning) → (IsTooDeep m.result → ⊥) → MeansGoals limit want trace m
+    → MeansGoals (suc limit) want trace m
+goals_mean limit want trace m fine (inl plan) =
+    let before = planned want.read.book want.read.table limit want.goals plan.nodes in
+    let after = planned want.read.book want.read.table (suc limit) want.goals plan.nodes in
+    inl (record {
+      nodes = plan.nodes;
+      graph = plan.graph;
+      means = plan.means ∙ sym (ap meaning_of (telling_stays trace (before trace.said) (after trace.said)
+          (plan_deeper want.read.book want.read.table limit want.goals plan.nodes trace.said)
+          (λ deep. fine (subst (λ (n : Meaning). IsTooDeep n.result) (sym plan.means) (deep_means (telling before trace) deep)))));
+    })
+goals_mean limit want trace m fine (inr trouble) = inr trouble
+
+after_mean : (limit : ℕ) (before after : Outcome Trace Wanted) (m : Meaning) → (IsTooDeep m.result → ⊥) → Stays before after
+    → MeansAfter limit before m → MeansAfter (suc limit) after m
+after_mean limit (Gave trace want) after m fine is h =
+    subst (λ (o : Outcome Trace Wanted). MeansAfter (suc limit) o m) (sym (is (λ never. never))) (goals_mean limit want trace m fine h)
+after_mean limit (Stopped trace fault) after m fine is h =
+    subst (λ (o : Outcome Trace Wanted). MeansAfter (suc limit) o m)
+    (sym (is (λ deep. fine (subst (λ (n : Meaning). IsTooDeep n.result) (sym h) deep)))) h
 
 one_more : (args : Args) (store : Store) (asked : List Text) (limit : ℕ) (m : Meaning) → Means (with_limit limit args) store asked m
     → (IsTooDeep m.result → ⊥) → Means (with_limit (suc limit) args) store asked m
 one_more args store asked limit m means fine =
-    ends_on (listed store asked args.files) (MeansListed (with_limit limit args) store) (MeansListed (with_limit (suc limit) args) store) m
-    (λ said names list h.
-    ends_on (makefile_read (with_limit (suc limit) args) store names) (MeansRead (with_limit limit args) list) (MeansRead (with_limit (suc limit) args) list) m
-    (λ told asked' read g.
-    ends_on (chosen_goals (suc limit) read told asked' args.goals) (MeansGoals limit read (known_names read.book list)) (MeansGoals (suc limit) read (known_names read.book list)) m
-    (λ heard asked'' goals f. goals_mean limit read (known_names read.book list) heard asked'' goals m fine f)
-    (goals_deeper limit read told asked' args.goals (MeansGoals limit read (known_names read.book list)) m fine g))
-    (reading_deeper
-    (read_first store (evaluator true store limit) (makefile_names args.makefile) (first_world (predefined (command_line_table args.macros)) [] [] names))
-    (read_first store (evaluator true store (suc limit)) (makefile_names args.makefile) (first_world (predefined (command_line_table args.macros)) [] [] names))
-    (MeansRead (with_limit limit args) list) m
-    (reading_stays true store (makefile_names args.makefile) limit (first_world (predefined (command_line_table args.macros)) [] [] names))
-    fine h))
-    means
+    after_mean limit (prepared (with_limit limit args) store (traced [] asked)) (prepared (with_limit (suc limit) args) store (traced [] asked)) m fine
+    (prepared_deeper args store limit (traced [] asked)) means
 
 -- so many more
 some_more : (args : Args) (store : Store) (asked : List Text) (limit more : ℕ) (m : Meaning) → Means (with_limit limit args) store asked m

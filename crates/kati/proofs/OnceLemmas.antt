@@ -14,20 +14,17 @@ use Rattle.std.proofs.lemmas.Map.Views.{All-after_first}
 use Rattle.std.proofs.lemmas.Option.{none-some, same_Some}
 use Rattle.kt_text.specs.Words.{Text}
 use Rattle.kt_rules.specs.Entry.{Rule}
+use Rattle.kt_eval.specs.Machines.{Trace, traced}
+use Rattle.kt_eval.specs.Outcome.{Outcome, Gave, Stopped}
 use Rattle.kt_eval.specs.Step.{fault_at}
 use Rattle.kt_graph.specs.Faults.{fault_number, fault_words}
-use Rattle.kt_graph.specs.Known.{known_names}
 use Rattle.kt_graph.specs.Node.{Node, node_of}
 use Rattle.kt_graph.specs.Reach.{ComesFirst, IsFirst, IsGraph, IsSound, Trouble, no_rule, circular, reserved_name, one_file}
 use Rattle.kt_graph.proofs.MemberLemmas.{Contains-cases, Contains-here, Contains-none, Contains-there}
-use Rattle.kati_args.specs.declared.args.Args.{Args}
-use Rattle.kati.specs.Chosen.{chosen_goals}
-use Rattle.kati.specs.Course.{Course, on_course, off_course}
-use Rattle.kati.specs.Listing.{listed}
-use Rattle.kati.specs.Makefile.{Read, makefile_read}
-use Rattle.kati.specs.Meaning.{EndsAs, Meaning, MeansGoals, MeansListed, MeansRead, meaning_of}
+use Rattle.kati.specs.Meaning.{Meaning, MeansAfter, MeansGoals, Wanted, meaning_of, prepared}
 use Rattle.kati.specs.Once.{HasOneMeaning}
-use Rattle.kati.specs.Planned.{plan_course}
+use Rattle.kati.specs.Planned.{planned}
+use Rattle.kati.specs.Steps.{telling}
 use Rattle.kati.proofs.PlanLemmas.{name_in, not_less, order}
 
 -- ---- names in order
@@ -124,34 +121,23 @@ module _ (rules : List Rule) (known goals : List Text) where
 
 -- ---- the whole
 
-goals_once : (limit : _) (read : Read) (known said asked goals : List Text) (m n : Meaning) → MeansGoals limit read known said asked goals m
-    → MeansGoals limit read known said asked goals n → m ≡ n
-goals_once limit read known said asked goals m n (inl p) (inl q) =
+goals_once : (limit : _) (want : Wanted) (trace : Trace) (m n : Meaning) → MeansGoals limit want trace m → MeansGoals limit want trace n → m ≡ n
+goals_once limit want trace m n (inl p) (inl q) =
     p.means
-    ∙ ap (λ (nodes : List Node). meaning_of (plan_course read.book read.table limit goals nodes said asked))
-    (graph_once read.book known goals p.nodes q.nodes p.graph.1 q.graph.1)
+    ∙ ap (λ (nodes : List Node). meaning_of (telling (planned want.read.book want.read.table limit want.goals nodes) trace))
+    (graph_once want.read.book want.known want.goals p.nodes q.nodes p.graph.1 q.graph.1)
     ∙ sym q.means
-goals_once limit read known said asked goals m n (inl p) (inr u) = absurd (sound_or_not read.book known goals u.trouble p.graph.0 u.first)
-goals_once limit read known said asked goals m n (inr t) (inl q) = absurd (sound_or_not read.book known goals t.trouble q.graph.0 t.first)
-goals_once limit read known said asked goals m n (inr t) (inr u) =
+goals_once limit want trace m n (inl p) (inr u) = absurd (sound_or_not want.read.book want.known want.goals u.trouble p.graph.0 u.first)
+goals_once limit want trace m n (inr t) (inl q) = absurd (sound_or_not want.read.book want.known want.goals t.trouble q.graph.0 t.first)
+goals_once limit want trace m n (inr t) (inr u) =
     t.means
-    ∙ ap (λ (trouble : Trouble). meaning_of (off_course said asked (fault_at None (fault_number trouble) (fault_words trouble))))
-    (trouble_once read.book known goals t.trouble u.trouble t.first u.first)
+    ∙ ap (λ (trouble : Trouble). meaning_of (Stopped trace (fault_at None (fault_number trouble) (fault_words trouble))))
+    (trouble_once want.read.book want.known want.goals t.trouble u.trouble t.first u.first)
     ∙ sym u.means
 
-course_once : {A : Type 0} (course : Course A) (Next : List Text → List Text → A → Meaning → Type 0) (m n : Meaning)
-    → ((said asked : List Text) (x : A) → Next said asked x m → Next said asked x n → m ≡ n) → EndsAs course Next m → EndsAs course Next n → m ≡ n
-course_once (on_course said asked x) Next m n next h k = next said asked x h k
-course_once (off_course said asked fault) Next m n next h k = h ∙ sym k
-
-read_once : (args : Args) (list : Text) (said asked : List Text) (read : Read) (m n : Meaning) → MeansRead args list said asked read m
-    → MeansRead args list said asked read n → m ≡ n
-read_once args list said asked read m n h k =
-    course_once (chosen_goals args.limit read said asked args.goals) (MeansGoals args.limit read (known_names read.book list)) m n
-    (λ heard names goals f g. goals_once args.limit read (known_names read.book list) heard names goals m n f g) h k
+after_once : (limit : _) (outcome : Outcome Trace Wanted) (m n : Meaning) → MeansAfter limit outcome m → MeansAfter limit outcome n → m ≡ n
+after_once limit (Gave trace want) m n h k = goals_once limit want trace m n h k
+after_once limit (Stopped trace fault) m n h k = h ∙ sym k
 
 pub one_meaning : HasOneMeaning
-one_meaning args store asked m n h k =
-    course_once (listed store asked args.files) (MeansListed args store) m n
-    (λ said names list f g. course_once (makefile_read args store names) (MeansRead args list) m n
-    (λ heard middle read one other. read_once args list heard middle read m n one other) f g) h k
+one_meaning args store asked m n h k = after_once args.limit (prepared args store (traced [] asked)) m n h k

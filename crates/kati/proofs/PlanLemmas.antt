@@ -23,6 +23,7 @@ use Rattle.kt_text.specs.Words.{Text}
 use Rattle.kt_rules.specs.Entry.{Rule}
 use Rattle.kt_eval.specs.declared.fault.Fault.{Fault}
 use Rattle.kt_eval.specs.declared.stop.Stop.{Stop}
+use Rattle.kt_eval.specs.Outcome.{Outcome, Gave, Stopped}
 use Rattle.kt_eval.specs.Table.{Table}
 use Rattle.kt_graph.specs.Faults.{IsSoundGraph}
 use Rattle.kt_graph.specs.Groups.{AreGroups, are_together, groups_among, groups_of, is_leading, leader_name, made_nodes}
@@ -38,9 +39,9 @@ use Rattle.kt_ninja.specs.declared.plan.Statement.{Statement}
 use Rattle.kt_ninja.specs.Plan.{outputs}
 use Rattle.kt_ninja.specs.Plan as plans
 use Rattle.kt_ninja.specs.Writable.{IsWritable, HasWritableTexts, Trouble, bad_name, bad_command, is_empty, is_made, is_name, trouble_of_statements}
-use Rattle.kt_recipe.specs.Shell.{Progress, goes_on, ends}
-use Rattle.kati.specs.Planned.{Planning, planned, at_fault, after_command, always_build, always_built, command_for, has_implicit, outs_of, plan_groups, plan_of, statement_of, text_fault, unwritable_in, with_always_built}
+use Rattle.kati.specs.Planned.{always_build, always_built, command_for, has_implicit, outs_of, plan_groups, plan_of, statement_of, text_fault, unwritable_in, with_always_built}
 use Rattle.kati.specs.inner.Stops.{IsFaultOf}
+use Rattle.kati.proofs.OutcomeLemmas.{gave_both}
 use Rattle.kati.specs.inner.Views.{is_text_trouble}
 use Rattle.std.proofs.lemmas.Option.{none-some, same_Some}
 
@@ -197,35 +198,22 @@ module _ (rules : List Rule) (known goals : List Text) (nodes : List Node) (grap
 
 -- ---- the statements of groups
 
-abbrev pub statements_in : Planning → List Statement
-statements_in (planned said statements) = statements
-statements_in (at_fault said fault) = []
+abbrev pub statements_in : Outcome (List Text) (List Statement) → List Statement
+statements_in (Gave said statements) = statements
+statements_in (Stopped said fault) = []
 
-abbrev pub is_planned : Planning → Bool
-is_planned (planned said statements) = true
-is_planned (at_fault said fault) = false
-
-pub outs_told : (rules : List Rule) (table : Table) (limit : ℕ) (groups : List (List Node)) (said : List Text) (before : List Statement)
-    (heard : List Text) (statements : List Statement) → plan_groups rules table limit groups said before ≡ planned heard statements
+pub outs_told : (rules : List Rule) (table : Table) (limit : ℕ) (groups : List (List Node)) (before : List Statement) (said : List Text)
+    (heard : List Text) (statements : List Statement) → plan_groups rules table limit groups before said ≡ Gave heard statements
     → map outs_in statements ≡ map outs_in before ++ map outs_of groups
 unfolding plan_groups statement_of
-outs_told rules table limit [] said before heard statements e =
+outs_told rules table limit [] before said heard statements e =
     sym (ap (λ p. map outs_in (statements_in p)) e) ∙ sym (append-nil (map outs_in before))
-outs_told rules table limit (group ∷ groups) said before heard statements e =
-    by (λ told command f. outs_told rules table limit groups told (before ++ statement_of rules group command ∷ []) heard statements f)
-    (command_for table limit group said) e
-  where
-    by : ((told : List Text) (command : Option Text)
-        → plan_groups rules table limit groups told (before ++ statement_of rules group command ∷ []) ≡ planned heard statements
-        → map outs_in statements ≡ map outs_in (before ++ statement_of rules group command ∷ []) ++ map outs_of groups)
-        → (progress : Progress)
-        → after_command progress (λ told command. plan_groups rules table limit groups told (before ++ statement_of rules group command ∷ [])) ≡ planned heard statements
-        → map outs_in statements ≡ map outs_in before ++ (outs_of group ∷ map outs_of groups)
-    by more (goes_on told command) f =
-        more told command f
-        ∙ ap (λ (names : List (List Text)). names ++ map outs_of groups) (map-append outs_in before (statement_of rules group command ∷ []))
-        ∙ append_assoc (map outs_in before) (outs_of group ∷ []) (map outs_of groups)
-    by more (ends told fault) f = absurd (false≢true (ap is_planned f))
+outs_told rules table limit (group ∷ groups) before said heard statements e =
+    let both = gave_both (command_for table limit group said)
+    (λ command. plan_groups rules table limit groups (before ++ statement_of rules group command ∷ [])) heard statements e in
+    outs_told rules table limit groups (before ++ statement_of rules group both.given ∷ []) both.middle heard statements both.rest
+    ∙ ap (λ (names : List (List Text)). names ++ map outs_of groups) (map-append outs_in before (statement_of rules group both.given ∷ []))
+    ∙ append_assoc (map outs_in before) (outs_of group ∷ []) (map outs_of groups)
 
 -- ---- the plan
 
@@ -290,12 +278,12 @@ module _ (rules : List Rule) (known goals : List Text) (nodes : List Node) (soun
 
 -- the plan of a sound graph, where its texts can be written
 pub plan_writable : (rules : List Rule) (table : Table) (limit : ℕ) (known goals : List Text) (nodes : List Node) (said heard : List Text) (statements : List Statement)
-    → IsSoundGraph rules known goals nodes → plan_groups rules table limit (groups_of nodes) said [] ≡ planned heard statements
+    → IsSoundGraph rules known goals nodes → plan_groups rules table limit (groups_of nodes) [] said ≡ Gave heard statements
     → (plan : Plan) → plan ≡ plan_of statements goals
     → (result : Result Plan Stop) → IfOk result (λ p. p ≡ plan) → IfOk result HasWritableTexts → IfOk result IsWritable
 plan_writable rules table limit known goals nodes said heard statements sound planned_so plan is (Ok p) same texts =
     subst IsWritable (sym (same ∙ is))
-    (can_be_written rules known goals nodes sound statements (outs_told rules table limit (groups_of nodes) said [] heard statements planned_so)
+    (can_be_written rules known goals nodes sound statements (outs_told rules table limit (groups_of nodes) [] said heard statements planned_so)
     (subst HasWritableTexts (same ∙ is) texts))
 plan_writable rules table limit known goals nodes said heard statements sound planned_so plan is (Err stop) same texts = tt
 

@@ -3,13 +3,11 @@ use Rattle.std.proofs.Common.{◌≡◌, ℕ, Bool, true, false, List, [], Optio
 use Rattle.std.specs.Option.{option_and_then}
 use Rattle.std.proofs.lemmas.Bool.{false≢true, true≢false}
 use Rattle.kt_text.specs.Words.{Text}
-use Rattle.kt_rules.specs.Entry.{Rule}
 use Rattle.kt_eval.specs.declared.fault.Fault.{Fault}
 use Rattle.kt_eval.specs.Files.{Store}
-use Rattle.kt_eval.specs.Table.{Table}
-use Rattle.kt_graph.specs.Faults.{IsSoundGraph}
+use Rattle.kt_eval.specs.Machines.{Trace, traced}
+use Rattle.kt_eval.specs.Outcome.{Outcome, Gave, Stopped, leaving}
 use Rattle.kt_graph.specs.Groups.{groups_of}
-use Rattle.kt_graph.specs.Known.{known_names}
 use Rattle.kt_graph.specs.Node.{Node}
 use Rattle.kt_ninja.specs.declared.plan.Plan.{Plan}
 use Rattle.kt_ninja.specs.declared.plan.Statement.{Statement}
@@ -17,36 +15,37 @@ use Rattle.kt_ninja.specs.Writable.{IsWritable, Trouble, no_output, bad_name, ba
 use Rattle.kt_ninja.proofs.Deciding.{texts_exactly}
 use Rattle.kt_ninja.proofs.PrintThenRead.{printed_is_read}
 use Rattle.kati_args.specs.declared.args.Args.{Args}
-use Rattle.kati.specs.Chosen.{chosen_goals}
-use Rattle.kati.specs.Course.{Course, on_course, off_course}
-use Rattle.kati.specs.Listing.{listed}
-use Rattle.kati.specs.Makefile.{Read, makefile_read}
-use Rattle.kati.specs.Meaning.{EndsAs, Meaning, Means, MeansGoals, MeansListed, MeansRead, meaning_of}
-use Rattle.kati.specs.Planned.{Planning, planned, at_fault, course_of_plan, plan_course, plan_groups, plan_of, plan_unless, text_fault, unwritable_in, written}
+use Rattle.kati.specs.Meaning.{Meaning, Means, MeansAfter, MeansGoals, Wanted, meaning_of, prepared}
+use Rattle.kati.specs.Planned.{plan_groups, plan_of, plan_unless, planned, text_fault, unwritable_in, written}
 use Rattle.kati.specs.ReadBack.{PlansReadBack}
+use Rattle.kati.specs.Steps.{telling}
 use Rattle.kati.specs.inner.Views.{is_text_trouble}
+use Rattle.kati.proofs.OutcomeLemmas.{gave_both}
 use Rattle.kati.proofs.PlanLemmas.{can_be_written, outs_told, text_troubles}
 
 abbrev pub plan_in : Result Plan Fault → Plan → Plan
 plan_in (Ok plan) other = plan
 plan_in (Err fault) other = other
 
+abbrev pub plan_in_outcome : Outcome (List Text) Plan → Plan → Plan
+plan_in_outcome (Gave said plan) other = plan
+plan_in_outcome (Stopped said fault) other = other
+
 abbrev pub has_plan : Result Plan Fault → Bool
 has_plan (Ok plan) = true
 has_plan (Err fault) = false
 
--- a run with a plan went on at each step
-pub record WentOn {A : Type 0} (course : Course A) (Next : List Text → List Text → A → Meaning → Type 0) (m : Meaning) : Type 0 where
-  pub said : List Text
-  pub asked : List Text
-  pub value : A
-  pub is : course ≡ on_course said asked value
-  pub next : Next said asked value m
+-- a run with a plan had its goals chosen
+pub record WentOn (limit : ℕ) (outcome : Outcome Trace Wanted) (m : Meaning) : Type 0 where
+  pub trace : Trace
+  pub want : Wanted
+  pub is : outcome ≡ Gave trace want
+  pub next : MeansGoals limit want trace m
 
-pub went_on : {A : Type 0} (course : Course A) (Next : List Text → List Text → A → Meaning → Type 0) (m : Meaning) (plan : Plan) → m.result ≡ Ok plan
-    → EndsAs course Next m → WentOn course Next m
-went_on (on_course said asked value) Next m plan ok h = record { said = said; asked = asked; value = value; is = refl; next = h }
-went_on (off_course said asked fault) Next m plan ok h = absurd (false≢true (sym (ap (λ (n : Meaning). has_plan n.result) h) ∙ ap has_plan ok))
+pub went_on : (limit : ℕ) (outcome : Outcome Trace Wanted) (m : Meaning) (plan : Plan) → m.result ≡ Ok plan → MeansAfter limit outcome m
+    → WentOn limit outcome m
+went_on limit (Gave trace want) m plan ok h = record { trace = trace; want = want; is = refl; next = h }
+went_on limit (Stopped trace fault) m plan ok h = absurd (false≢true (sym (ap (λ (n : Meaning). has_plan n.result) h) ∙ ap has_plan ok))
 
 -- texts without a fault can be written
 untroubled : (statements : List Statement) → unwritable_in statements ≡ None → trouble_of_statements 0 statements ≡ None
@@ -64,40 +63,52 @@ untroubled statements e = by (trouble_of_statements 0 statements) refl e
     by None is f = refl
     by (Some trouble) is f = absurd (told trouble (text_troubles 0 statements trouble (sym is)) f)
 
--- the plan of a sound graph
-plan_fine : (rules : List Rule) (table : Table) (limit : ℕ) (known goals : List Text) (nodes : List Node) (said asked : List Text) (plan : Plan)
-    → IsSoundGraph rules known goals nodes → Ok plan ≡ (meaning_of (plan_course rules table limit goals nodes said asked)).result → IsWritable plan
-unfolding plan_course written
-plan_fine rules table limit known goals nodes said asked plan sound e = by (plan_groups rules table limit (groups_of nodes) said []) refl e
-  where
-    settled : (heard : List Text) (statements : List Statement) → plan_groups rules table limit (groups_of nodes) said [] ≡ planned heard statements
-        → (trouble : Option Fault) → unwritable_in (plan_of statements goals).statements ≡ trouble
-        → Ok plan ≡ (meaning_of (plan_unless heard asked (plan_of statements goals) trouble)).result → IsWritable plan
-    settled heard statements is None fine f =
-        subst IsWritable (sym (ap (λ r. plan_in r plan) f))
-        (can_be_written rules known goals nodes sound statements (outs_told rules table limit (groups_of nodes) said [] heard statements is)
-        ((texts_exactly (plan_of statements goals) (Ok tt) (sym (untroubled (plan_of statements goals).statements fine))).0 refl))
-    settled heard statements is (Some fault) fine f = absurd (true≢false (ap has_plan f))
+-- ---- a plan that is given
 
-    by : (planning : Planning) → plan_groups rules table limit (groups_of nodes) said [] ≡ planning
-        → Ok plan ≡ (meaning_of (course_of_plan goals asked planning)).result → IsWritable plan
-    by (planned heard statements) is f = settled heard statements is (unwritable_in (plan_of statements goals).statements) refl f
-    by (at_fault heard fault) is f = absurd (true≢false (ap has_plan f))
+-- by its statements, of which no text is at fault
+pub record IsPlanOf (limit : ℕ) (want : Wanted) (nodes : List Node) (said : List Text) (plan : Plan) : Type 0 where
+  pub heard : List Text
+  pub statements : List Statement
+  pub groups : plan_groups want.read.book want.read.table limit (groups_of nodes) [] said ≡ Gave heard statements
+  pub fine : unwritable_in (plan_of statements want.goals).statements ≡ None
+  pub is : plan ≡ plan_of statements want.goals
 
-goals_fine : (limit : ℕ) (read : Read) (known said asked goals : List Text) (m : Meaning) (plan : Plan) → m.result ≡ Ok plan
-    → MeansGoals limit read known said asked goals m → IsWritable plan
-goals_fine limit read known said asked goals m plan ok (inl p) =
-    plan_fine read.book read.table limit known goals p.nodes said asked plan p.graph (sym ok ∙ ap (λ (n : Meaning). n.result) p.means)
-goals_fine limit read known said asked goals m plan ok (inr trouble) =
+plan_unless_is : (plan made : Plan) (trouble : Option Fault) (heard left : List Text) → plan_unless made trouble heard ≡ Gave left plan
+    → (trouble ≡ None) × (plan ≡ made)
+plan_unless_is plan made None heard left e = (refl, sym (ap (λ (o : Outcome (List Text) Plan). plan_in_outcome o plan) e))
+plan_unless_is plan made (Some fault) heard left e = absurd (cc e)
+
+told_plan : (o : Outcome (List Text) Plan) (trace : Trace) (plan : Plan) → (meaning_of (leaving (λ said. traced said trace.asked) o)).result ≡ Ok plan
+    → (left : List Text) × (o ≡ Gave left plan)
+told_plan (Gave said made) trace plan e = (said, ap (λ (r : Result Plan Fault). Gave said (plan_in r plan)) e)
+told_plan (Stopped said fault) trace plan e = absurd (false≢true (ap has_plan e))
+
+pub plan_given : (limit : ℕ) (want : Wanted) (nodes : List Node) (trace : Trace) (plan : Plan)
+    → (meaning_of (telling (planned want.read.book want.read.table limit want.goals nodes) trace)).result ≡ Ok plan
+    → IsPlanOf limit want nodes trace.said plan
+unfolding planned written
+plan_given limit want nodes trace plan e =
+    let told = told_plan (planned want.read.book want.read.table limit want.goals nodes trace.said) trace plan e in
+    let both = gave_both (plan_groups want.read.book want.read.table limit (groups_of nodes) [] trace.said)
+    (λ statements. written (plan_of statements want.goals)) told.0 plan told.1 in
+    let settled = plan_unless_is plan (plan_of both.given want.goals) (unwritable_in (plan_of both.given want.goals).statements) both.middle told.0 both.rest in
+    record { heard = both.middle; statements = both.given; groups = both.is; fine = settled.0; is = settled.1 }
+
+goals_fine : (limit : ℕ) (want : Wanted) (trace : Trace) (m : Meaning) (plan : Plan) → m.result ≡ Ok plan
+    → MeansGoals limit want trace m → IsWritable plan
+goals_fine limit want trace m plan ok (inl p) =
+    let of = plan_given limit want p.nodes trace plan (sym (ap (λ (n : Meaning). n.result) p.means) ∙ ok) in
+    subst IsWritable (sym of.is)
+    (can_be_written want.read.book want.known want.goals p.nodes p.graph of.statements
+    (outs_told want.read.book want.read.table limit (groups_of p.nodes) [] trace.said of.heard of.statements of.groups)
+    ((texts_exactly (plan_of of.statements want.goals) (Ok tt) (sym (untroubled (plan_of of.statements want.goals).statements of.fine))).0 refl))
+goals_fine limit want trace m plan ok (inr trouble) =
     absurd (false≢true (sym (ap (λ (n : Meaning). has_plan n.result) trouble.means) ∙ ap has_plan ok))
 
 writable : (args : Args) (store : Store) (asked : List Text) (m : Meaning) (plan : Plan) → Means args store asked m → m.result ≡ Ok plan → IsWritable plan
 writable args store asked m plan means ok =
-    let list = went_on (listed store asked args.files) (MeansListed args store) m plan ok means in
-    let read = went_on (makefile_read args store list.asked) (MeansRead args list.value) m plan ok list.next in
-    let goals = went_on (chosen_goals args.limit read.value read.said read.asked args.goals)
-    (MeansGoals args.limit read.value (known_names read.value.book list.value)) m plan ok read.next in
-    goals_fine args.limit read.value (known_names read.value.book list.value) goals.said goals.asked goals.value m plan ok goals.next
+    let found = went_on args.limit (prepared args store (traced [] asked)) m plan ok means in
+    goals_fine args.limit found.want found.trace m plan ok found.next
 
 pub read_back : PlansReadBack
 read_back args store asked m plan means ok =

@@ -10,9 +10,10 @@ use Rattle.kt_text.specs.Words.{Text}
 use Rattle.kt_rules.specs.Entry.{Rule}
 use Rattle.kt_rules.specs.Names.{is_among, without_repeats}
 use Rattle.kt_eval.specs.declared.stop.Stop.{Stop}
+use Rattle.kt_eval.specs.Machines.{Read, Trace}
+use Rattle.kt_eval.specs.Outcome.{Ends}
 use Rattle.kt_graph.specs.Groups.{groups_of}
 use Rattle.kt_graph.specs.Node.{Node, all_inputs, inputs_of, order_only_of}
-use Rattle.kt_graph.specs.Known.{known_names}
 use Rattle.kt_graph.specs.Paths.{always_name, canon_of, is_reserved}
 use Rattle.kt_graph.specs.Reach.{HasEdge, IsInGroup, IsMade, IsReached, Leads}
 use Rattle.kt_graph.proofs.MadeLemmas.{input_reached}
@@ -23,12 +24,11 @@ use Rattle.kt_ninja.specs.Plan.{outputs}
 use Rattle.kt_ninja.specs.declared.plan.Plan.{Plan}
 use Rattle.kt_ninja.specs.declared.plan.Statement.{Statement}
 use Rattle.kt_ninja.specs.Writable.{IsWritable}
-use Rattle.kati.specs.Course.{ComesTo}
 use Rattle.kati.specs.Exact.{IsAlwaysBuilt, IsOfGroup, TellsGraph}
-use Rattle.kati.specs.Makefile.{Read}
-use Rattle.kati.specs.Meaning.{MeansGoals}
+use Rattle.kati.specs.Meaning.{Wanted}
 use Rattle.kati.specs.Planned.{always_build, implicit_of, joined_inputs, joined_order_only, outs_of, statement_of}
 use Rattle.kati.specs.Sound.{IsNamed, IsSoundPlan, NeedsInput, NeedsItself, PlansAreSound}
+use Rattle.kati.specs.inner.Views.{GoalsEnd}
 use Rattle.kati.proofs.ExactLemmas.{are_graphs, goals_told, of_group}
 use Rattle.kati.proofs.MeaningLemmas.{meant}
 use Rattle.kati.proofs.PlanLemmas.{always_reserved, from_flat, in_nodes, law, name_in, node_is, outs_in, to_flat}
@@ -239,13 +239,13 @@ module _ (read : Read) (limit : ℕ) (known goals : List Text) (plan : Plan) (te
 pub are_sound : PlansAreSound
 are_sound args store asked m plan means ok =
     let graph = are_graphs args store asked m plan means ok in
-    sound_plan graph.read args.limit (known_names graph.read.book graph.list) graph.goals plan graph.tells
+    sound_plan graph.want.read args.limit graph.want.known graph.want.goals plan graph.tells
 
 -- ---- the plan that a call returns
 
-pub sound_if_ok : (limit : ℕ) (read : Read) (known said goals messages : List Text) (result : Result Plan Stop)
-    → ComesTo result (λ r. MeansGoals limit read known said [] goals (meant messages [] r))
+pub sound_if_ok : (limit : ℕ) (want : Wanted) (trace : Trace) (result : Result Plan Stop) (left : Trace)
+    → Ends (GoalsEnd limit want) trace (λ (plan : Plan). plan) result left
     → IfOk result IsWritable → IfOk result IsSoundPlan
-sound_if_ok limit read known said goals messages (Ok plan) means fine =
-    sound_plan read limit known goals plan (goals_told limit read known said [] goals (meant messages [] (Ok plan)) plan refl fine means)
-sound_if_ok limit read known said goals messages (Err stop) means fine = tt
+sound_if_ok limit want trace (Ok plan) left means fine =
+    sound_plan want.read limit want.known want.goals plan (goals_told limit want trace (meant left.said left.asked (Ok plan)) plan refl fine means)
+sound_if_ok limit want trace (Err stop) left means fine = tt

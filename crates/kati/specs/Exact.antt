@@ -1,32 +1,28 @@
 -- What the statements of a plan are: the graph of what the goals need, and nothing else (kati's own; Ninja manual,
 -- "Build statements").
-use Rattle.std.specs.Prelude.{◌≡◌, ◌⊎◌, ℕ, true, List, Option, Ok}
+use Rattle.std.specs.Prelude.{◌≡◌, ◌⊎◌, ℕ, true, List, [], Option, Ok}
 use Rattle.std.specs.List.{Contains, list_any}
 use Rattle.kt_text.specs.Words.{Text}
 use Rattle.kt_eval.specs.Files.{Store}
+use Rattle.kt_eval.specs.Machines.{Read, Trace, traced}
+use Rattle.kt_eval.specs.Outcome.{Gave}
 use Rattle.kt_eval.specs.Table.{Table}
 use Rattle.kt_graph.specs.Faults.{IsSoundGraph}
 use Rattle.kt_graph.specs.Groups.{groups_of}
-use Rattle.kt_graph.specs.Known.{known_names}
 use Rattle.kt_graph.specs.Node.{Node}
 use Rattle.kt_graph.specs.Reach.{IsMade}
 use Rattle.kt_ninja.specs.Plan.{outputs}
 use Rattle.kt_ninja.specs.declared.plan.Plan.{Plan}
 use Rattle.kt_ninja.specs.declared.plan.Statement.{Statement}
-use Rattle.kt_recipe.specs.Shell.{goes_on}
 use Rattle.kati_args.specs.declared.args.Args.{Args}
-use Rattle.kati.specs.Chosen.{chosen_goals}
-use Rattle.kati.specs.Course.{on_course}
-use Rattle.kati.specs.Listing.{listed}
-use Rattle.kati.specs.Makefile.{Read, makefile_read}
-use Rattle.kati.specs.Meaning.{Meaning, Means}
+use Rattle.kati.specs.Meaning.{Meaning, Means, Wanted, prepared}
 use Rattle.kati.specs.Planned.{always_build, always_built, command_for, has_implicit, statement_of}
 
 -- the command of a group's least member, whatever messages came before it
 pub record IsCommandOf (table : Table) (limit : ℕ) (group : List Node) (command : Option Text) : Type 0 where
   pub said : List Text
   pub heard : List Text
-  pub expanded : command_for table limit group said ≡ goes_on heard command
+  pub expanded : command_for table limit group said ≡ Gave heard command
 
 -- a statement has the outputs, the inputs, the order-only inputs and the command of one of the groups
 pub record IsOfGroup (read : Read) (limit : ℕ) (groups : List (List Node)) (statement : Statement) : Type 0 where
@@ -59,21 +55,12 @@ pub record TellsGraph (read : Read) (limit : ℕ) (known goals : List Text) (pla
       → IsOfGroup read limit (groups_of nodes) statement ⊎ IsAlwaysBuilt plan.statements statement
   pub defaults : plan.defaults ≡ goals
 
--- the graph is that of the goals, by the makefile, the list and the arguments
+-- the graph is that of the goals, by the list, the makefile and the arguments
 pub record IsGraphOf (args : Args) (store : Store) (asked : List Text) (plan : Plan) : Type 0 where
-  pub list : Text
-  pub before_list : List Text
-  pub after_list : List Text
-  pub is_listed : listed store asked args.files ≡ on_course before_list after_list list
-  pub read : Read
-  pub told : List Text
-  pub names : List Text
-  pub is_read : makefile_read args store after_list ≡ on_course told names read
-  pub goals : List Text
-  pub heard : List Text
-  pub same_names : List Text
-  pub is_chosen : chosen_goals args.limit read told names args.goals ≡ on_course heard same_names goals
-  pub tells : TellsGraph read args.limit (known_names read.book list) goals plan
+  pub want : Wanted
+  pub trace : Trace
+  pub is_prepared : prepared args store (traced [] asked) ≡ Gave trace want
+  pub tells : TellsGraph want.read args.limit want.known want.goals plan
 
 -- each plan that a run means is just that graph
 abbrev pub PlansAreGraphs : Type 0

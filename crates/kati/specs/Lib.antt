@@ -1,4 +1,4 @@
-pub mod Course
+pub mod Steps
 pub mod Listing
 pub mod Makefile
 pub mod Chosen

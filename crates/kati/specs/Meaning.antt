@@ -1,8 +1,10 @@
 -- What a run means: its messages, its plan or its first fault, and the names that it asks for (kati's own).
-use Rattle.std.specs.Prelude.{◌≡◌, ℕ, List, Some, None, ◌⊎◌, Result, Ok, Err}
+use Rattle.std.specs.Prelude.{◌≡◌, ℕ, List, [], Some, None, ◌⊎◌, Result, Ok, Err}
 use Rattle.kt_text.specs.Words.{Text}
 use Rattle.kt_eval.specs.declared.fault.Fault.{Fault}
 use Rattle.kt_eval.specs.Files.{Store}
+use Rattle.kt_eval.specs.Machines.{Read, Trace, traced}
+use Rattle.kt_eval.specs.Outcome.{Outcome, Gave, Stopped, StepOver, ◌>>=◌, done}
 use Rattle.kt_eval.specs.Step.{fault_at}
 use Rattle.kt_graph.specs.Known.{known_names}
 use Rattle.kt_graph.specs.Node.{Node}
@@ -10,11 +12,11 @@ use Rattle.kt_graph.specs.Reach.{Trouble, ComesFirst}
 use Rattle.kt_graph.specs.Faults.{IsSoundGraph, fault_number, fault_words}
 use Rattle.kt_ninja.specs.declared.plan.Plan.{Plan}
 use Rattle.kati_args.specs.declared.args.Args.{Args}
-use Rattle.kati.specs.Course.{Course, on_course, off_course}
+use Rattle.kati.specs.Steps.{telling}
 use Rattle.kati.specs.Listing.{listed}
-use Rattle.kati.specs.Makefile.{Read, makefile_read}
+use Rattle.kati.specs.Makefile.{makefile_read}
 use Rattle.kati.specs.Chosen.{chosen_goals}
-use Rattle.kati.specs.Planned.{plan_course}
+use Rattle.kati.specs.Planned.{planned}
 
 -- the names asked for are those that were before the run, and its own
 pub record Meaning : Type 0 where
@@ -22,43 +24,51 @@ pub record Meaning : Type 0 where
   pub result : Result Plan Fault
   pub asked : List Text
 
--- a course that goes on means what comes after it; one that ends at a fault means that fault, with the messages and
--- names before it
-abbrev pub EndsAs : {A : Type 0} → Course A → (List Text → List Text → A → Meaning → Type 0) → Meaning → Type 0
-EndsAs (on_course said asked value) Next m = Next said asked value m
-EndsAs (off_course said asked fault) Next m = m ≡ record { messages = said; result = Err fault; asked = asked }
+abbrev pub meaning_of : Outcome Trace Plan → Meaning
+meaning_of (Gave trace plan) = record { messages = trace.said; result = Ok plan; asked = trace.asked }
+meaning_of (Stopped trace fault) = record { messages = trace.said; result = Err fault; asked = trace.asked }
 
--- a course to a plan
-abbrev pub meaning_of : Course Plan → Meaning
-meaning_of (on_course said asked plan) = record { messages = said; result = Ok plan; asked = asked }
-meaning_of (off_course said asked fault) = record { messages = said; result = Err fault; asked = asked }
+-- ---- first the files are listed, the makefile is read, and the goals are chosen
 
--- nothing is wrong with what the goals need, which has this plan
-pub record MeansPlan (limit : ℕ) (read : Read) (known said asked goals : List Text) (m : Meaning) : Type 0 where
+-- what is to be made, by which makefile, where these names are known
+pub record Wanted : Type 0 where
+  pub read : Read
+  pub known : List Text
+  pub goals : List Text
+
+abbrev pub wanted_by : Args → Text → Read → StepOver (List Text) Wanted
+wanted_by args list read = do
+  goals ← chosen_goals args.limit read args.goals
+  done (record { read = read; known = known_names read.book list; goals = goals })
+
+abbrev pub prepared : Args → Store → StepOver Trace Wanted
+prepared args store = do
+  list ← listed store args.files
+  read ← makefile_read args store
+  telling (wanted_by args list read)
+
+-- ---- then there is the plan of the graph that the goals need, or what comes first of what is wrong with it
+
+pub record MeansPlan (limit : ℕ) (want : Wanted) (trace : Trace) (m : Meaning) : Type 0 where
   pub nodes : List Node
-  pub graph : IsSoundGraph read.book known goals nodes
-  pub means : m ≡ meaning_of (plan_course read.book read.table limit goals nodes said asked)
+  pub graph : IsSoundGraph want.read.book want.known want.goals nodes
+  pub means : m ≡ meaning_of (telling (planned want.read.book want.read.table limit want.goals nodes) trace)
 
--- or what comes first of what is wrong with it
-pub record MeansTrouble (read : Read) (known said asked goals : List Text) (m : Meaning) : Type 0 where
+pub record MeansTrouble (want : Wanted) (trace : Trace) (m : Meaning) : Type 0 where
   pub trouble : Trouble
-  pub first : ComesFirst read.book known goals (Some trouble)
-  pub means : m ≡ meaning_of (off_course said asked (fault_at None (fault_number trouble) (fault_words trouble)))
+  pub first : ComesFirst want.read.book want.known want.goals (Some trouble)
+  pub means : m ≡ meaning_of (Stopped trace (fault_at None (fault_number trouble) (fault_words trouble)))
 
-abbrev pub MeansGoals : ℕ → Read → List Text → List Text → List Text → List Text → Meaning → Type 0
-MeansGoals limit read known said asked goals m =
-    MeansPlan limit read known said asked goals m ⊎ MeansTrouble read known said asked goals m
+abbrev pub MeansGoals : ℕ → Wanted → Trace → Meaning → Type 0
+MeansGoals limit want trace m = MeansPlan limit want trace m ⊎ MeansTrouble want trace m
 
--- ---- the whole: the list of files, the makefile, the goals, and what they need
+-- ---- the whole
 
-abbrev pub MeansRead : Args → Text → List Text → List Text → Read → Meaning → Type 0
-MeansRead args list said asked read m =
-    EndsAs (chosen_goals args.limit read said asked args.goals)
-    (MeansGoals args.limit read (known_names read.book list)) m
-
-abbrev pub MeansListed : Args → Store → List Text → List Text → Text → Meaning → Type 0
-MeansListed args store said asked list m = EndsAs (makefile_read args store asked) (MeansRead args list) m
+-- steps that came to what is wanted mean what that means, and those that stopped mean their fault
+abbrev pub MeansAfter : ℕ → Outcome Trace Wanted → Meaning → Type 0
+MeansAfter limit (Gave trace want) m = MeansGoals limit want trace m
+MeansAfter limit (Stopped trace fault) m = m ≡ meaning_of (Stopped trace fault)
 
 -- by these arguments over these files, after these names were asked for
 abbrev pub Means : Args → Store → List Text → Meaning → Type 0
-Means args store asked m = EndsAs (listed store asked args.files) (MeansListed args store) m
+Means args store asked m = MeansAfter args.limit (prepared args store (traced [] asked)) m

@@ -10,18 +10,19 @@ use Rattle.kt_rules.specs.Entry.{Rule}
 use Rattle.kt_rules.specs.Book.{is_phony}
 use Rattle.kt_eval.specs.declared.fault.Fault.{Fault}
 use Rattle.kt_rules.specs.declared.fault_kind.FaultKind.TheVariants.{CommandNotWritable, NameNotWritable}
+use Rattle.kt_eval.specs.Outcome.{StepOver, ◌>>=◌, done, stop_at}
 use Rattle.kt_eval.specs.Table.{Table}
 use Rattle.kt_graph.specs.Node.{Node, inputs_of, order_only_of}
 use Rattle.kt_graph.specs.Groups.{groups_of}
 use Rattle.kt_graph.specs.Paths.{always_name}
-use Rattle.kt_recipe.specs.Shell.{Progress, goes_on, ends, shell_of}
+use Rattle.kt_recipe.specs.Shell.{shell_of}
 use Rattle.kt_ninja.specs.declared.plan.Made.{Made}
 use Rattle.kt_ninja.specs.declared.plan.Made.TheVariants.{Command, Phony}
 use Rattle.kt_ninja.specs.declared.plan.Statement.{Statement}
 use Rattle.kt_ninja.specs.declared.plan.Plan.{Plan}
 use Rattle.kt_ninja.specs.Writable.{Trouble, is_empty, no_output, bad_name, bad_command, repeated, not_an_output}
 use Rattle.kt_ninja.specs.Writable.{trouble_of_statements}
-use Rattle.kati.specs.Course.{Course, on_course, off_course, fault_nowhere}
+use Rattle.kati.specs.Steps.{fault_nowhere}
 
 -- the target that is never there, so that what needs it is always made
 abbrev pub always_build : Text
@@ -63,25 +64,18 @@ statement_of rules group command = record {
 
 -- ---- statements one after another
 
--- the messages and the statements so far, or the messages up to the fault of a recipe
-pub data Planning : Type 0 where
-  planned : (said : List Text) (statements : List Statement) → Planning
-  at_fault : (said : List Text) (fault : Fault) → Planning
-
 -- the command is that of the least member, which stands first
-abbrev pub command_for : Table → ℕ → List Node → List Text → Progress
-command_for table limit [] said = goes_on said None
-command_for table limit (least ∷ others) said = shell_of table limit least said
+abbrev pub command_for : Table → ℕ → List Node → StepOver (List Text) (Option Text)
+command_for table limit [] = done None
+command_for table limit (least ∷ others) = shell_of table limit least
 
-abbrev pub after_command : Progress → (List Text → Option Text → Planning) → Planning
-after_command (goes_on said command) next = next said command
-after_command (ends said fault) next = at_fault said fault
-
-unfoldable pub plan_groups : List Rule → Table → ℕ → List (List Node) → List Text → List Statement → Planning
-plan_groups rules table limit [] said before = planned said before
-plan_groups rules table limit (group ∷ groups) said before =
-    after_command (command_for table limit group said)
-    (λ heard command. plan_groups rules table limit groups heard (before ++ statement_of rules group command ∷ []))
+-- one for each group, after these
+unfoldable pub plan_groups : List Rule → Table → ℕ → List (List Node) → List Statement
+    → StepOver (List Text) (List Statement)
+plan_groups rules table limit [] before = done before
+plan_groups rules table limit (group ∷ groups) before = do
+  command ← command_for table limit group
+  plan_groups rules table limit groups (before ++ statement_of rules group command ∷ [])
 
 -- ---- the plan
 
@@ -120,20 +114,17 @@ text_fault statements (not_an_output name) = None
 unfoldable pub unwritable_in : List Statement → Option Fault
 unwritable_in statements = option_and_then (text_fault statements) (trouble_of_statements 0 statements)
 
-abbrev pub plan_unless : List Text → List Text → Plan → Option Fault → Course Plan
-plan_unless said asked plan None = on_course said asked plan
-plan_unless said asked plan (Some fault) = off_course said asked fault
+abbrev pub plan_unless : Plan → Option Fault → StepOver (List Text) Plan
+plan_unless plan None = done plan
+plan_unless plan (Some fault) = stop_at fault
 
-unfoldable pub written : List Text → List Text → Plan → Course Plan
-written said asked plan = plan_unless said asked plan (unwritable_in plan.statements)
+unfoldable pub written : Plan → StepOver (List Text) Plan
+written plan = plan_unless plan (unwritable_in plan.statements)
 
 -- ---- the whole
 
-abbrev pub course_of_plan : List Text → List Text → Planning → Course Plan
-course_of_plan goals asked (planned said statements) = written said asked (plan_of statements goals)
-course_of_plan goals asked (at_fault said fault) = off_course said asked fault
-
--- the plan of these nodes, which goals need; the messages and the names asked for are those before it
-unfoldable pub plan_course : List Rule → Table → ℕ → List Text → List Node → List Text → List Text → Course Plan
-plan_course rules table limit goals nodes said asked =
-    course_of_plan goals asked (plan_groups rules table limit (groups_of nodes) said [])
+-- the plan of these nodes, which goals need
+unfoldable pub planned : List Rule → Table → ℕ → List Text → List Node → StepOver (List Text) Plan
+planned rules table limit goals nodes = do
+  statements ← plan_groups rules table limit (groups_of nodes) []
+  written (plan_of statements goals)

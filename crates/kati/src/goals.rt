@@ -1,11 +1,11 @@
 //! What is to be made.
-ghost use Rattle.std.specs.Prelude.{◌≡◌, ◌∷◌, [], List, IfOk, None};
+ghost use Rattle.std.specs.Prelude.{[], List};
 ghost use Rattle.kt_text.specs.Words.{Text};
-ghost use Rattle.kt_eval.specs.Step.{Ends};
+ghost use Rattle.kt_eval.specs.Outcome.{AsksNothing, Gives};
+ghost use Rattle.kt_eval.specs.Pure.{Says};
 ghost use Rattle.kt_graph.specs.Goals.{default_goals};
 ghost use Rattle.kati.specs.Chosen.{chosen_goals, default_goal_text, goals_or_none};
-ghost use Rattle.kati.specs.Course.{Computes};
-ghost use Rattle.kati.specs.inner.Views.{read_of};
+ghost use Rattle.kati.specs.inner.Views.{read_told};
 
 use crate::reading::Makefile;
 use crate::words::stop_on;
@@ -23,8 +23,9 @@ pub(crate) fn chosen_goals(
     makefile: &Makefile,
     messages: &mut Vec<Sequence<u8>>,
 ) -> Result<Vec<Name>, Stop>
-    ensures { (asked : List Text) → Computes (λ v. v.items) result messages.new.items asked
-        (chosen_goals limit (read_of makefile.now) messages.old.items asked goals.now) }
+    ensures gives { Gives (λ v. v.items) result messages.new.items
+        (chosen_goals limit (read_told makefile.now) goals.now messages.old.items) }
+    ensures asks_nothing { AsksNothing result }
 {
     if goals.is_empty() {
         default_goals(alloc, limit, makefile, messages)
@@ -39,8 +40,9 @@ fn default_goals(
     makefile: &Makefile,
     messages: &mut Vec<Sequence<u8>>,
 ) -> Result<Vec<Name>, Stop>
-    ensures { (asked : List Text) → Computes (λ v. v.items) result messages.new.items asked
-        (chosen_goals limit (read_of makefile.now) messages.old.items asked []) }
+    ensures gives { Gives (λ v. v.items) result messages.new.items
+        (chosen_goals limit (read_told makefile.now) [] messages.old.items) }
+    ensures asks_nothing { AsksNothing result }
 {
     let text = default_goal_text(alloc, &makefile.macros, limit, messages)?;
     one_goal(alloc, &makefile.book, text.as_slice())
@@ -54,7 +56,7 @@ fn default_goal_text(
     limit: u64,
     messages: &mut Vec<Sequence<u8>>,
 ) -> Result<Vec<u8>, Stop>
-    ensures { Ends result messages.new.items (default_goal_text limit macros.now messages.old.items) }
+    ensures { Says (λ v. v.items) (default_goal_text limit macros.now) result messages.old.items messages.new.items }
 {
     macros.expand_pure(
         alloc,
@@ -68,8 +70,9 @@ fn default_goal_text(
 
 // The goal that a text names, or else the first target.
 fn one_goal(alloc: Global, book: &Book, text: &[u8]) -> Result<Vec<Name>, Stop>
-    ensures { (said asked : List Text)
-        → Computes (λ v. v.items) result said asked (goals_or_none said asked (default_goals book.now text.now)) }
+    ensures gives { (said : List Text)
+        → Gives (λ v. v.items) result said (goals_or_none (default_goals book.now text.now) said) }
+    ensures asks_nothing { AsksNothing result }
 {
     match default_goal(alloc, book, text)? {
         Some(goal) => Ok(vec![in alloc; goal]?),

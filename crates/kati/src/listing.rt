@@ -1,10 +1,9 @@
 //! The list of files that exist.
-ghost use Rattle.std.specs.Prelude.{◌≡◌, List, [], option_map, IfOk, IfSome, Some};
-ghost use Rattle.kt_text.specs.Words.{Text};
+ghost use Rattle.std.specs.Prelude.{◌≡◌, [], option_map, IfOk, IfSome, Some};
 ghost use Rattle.kt_eval.specs.Fronts.{IsFront};
+ghost use Rattle.kt_eval.specs.Machines.{Trace, traced};
+ghost use Rattle.kt_eval.specs.Outcome.{AsksNothing, Gives, left_of};
 ghost use Rattle.kt_eval.specs.Step.{Blames};
-ghost use Rattle.kati.specs.Asked.{names_of};
-ghost use Rattle.kati.specs.Course.{Computes, Follows};
 ghost use Rattle.kati.specs.Listing.{list_in, listed, nul_fault};
 ghost use Rattle.kati.specs.inner.Stops.{IsFaultOf};
 
@@ -25,10 +24,10 @@ pub(crate) fn listed<F: Files>(
     name: &Option<Word>,
     files: &mut F,
 ) -> Result<Vec<u8>, Stop>
-    ensures means { IfSome (F.known files.old) (λ store. Follows (λ v. v.items) result [] (F.names files.new)
-        (listed store (F.names files.old) name.now)) }
+    ensures gives { IfSome (F.known files.old) (λ store. Gives (λ v. v.items) result (traced [] (F.names files.new))
+        (listed store name.now (traced [] (F.names files.old)))) }
     ensures asked { IfSome (F.known files.old)
-        (λ store. IsFront (F.names files.new) (names_of (listed store (F.names files.old) name.now))) }
+        (λ store. IsFront (F.names files.new) (left_of (listed store name.now (traced [] (F.names files.old)))).asked) }
     ensures keeps { F.known files.new ≡ F.known files.old }
     ensures blames { Blames result (F.failed files.old) (F.failed files.new) (F.names files.new) }
 {
@@ -39,10 +38,10 @@ pub(crate) fn listed<F: Files>(
 }
 
 fn read_list<F: Files>(alloc: Global, name: &str, files: &mut F) -> Result<Vec<u8>, Stop>
-    ensures means { IfSome (F.known files.old) (λ store. Follows (λ v. v.items) result [] (F.names files.new)
-        (listed store (F.names files.old) (Some name.now))) }
-    ensures asked { IfSome (F.known files.old)
-        (λ store. IsFront (F.names files.new) (names_of (listed store (F.names files.old) (Some name.now)))) }
+    ensures gives { IfSome (F.known files.old) (λ store. Gives (λ v. v.items) result (traced [] (F.names files.new))
+        (listed store (Some name.now) (traced [] (F.names files.old)))) }
+    ensures asked { IfSome (F.known files.old) (λ store. IsFront (F.names files.new)
+        (left_of (listed store (Some name.now) (traced [] (F.names files.old)))).asked) }
     ensures keeps { F.known files.new ≡ F.known files.old }
     ensures blames { Blames result (F.failed files.old) (F.failed files.new) (F.names files.new) }
 {
@@ -57,8 +56,9 @@ fn read_list<F: Files>(alloc: Global, name: &str, files: &mut F) -> Result<Vec<u
 
 // The text of a list that was looked for.
 fn list_in(alloc: Global, name: &str, found: Option<Vec<u8>>) -> Result<Vec<u8>, Stop>
-    ensures { (asked : List Text) → Computes
-        (λ v. v.items) result [] asked (list_in name.now asked (option_map (λ v. v.items) found)) }
+    ensures gives { (trace : Trace) → Gives (λ v. v.items) result trace
+        (list_in name.now (option_map (λ v. v.items) found) trace) }
+    ensures asks_nothing { AsksNothing result }
 {
     match found {
         Some(text) => checked(alloc, name, text),
@@ -67,7 +67,8 @@ fn list_in(alloc: Global, name: &str, found: Option<Vec<u8>>) -> Result<Vec<u8>,
 }
 
 fn checked(alloc: Global, name: &str, text: Vec<u8>) -> Result<Vec<u8>, Stop>
-    ensures { (asked : List Text) → Computes (λ v. v.items) result [] asked (list_in name.now asked (Some text.items)) }
+    ensures gives { (trace : Trace) → Gives (λ v. v.items) result trace (list_in name.now (Some text.items) trace) }
+    ensures asks_nothing { AsksNothing result }
 {
     if text.len() > MOST_BYTES {
         let name = name.as_bytes();

@@ -5,13 +5,11 @@ ghost use Rattle.kt_text.specs.Words.{Text};
 ghost use Rattle.kt_eval.specs.declared.fault.Fault.{Fault as FaultType};
 ghost use Rattle.kt_graph.specs.Faults.{IsSoundGraph};
 ghost use Rattle.kt_ninja.specs.Writable.{HasWritableTexts, IsWritable, told_trouble};
-ghost use Rattle.kt_recipe.specs.Views.{Tells};
-ghost use Rattle.kati.specs.Course.{Computes};
-ghost use Rattle.kati.specs.Planned.{after_command, command_for, first_output, has_implicit, least_output, plan_course};
-ghost use Rattle.kati.specs.Planned.{plan_groups, plan_of, planned, statement_of, text_fault, unwritable_in};
-ghost use Rattle.kati.specs.Planned.{with_always_built, written};
+ghost use Rattle.kt_eval.specs.Outcome.{AsksNothing, Gives, done, then_do};
+ghost use Rattle.kati.specs.Planned.{command_for, first_output, has_implicit, least_output, plan_groups, plan_of};
+ghost use Rattle.kati.specs.Planned.{planned, statement_of, text_fault, unwritable_in, with_always_built, written};
 ghost use Rattle.kati.specs.inner.Stops.{IsFaultOf};
-ghost use Rattle.kati.specs.inner.Views.{Plans, is_text_trouble};
+ghost use Rattle.kati.specs.inner.Views.{is_text_trouble};
 
 use crate::reading::Makefile;
 use crate::statements::{always_built, statement_of};
@@ -25,7 +23,7 @@ use kt_rules::{FaultKind, Name};
 use std::alloc::{AllocError, Global};
 
 /// A statement for each group, in order, and before them that of what is always built.
-#[tactic(auto, unfolding(crate::specs::Planned::plan_course))]
+#[tactic(auto, unfolding(crate::specs::Planned::planned))]
 pub(crate) fn plan(
     alloc: Global,
     makefile: &Makefile,
@@ -34,8 +32,9 @@ pub(crate) fn plan(
     goals: Vec<Name>,
     messages: &mut Vec<Sequence<u8>>,
 ) -> Result<Plan, Stop>
-    ensures means { (asked : List Text) → Computes (λ plan. plan) result messages.new.items asked
-        (plan_course makefile.now.book makefile.now.macros limit goals.items graph.now messages.old.items asked) }
+    ensures gives { Gives (λ plan. plan) result messages.new.items
+        (planned makefile.now.book makefile.now.macros limit goals.items graph.now messages.old.items) }
+    ensures asks_nothing { AsksNothing result }
     ensures writable { (known : List Text) → IsSoundGraph makefile.now.book known goals.items graph.now
         → IfOk result IsWritable }
 {
@@ -52,9 +51,10 @@ fn statements(
     groups: &[Vec<Node>],
     messages: &mut Vec<Sequence<u8>>,
 ) -> Result<Vec<Statement>, Stop>
-    ensures { Plans (λ v. v.items) result messages.new.items
-        (plan_groups makefile.now.book makefile.now.macros limit (map
-        (λ group. group.items) groups.now) messages.old.items []) }
+    ensures gives { Gives (λ v. v.items) result messages.new.items
+        (plan_groups makefile.now.book makefile.now.macros limit (map (λ group. group.items) groups.now) []
+        messages.old.items) }
+    ensures asks_nothing { AsksNothing result }
 {
     let mut statements = Vec::new(alloc);
     for group in groups {
@@ -79,10 +79,10 @@ fn add(
     statements: &mut Vec<Statement>,
     messages: &mut Vec<Sequence<u8>>,
 ) -> Result<(), Stop>
-    ensures { Plans (λ _. statements.new.items) result messages.new.items
-        (after_command (command_for makefile.now.macros limit group.now messages.old.items)
-        (λ heard command. planned heard (statements.old.items
-        ++ statement_of makefile.now.book group.now command ∷ []))) }
+    ensures gives { Gives (λ _. statements.new.items) result messages.new.items
+        (then_do (command_for makefile.now.macros limit group.now messages.old.items)
+        (λ command. done (statements.old.items ++ statement_of makefile.now.book group.now command ∷ []))) }
+    ensures asks_nothing { AsksNothing result }
 {
     let command = command_for(alloc, &makefile.macros, limit, group, messages)?;
     statements.push(statement_of(alloc, &makefile.book, group, command)?)?;
@@ -97,8 +97,9 @@ fn command_for(
     group: &[Node],
     messages: &mut Vec<Sequence<u8>>,
 ) -> Result<Option<Vec<u8>>, Stop>
-    ensures { Tells (option_map (λ text. text.items)) result messages.new.items
+    ensures gives { Gives (option_map (λ text. text.items)) result messages.new.items
         (command_for macros.now limit group.now messages.old.items) }
+    ensures asks_nothing { AsksNothing result }
 {
     match group {
         [least, ..] => command(alloc, macros, least, messages, limit),
@@ -144,7 +145,8 @@ fn needs_more(statement: &Statement) -> bool
 // The plan, unless a name or a command of it can't be written.
 #[tactic(auto, unfolding(crate::specs::Planned::written))]
 fn written(alloc: Global, plan: Plan) -> Result<Plan, Stop>
-    ensures means { (said asked : List Text) → Computes (λ plan. plan) result said asked (written said asked plan) }
+    ensures gives { (said : List Text) → Gives (λ plan. plan) result said (written plan said) }
+    ensures asks_nothing { AsksNothing result }
     ensures same { IfOk result (λ again. again ≡ plan) }
     ensures texts { IfOk result HasWritableTexts }
 {

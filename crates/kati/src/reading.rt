@@ -1,13 +1,13 @@
 //! The makefile, with the macros of the command line.
-ghost use Rattle.std.specs.Prelude.{◌≡◌, ℕ, List, IfOk, IfSome, None, OnOk};
+ghost use Rattle.std.specs.Prelude.{◌≡◌, ℕ, List, [], IfOk, IfSome, None, OnOk};
 ghost use Rattle.kt_text.specs.Words.{Text};
-ghost use Rattle.kt_eval.specs.Machines.{Ending, Reads, nothing_read, reading};
+ghost use Rattle.kt_eval.specs.Machines.{ComesBefore, Read, Trace, nothing_read, read_by, read_of, reading_by, traced};
+ghost use Rattle.kt_eval.specs.Machines.{traced_by};
 ghost use Rattle.kt_eval.specs.Fronts.{IsFront};
+ghost use Rattle.kt_eval.specs.Outcome.{Gives, IfCut, Outcome, left_of};
 ghost use Rattle.kt_eval.specs.Step.{Blames};
-ghost use Rattle.kati.specs.Asked.{names_of};
-ghost use Rattle.kati.specs.Course.{Follows};
-ghost use Rattle.kati.specs.Makefile.{command_line_table, course_of_reading, makefile_names, makefile_read, with_macro};
-ghost use Rattle.kati.specs.inner.Views.{read_of};
+ghost use Rattle.kati.specs.Makefile.{command_line_table, makefile_names, makefile_read, with_macro};
+ghost use Rattle.kati.specs.inner.Views.{read_told};
 
 use kati_args::{Args, Macro as Definition, Word};
 use kt_eval::{Files, Flavour, Machine, Macro, Macros, Origin, Reading, Stop};
@@ -28,10 +28,10 @@ pub(crate) fn makefile_read<F: Files>(
     args: &Args,
     files: &mut F,
 ) -> (Vec<Sequence<u8>>, Result<Makefile, Stop>)
-    ensures means { IfSome (F.known files.old) (λ store. Follows read_of result.1 result.0.items (F.names files.new)
-        (makefile_read args.now store (F.names files.old))) }
-    ensures asked { IfSome (F.known files.old)
-        (λ store. IsFront (F.names files.new) (names_of (makefile_read args.now store (F.names files.old)))) }
+    ensures gives { IfSome (F.known files.old) (λ store. Gives read_told result.1
+        (traced result.0.items (F.names files.new)) (makefile_read args.now store (traced [] (F.names files.old)))) }
+    ensures asked { IfSome (F.known files.old) (λ store. IsFront (F.names files.new)
+        (left_of (makefile_read args.now store (traced [] (F.names files.old)))).asked) }
     ensures keeps { F.known files.new ≡ F.known files.old }
     ensures blames { Blames result.1 (F.failed files.old) (F.failed files.new) (F.names files.new) }
 {
@@ -78,15 +78,11 @@ fn read<F: Files>(
     name: &Option<Word>,
     files: &mut F,
 ) -> (Vec<Sequence<u8>>, Result<Makefile, Stop>)
-    ensures reads { machine.refusal ≡ None
-        → IfSome (F.known files.old) (λ store. Follows read_of result.1 result.0.items (F.names files.new)
-        (course_of_reading (reading store (makefile_names name.now) machine.limit machine.table
-        machine.book machine.said
-        (F.names files.old)))) }
-    ensures asked { machine.refusal ≡ None
-        → IfSome (F.known files.old) (λ store. IsFront (F.names files.new) (names_of (course_of_reading
-        (reading store (makefile_names name.now) machine.limit machine.table machine.book machine.said
-        (F.names files.old))))) }
+    ensures reads { machine.refusal ≡ None → IfSome (F.known files.old) (λ store. Gives read_told result.1
+        (traced result.0.items (F.names files.new))
+        (reading_by store (makefile_names name.now) machine (F.names files.old))) }
+    ensures asked { machine.refusal ≡ None → IfSome (F.known files.old) (λ store. IsFront (F.names files.new)
+        (left_of (reading_by store (makefile_names name.now) machine (F.names files.old))).asked) }
     ensures keeps { F.known files.new ≡ F.known files.old }
     ensures blames { machine.refusal ≡ None
         → Blames result.1 (F.failed files.old) (F.failed files.new) (F.names files.new) }
@@ -102,11 +98,12 @@ fn read_by_name<F: Files>(
     name: &Option<Word>,
     files: &mut F,
 ) -> Result<(), Stop>
-    ensures reads { machine.old.refusal ≡ None
-        → IfSome (F.known files.old) (λ store. Reads result machine.new.table machine.new.book machine.new.said
-        (F.names files.new)
-        (reading store (makefile_names name.now) machine.old.limit machine.old.table machine.old.book machine.old.said
-        (F.names files.old))) }
+    ensures reads { machine.old.refusal ≡ None → IfSome (F.known files.old) (λ store. Gives (λ _. read_by machine.new)
+        result (traced_by machine.new (F.names files.new))
+        (reading_by store (makefile_names name.now) machine.old (F.names files.old))) }
+    ensures cut { machine.old.refusal ≡ None → IfSome (F.known files.old) (λ store. IfCut result
+        (ComesBefore (traced_by machine.new (F.names files.new))
+        (left_of (reading_by store (makefile_names name.now) machine.old (F.names files.old))))) }
     ensures keeps { F.known files.new ≡ F.known files.old }
     ensures blames { machine.old.refusal ≡ None
         → Blames result (F.failed files.old) (F.failed files.new) (F.names files.new) }
@@ -122,9 +119,9 @@ fn told_and_read(
     ended: Result<(), Stop>,
     reading: Reading,
 ) -> (Vec<Sequence<u8>>, Result<Makefile, Stop>)
-    ensures follows { (asked : List Text) (ending : Ending)
-        → Reads ended reading.macros reading.book reading.messages asked ending
-        → Follows read_of result.1 result.0.items asked (course_of_reading ending) }
+    ensures gives { (asked : List Text) (end : Outcome Trace Read)
+        → Gives (λ _. read_of reading.macros reading.book) ended (traced reading.messages asked) end
+        → Gives read_told result.1 (traced result.0.items asked) end }
     ensures blames { (old new : ℕ) (asked : List Text) → Blames ended old new asked → Blames result.1 old new asked }
 {
     let Reading {
@@ -136,8 +133,8 @@ fn told_and_read(
 }
 
 fn makefile_if(ended: Result<(), Stop>, macros: Macros, book: Book) -> Result<Makefile, Stop>
-    ensures follows { (said asked : List Text) (ending : Ending) → Reads ended macros book said asked ending
-        → Follows read_of result said asked (course_of_reading ending) }
+    ensures gives { (trace : Trace) (end : Outcome Trace Read) → Gives (λ _. read_of macros book) ended trace end
+        → Gives read_told result trace end }
     ensures blames { (old new : ℕ) (asked : List Text) → Blames ended old new asked → Blames result old new asked }
 {
     match ended {

@@ -1,18 +1,18 @@
 //! From a makefile to its plan.
-ghost use Rattle.std.specs.Prelude.{◌≡◌, ℕ, List, [], IfOk, IfSome};
+ghost use Rattle.std.specs.Prelude.{◌≡◌, List, [], IfErr, IfOk, IfSome};
 ghost use Rattle.kt_text.specs.Words.{Text};
-ghost use Rattle.kt_graph.specs.Known.{known_names};
+ghost use Rattle.kt_graph.specs.Faults.{IsSoundGraph, TellsFirst};
 ghost use Rattle.kt_ninja.specs.Writable.{IsWritable};
 ghost use Rattle.kt_eval.specs.Fronts.{IsFront};
+ghost use Rattle.kt_eval.specs.Machines.{traced};
+ghost use Rattle.kt_eval.specs.Outcome.{AsksNothing, Ends, Gives};
 ghost use Rattle.kt_eval.specs.Step.{Blames};
-ghost use Rattle.kati.specs.Asked.{names_asked, names_of};
+ghost use Rattle.kati.specs.Asked.{names_asked};
 ghost use Rattle.kati.specs.Headline.{ReadBlames, Translates};
-ghost use Rattle.kati.specs.Course.{Comes, ComesTo, Course, Follows};
-ghost use Rattle.kati.specs.Makefile.{Read, makefile_read};
-ghost use Rattle.kati.specs.Meaning.{EndsAs, MeansGoals, MeansListed, MeansRead, Means};
+ghost use Rattle.kati.specs.Meaning.{prepared, wanted_by};
 ghost use Rattle.kati.specs.Sound.{IsSoundPlan};
-ghost use Rattle.kati.specs.inner.Stops.{IsStopOf};
-ghost use Rattle.kati.specs.inner.Views.{outcome_of, read_of};
+ghost use Rattle.kati.specs.inner.Stops.{IsFirstStop, IsStopOf};
+ghost use Rattle.kati.specs.inner.Views.{EndMeans, GoalsEnd, outcome_of, read_told, wanted_told};
 
 use crate::faults::RunFault;
 use crate::goals::chosen_goals;
@@ -66,7 +66,7 @@ fn outcome_of(messages: Vec<Sequence<u8>>, ended: Result<Plan, Stop>) -> Result<
     }
 }
 
-// The plan of the whole.
+// The makefile's plan: first what is wanted, and then the plan of that.
 fn planned<F: Files>(
     alloc: Global,
     args: &Args,
@@ -74,8 +74,8 @@ fn planned<F: Files>(
     messages: &mut Vec<Sequence<u8>>,
 ) -> Result<Plan, Stop>
     requires { messages.old.items ≡ [] }
-    ensures means { IfSome (F.known files.old) (λ store. Comes result (λ r. Means args.now store (F.names files.old)
-        (record { messages = messages.new.items; result = r; asked = F.names files.new }))) }
+    ensures means { IfSome (F.known files.old) (λ store. Ends (EndMeans args.now store) (F.names files.old)
+        (λ plan. plan) result (traced messages.new.items (F.names files.new))) }
     ensures asked { IfSome (F.known files.old)
         (λ store. IsFront (F.names files.new) (names_asked args.now store (F.names files.old))) }
     ensures keeps { F.known files.new ≡ F.known files.old }
@@ -83,127 +83,113 @@ fn planned<F: Files>(
     ensures writable { IfOk result IsWritable }
     ensures sound { IfOk result IsSoundPlan }
 {
-    match listed(alloc, &args.files, files) {
-        Ok(list) => planned_listed(alloc, args, list.as_slice(), files, messages),
-        Err(stop) => Err(stop),
-    }
+    let (sources, goals) = prepared(alloc, args, files, messages)?;
+    let plan = planned_goals(alloc, args, &sources, goals, messages);
+    leave(sources, args);
+    plan
 }
 
-// The plan, after the list of files.
-fn planned_listed<F: Files>(
+// What the goals are made from.
+#[derive(Drop)]
+struct Sources {
+    makefile: Makefile,
+    known: Known,
+}
+
+// The list of files, the makefile, and the goals.
+fn prepared<F: Files>(
     alloc: Global,
     args: &Args,
-    list: &[u8],
     files: &mut F,
     messages: &mut Vec<Sequence<u8>>,
-) -> Result<Plan, Stop>
-    ensures means { (said : List Text)
-        → IfSome (F.known files.old) (λ store. Comes result
-        (λ r. MeansListed args.now store said (F.names files.old) list.now
-        (record { messages = messages.new.items; result = r; asked = F.names files.new }))) }
+) -> Result<(Sources, Vec<Name>), Stop>
+    requires { messages.old.items ≡ [] }
+    ensures gives { IfSome (F.known files.old) (λ store. Gives (λ found. wanted_told found.0 found.1.items) result
+        (traced messages.new.items (F.names files.new)) (prepared args.now store (traced [] (F.names files.old)))) }
     ensures asked { IfSome (F.known files.old)
-        (λ store. IsFront (F.names files.new) (names_of (makefile_read args.now store (F.names files.old)))) }
+        (λ store. IsFront (F.names files.new) (names_asked args.now store (F.names files.old))) }
     ensures keeps { F.known files.new ≡ F.known files.old }
     ensures blames { Blames result (F.failed files.old) (F.failed files.new) (F.names files.new) }
-    ensures writable { IfOk result IsWritable }
-    ensures sound { IfOk result IsSoundPlan }
 {
+    let list = listed(alloc, &args.files, files)?;
     let (told, read) = makefile_read(alloc, args, files);
     *messages = told;
-    planned_if_read(alloc, args, list, read, messages)
+    let makefile = read?;
+    chosen(alloc, args, list.as_slice(), makefile, messages)
 }
 
-// The plan, where a makefile is read.
-fn planned_if_read(
+// The goals, with what they are made from.
+fn chosen(
     alloc: Global,
     args: &Args,
     list: &[u8],
-    read: Result<Makefile, Stop>,
+    makefile: Makefile,
     messages: &mut Vec<Sequence<u8>>,
-) -> Result<Plan, Stop>
-    ensures means { (names : List Text) (course : Course Read) → Follows read_of read messages.old.items names course
-        → Comes result (λ r. EndsAs course (MeansRead args.now list.now) (record {
-          messages = messages.new.items;
-          result = r;
-          asked = names;
-        })) }
-    ensures blames { (old new : ℕ) (names : List Text) → Blames read old new names → Blames result old new names }
-    ensures writable { IfOk result IsWritable }
-    ensures sound { IfOk result IsSoundPlan }
+) -> Result<(Sources, Vec<Name>), Stop>
+    ensures gives { Gives (λ found. wanted_told found.0 found.1.items) result messages.new.items
+        (wanted_by args.now list.now (read_told makefile) messages.old.items) }
+    ensures asks_nothing { AsksNothing result }
 {
-    match read {
-        Ok(makefile) => {
-            let planned = planned_read(alloc, args, list, &makefile, messages);
-            leave(makefile, args);
-            planned
-        }
+    match goals_and_names(alloc, args, list, &makefile, messages) {
+        Ok((goals, known)) => Ok((Sources { makefile, known }, goals)),
         Err(stop) => Err(stop),
     }
 }
 
-// The plan of a makefile that is read.
-fn planned_read(
+// The goals, and the names that are known.
+fn goals_and_names(
     alloc: Global,
     args: &Args,
     list: &[u8],
     makefile: &Makefile,
     messages: &mut Vec<Sequence<u8>>,
-) -> Result<Plan, Stop>
-    ensures means { (asked : List Text)
-        → ComesTo result (λ r. MeansRead args.now list.now messages.old.items asked (read_of makefile.now)
-        (record { messages = messages.new.items; result = r; asked = asked })) }
-    ensures writable { IfOk result IsWritable }
-    ensures sound { IfOk result IsSoundPlan }
+) -> Result<(Vec<Name>, Known), Stop>
+    ensures gives { Gives (λ found. record {
+      read = read_told makefile.now;
+      known = found.1;
+      goals = found.0.items;
+    }) result messages.new.items (wanted_by args.now list.now (read_told makefile.now) messages.old.items) }
+    ensures asks_nothing { AsksNothing result }
 {
-    match chosen_goals(alloc, args.goals.as_slice(), args.limit, makefile, messages) {
-        Ok(goals) => planned_goals(alloc, args, list, makefile, goals, messages),
-        Err(stop) => Err(stop),
-    }
+    let goals = chosen_goals(alloc, args.goals.as_slice(), args.limit, makefile, messages)?;
+    let known = Known::of(alloc, &makefile.book, list)?;
+    Ok((goals, known))
 }
 
 // The plan of these goals.
 fn planned_goals(
     alloc: Global,
     args: &Args,
-    list: &[u8],
-    makefile: &Makefile,
+    sources: &Sources,
     goals: Vec<Name>,
     messages: &mut Vec<Sequence<u8>>,
 ) -> Result<Plan, Stop>
-    ensures means { (asked : List Text)
-        → ComesTo result (λ r. MeansGoals args.now.limit (read_of makefile.now)
-        (known_names makefile.now.book list.now) messages.old.items asked goals.items
-        (record { messages = messages.new.items; result = r; asked = asked })) }
+    ensures means { (asked : List Text) → Ends (GoalsEnd args.now.limit (wanted_told sources.now goals.items))
+        (traced messages.old.items asked) (λ plan. plan) result (traced messages.new.items asked) }
+    ensures asks_nothing { AsksNothing result }
     ensures writable { IfOk result IsWritable }
     ensures sound { IfOk result IsSoundPlan }
 {
-    let known = Known::of(alloc, &makefile.book, list)?;
-    let planned = planned_known(alloc, args, &known, makefile, goals, messages);
-    leave(known, args);
-    planned
+    let graph = sound_graph(alloc, sources, goals.as_slice())?;
+    let plan = plan(
+        alloc,
+        &sources.makefile,
+        args.limit,
+        &graph,
+        goals,
+        messages,
+    );
+    leave(graph, args);
+    plan
 }
 
-// The plan of these goals, where these names are known.
-fn planned_known(
-    alloc: Global,
-    args: &Args,
-    known: &Known,
-    makefile: &Makefile,
-    goals: Vec<Name>,
-    messages: &mut Vec<Sequence<u8>>,
-) -> Result<Plan, Stop>
-    ensures means { (asked : List Text) → ComesTo result (λ r. MeansGoals args.now.limit (read_of makefile.now)
-        known.now messages.old.items asked goals.items
-        (record { messages = messages.new.items; result = r; asked = asked })) }
-    ensures writable { IfOk result IsWritable }
-    ensures sound { IfOk result IsSoundPlan }
+// The graph of these goals, unless something is wrong with it.
+fn sound_graph<'a>(alloc: Global, sources: &'a Sources, goals: &[Name]) -> Result<Graph<'a>, Stop>
+    ensures graph { IfOk result (IsSoundGraph sources.now.makefile.book sources.now.known goals.now) }
+    ensures first { IfErr result (IsFirstStop sources.now.makefile.book sources.now.known goals.now) }
 {
-    match graph(alloc, &makefile.book, known, goals.as_slice()) {
-        Ok(graph) => {
-            let planned = plan(alloc, makefile, args.limit, &graph, goals, messages);
-            leave(graph, args);
-            planned
-        }
+    match graph(alloc, &sources.makefile.book, &sources.known, goals) {
+        Ok(graph) => Ok(graph),
         Err(fault) => Err(stop_of(fault)),
     }
 }

@@ -8,12 +8,12 @@ use Rattle.kt_eval.specs.Table.{set_by_makefile, doubled}
 use Rattle.kt_eval.specs.declared.macros.Flavour.TheVariants.{Deferred}
 use Rattle.kt_eval.specs.Files.{Store}
 use Rattle.kt_eval.specs.State.{World, found_of}
-use Rattle.kt_eval.specs.Step.{Outcome, Gave}
+use Rattle.kt_eval.specs.Outcome.{Outcome, Gave}
 use Rattle.kt_eval.specs.Expansion.{Evaluator, value_of, term_of, each_term, expanded}
 use Rattle.kt_eval.specs.Levels.{above, evaluator}
 
 -- the expansion of what follows so many bytes, of which the expansion is known
-pub after : Evaluator → World → Text → ℕ → Text → Outcome Text
+pub after : Evaluator → World → Text → ℕ → Text → Outcome World Text
 after e w out skip text = each_term e out (terms_after dropped skip text) w
 
 doubled-yes : (byte : ℕ) (text : Text) → (byte == 36) ≡ true → doubled (byte ∷ text) ≡ 36 ∷ 36 ∷ doubled text

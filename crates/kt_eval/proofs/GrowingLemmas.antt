@@ -20,7 +20,8 @@ use Rattle.kt_eval.specs.declared.state.Frame.TheVariants.{Loop, Call}
 use Rattle.kt_eval.specs.Table.{Assigning, keeps, defers, expands, escapes, assigning, find}
 use Rattle.kt_eval.specs.Fronts.{IsFront}
 use Rattle.kt_eval.specs.State.{World, lookup, bind, unbind, say}
-use Rattle.kt_eval.specs.Step.{Step, Outcome, Gave, Stopped, then_do, world_of}
+use Rattle.kt_eval.specs.Outcome.{Outcome, Gave, Stopped, then_do, left_of}
+use Rattle.kt_eval.specs.Step.{Step}
 use Rattle.kt_eval.specs.Calls.{Asked, calls, refuses, refers, asked_by, Naming, plainly, substituting, naming_of, is_function_name}
 use Rattle.kt_eval.specs.TextFunctions.{arity, text_result, text_function_name}
 use Rattle.kt_eval.specs.Conditions.{trimmed}
@@ -48,33 +49,33 @@ says : (message : Text) (w : World) → Grows w (say message w)
 says message w = (front_more w.said (message ∷ []), front_same w.asked)
 
 -- the first is too deep, or it is the second
-abbrev pub Agree : {A : Type 0} → Outcome A → Outcome A → Type 0
+abbrev pub Agree : {A : Type 0} → Outcome World A → Outcome World A → Type 0
 Agree o o' = IsTooDeep o ⊎ (o ≡ o')
 
 -- both, from a world on
-abbrev pub Relates : {A : Type 0} → World → Outcome A → Outcome A → Type 0
-Relates w o o' = Grows w (world_of o) × Agree o o'
+abbrev pub Relates : {A : Type 0} → World → Outcome World A → Outcome World A → Type 0
+Relates w o o' = Grows w (left_of o) × Agree o o'
 
 -- a step without a level
-pub plain_step : {A : Type 0} (w : World) (o : Outcome A) → Grows w (world_of o) → Relates w o o
+pub plain_step : {A : Type 0} (w : World) (o : Outcome World A) → Grows w (left_of o) → Relates w o o
 plain_step w o g = (g, inr refl)
 
-deep_then : {A B : Type 0} (o : Outcome A) (f : A → Step B) → IsTooDeep o → IsTooDeep (then_do o f)
+deep_then : {A B : Type 0} (o : Outcome World A) (f : A → Step B) → IsTooDeep o → IsTooDeep (then_do o f)
 deep_then (Gave w x) f h = absurd h
 deep_then (Stopped w x) f h = h
 
-deep_grows : {A B : Type 0} (w : World) (o : Outcome A) (f : A → Step B) → IsTooDeep o → Grows w (world_of o) → Grows w (world_of (then_do o f))
+deep_grows : {A B : Type 0} (w : World) (o : Outcome World A) (f : A → Step B) → IsTooDeep o → Grows w (left_of o) → Grows w (left_of (then_do o f))
 deep_grows w (Gave v x) f h g = absurd h
 deep_grows w (Stopped v x) f h g = g
 
-pub related_then : {A B : Type 0} (w : World) (o o' : Outcome A) (f f' : A → Step B) → Relates w o o' → ((x : A) (v : World) → Relates v (f x v) (f' x v)) → Relates w (then_do o f) (then_do o' f')
+pub related_then : {A B : Type 0} (w : World) (o o' : Outcome World A) (f f' : A → Step B) → Relates w o o' → ((x : A) (v : World) → Relates v (f x v) (f' x v)) → Relates w (then_do o f) (then_do o' f')
 related_then w o o' f f' (g, inl h) k = (deep_grows w o f h g, inl (deep_then o f h))
-related_then w (Gave v x) o' f f' (g, inr e) k = subst (λ (p : Outcome _). Relates w (f x v) (then_do p f')) e (further w v (world_of (f x v)) g (k x v).0, (k x v).1)
-related_then w (Stopped v x) o' f f' (g, inr e) k = (g, inr (ap (λ (p : Outcome _). then_do p f') e))
+related_then w (Gave v x) o' f f' (g, inr e) k = subst (λ (p : Outcome World _). Relates w (f x v) (then_do p f')) e (further w v (left_of (f x v)) g (k x v).0, (k x v).1)
+related_then w (Stopped v x) o' f f' (g, inr e) k = (g, inr (ap (λ (p : Outcome World _). then_do p f') e))
 
 -- after a change of the world
-pub related_after : {A : Type 0} (w v : World) (o o' : Outcome A) → Grows w v → Relates v o o' → Relates w o o'
-related_after w v o o' g r = (further w v (world_of o) g r.0, r.1)
+pub related_after : {A : Type 0} (w v : World) (o o' : Outcome World A) → Grows w v → Relates v o o' → Relates w o o'
+related_after w v o o' g r = (further w v (left_of o) g r.0, r.1)
 
 pub related_cond : {A : Type 0} (b : Bool) (s t s' t' : Step A) (w : World) → Relates w (s w) (s' w) → Relates w (t w) (t' w) → Relates w (cond b s t w) (cond b s' t' w)
 related_cond true s t s' t' w p q = p

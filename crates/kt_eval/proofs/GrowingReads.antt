@@ -23,7 +23,8 @@ use Rattle.kt_eval.specs.declared.page.Source.{Source}
 use Rattle.kt_eval.specs.declared.page.Source.TheVariants.{File, Held}
 use Rattle.kt_eval.specs.Files.{Store}
 use Rattle.kt_eval.specs.State.{World, set_rule}
-use Rattle.kt_eval.specs.Step.{Step, Outcome, then_do, stop, world_of}
+use Rattle.kt_eval.specs.Outcome.{Outcome, then_do, left_of}
+use Rattle.kt_eval.specs.Step.{Step, stop}
 use Rattle.kt_eval.specs.Conditions.{Compared, compared_of}
 use Rattle.kt_eval.specs.Expansion.{Evaluator, too_deep, apply, expanded}
 use Rattle.kt_eval.specs.Conditionals.{is_set, is_defined, are_equal, holds, word_before_blank, text_after_word, worded_holds, text_holds, else_holds, line_holds}
@@ -36,7 +37,7 @@ use Rattle.kt_eval.proofs.GrowingLemmas.{front_same, front_more, still, further,
 
 module _ (e e' : Evaluator) (h : Related e e') where
   -- conditions
-  pub is_set_grows : (names : List Text) (w : World) → Grows w (world_of (is_set names w))
+  pub is_set_grows : (names : List Text) (w : World) → Grows w (left_of (is_set names w))
   unfolding is_set
   is_set_grows [] w = still w
   is_set_grows (name ∷ []) w = still w
@@ -123,27 +124,27 @@ module _ (e e' : Evaluator) (h : Related e e') where
       related_then w (expanded e text w) (expanded e' text w) _ _ (expanded_related e e' h text w) (λ x v. each_include_related optional (words_of x) v)
 
   -- rules
-  pub entered_grows : (entry : Rule) (answer : Result (List Text) RuleFault) (w : World) → Grows w (world_of (entered entry answer w))
+  pub entered_grows : (entry : Rule) (answer : Result (List Text) RuleFault) (w : World) → Grows w (left_of (entered entry answer w))
   entered_grows entry (Ok messages) w = (front_more w.said messages, front_same w.asked)
   entered_grows entry (Err x) w = still w
 
-  pub enter_rule_grows : (entry : Rule) (w : World) → Grows w (world_of (enter_rule entry w))
+  pub enter_rule_grows : (entry : Rule) (w : World) → Grows w (left_of (enter_rule entry w))
   unfolding enter_rule
   enter_rule_grows entry w = entered_grows entry (added w.book entry (refusal_of w.book entry)) w
 
-  pub close_grows : (entry : Option Rule) (w : World) → Grows w (world_of (close entry w))
+  pub close_grows : (entry : Option Rule) (w : World) → Grows w (left_of (close entry w))
   close_grows None w = still w
   close_grows (Some entry) w = enter_rule_grows entry (set_rule None w)
 
-  pub close_rule_grows : (w : World) → Grows w (world_of (close_rule w))
+  pub close_rule_grows : (w : World) → Grows w (left_of (close_rule w))
   unfolding close_rule
   close_rule_grows w = close_grows w.rule w
 
-  pub opened_grows : (answer : Result Rule RuleFault) (w : World) → Grows w (world_of (opened answer w))
+  pub opened_grows : (answer : Result Rule RuleFault) (w : World) → Grows w (left_of (opened answer w))
   opened_grows (Ok entry) w = still w
   opened_grows (Err x) w = still w
 
-  pub open_rule_grows : (recipe : Option Text) (head : Text) (w : World) → Grows w (world_of (open_rule recipe head w))
+  pub open_rule_grows : (recipe : Option Text) (head : Text) (w : World) → Grows w (left_of (open_rule recipe head w))
   unfolding open_rule
   open_rule_grows recipe head w = opened_grows (rule_of head recipe (rule_place w.place)) w
 
@@ -158,7 +159,7 @@ module _ (e e' : Evaluator) (h : Related e e') where
   unfolding rule_line
   rule_line_related text w = rule_of_parts_related (line_parts text) w
 
-  pub recipe_line_grows : (entry : Rule) (text : Text) (w : World) → Grows w (world_of (recipe_line entry text w))
+  pub recipe_line_grows : (entry : Rule) (text : Text) (w : World) → Grows w (left_of (recipe_line entry text w))
   unfolding recipe_line
   recipe_line_grows entry text w = still w
 
@@ -239,7 +240,7 @@ module _ (e e' : Evaluator) (h : Related e e') where
   read_define_related (refused form) body w = plain_step w _ (still w)
   read_define_related rule body w = plain_step w _ (still w)
 
-  pub read_stray_grows : (kind : Stray) (w : World) → Grows w (world_of (read_stray kind w))
+  pub read_stray_grows : (kind : Stray) (w : World) → Grows w (left_of (read_stray kind w))
   unfolding read_stray
   read_stray_grows stray.Else w = still w
   read_stray_grows stray.LateElse w = still w
@@ -250,12 +251,12 @@ module _ (e e' : Evaluator) (h : Related e e') where
     pub at_line_grows : (place : ℕ) (w : World) → Grows w (at_line sheet place w)
     at_line_grows place w = at_number_grows sheet.source (line_at sheet.lines place).number w
 
-    pub late_else_grows : (branches : Branches) (w : World) → Grows w (world_of (late_else sheet branches w))
+    pub late_else_grows : (branches : Branches) (w : World) → Grows w (left_of (late_else sheet branches w))
     unfolding late_else
     late_else_grows no_branch w = still w
     late_else_grows (branch place condition items others) w = late_else_grows others w
     late_else_grows (late place items others) w =
-        further w (at_line sheet place w) (world_of {A = Unit {0}} (read_stray stray.LateElse (at_line sheet place w))) (at_line_grows place w) (read_stray_grows stray.LateElse (at_line sheet place w))
+        further w (at_line sheet place w) (left_of {A = Unit {0}} (read_stray stray.LateElse (at_line sheet place w))) (at_line_grows place w) (read_stray_grows stray.LateElse (at_line sheet place w))
 
     pub branch_holds_related : (place : ℕ) (condition : Bool) (w : World) → Relates w (branch_holds e sheet place condition w) (branch_holds e' sheet place condition w)
     unfolding branch_holds
@@ -309,7 +310,7 @@ module _ (e e' : Evaluator) (h : Related e e') where
         → Relates w (cond chosen (read_items e sheet items) (read_branches e sheet others) w) (cond chosen (read_items e' sheet items) (read_branches e' sheet others) w)
     behind_branch_related chosen items others w = related_cond chosen _ _ _ _ w (read_items_related items w) (read_branches_related others w)
 
-  pub read_end_grows : (source : Source) (end : Option Missing) (w : World) → Grows w (world_of (read_end source end w))
+  pub read_end_grows : (source : Source) (end : Option Missing) (w : World) → Grows w (left_of (read_end source end w))
   unfolding read_end
   read_end_grows source None w = still w
   read_end_grows source (Some (missing.Endif number)) w = at_number_grows source number w
@@ -354,7 +355,7 @@ module _ (e e' : Evaluator) (h : Related e e') where
       related_then w (read_file e name text w) (read_file e' name text w) _ _ (read_file_related name text w) (λ _ v. plain_step v _ (still v))
 
   module _ (store : Store) where
-    pub read_bytes_grows : (name : Text) (w : World) → Grows w (world_of (read_bytes store name w))
+    pub read_bytes_grows : (name : Text) (w : World) → Grows w (left_of (read_bytes store name w))
     unfolding read_bytes
     read_bytes_grows name w = (front_same w.said, front_more w.asked (name ∷ []))
 
@@ -383,7 +384,7 @@ module _ (e e' : Evaluator) (h : Related e e') where
       include = λ optional name w. included_related optional name w;
     }
 
-too_deep_first : {A : Type 0} (w : World) (o : Outcome A) → Relates w (too_deep w) o
+too_deep_first : {A : Type 0} (w : World) (o : Outcome World A) → Relates w (too_deep w) o
 too_deep_first w o = (still w, inl refl)
 
 pub one_more_level : (reads : Bool) (store : Store) (levels : ℕ) → Related (evaluator reads store levels) (evaluator reads store (suc levels))
@@ -396,7 +397,7 @@ one_more_level reads store zero = record {
 }
 one_more_level reads store (suc levels) = above_related (evaluator reads store levels) (evaluator reads store (suc levels)) (one_more_level reads store levels) store
 
-agreed : {A : Type 0} (o o' : Outcome A) → (IsTooDeep o → ⊥) → Agree o o' → o' ≡ o
+agreed : {A : Type 0} (o o' : Outcome World A) → (IsTooDeep o → ⊥) → Agree o o' → o' ≡ o
 agreed o o' deep (inl d) = absurd (deep d)
 agreed o o' deep (inr e) = sym e
 

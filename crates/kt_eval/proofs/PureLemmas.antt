@@ -9,26 +9,54 @@ use Rattle.kt_eval.specs.Files.{Store}
 use Rattle.kt_eval.specs.Fronts.{IsFront}
 use Rattle.kt_eval.specs.Table.{Table}
 use Rattle.kt_eval.specs.State.{World, frozen_world}
-use Rattle.kt_eval.specs.Step.{Outcome, Gave, Stopped, told, GoesOn, Gives, Blames, Ends, ending, messages_of, world_of}
+use Rattle.kt_eval.specs.Outcome.{AsksNothing, Outcome, Gave, Stopped, Gives, IfCut, leaving, left_of}
+use Rattle.kt_eval.specs.Step.{told, GoesOn, Blames}
 use Rattle.kt_eval.specs.Expansion.{expanded}
 use Rattle.kt_eval.specs.Levels.{evaluator}
+use Rattle.kt_eval.specs.Pure.{Says, expanded_pure}
 
-in_the_end : (w : World) (outcome : Outcome Text) → GoesOn w (world_of outcome) → IsFront w.said (messages_of (ending outcome))
+in_the_end : (w : World) (outcome : Outcome World Text) → GoesOn w (left_of outcome) → IsFront w.said (left_of (leaving (λ w. w.said) outcome))
 in_the_end w (Gave v x) h = (h.0 told, h.1 told)
 in_the_end w (Stopped v x) h = (h.0 told, h.1 told)
 
--- what an expansion gives is how it ends, where no read failed
-pub ends_so : (result : Result (Vec ℕ Global) Stop) (w : World) (asked : List Text) (outcome : Outcome Text) → Blames result 0 0 asked → Gives (λ v. v.items) result w outcome → Ends result w.said (ending outcome)
-ends_so (Ok x) w asked outcome b h = rw h refl
-ends_so (Err (stops.Fault fault)) w asked outcome b h = rw h refl
-ends_so (Err (stops.Device name)) w asked outcome b h = absurd (omega (arith, b.0))
-ends_so (Err stops.Memory) w asked outcome b h = in_the_end w outcome h
+-- what an expansion gives is how it ends
+gives_so : (result : Result (Vec ℕ Global) Stop) (w : World) (outcome : Outcome World Text) → Gives (λ v. v.items) result w outcome
+    → Gives (λ v. v.items) result w.said (leaving (λ w. w.said) outcome)
+gives_so (Ok x) w outcome h = rw h refl
+gives_so (Err (stops.Fault fault)) w outcome h = rw h refl
+gives_so (Err (stops.Device name)) w outcome h = tt
+gives_so (Err stops.Memory) w outcome h = tt
 
--- the same by what is held at the end
-pub ends_when : (limit : ℕ) (text : Text) (table : Table) (automatic : Store) (place : Option Place) (before : List Text) (frames : List Frame) (result : Result (Vec ℕ Global) Stop) (w : World) (failed : ℕ) (before' said' : List Text) → frames ≡ [] → before ≡ before' → w.said ≡ said' → failed ≡ 0 → Blames result 0 failed w.asked → Gives (λ v. v.items) result w (expanded (evaluator false [] limit) text (record (frozen_world table automatic place before) { frames = frames })) → Ends result said' (ending (expanded (evaluator false [] limit) text (frozen_world table automatic place before')))
-ends_when limit text table automatic place before frames result w failed before' said' empty first last none b h =
-    rw (sym first, sym last) (ends_so result w w.asked _ (rw none at b) (rw empty at h))
+cut_so : (result : Result (Vec ℕ Global) Stop) (w : World) (outcome : Outcome World Text) → IfCut result (GoesOn w (left_of outcome))
+    → IfCut result (IsFront w.said (left_of (leaving (λ w. w.said) outcome)))
+cut_so (Ok x) w outcome h = tt
+cut_so (Err (stops.Fault fault)) w outcome h = tt
+cut_so (Err (stops.Device name)) w outcome h = in_the_end w outcome h
+cut_so (Err stops.Memory) w outcome h = in_the_end w outcome h
+
+-- no read failed
+none_failed : (result : Result (Vec ℕ Global) Stop) (asked : List Text) → Blames result 0 0 asked → AsksNothing result
+none_failed (Ok x) asked b = tt
+none_failed (Err (stops.Fault fault)) asked b = tt
+none_failed (Err (stops.Device name)) asked b = absurd (omega (arith, b.0))
+none_failed (Err stops.Memory) asked b = tt
 
 -- a prefix by other names
 pub front_by : (old new old' new' : List Text) → old ≡ old' → new ≡ new' → IsFront old new → IsFront old' new'
 front_by old new old' new' e f h = rw (sym e, sym f) h
+
+-- what is said of an expansion, by what is held at its end
+pub says_when : (limit : ℕ) (text : Text) (table : Table) (automatic : Store) (place : Option Place) (before : List Text) (frames : List Frame)
+    (result : Result (Vec ℕ Global) Stop) (w : World) (failed : ℕ) (before' said' : List Text)
+    → frames ≡ [] → before ≡ before' → w.said ≡ said' → failed ≡ 0 → Blames result 0 failed w.asked
+    → GoesOn (record (frozen_world table automatic place before) { frames = frames }) w
+    → Gives (λ v. v.items) result w (expanded (evaluator false [] limit) text (record (frozen_world table automatic place before) { frames = frames }))
+    → IfCut result (GoesOn w (left_of (expanded (evaluator false [] limit) text (record (frozen_world table automatic place before) { frames = frames }))))
+    → Says (λ v. v.items) (expanded_pure table automatic place limit text) result before' said'
+says_when limit text table automatic place before frames result w failed before' said' empty first last none b kept gives cut =
+    rw (sym first, sym last) (record {
+      gives = gives_so result w (expanded (evaluator false [] limit) text (frozen_world table automatic place before)) (rw empty at gives);
+      appends = (kept.0 told, kept.1 told);
+      cut = cut_so result w (expanded (evaluator false [] limit) text (frozen_world table automatic place before)) (rw empty at cut);
+      asks_nothing = none_failed result w.asked (rw none at b);
+    })

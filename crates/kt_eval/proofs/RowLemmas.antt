@@ -4,7 +4,8 @@ use Rattle.kt_syntax.specs.declared.form.Operator.TheVariants as operator
 use Rattle.kt_eval.specs.declared.macros.Flavour.TheVariants.{Deferred, Immediate}
 use Rattle.kt_eval.specs.declared.macros.Origin.TheVariants.{CommandLine}
 use Rattle.kt_eval.specs.Table.{assigning, keeps, defers, expands, set_by_makefile}
-use Rattle.kt_eval.specs.Step.{with_text, with_fault, fault_at}
+use Rattle.kt_eval.specs.Outcome.{Gave, Stopped}
+use Rattle.kt_eval.specs.Step.{fault_at}
 use Rattle.kt_eval.specs.Calls.{asked_of}
 use Rattle.kt_eval.specs.Conditions.{compared_of}
 use Rattle.kt_eval.specs.Expansion.{expanded}
@@ -25,87 +26,87 @@ use Rattle.kt_eval.specs.Expansion.{value_of, each_argument, apply_text, apply_i
 use Rattle.kt_eval.specs.Levels.{above, none_left}
 use Rattle.kt_eval.specs.Rows.{comes_to, comes_to_at, deferred, immediate}
 
-pub undefined : comes_to [] 9 (codes "[$(A)]$$") ≡ with_text [] (codes "[]$")
+pub undefined : comes_to [] 9 (codes "[$(A)]$$") ≡ Gave [] (codes "[]$")
 unfolding computing digits is_separator is_blank words_of list_text is_percent has_percent pattern_front pattern_back is_between stem_span subst_of patsubst_word patsubst_of number_of word_of joined_pairs join_of closing behind_dollar first_term terms_after terms_of find put assigning doubled seen innermost lookup text_function other_function function_of is_refused_function text_result arguments_from arguments_of asked_of asked_by naming_of bare_place in_parentheses quoted in_quotes compared_of value_of each_argument apply_text apply_if apply_or apply_and each_word apply_foreach called call_by_name apply_call apply_value apply_eval apply_error apply_warning apply_info apply body_of value_named referred term_of each_term expanded above none_left evaluator
 undefined = refl
 
-pub nested : comes_to (deferred (codes "A") (codes "B") ∷ deferred (codes "B") (codes "x") ∷ []) 9 (codes "$($(A))$A") ≡ with_text [] (codes "xB")
+pub nested : comes_to (deferred (codes "A") (codes "B") ∷ deferred (codes "B") (codes "x") ∷ []) 9 (codes "$($(A))$A") ≡ Gave [] (codes "xB")
 unfolding computing digits is_separator is_blank words_of list_text is_percent has_percent pattern_front pattern_back is_between stem_span subst_of patsubst_word patsubst_of number_of word_of joined_pairs join_of closing behind_dollar first_term terms_after terms_of find put assigning doubled seen innermost lookup text_function other_function function_of is_refused_function text_result arguments_from arguments_of asked_of asked_by naming_of bare_place in_parentheses quoted in_quotes compared_of value_of each_argument apply_text apply_if apply_or apply_and each_word apply_foreach called call_by_name apply_call apply_value apply_eval apply_error apply_warning apply_info apply body_of value_named referred term_of each_term expanded above none_left evaluator
 nested = refl
 
-pub substituted : comes_to (deferred (codes "S") (codes "a.c b") ∷ []) 9 (codes "$(S:.c=.o)") ≡ with_text [] (codes "a.o b")
+pub substituted : comes_to (deferred (codes "S") (codes "a.c b") ∷ []) 9 (codes "$(S:.c=.o)") ≡ Gave [] (codes "a.o b")
 unfolding computing digits is_separator is_blank words_of list_text is_percent has_percent pattern_front pattern_back is_between stem_span subst_of patsubst_word patsubst_of number_of word_of joined_pairs join_of closing behind_dollar first_term terms_after terms_of find put assigning doubled seen innermost lookup text_function other_function function_of is_refused_function text_result arguments_from arguments_of asked_of asked_by naming_of bare_place in_parentheses quoted in_quotes compared_of value_of each_argument apply_text apply_if apply_or apply_and each_word apply_foreach called call_by_name apply_call apply_value apply_eval apply_error apply_warning apply_info apply body_of value_named referred term_of each_term expanded above none_left evaluator
 substituted = refl
 
-pub immediate_kept : comes_to (immediate (codes "A") (codes "$(B)") ∷ []) 1 (codes "$(A)") ≡ with_text [] (codes "$(B)")
+pub immediate_kept : comes_to (immediate (codes "A") (codes "$(B)") ∷ []) 1 (codes "$(A)") ≡ Gave [] (codes "$(B)")
 unfolding computing digits is_separator is_blank words_of list_text is_percent has_percent pattern_front pattern_back is_between stem_span subst_of patsubst_word patsubst_of number_of word_of joined_pairs join_of closing behind_dollar first_term terms_after terms_of find put assigning doubled seen innermost lookup text_function other_function function_of is_refused_function text_result arguments_from arguments_of asked_of asked_by naming_of bare_place in_parentheses quoted in_quotes compared_of value_of each_argument apply_text apply_if apply_or apply_and each_word apply_foreach called call_by_name apply_call apply_value apply_eval apply_error apply_warning apply_info apply body_of value_named referred term_of each_term expanded above none_left evaluator
 immediate_kept = refl
 
-pub unterminated : comes_to [] 9 (codes "x$(a") ≡ with_fault [] (fault_at None 7 (codes "unterminated reference"))
+pub unterminated : comes_to [] 9 (codes "x$(a") ≡ Stopped [] (fault_at None 7 (codes "unterminated reference"))
 unfolding computing digits is_separator is_blank words_of list_text is_percent has_percent pattern_front pattern_back is_between stem_span subst_of patsubst_word patsubst_of number_of word_of joined_pairs join_of closing behind_dollar first_term terms_after terms_of find put assigning doubled seen innermost lookup text_function other_function function_of is_refused_function text_result arguments_from arguments_of asked_of asked_by naming_of bare_place in_parentheses quoted in_quotes compared_of value_of each_argument apply_text apply_if apply_or apply_and each_word apply_foreach called call_by_name apply_call apply_value apply_eval apply_error apply_warning apply_info apply body_of value_named referred term_of each_term expanded above none_left evaluator
 unterminated = refl
 
-pub recursive : comes_to (deferred (codes "A") (codes "$(A)") ∷ []) 5 (codes "$(A)") ≡ with_fault [] (fault_at None 8 (codes "nesting too deep"))
+pub recursive : comes_to (deferred (codes "A") (codes "$(A)") ∷ []) 5 (codes "$(A)") ≡ Stopped [] (fault_at None 8 (codes "nesting too deep"))
 unfolding computing digits is_separator is_blank words_of list_text is_percent has_percent pattern_front pattern_back is_between stem_span subst_of patsubst_word patsubst_of number_of word_of joined_pairs join_of closing behind_dollar first_term terms_after terms_of find put assigning doubled seen innermost lookup text_function other_function function_of is_refused_function text_result arguments_from arguments_of asked_of asked_by naming_of bare_place in_parentheses quoted in_quotes compared_of value_of each_argument apply_text apply_if apply_or apply_and each_word apply_foreach called call_by_name apply_call apply_value apply_eval apply_error apply_warning apply_info apply body_of value_named referred term_of each_term expanded above none_left evaluator
 recursive = refl
 
-pub empty_level : comes_to (deferred (codes "A") [] ∷ []) 0 (codes "$(A)") ≡ with_fault [] (fault_at None 8 (codes "nesting too deep"))
+pub empty_level : comes_to (deferred (codes "A") [] ∷ []) 0 (codes "$(A)") ≡ Stopped [] (fault_at None 8 (codes "nesting too deep"))
 unfolding computing digits is_separator is_blank words_of list_text is_percent has_percent pattern_front pattern_back is_between stem_span subst_of patsubst_word patsubst_of number_of word_of joined_pairs join_of closing behind_dollar first_term terms_after terms_of find put assigning doubled seen innermost lookup text_function other_function function_of is_refused_function text_result arguments_from arguments_of asked_of asked_by naming_of bare_place in_parentheses quoted in_quotes compared_of value_of each_argument apply_text apply_if apply_or apply_and each_word apply_foreach called call_by_name apply_call apply_value apply_eval apply_error apply_warning apply_info apply body_of value_named referred term_of each_term expanded above none_left evaluator
 empty_level = refl
 
-pub automatic_first : comes_to_at (deferred (codes "@") (codes "table") ∷ []) 9 (codes "$@ $(value @)") ≡ with_text [] (codes "t t")
+pub automatic_first : comes_to_at (deferred (codes "@") (codes "table") ∷ []) 9 (codes "$@ $(value @)") ≡ Gave [] (codes "t t")
 unfolding computing digits is_separator is_blank words_of list_text is_percent has_percent pattern_front pattern_back is_between stem_span subst_of patsubst_word patsubst_of number_of word_of joined_pairs join_of closing behind_dollar first_term terms_after terms_of find put assigning doubled seen innermost lookup text_function other_function function_of is_refused_function text_result arguments_from arguments_of asked_of asked_by naming_of bare_place in_parentheses quoted in_quotes compared_of value_of each_argument apply_text apply_if apply_or apply_and each_word apply_foreach called call_by_name apply_call apply_value apply_eval apply_error apply_warning apply_info apply body_of value_named referred term_of each_term expanded above none_left evaluator
 automatic_first = refl
 
-pub binding_first : comes_to_at [] 9 (codes "$(foreach @,a b,$@)$@") ≡ with_text [] (codes "a bt")
+pub binding_first : comes_to_at [] 9 (codes "$(foreach @,a b,$@)$@") ≡ Gave [] (codes "a bt")
 unfolding computing digits is_separator is_blank words_of list_text is_percent has_percent pattern_front pattern_back is_between stem_span subst_of patsubst_word patsubst_of number_of word_of joined_pairs join_of closing behind_dollar first_term terms_after terms_of find put assigning doubled seen innermost lookup text_function other_function function_of is_refused_function text_result arguments_from arguments_of asked_of asked_by naming_of bare_place in_parentheses quoted in_quotes compared_of value_of each_argument apply_text apply_if apply_or apply_and each_word apply_foreach called call_by_name apply_call apply_value apply_eval apply_error apply_warning apply_info apply body_of value_named referred term_of each_term expanded above none_left evaluator
 binding_first = refl
 
-pub dollar_level : comes_to [] 0 (codes "[$(A$$)]") ≡ with_fault [] (fault_at None 8 (codes "nesting too deep"))
+pub dollar_level : comes_to [] 0 (codes "[$(A$$)]") ≡ Stopped [] (fault_at None 8 (codes "nesting too deep"))
 unfolding computing digits is_separator is_blank words_of list_text is_percent has_percent pattern_front pattern_back is_between stem_span subst_of patsubst_word patsubst_of number_of word_of joined_pairs join_of closing behind_dollar first_term terms_after terms_of find put assigning doubled seen innermost lookup text_function other_function function_of is_refused_function text_result arguments_from arguments_of asked_of asked_by naming_of bare_place in_parentheses quoted in_quotes compared_of value_of each_argument apply_text apply_if apply_or apply_and each_word apply_foreach called call_by_name apply_call apply_value apply_eval apply_error apply_warning apply_info apply body_of value_named referred term_of each_term expanded above none_left evaluator
 dollar_level = refl
 
-pub joined : comes_to [] 9 (codes "$(join a b,1 2 3)") ≡ with_text [] (codes "a1 b2 3")
+pub joined : comes_to [] 9 (codes "$(join a b,1 2 3)") ≡ Gave [] (codes "a1 b2 3")
 unfolding computing digits is_separator is_blank words_of list_text is_percent has_percent pattern_front pattern_back is_between stem_span subst_of patsubst_word patsubst_of number_of word_of joined_pairs join_of closing behind_dollar first_term terms_after terms_of find put assigning doubled seen innermost lookup text_function other_function function_of is_refused_function text_result arguments_from arguments_of asked_of asked_by naming_of bare_place in_parentheses quoted in_quotes compared_of value_of each_argument apply_text apply_if apply_or apply_and each_word apply_foreach called call_by_name apply_call apply_value apply_eval apply_error apply_warning apply_info apply body_of value_named referred term_of each_term expanded above none_left evaluator
 joined = refl
 
-pub blank_condition : comes_to (deferred (codes "s") (codes " ") ∷ []) 9 (codes "[$(if $(s),y,n)]") ≡ with_text [] (codes "[y]")
+pub blank_condition : comes_to (deferred (codes "s") (codes " ") ∷ []) 9 (codes "[$(if $(s),y,n)]") ≡ Gave [] (codes "[y]")
 unfolding computing digits is_separator is_blank words_of list_text is_percent has_percent pattern_front pattern_back is_between stem_span subst_of patsubst_word patsubst_of number_of word_of joined_pairs join_of closing behind_dollar first_term terms_after terms_of find put assigning doubled seen innermost lookup text_function other_function function_of is_refused_function text_result arguments_from arguments_of asked_of asked_by naming_of bare_place in_parentheses quoted in_quotes compared_of value_of each_argument apply_text apply_if apply_or apply_and each_word apply_foreach called call_by_name apply_call apply_value apply_eval apply_error apply_warning apply_info apply body_of value_named referred term_of each_term expanded above none_left evaluator
 blank_condition = refl
 
-pub argument : comes_to (deferred (codes "f") (codes "[$(1):$(2)]") ∷ deferred (codes "g") (codes "$(call f,x)$(2)") ∷ []) 9 (codes "$(call g,a,b)") ≡ with_text [] (codes "[x:]b")
+pub argument : comes_to (deferred (codes "f") (codes "[$(1):$(2)]") ∷ deferred (codes "g") (codes "$(call f,x)$(2)") ∷ []) 9 (codes "$(call g,a,b)") ≡ Gave [] (codes "[x:]b")
 unfolding computing digits is_separator is_blank words_of list_text is_percent has_percent pattern_front pattern_back is_between stem_span subst_of patsubst_word patsubst_of number_of word_of joined_pairs join_of closing behind_dollar first_term terms_after terms_of find put assigning doubled seen innermost lookup text_function other_function function_of is_refused_function text_result arguments_from arguments_of asked_of asked_by naming_of bare_place in_parentheses quoted in_quotes compared_of value_of each_argument apply_text apply_if apply_or apply_and each_word apply_foreach called call_by_name apply_call apply_value apply_eval apply_error apply_warning apply_info apply body_of value_named referred term_of each_term expanded above none_left evaluator
 argument = refl
 
-pub stopped : comes_to [] 9 (codes "$(info a)$(error no)") ≡ with_fault (codes "a" ∷ []) (fault_at None 19 (codes "no"))
+pub stopped : comes_to [] 9 (codes "$(info a)$(error no)") ≡ Stopped (codes "a" ∷ []) (fault_at None 19 (codes "no"))
 unfolding computing digits is_separator is_blank words_of list_text is_percent has_percent pattern_front pattern_back is_between stem_span subst_of patsubst_word patsubst_of number_of word_of joined_pairs join_of closing behind_dollar first_term terms_after terms_of find put assigning doubled seen innermost lookup text_function other_function function_of is_refused_function text_result arguments_from arguments_of asked_of asked_by naming_of bare_place in_parentheses quoted in_quotes compared_of value_of each_argument apply_text apply_if apply_or apply_and each_word apply_foreach called call_by_name apply_call apply_value apply_eval apply_error apply_warning apply_info apply body_of value_named referred term_of each_term expanded above none_left evaluator
 stopped = refl
 
-pub refused : comes_to [] 9 (codes "$(shell ls)") ≡ with_fault [] (fault_at None 16 (codes "refused function shell"))
+pub refused : comes_to [] 9 (codes "$(shell ls)") ≡ Stopped [] (fault_at None 16 (codes "refused function shell"))
 unfolding computing digits is_separator is_blank words_of list_text is_percent has_percent pattern_front pattern_back is_between stem_span subst_of patsubst_word patsubst_of number_of word_of joined_pairs join_of closing behind_dollar first_term terms_after terms_of find put assigning doubled seen innermost lookup text_function other_function function_of is_refused_function text_result arguments_from arguments_of asked_of asked_by naming_of bare_place in_parentheses quoted in_quotes compared_of value_of each_argument apply_text apply_if apply_or apply_and each_word apply_foreach called call_by_name apply_call apply_value apply_eval apply_error apply_warning apply_info apply body_of value_named referred term_of each_term expanded above none_left evaluator
 refused = refl
 
-pub bad : comes_to [] 9 (codes "$(word 0,a)") ≡ with_fault [] (fault_at None 18 (codes "bad argument of word"))
+pub bad : comes_to [] 9 (codes "$(word 0,a)") ≡ Stopped [] (fault_at None 18 (codes "bad argument of word"))
 unfolding computing digits is_separator is_blank words_of list_text is_percent has_percent pattern_front pattern_back is_between stem_span subst_of patsubst_word patsubst_of number_of word_of joined_pairs join_of closing behind_dollar first_term terms_after terms_of find put assigning doubled seen innermost lookup text_function other_function function_of is_refused_function text_result arguments_from arguments_of asked_of asked_by naming_of bare_place in_parentheses quoted in_quotes compared_of value_of each_argument apply_text apply_if apply_or apply_and each_word apply_foreach called call_by_name apply_call apply_value apply_eval apply_error apply_warning apply_info apply body_of value_named referred term_of each_term expanded above none_left evaluator
 bad = refl
 
-pub few : comes_to [] 0 (codes "$(subst a)") ≡ with_fault [] (fault_at None 18 (codes "bad argument of subst"))
+pub few : comes_to [] 0 (codes "$(subst a)") ≡ Stopped [] (fault_at None 18 (codes "bad argument of subst"))
 unfolding computing digits is_separator is_blank words_of list_text is_percent has_percent pattern_front pattern_back is_between stem_span subst_of patsubst_word patsubst_of number_of word_of joined_pairs join_of closing behind_dollar first_term terms_after terms_of find put assigning doubled seen innermost lookup text_function other_function function_of is_refused_function text_result arguments_from arguments_of asked_of asked_by naming_of bare_place in_parentheses quoted in_quotes compared_of value_of each_argument apply_text apply_if apply_or apply_and each_word apply_foreach called call_by_name apply_call apply_value apply_eval apply_error apply_warning apply_info apply body_of value_named referred term_of each_term expanded above none_left evaluator
 few = refl
 
-pub in_recipe : comes_to [] 0 (codes "$(eval A = 1)") ≡ with_fault [] (fault_at None 32 (codes "eval in a recipe"))
+pub in_recipe : comes_to [] 0 (codes "$(eval A = 1)") ≡ Stopped [] (fault_at None 32 (codes "eval in a recipe"))
 unfolding computing digits is_separator is_blank words_of list_text is_percent has_percent pattern_front pattern_back is_between stem_span subst_of patsubst_word patsubst_of number_of word_of joined_pairs join_of closing behind_dollar first_term terms_after terms_of find put assigning doubled seen innermost lookup text_function other_function function_of is_refused_function text_result arguments_from arguments_of asked_of asked_by naming_of bare_place in_parentheses quoted in_quotes compared_of value_of each_argument apply_text apply_if apply_or apply_and each_word apply_foreach called call_by_name apply_call apply_value apply_eval apply_error apply_warning apply_info apply body_of value_named referred term_of each_term expanded above none_left evaluator
 in_recipe = refl
 
-pub not_called : comes_to [] 9 (codes "$( info x)") ≡ with_text [] []
+pub not_called : comes_to [] 9 (codes "$( info x)") ≡ Gave [] []
 unfolding computing digits is_separator is_blank words_of list_text is_percent has_percent pattern_front pattern_back is_between stem_span subst_of patsubst_word patsubst_of number_of word_of joined_pairs join_of closing behind_dollar first_term terms_after terms_of find put assigning doubled seen innermost lookup text_function other_function function_of is_refused_function text_result arguments_from arguments_of asked_of asked_by naming_of bare_place in_parentheses quoted in_quotes compared_of value_of each_argument apply_text apply_if apply_or apply_and each_word apply_foreach called call_by_name apply_call apply_value apply_eval apply_error apply_warning apply_info apply body_of value_named referred term_of each_term expanded above none_left evaluator
 not_called = refl
 
-pub cut_by_bytes : comes_to [] 9 (codes "$(subst a$,b,a)") ≡ with_text [] (codes "b")
+pub cut_by_bytes : comes_to [] 9 (codes "$(subst a$,b,a)") ≡ Gave [] (codes "b")
 unfolding computing digits is_separator is_blank words_of list_text is_percent has_percent pattern_front pattern_back is_between stem_span subst_of patsubst_word patsubst_of number_of word_of joined_pairs join_of closing behind_dollar first_term terms_after terms_of find put assigning doubled seen innermost lookup text_function other_function function_of is_refused_function text_result arguments_from arguments_of asked_of asked_by naming_of bare_place in_parentheses quoted in_quotes compared_of value_of each_argument apply_text apply_if apply_or apply_and each_word apply_foreach called call_by_name apply_call apply_value apply_eval apply_error apply_warning apply_info apply body_of value_named referred term_of each_term expanded above none_left evaluator
 cut_by_bytes = refl
 
-pub other_marks : comes_to [] 9 (codes "[$(subst a,${b,c},a)]") ≡ with_fault [] (fault_at None 7 (codes "unterminated reference"))
+pub other_marks : comes_to [] 9 (codes "[$(subst a,${b,c},a)]") ≡ Stopped [] (fault_at None 7 (codes "unterminated reference"))
 unfolding computing digits is_separator is_blank words_of list_text is_percent has_percent pattern_front pattern_back is_between stem_span subst_of patsubst_word patsubst_of number_of word_of joined_pairs join_of closing behind_dollar first_term terms_after terms_of find put assigning doubled seen innermost lookup text_function other_function function_of is_refused_function text_result arguments_from arguments_of asked_of asked_by naming_of bare_place in_parentheses quoted in_quotes compared_of value_of each_argument apply_text apply_if apply_or apply_and each_word apply_foreach called call_by_name apply_call apply_value apply_eval apply_error apply_warning apply_info apply body_of value_named referred term_of each_term expanded above none_left evaluator
 other_marks = refl
 

@@ -3,6 +3,7 @@ use Rattle.kt_eval.specs.Expansion.{referred, body_of, each_term, expanded, term
 use Rattle.kt_eval.proofs.LevelLemmas.{evaluator_reads}
 use Rattle.kt_eval.proofs.LastLemmas.{last_behind}
 use Rattle.kt_eval.proofs.StepLemmas.{accepted_longer, accepted_same, apply_and_longer, apply_and_same, apply_or_longer}
+use Rattle.kt_eval.proofs.StepLemmas.{apply_longer, apply_same}
 use Rattle.kt_eval.proofs.StepLemmas.{apply_or_same, asked_longer, asked_same, assign_line_longer, assign_line_same, assign_longer}
 use Rattle.kt_eval.proofs.StepLemmas.{assign_named_longer, assign_named_same, assign_same, branch_holds_longer, branch_holds_same}
 use Rattle.kt_eval.proofs.StepLemmas.{call_by_name_longer, call_by_name_same, called_longer, called_same, close_rule_longer}
@@ -47,6 +48,8 @@ pub ruleset accepted_goes = (accepted_longer, accepted_same)
 pub ruleset each_argument_goes = (each_argument_longer, each_argument_same)
 
 pub ruleset expand_goes = (expand_longer, expand_same)
+
+pub ruleset apply_goes = (apply_longer, apply_same)
 
 pub ruleset apply_or_goes = (apply_or_longer, apply_or_same)
 

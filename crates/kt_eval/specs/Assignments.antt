@@ -12,7 +12,8 @@ use Rattle.kt_rules.specs.declared.fault_kind.FaultKind.TheVariants as kinds
 use Rattle.kt_eval.specs.declared.macros.Flavour.TheVariants.{Deferred, Immediate}
 use Rattle.kt_eval.specs.Table.{Assigning, keeps, defers, expands, escapes, assigning, set_by_makefile, doubled, find}
 use Rattle.kt_eval.specs.State.{set_macro}
-use Rattle.kt_eval.specs.Step.{Step, ◌>>=◌, done, stop, change}
+use Rattle.kt_eval.specs.Outcome.{◌>>=◌, done}
+use Rattle.kt_eval.specs.Step.{Step, stop, change}
 use Rattle.kt_eval.specs.Conditions.{trimmed}
 use Rattle.kt_eval.specs.Expansion.{Evaluator, expanded}
 

@@ -8,7 +8,8 @@ use Rattle.kt_syntax.specs.Kinds.{Kind, directive, kind_of}
 use Rattle.kt_syntax.specs.Comments.{plain_of}
 use Rattle.kt_rules.specs.declared.fault_kind.FaultKind.TheVariants as kinds
 use Rattle.kt_eval.specs.State.{lookup, raw_value}
-use Rattle.kt_eval.specs.Step.{Step, Gave, ◌>>=◌, done, stop}
+use Rattle.kt_eval.specs.Outcome.{Gave, ◌>>=◌, done}
+use Rattle.kt_eval.specs.Step.{Step, stop}
 use Rattle.kt_eval.specs.Conditions.{Compared, compared_of}
 use Rattle.kt_eval.specs.Expansion.{Evaluator, expanded}
 

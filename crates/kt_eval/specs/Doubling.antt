@@ -5,7 +5,7 @@ use Rattle.kt_eval.specs.declared.macros.Flavour.TheVariants.{Deferred}
 use Rattle.kt_eval.specs.Files.{Store}
 use Rattle.kt_eval.specs.Table.{set_by_makefile, doubled}
 use Rattle.kt_eval.specs.State.{World, found_of}
-use Rattle.kt_eval.specs.Step.{Gave}
+use Rattle.kt_eval.specs.Outcome.{Gave}
 use Rattle.kt_eval.specs.Expansion.{value_of, expanded}
 use Rattle.kt_eval.specs.Levels.{evaluator}
 

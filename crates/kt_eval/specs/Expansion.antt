@@ -14,7 +14,8 @@ use Rattle.kt_eval.specs.declared.function.Function.TheVariants as function
 use Rattle.kt_eval.specs.declared.state.Found.{Found}
 use Rattle.kt_eval.specs.declared.state.Frame.TheVariants.{Loop, Call}
 use Rattle.kt_eval.specs.State.{lookup, raw_value, bind, unbind, say, warn}
-use Rattle.kt_eval.specs.Step.{Step, Gave, ◌>>=◌, ◌>>◌, done, stop, change}
+use Rattle.kt_eval.specs.Outcome.{Gave, ◌>>=◌, ◌>>◌, done}
+use Rattle.kt_eval.specs.Step.{Step, stop, change}
 use Rattle.kt_eval.specs.Calls.{Asked, calls, refuses, refers, asked_by, Naming, plainly, substituting, naming_of}
 use Rattle.kt_eval.specs.Calls.{is_function_name}
 use Rattle.kt_eval.specs.TextFunctions.{arity, text_result, text_function_name}

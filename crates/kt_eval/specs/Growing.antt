@@ -2,7 +2,8 @@
 use Rattle.std.specs.Prelude.{◌≡◌, ℕ, suc}
 use Rattle.kt_eval.specs.Fronts.{IsFront}
 use Rattle.kt_eval.specs.State.{World}
-use Rattle.kt_eval.specs.Step.{Step, Outcome, Gave, Stopped, world_of}
+use Rattle.kt_eval.specs.Outcome.{Outcome, Gave, Stopped, StepOver, left_of}
+use Rattle.kt_eval.specs.Step.{Step}
 
 -- no message is taken back, and no name that was asked for
 abbrev pub Grows : World → World → Type 0
@@ -10,13 +11,14 @@ Grows before after = IsFront before.said after.said × IsFront before.asked afte
 
 -- whatever the world before it
 abbrev pub TakesNothingBack : {A : Type 0} → Step A → Type 0
-TakesNothingBack step = (w : World) → Grows w (world_of (step w))
+TakesNothingBack step = (w : World) → Grows w (left_of (step w))
 
 -- the fault of a nesting that is too deep (E08)
-abbrev pub IsTooDeep : {A : Type 0} → Outcome A → Type 0
-IsTooDeep (Gave w x) = ⊥
-IsTooDeep (Stopped w fault) = fault.number ≡ 8
+abbrev pub IsTooDeep : {L A : Type 0} → Outcome L A → Type 0
+IsTooDeep (Gave left x) = ⊥
+IsTooDeep (Stopped left fault) = fault.number ≡ 8
 
 -- what isn't too deep with so many levels left is the same with one more
-abbrev pub StaysOneDeeper : {A : Type 0} → (ℕ → Step A) → Type 0
-StaysOneDeeper run = (levels : ℕ) (w : World) → (IsTooDeep (run levels w) → ⊥) → run (suc levels) w ≡ run levels w
+abbrev pub StaysOneDeeper : {L A : Type 0} → (ℕ → StepOver L A) → Type 0
+StaysOneDeeper {L} run =
+    (levels : ℕ) (left : L) → (IsTooDeep (run levels left) → ⊥) → run (suc levels) left ≡ run levels left

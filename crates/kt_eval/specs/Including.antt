@@ -4,7 +4,8 @@ use Rattle.std.specs.List.{list_any}
 use Rattle.std.specs.Str.{is_utf8}
 use Rattle.kt_text.specs.Words.{Text, words_of}
 use Rattle.kt_rules.specs.declared.fault_kind.FaultKind.TheVariants as kinds
-use Rattle.kt_eval.specs.Step.{Step, ◌>>=◌, ◌>>◌, done, stop}
+use Rattle.kt_eval.specs.Outcome.{◌>>=◌, ◌>>◌, done}
+use Rattle.kt_eval.specs.Step.{Step, stop}
 use Rattle.kt_eval.specs.Expansion.{Evaluator, expanded}
 
 -- a name that is a pattern of the shell, which isn't taken (kati's own)

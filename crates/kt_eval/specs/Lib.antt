@@ -3,6 +3,7 @@ pub mod Memory
 pub mod Table
 pub mod Fronts
 pub mod State
+pub mod Outcome
 pub mod Step
 pub mod TextFunctions
 pub mod Calls
@@ -15,6 +16,7 @@ pub mod Rules
 pub mod Reading
 pub mod Faults
 pub mod Levels
+pub mod Pure
 pub mod Growing
 pub mod Arguments
 pub mod Doubling

@@ -3,7 +3,6 @@
 use Rattle.std.specs.Prelude.{◌≡◌, ℕ, string_bytes, true, List, [], Option, Some, None, codes, Result, Ok, Err}
 use Rattle.kt_text.specs.Words.{Text}
 use Rattle.kt_rules.specs.Entry.{Rule}
-use Rattle.kt_eval.specs.declared.fault.Fault.{Fault}
 use Rattle.kt_eval.specs.declared.macros.Flavour.TheVariants.{Deferred}
 use Rattle.kt_eval.specs.declared.macros.Macro.{Macro}
 use Rattle.kt_eval.specs.declared.stop.Stop.{Stop}
@@ -12,7 +11,9 @@ use Rattle.kt_eval.specs.Files.{Store}
 use Rattle.kt_eval.specs.Fronts.{IsFront}
 use Rattle.kt_eval.specs.Table.{Table, find, put, set_by_makefile}
 use Rattle.kt_eval.specs.State.{World}
-use Rattle.kt_eval.specs.Step.{Outcome, Gave, Stopped}
+use Rattle.kt_eval.specs.Outcome.{Outcome, Gave, StepOver, ◌>>=◌, ◌>>◌, leaving}
+use Rattle.kt_eval.specs.Step.{Step}
+use Rattle.kt_eval.specs.Expansion.{Evaluator}
 use Rattle.kt_eval.specs.Levels.{evaluator}
 use Rattle.kt_eval.specs.Reading.{read_first}
 
@@ -42,53 +43,62 @@ predefined table =
 abbrev pub nothing_read : ℕ → Table → Held
 nothing_read limit table = record { limit = limit; table = predefined table; book = []; said = []; refusal = None }
 
+-- what a run shows: its messages, and the names that it asks for
+pub record Trace : Type 0 where
+  pub said : List Text
+  pub asked : List Text
+
+abbrev pub traced : List Text → List Text → Trace
+traced said asked = record { said = said; asked = asked }
+
+abbrev pub trace_of : World → Trace
+trace_of w = traced w.said w.asked
+
+-- each list of the first is a prefix of that of the second
+abbrev pub ComesBefore : Trace → Trace → Type 0
+ComesBefore old new = IsFront old.said new.said × IsFront old.asked new.asked
+
+-- the macros and rules of a makefile
+pub record Read : Type 0 where
+  pub table : Table
+  pub book : List Rule
+
+abbrev pub read_of : Table → List Rule → Read
+read_of table book = record { table = table; book = book }
+
 -- before the first line of a reading
-abbrev pub first_world : Table → List Rule → List Text → List Text → World
-first_world table book said asked = record {
-  table = table;
+abbrev pub first_world : Read → Trace → World
+first_world before trace = record {
+  table = before.table;
   automatic = [];
   frames = [];
-  said = said;
-  asked = asked;
+  said = trace.said;
+  asked = trace.asked;
   place = None;
-  book = book;
+  book = before.book;
   rule = None;
 }
 
--- how a reading ends: what it leaves of macros, rules, messages and names asked for; after a fault the messages and
--- the names before it
-pub data Ending : Type 0 where
-  read_all : (table : Table) (book : List Rule) (said asked : List Text) → Ending
-  at_fault : (said asked : List Text) (fault : Fault) → Ending
+-- the first of these files that is there is read, and gives what is known then
+abbrev pub first_read : Store → Evaluator → List Text → Step Read
+first_read store e names = do
+  read_first store e names
+  λ w. Gave w (read_of w.table w.book)
 
-abbrev pub ending : Outcome (Unit {0}) → Ending
-ending (Gave w x) = read_all w.table w.book w.said w.asked
-ending (Stopped w fault) = at_fault w.said w.asked fault
+-- the reading of the first of these files that is there, with these macros and rules before it
+abbrev pub reading : Store → List Text → ℕ → Read → StepOver Trace Read
+reading store names limit before trace =
+    leaving trace_of (first_read store (evaluator true store limit) names (first_world before trace))
 
--- the reading of the first of these files that is there, from these macros, rules, messages and names asked for
-abbrev pub reading : Store → List Text → ℕ → Table → List Rule → List Text → List Text → Ending
-reading store names limit table book said asked =
-    ending (read_first store (evaluator true store limit) names (first_world table book said asked))
+-- the same by what a machine holds
+abbrev pub read_by : Held → Read
+read_by held = read_of held.table held.book
 
--- its messages
-abbrev pub messages_of : Ending → List Text
-messages_of (read_all table book said asked) = said
-messages_of (at_fault said asked fault) = said
+abbrev pub traced_by : Held → List Text → Trace
+traced_by held asked = traced held.said asked
 
--- and the names that it asks for
-abbrev pub names_of : Ending → List Text
-names_of (read_all table book said asked) = asked
-names_of (at_fault said asked fault) = asked
-
--- what a call returned, and the macros, rules, messages and names asked for that it left, are that ending; where
--- memory is refused or a device failed, the messages and the names are a prefix of its messages and names
-abbrev pub Reads : Result (Unit {0}) Stop → Table → List Rule → List Text → List Text → Ending → Type 0
-Reads (Ok x) table book said asked expected = expected ≡ read_all table book said asked
-Reads (Err (stops.Fault fault)) table book said asked expected = expected ≡ at_fault said asked fault
-Reads (Err (stops.Device name)) table book said asked expected = IsFront said (messages_of expected)
-    × IsFront asked (names_of expected)
-Reads (Err stops.Memory) table book said asked expected = IsFront said (messages_of expected)
-    × IsFront asked (names_of expected)
+abbrev pub reading_by : Store → List Text → Held → List Text → Outcome Trace Read
+reading_by store names held asked = reading store names held.limit (read_by held) (traced_by held asked)
 
 abbrev pub IsDeviceOf : Text → Stop → Type 0
 IsDeviceOf name (stops.Fault fault) = ⊥

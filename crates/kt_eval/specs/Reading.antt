@@ -22,7 +22,8 @@ use Rattle.kt_eval.specs.declared.page.Source.{Source}
 use Rattle.kt_eval.specs.declared.page.Source.TheVariants.{File, Held}
 use Rattle.kt_eval.specs.Files.{Store, look}
 use Rattle.kt_eval.specs.State.{World, move_to, ask, set_rule}
-use Rattle.kt_eval.specs.Step.{Step, Gave, ◌>>=◌, ◌>>◌, done, stop, change}
+use Rattle.kt_eval.specs.Outcome.{Gave, ◌>>=◌, ◌>>◌, done}
+use Rattle.kt_eval.specs.Step.{Step, stop, change}
 use Rattle.kt_eval.specs.Expansion.{Evaluator}
 use Rattle.kt_eval.specs.Assignments.{assign_line, define, body_text, refused_form}
 use Rattle.kt_eval.specs.Conditionals.{line_holds}

@@ -1,6 +1,6 @@
 -- Worked values of expansion, as facts that compute. The texts are of the GNU make manual's sections on variables and
 -- functions, and of kati's own rules where it has some.
-use Rattle.std.specs.Prelude.{◌≡◌, ℕ, false, List, [], ◌∷◌, Option, Some, None, codes}
+use Rattle.std.specs.Prelude.{◌≡◌, ℕ, List, [], ◌∷◌, Option, Some, None, codes}
 use Rattle.kt_text.specs.Words.{Text}
 use Rattle.kt_rules.specs.declared.place.Place.{Place}
 use Rattle.kt_syntax.specs.declared.form.Operator.TheVariants as operator
@@ -9,23 +9,20 @@ use Rattle.kt_eval.specs.declared.macros.Flavour.TheVariants.{Deferred, Immediat
 use Rattle.kt_eval.specs.declared.macros.Origin.TheVariants.{CommandLine}
 use Rattle.kt_eval.specs.declared.macros.Macro.{Macro}
 use Rattle.kt_eval.specs.Table.{Table, assigning, keeps, defers, expands, set_by_makefile}
-use Rattle.kt_eval.specs.State.{frozen_world}
-use Rattle.kt_eval.specs.Step.{Ending, with_text, with_fault, ending, fault_at}
+use Rattle.kt_eval.specs.Outcome.{Outcome, Gave, Stopped}
+use Rattle.kt_eval.specs.Step.{fault_at}
 use Rattle.kt_eval.specs.Conditions.{compared_of}
-use Rattle.kt_eval.specs.Expansion.{expanded}
 use Rattle.kt_eval.specs.Files.{Store}
-use Rattle.kt_eval.specs.Levels.{evaluator}
-use Rattle.kt_eval.specs.Machines.{read_all, at_fault, reading}
-use Rattle.kt_eval.specs.Machines.{Ending as EndOfReading}
+use Rattle.kt_eval.specs.Pure.{expanded_pure}
+use Rattle.kt_eval.specs.Machines.{Trace, traced, Read, read_of, reading}
 
 -- a text expanded as a recipe is, with so many levels
-abbrev pub comes_to : Table → ℕ → Text → Ending
-comes_to table limit text = ending (expanded (evaluator false [] limit) text (frozen_world table [] None []))
+abbrev pub comes_to : Table → ℕ → Text → Outcome (List Text) Text
+comes_to table limit text = expanded_pure table [] None limit text []
 
 -- the same where `@` is an automatic macro that stands for `t`
-abbrev pub comes_to_at : Table → ℕ → Text → Ending
-comes_to_at table limit text =
-    ending (expanded (evaluator false [] limit) text (frozen_world table ((codes "@", codes "t") ∷ []) None []))
+abbrev pub comes_to_at : Table → ℕ → Text → Outcome (List Text) Text
+comes_to_at table limit text = expanded_pure table ((codes "@", codes "t") ∷ []) None limit text []
 
 abbrev pub deferred : Text → Text → Text × Macro
 deferred name value = (name, set_by_makefile Deferred value)
@@ -35,40 +32,40 @@ immediate name value = (name, set_by_makefile Immediate value)
 
 -- references
 pub record RowsOfReferences : Type 0 where
-  pub undefined : comes_to [] 9 (codes "[$(A)]$$") ≡ with_text [] (codes "[]$")
+  pub undefined : comes_to [] 9 (codes "[$(A)]$$") ≡ Gave [] (codes "[]$")
   pub nested : comes_to (deferred (codes "A") (codes "B") ∷ deferred (codes "B") (codes "x") ∷ []) 9 (codes "$($(A))$A")
-      ≡ with_text [] (codes "xB")
+      ≡ Gave [] (codes "xB")
   pub substituted : comes_to (deferred (codes "S") (codes "a.c b") ∷ []) 9 (codes "$(S:.c=.o)")
-      ≡ with_text [] (codes "a.o b")
+      ≡ Gave [] (codes "a.o b")
   pub immediate_kept : comes_to (immediate (codes "A") (codes "$(B)") ∷ []) 1 (codes "$(A)")
-      ≡ with_text [] (codes "$(B)")
-  pub unterminated : comes_to [] 9 (codes "x$(a") ≡ with_fault [] (fault_at None 7 (codes "unterminated reference"))
+      ≡ Gave [] (codes "$(B)")
+  pub unterminated : comes_to [] 9 (codes "x$(a") ≡ Stopped [] (fault_at None 7 (codes "unterminated reference"))
   pub recursive : comes_to (deferred (codes "A") (codes "$(A)") ∷ []) 5 (codes "$(A)")
-      ≡ with_fault [] (fault_at None 8 (codes "nesting too deep"))
+      ≡ Stopped [] (fault_at None 8 (codes "nesting too deep"))
   pub empty_level : comes_to (deferred (codes "A") [] ∷ []) 0 (codes "$(A)")
-      ≡ with_fault [] (fault_at None 8 (codes "nesting too deep"))
+      ≡ Stopped [] (fault_at None 8 (codes "nesting too deep"))
   pub automatic_first : comes_to_at (deferred (codes "@") (codes "table") ∷ []) 9 (codes "$@ $(value @)")
-      ≡ with_text [] (codes "t t")
-  pub binding_first : comes_to_at [] 9 (codes "$(foreach @,a b,$@)$@") ≡ with_text [] (codes "a bt")
-  pub dollar_level : comes_to [] 0 (codes "[$(A$$)]") ≡ with_fault [] (fault_at None 8 (codes "nesting too deep"))
+      ≡ Gave [] (codes "t t")
+  pub binding_first : comes_to_at [] 9 (codes "$(foreach @,a b,$@)$@") ≡ Gave [] (codes "a bt")
+  pub dollar_level : comes_to [] 0 (codes "[$(A$$)]") ≡ Stopped [] (fault_at None 8 (codes "nesting too deep"))
 
 -- functions
 pub record RowsOfCalls : Type 0 where
-  pub joined : comes_to [] 9 (codes "$(join a b,1 2 3)") ≡ with_text [] (codes "a1 b2 3")
+  pub joined : comes_to [] 9 (codes "$(join a b,1 2 3)") ≡ Gave [] (codes "a1 b2 3")
   pub blank_condition : comes_to (deferred (codes "s") (codes " ") ∷ []) 9 (codes "[$(if $(s),y,n)]")
-      ≡ with_text [] (codes "[y]")
+      ≡ Gave [] (codes "[y]")
   pub argument : comes_to (deferred (codes "f") (codes "[$(1):$(2)]") ∷ deferred (codes "g") (codes "$(call f,x)$(2)") ∷ []) 9 (codes "$(call g,a,b)")
-      ≡ with_text [] (codes "[x:]b")
+      ≡ Gave [] (codes "[x:]b")
   pub stopped : comes_to [] 9 (codes "$(info a)$(error no)")
-      ≡ with_fault (codes "a" ∷ []) (fault_at None 19 (codes "no"))
-  pub refused : comes_to [] 9 (codes "$(shell ls)") ≡ with_fault [] (fault_at None 16 (codes "refused function shell"))
-  pub bad : comes_to [] 9 (codes "$(word 0,a)") ≡ with_fault [] (fault_at None 18 (codes "bad argument of word"))
-  pub few : comes_to [] 0 (codes "$(subst a)") ≡ with_fault [] (fault_at None 18 (codes "bad argument of subst"))
-  pub in_recipe : comes_to [] 0 (codes "$(eval A = 1)") ≡ with_fault [] (fault_at None 32 (codes "eval in a recipe"))
-  pub not_called : comes_to [] 9 (codes "$( info x)") ≡ with_text [] []
-  pub cut_by_bytes : comes_to [] 9 (codes "$(subst a$,b,a)") ≡ with_text [] (codes "b")
+      ≡ Stopped (codes "a" ∷ []) (fault_at None 19 (codes "no"))
+  pub refused : comes_to [] 9 (codes "$(shell ls)") ≡ Stopped [] (fault_at None 16 (codes "refused function shell"))
+  pub bad : comes_to [] 9 (codes "$(word 0,a)") ≡ Stopped [] (fault_at None 18 (codes "bad argument of word"))
+  pub few : comes_to [] 0 (codes "$(subst a)") ≡ Stopped [] (fault_at None 18 (codes "bad argument of subst"))
+  pub in_recipe : comes_to [] 0 (codes "$(eval A = 1)") ≡ Stopped [] (fault_at None 32 (codes "eval in a recipe"))
+  pub not_called : comes_to [] 9 (codes "$( info x)") ≡ Gave [] []
+  pub cut_by_bytes : comes_to [] 9 (codes "$(subst a$,b,a)") ≡ Gave [] (codes "b")
   pub other_marks : comes_to [] 9 (codes "[$(subst a,${b,c},a)]")
-      ≡ with_fault [] (fault_at None 7 (codes "unterminated reference"))
+      ≡ Stopped [] (fault_at None 7 (codes "unterminated reference"))
 
 -- assignments and conditions
 pub record RowsOfAssignments : Type 0 where
@@ -83,13 +80,13 @@ pub record RowsOfAssignments : Type 0 where
   pub unclosed : compared_of (codes "($(a,b)") ≡ None
 
 -- how a reading is seen: its messages, the names asked for, and the fault, if there is one
-abbrev pub heard_of : EndOfReading → List Text × (List Text × Option Fault)
-heard_of (read_all table book said asked) = (said, (asked, None))
-heard_of (at_fault said asked fault) = (said, (asked, Some fault))
+abbrev pub heard_of : Outcome Trace Read → List Text × (List Text × Option Fault)
+heard_of (Gave trace read) = (trace.said, (trace.asked, None))
+heard_of (Stopped trace fault) = (trace.said, (trace.asked, Some fault))
 
 -- the file `m` is read beside others, with so many levels
 abbrev pub heard : Store → ℕ → List Text × (List Text × Option Fault)
-heard files limit = heard_of (reading files (codes "m" ∷ []) limit [] [] [] [])
+heard files limit = heard_of (reading files (codes "m" ∷ []) limit (read_of [] []) (traced [] []))
 
 abbrev pub makefile : Text → Store
 makefile text = (codes "m", text) ∷ []

@@ -11,7 +11,8 @@ use Rattle.kt_rules.specs.Entry.{Rule, rule_of, with_line}
 use Rattle.kt_rules.specs.Refusals.{Fault}
 use Rattle.kt_rules.specs.Book.{added, refusal_of}
 use Rattle.kt_eval.specs.State.{set_rule}
-use Rattle.kt_eval.specs.Step.{Step, Gave, Stopped, ◌>>=◌, ◌>>◌, done, stop, change, fault_at}
+use Rattle.kt_eval.specs.Outcome.{Gave, Stopped, ◌>>=◌, ◌>>◌, done}
+use Rattle.kt_eval.specs.Step.{Step, stop, change, fault_at}
 use Rattle.kt_eval.specs.Expansion.{Evaluator, expanded}
 
 -- the place of a rule; lines are always read at one

@@ -1,12 +1,13 @@
 //! Conditions of conditionals.
-ghost use Rattle.std.specs.Prelude.{◌≡◌, option_map, bytes_eq, true};
+ghost use Rattle.std.specs.Prelude.{◌≡◌, Bool, option_map, bytes_eq, true};
 ghost use Rattle.kt_text.specs.Words.{is_nonempty, words_of};
 ghost use Rattle.kt_syntax.specs.Kinds.{kind_told};
 ghost use Rattle.kt_eval.specs.Conditionals.{are_equal, bad_conditional, else_holds, holds, is_defined, is_set};
 ghost use Rattle.kt_eval.specs.Conditionals.{line_holds, text_holds, worded_holds};
 ghost use Rattle.kt_eval.specs.State.{lookup, raw_value};
 ghost use Rattle.kt_eval.specs.inner.Doing.{Does};
-ghost use Rattle.kt_eval.specs.Step.{Blames, Gives};
+ghost use Rattle.kt_eval.specs.Outcome.{Gives, IfCut, left_of};
+ghost use Rattle.kt_eval.specs.Step.{Blames, GoesOn};
 ghost use Rattle.kt_eval.specs.inner.Views.{compared_told};
 
 use crate::compared::{Compared, compared_texts, text_after_word, word_before_blank};
@@ -21,6 +22,7 @@ use kt_text::words;
 impl<'a, M: Scope, F: Files> Evaluation<'a, M, F> {
     fn bad_conditional(&self) -> Result<bool, Stop>
         ensures gives { Gives (λ b. b) result self.now.world (bad_conditional self.now.world) }
+        ensures cut { IfCut result (GoesOn self.now.world (left_of (bad_conditional {A = Bool} self.now.world))) }
         ensures blames { Blames result self.now.failed self.now.failed self.now.world.asked }
     {
         Err(Stop::Fault(self.fault(FaultKind::BadConditional, b"")?))
@@ -30,6 +32,7 @@ impl<'a, M: Scope, F: Files> Evaluation<'a, M, F> {
     #[tactic(auto, unfolding(crate::specs::Conditionals::is_set))]
     fn is_set(&self, names: &[u8]) -> Result<bool, Stop>
         ensures gives { Gives (λ b. b) result self.now.world (is_set (words_of names.now) self.now.world) }
+        ensures cut { IfCut result (GoesOn self.now.world (left_of (is_set (words_of names.now) self.now.world))) }
         ensures blames { Blames result self.now.failed self.now.failed self.now.world.asked }
     {
         let mut rest = words(names);

@@ -5,7 +5,8 @@ ghost use Rattle.kt_text.specs.Words.{words_of};
 ghost use Rattle.kt_syntax.specs.Terms.{piece_of, terms_of};
 ghost use Rattle.kt_eval.specs.State.{lookup};
 ghost use Rattle.kt_eval.specs.inner.Doing.{Does};
-ghost use Rattle.kt_eval.specs.Step.{AreKnown, Blames, Gives, Keeps, store_of};
+ghost use Rattle.kt_eval.specs.Outcome.{Gives, IfCut, left_of};
+ghost use Rattle.kt_eval.specs.Step.{AreKnown, Blames, GoesOn, Keeps, store_of};
 ghost use Rattle.kt_eval.specs.Levels.{evaluator};
 ghost use Rattle.kt_eval.specs.Calls.{naming_of};
 ghost use Rattle.kt_eval.specs.inner.Views.{asked_told};
@@ -143,7 +144,7 @@ impl<'a, M: Scope, F: Files> Evaluation<'a, M, F> {
 
     // A function by its name. Its clauses are the parts of `Does`: arms without a name close only by themselves.
     #[cycle(evaluate)]
-    #[tactic(auto, unfolding(crate::specs::Expansion::apply))]
+    #[tactic(auto, using(crate::proofs::Steps::apply_goes), unfolding(crate::specs::Expansion::apply))]
     pub(crate) fn apply(
         &mut self,
         below: u64,
@@ -153,6 +154,9 @@ impl<'a, M: Scope, F: Files> Evaluation<'a, M, F> {
         ensures gives { AreKnown self.old.known → Gives (λ v. v.items) result self.new.world
             (apply (evaluator M.writable (store_of self.old.known) below) function (map (λ a. a.now) arguments.now)
             self.old.world) }
+        ensures cut { AreKnown self.old.known → IfCut result (GoesOn self.new.world (left_of
+            (apply (evaluator M.writable (store_of self.old.known) below) function (map (λ a. a.now) arguments.now)
+            self.old.world))) }
         ensures kept { Keeps self.old self.new }
         ensures blames { Blames result self.old.failed self.new.failed self.new.world.asked }
     {

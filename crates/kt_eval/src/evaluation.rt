@@ -55,9 +55,11 @@ impl<'a, M: Scope, F: Files> Model for Evaluation<'a, M, F> {
 
 impl<'a, M: Scope, F: Files> Evaluation<'a, M, F> {
     ghost use Rattle.std.specs.Prelude.{codes, Option, List, ℕ};
+    ghost use Rattle.kt_text.specs.Words.{Text};
     ghost use Rattle.kt_text.specs.Functions.{Answers};
     ghost use Rattle.kt_eval.specs.Expansion.{accepted, bad_argument};
-    ghost use Rattle.kt_eval.specs.Step.{Blames, Gives};
+    ghost use Rattle.kt_eval.specs.Outcome.{Gives, IfCut, left_of};
+    ghost use Rattle.kt_eval.specs.Step.{Blames, GoesOn};
     ghost use Rattle.kt_eval.specs.State.{bind, unbind, say, warn, message_place};
     ghost use Rattle.kt_eval.specs.Step.{fault_of};
 
@@ -135,6 +137,7 @@ impl<'a, M: Scope, F: Files> Evaluation<'a, M, F> {
     // The refusal of an argument of a function.
     pub(crate) fn bad_argument(&self, name: &[u8]) -> Result<Vec<u8>, Stop>
         ensures gives { Gives (λ v. v.items) result self.now.world (bad_argument name.now self.now.world) }
+        ensures cut { IfCut result (GoesOn self.now.world (left_of (bad_argument {A = Text} name.now self.now.world))) }
         ensures blames { Blames result self.now.failed self.now.failed self.now.world.asked }
     {
         Err(Stop::Fault(self.fault(FaultKind::BadArgument, name)?))
@@ -149,6 +152,8 @@ impl<'a, M: Scope, F: Files> Evaluation<'a, M, F> {
     ) -> Result<Vec<u8>, Stop>
         ensures gives { (expected : Option (List ℕ)) → Answers outcome expected
             → Gives (λ v. v.items) result self.now.world (accepted name.now expected self.now.world) }
+        ensures cut { (expected : Option (List ℕ))
+            → IfCut result (GoesOn self.now.world (left_of (accepted name.now expected self.now.world))) }
         ensures blames { Blames result self.now.failed self.now.failed self.now.world.asked }
     {
         match outcome {
@@ -163,7 +168,8 @@ impl<'a, M: Scope, F: Files> Evaluation<'a, M, F> {
     ghost use Rattle.kt_eval.specs.Reading.{at_line, at_number, line_at, read_bytes};
     ghost use Rattle.kt_eval.specs.Rules.{close_rule, enter_rule, open_rule, recipe_line, rule_place};
     ghost use Rattle.kt_eval.specs.State.{move_to, set_macro, set_rule};
-    ghost use Rattle.kt_eval.specs.Step.{AreKnown, Blames, Gives, store_of, Keeps};
+    ghost use Rattle.kt_eval.specs.Outcome.{Gives, IfCut, left_of};
+    ghost use Rattle.kt_eval.specs.Step.{AreKnown, Blames, GoesOn, Keeps, store_of};
     ghost use Rattle.kt_eval.specs.Table.{assigning, find, set_by_makefile};
     ghost use Rattle.kt_eval.specs.inner.Views.{assigning_told, front_told, raw_told};
 
@@ -287,6 +293,7 @@ impl<'a, M: Scope, F: Files> Evaluation<'a, M, F> {
     pub(crate) fn close_rule(&mut self) -> Result<(), Stop>
         requires { M.writable ≡ true }
         ensures gives { Gives (λ u. u) result self.new.world (close_rule self.old.world) }
+        ensures cut { IfCut result (GoesOn self.new.world (left_of (close_rule self.old.world))) }
         ensures kept { Keeps self.old self.new }
         ensures blames { Blames result self.old.failed self.new.failed self.new.world.asked }
         ensures unfailed { self.new.failed ≡ self.old.failed }
@@ -302,6 +309,7 @@ impl<'a, M: Scope, F: Files> Evaluation<'a, M, F> {
     fn enter_rule(&mut self, rule: Entry) -> Result<(), Stop>
         requires { M.writable ≡ true }
         ensures gives { Gives (λ u. u) result self.new.world (enter_rule rule self.old.world) }
+        ensures cut { IfCut result (GoesOn self.new.world (left_of (enter_rule rule self.old.world))) }
         ensures kept { Keeps self.old self.new }
         ensures blames { Blames result self.old.failed self.new.failed self.new.world.asked }
         ensures unfailed { self.new.failed ≡ self.old.failed }
@@ -323,6 +331,7 @@ impl<'a, M: Scope, F: Files> Evaluation<'a, M, F> {
         head: &[u8],
     ) -> Result<(), Stop>
         ensures gives { Gives (λ u. u) result self.new.world (open_rule recipe head.now self.old.world) }
+        ensures cut { IfCut result (GoesOn self.new.world (left_of (open_rule recipe head.now self.old.world))) }
         ensures kept { Keeps self.old self.new }
         ensures blames { Blames result self.old.failed self.new.failed self.new.world.asked }
         ensures unfailed { self.new.failed ≡ self.old.failed }
@@ -341,6 +350,7 @@ impl<'a, M: Scope, F: Files> Evaluation<'a, M, F> {
     #[tactic(auto, unfolding(crate::specs::Rules::recipe_line))]
     pub(crate) fn recipe_line(&mut self, rule: Entry, text: &[u8]) -> Result<(), Stop>
         ensures gives { Gives (λ u. u) result self.new.world (recipe_line rule text.now self.old.world) }
+        ensures cut { IfCut result (GoesOn self.new.world (left_of (recipe_line rule text.now self.old.world))) }
         ensures kept { Keeps self.old self.new }
         ensures blames { Blames result self.old.failed self.new.failed self.new.world.asked }
         ensures unfailed { self.new.failed ≡ self.old.failed }
@@ -359,6 +369,8 @@ impl<'a, M: Scope, F: Files> Evaluation<'a, M, F> {
     pub(crate) fn read_bytes(&mut self, name: &str) -> Result<Option<Vec<u8>>, Stop>
         ensures gives { AreKnown self.old.known → Gives (λ found. option_map
             (λ v. v.items) found) result self.new.world (read_bytes (store_of self.old.known) name.now self.old.world) }
+        ensures cut { AreKnown self.old.known → IfCut result
+            (GoesOn self.new.world (left_of (read_bytes (store_of self.old.known) name.now self.old.world))) }
         ensures kept { Keeps self.old self.new }
         ensures blames { Blames result self.old.failed self.new.failed self.new.world.asked }
     {

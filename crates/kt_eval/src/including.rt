@@ -7,7 +7,8 @@ ghost use Rattle.kt_eval.specs.Including.{each_include, include_line, include_na
 ghost use Rattle.kt_eval.specs.Reading.{included, read_file, read_first, read_included};
 ghost use Rattle.kt_eval.specs.inner.Doing.{Does};
 ghost use Rattle.kt_eval.specs.Levels.{evaluator};
-ghost use Rattle.kt_eval.specs.Step.{AreKnown, Blames, Gives, Keeps, store_of};
+ghost use Rattle.kt_eval.specs.Outcome.{Gives, IfCut, left_of};
+ghost use Rattle.kt_eval.specs.Step.{AreKnown, Blames, GoesOn, Keeps, store_of};
 
 use crate::evaluation::Evaluation;
 use crate::files::Files;
@@ -181,6 +182,9 @@ impl<'a, M: Scope, F: Files> Evaluation<'a, M, F> {
         ensures gives { AreKnown self.old.known → Gives (λ u. u) result self.new.world
             (read_first (store_of self.old.known) (evaluator M.writable (store_of self.old.known) limit)
             (map (λ name. name.now) names.now) self.old.world) }
+        ensures cut { AreKnown self.old.known → IfCut result (GoesOn self.new.world (left_of
+            (read_first (store_of self.old.known) (evaluator M.writable (store_of self.old.known) limit)
+            (map (λ name. name.now) names.now) self.old.world))) }
         ensures kept { Keeps self.old self.new }
         ensures blames { Blames result self.old.failed self.new.failed self.new.world.asked }
     {

@@ -2,7 +2,9 @@
 
 ghost use Rattle.std.specs.Prelude.{◌≡◌, ◌≤◌, IfErr, IfOk, IfSome, None, OnOk, Some, map, true};
 ghost use Rattle.kt_eval.specs.Fronts.{IsFront};
-ghost use Rattle.kt_eval.specs.Machines.{IsAgain, Reads, Remembers, Repeats, nothing_read, reading, with_default};
+ghost use Rattle.kt_eval.specs.Machines.{ComesBefore, IsAgain, Remembers, Repeats, nothing_read, read_by, read_of};
+ghost use Rattle.kt_eval.specs.Machines.{reading, reading_by, traced, traced_by, with_default};
+ghost use Rattle.kt_eval.specs.Outcome.{Gives, IfCut, left_of};
 ghost use Rattle.kt_eval.specs.Step.{Blames};
 ghost use Rattle.kt_eval.specs.declared.stop.Stop.{Stop as StopType};
 
@@ -78,11 +80,12 @@ impl Machine {
     /// device fails, a prefix of them, and a prefix of the names is asked for. A failed device
     /// is told by the name asked for last; nothing else is returned where one failed.
     pub fn read_file<F: Files>(&mut self, files: &mut F, names: &[&str]) -> Result<(), Stop>
-        ensures reads { self.old.refusal ≡ None
-            → IfSome (F.known files.old)
-            (λ store. Reads result self.new.table self.new.book self.new.said (F.names files.new) (reading store (map
-            (λ name. name.now) names.now) self.old.limit self.old.table self.old.book self.old.said
-            (F.names files.old))) }
+        ensures reads { self.old.refusal ≡ None → IfSome (F.known files.old) (λ store. Gives (λ _. read_by self.new)
+            result (traced_by self.new (F.names files.new))
+            (reading_by store (map (λ name. name.now) names.now) self.old (F.names files.old))) }
+        ensures cut { self.old.refusal ≡ None → IfSome (F.known files.old)
+            (λ store. IfCut result (ComesBefore (traced_by self.new (F.names files.new))
+            (left_of (reading_by store (map (λ name. name.now) names.now) self.old (F.names files.old))))) }
         ensures repeats { (stop : StopType) → self.old.refusal ≡ Some stop → Repeats result stop }
         ensures untouched { (stop : StopType) → self.old.refusal ≡ Some stop → (files.new ≡ files.old)
             × (self.new ≡ self.old) }
@@ -107,10 +110,12 @@ impl Machine {
 
     // Reads once.
     fn read<F: Files>(&mut self, files: &mut F, names: &[&str]) -> Result<(), Stop>
-        ensures reads { IfSome (F.known files.old)
-            (λ store. Reads result self.new.table self.new.book self.new.said (F.names files.new) (reading store (map
-            (λ name. name.now) names.now) self.old.limit self.old.table self.old.book self.old.said
-            (F.names files.old))) }
+        ensures reads { IfSome (F.known files.old) (λ store. Gives (λ _. read_by self.new)
+            result (traced_by self.new (F.names files.new))
+            (reading_by store (map (λ name. name.now) names.now) self.old (F.names files.old))) }
+        ensures cut { IfSome (F.known files.old)
+            (λ store. IfCut result (ComesBefore (traced_by self.new (F.names files.new))
+            (left_of (reading_by store (map (λ name. name.now) names.now) self.old (F.names files.old))))) }
         ensures limited { self.new.limit ≡ self.old.limit }
         ensures refusal { self.new.refusal ≡ self.old.refusal }
         ensures said { IsFront self.old.said self.new.said }
@@ -130,10 +135,12 @@ impl Machine {
         files: &mut F,
         names: &[&str],
     ) -> Result<(), Stop>
-        ensures reads { IfSome (F.known files.old)
-            (λ store. Reads result self.new.table self.new.book self.new.said (F.names files.new) (reading store (map
-            (λ name. name.now) names.now) self.old.limit self.old.table self.old.book self.old.said
-            (F.names files.old))) }
+        ensures reads { IfSome (F.known files.old) (λ store. Gives (λ _. read_by self.new)
+            result (traced_by self.new (F.names files.new))
+            (reading_by store (map (λ name. name.now) names.now) self.old (F.names files.old))) }
+        ensures cut { IfSome (F.known files.old)
+            (λ store. IfCut result (ComesBefore (traced_by self.new (F.names files.new))
+            (left_of (reading_by store (map (λ name. name.now) names.now) self.old (F.names files.old))))) }
         ensures limited { self.new.limit ≡ self.old.limit }
         ensures refusal { self.new.refusal ≡ self.old.refusal }
         ensures said { IsFront self.old.said self.new.said }
@@ -186,9 +193,14 @@ fn read_once<F: Files>(
     files: &mut F,
     names: &[&str],
 ) -> (Makefile, Vec<Sequence<u8>>, Result<(), Stop>)
-    ensures reads { IfSome (F.known files.old)
-        (λ store. Reads result.2 result.0.macros result.0.book result.1.items (F.names files.new) (reading store (map
-        (λ name. name.now) names.now) limit makefile.macros makefile.book messages.items (F.names files.old))) }
+    ensures reads { IfSome (F.known files.old) (λ store. Gives (λ _. read_of result.0.macros result.0.book)
+        result.2 (traced result.1.items (F.names files.new))
+        (reading store (map (λ name. name.now) names.now) limit (read_of makefile.macros makefile.book)
+        (traced messages.items (F.names files.old)))) }
+    ensures cut { IfSome (F.known files.old)
+        (λ store. IfCut result.2 (ComesBefore (traced result.1.items (F.names files.new))
+        (left_of (reading store (map (λ name. name.now) names.now) limit (read_of makefile.macros makefile.book)
+        (traced messages.items (F.names files.old)))))) }
     ensures said { IsFront messages.items result.1.items }
     ensures asked { IsFront (F.names files.old) (F.names files.new) }
     ensures keeps { F.known files.new ≡ F.known files.old }

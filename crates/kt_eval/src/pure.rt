@@ -1,10 +1,6 @@
 //! Texts expanded after all reading, as recipes are.
-ghost use Rattle.std.specs.Prelude.{◌≡◌, ◌++◌, ◌∷◌, [], OnErr, OnOk, false, map, string_bytes};
-ghost use Rattle.kt_eval.specs.Step.{Ends, ending};
-ghost use Rattle.kt_eval.specs.Expansion.{expanded};
-ghost use Rattle.kt_eval.specs.Fronts.{IsFront};
-ghost use Rattle.kt_eval.specs.Levels.{evaluator};
-ghost use Rattle.kt_eval.specs.State.{frozen_world};
+ghost use Rattle.std.specs.Prelude.{◌≡◌, ◌++◌, ◌∷◌, [], OnErr, OnOk, map, string_bytes};
+ghost use Rattle.kt_eval.specs.Pure.{Says, expanded_pure};
 
 use crate::automatic::Automatic;
 use crate::evaluation::Evaluation;
@@ -31,10 +27,8 @@ impl Macros {
         messages: &mut Vec<Sequence<u8>>,
         limit: u64,
     ) -> Result<Vec<u8>, Stop>
-        ensures appends { IsFront messages.old.items messages.new.items }
-        ensures ends { Ends result messages.new.items
-            (ending (expanded (evaluator false [] limit) text.now
-            (frozen_world self.now (A.values automatic.now) place messages.old.items))) }
+        ensures { Says (λ v. v.items) (expanded_pure self.now (A.values automatic.now) place limit text.now) result
+            messages.old.items messages.new.items }
     {
         let before = std::mem::replace(messages, Vec::new(alloc));
         let mut files = NoFiles {

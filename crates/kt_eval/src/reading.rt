@@ -1,5 +1,5 @@
 //! Makefiles read, line by line.
-ghost use Rattle.std.specs.Prelude.{◌≡◌, ◌<◌, ◌≤◌, ◌+◌, length, option_map, IfOk, Some, false, true};
+ghost use Rattle.std.specs.Prelude.{◌≡◌, ◌<◌, ◌≤◌, ◌+◌, length, option_map, IfErr, IfOk, Some, false, true};
 ghost use Rattle.std.specs.List.{slice_get, slice_range};
 ghost use Rattle.kt_text.specs.Lines.{condensed_of};
 ghost use Rattle.kt_syntax.specs.Kinds.{kind_of, kind_told, line_kind};
@@ -14,8 +14,9 @@ ghost use Rattle.kt_eval.specs.Assignments.{assign_line};
 ghost use Rattle.kt_eval.specs.Rules.{rule_line, rule_of_parts};
 ghost use Rattle.kt_syntax.specs.Comments.{plain_of};
 ghost use Rattle.kt_syntax.specs.Recipes.{recipe_of};
-ghost use Rattle.kt_eval.specs.inner.Doing.{Does};
-ghost use Rattle.kt_eval.specs.Step.{AreKnown, Blames, Gives, GivesOn, Stopped, store_of, Keeps};
+ghost use Rattle.kt_eval.specs.inner.Doing.{Does, reading_from};
+ghost use Rattle.kt_eval.specs.Outcome.{Fails, Gives, IfCut, Stopped, left_of};
+ghost use Rattle.kt_eval.specs.Step.{AreKnown, Blames, GoesOn, Keeps, store_of};
 ghost use Rattle.kt_eval.specs.inner.Views.{raw_told};
 
 use crate::evaluation::Evaluation;
@@ -38,6 +39,7 @@ impl<'a, M: Scope, F: Files> Evaluation<'a, M, F> {
     #[tactic(auto, using(crate::proofs::Steps::read_end_goes), unfolding(crate::specs::Reading::read_end))]
     fn read_end(&mut self, source: &Source, missing: Option<Missing>) -> Result<(), Stop>
         ensures gives { Gives (λ u. u) result self.new.world (read_end source.now missing self.old.world) }
+        ensures cut { IfCut result (GoesOn self.new.world (left_of (read_end source.now missing self.old.world))) }
         ensures kept { Keeps self.old self.new }
         ensures blames { Blames result self.old.failed self.new.failed self.new.world.asked }
         ensures unfailed { self.new.failed ≡ self.old.failed }
@@ -140,10 +142,13 @@ impl<'a, M: Scope, F: Files> Evaluation<'a, M, F> {
         requires ahead { IsAhead place (length page.now.blocks.steps) step }
         requires within { place < length page.now.blocks.steps }
         ensures ahead { IfOk result (λ at. (place < at) × (at ≤ length page.now.blocks.steps)) }
-        ensures gives { AreKnown self.old.known → GivesOn result self.new.world
-            (λ at. read_items (evaluator M.writable (store_of self.old.known) below) page.now
-            (left_at page.now.blocks.steps at)) (read_items (evaluator M.writable (store_of self.old.known) below)
-            page.now (left_at page.now.blocks.steps place) self.old.world) }
+        ensures goes_on { AreKnown self.old.known → IfOk result
+            (λ at. reading_from M.writable self.old.known below page.now place self.old.world
+            ≡ reading_from M.writable self.old.known below page.now at self.new.world) }
+        ensures fails { AreKnown self.old.known → IfErr result (λ stop. Fails stop self.new.world
+            (reading_from M.writable self.old.known below page.now place self.old.world)) }
+        ensures cut { AreKnown self.old.known → IfCut result (GoesOn self.new.world
+            (left_of (reading_from M.writable self.old.known below page.now place self.old.world))) }
         ensures kept { Keeps self.old self.new }
         ensures blames { Blames result self.old.failed self.new.failed self.new.world.asked }
     {
@@ -186,10 +191,13 @@ impl<'a, M: Scope, F: Files> Evaluation<'a, M, F> {
         requires reads { IsConditional page.now.blocks.steps place next after }
         requires ahead { IsAhead place (length page.now.blocks.steps) (step.Conditional next after) }
         ensures ahead { IfOk result (λ at. (place < at) × (at ≤ length page.now.blocks.steps)) }
-        ensures gives { AreKnown self.old.known → GivesOn result self.new.world
-            (λ at. read_items (evaluator M.writable (store_of self.old.known) below) page.now
-            (left_at page.now.blocks.steps at)) (read_items (evaluator M.writable (store_of self.old.known) below)
-            page.now (left_at page.now.blocks.steps place) self.old.world) }
+        ensures goes_on { AreKnown self.old.known → IfOk result
+            (λ at. reading_from M.writable self.old.known below page.now place self.old.world
+            ≡ reading_from M.writable self.old.known below page.now at self.new.world) }
+        ensures fails { AreKnown self.old.known → IfErr result (λ stop. Fails stop self.new.world
+            (reading_from M.writable self.old.known below page.now place self.old.world)) }
+        ensures cut { AreKnown self.old.known → IfCut result (GoesOn self.new.world
+            (left_of (reading_from M.writable self.old.known below page.now place self.old.world))) }
         ensures kept { Keeps self.old self.new }
         ensures blames { Blames result self.old.failed self.new.failed self.new.world.asked }
     {

@@ -17,7 +17,7 @@ use Rattle.kt_eval.specs.Expansion.{Evaluator, flavoured, value_of, body_of, val
 use Rattle.kt_eval.specs.Files.{Store}
 use Rattle.kt_eval.specs.Levels.{above, evaluator}
 use Rattle.kt_eval.specs.State.{World, found_of, seen, innermost, lookup, frozen_world}
-use Rattle.kt_eval.specs.Step.{Gave, ending, with_text}
+use Rattle.kt_eval.specs.Outcome.{Gave, leaving}
 use Rattle.kt_eval.specs.Table.{Table, find}
 use Rattle.kt_graph.specs.Node.{Node}
 use Rattle.kt_recipe.specs.Auto.{names_of, automatic_in}
@@ -102,7 +102,7 @@ both_are node part table limit place said text (Some shell) (Some flags) is also
 
 pub shell_is : (node : Node) (part : ℕ) (table : Table) (limit : ℕ) (place : Place) (said : List Text) (text : Text)
     → Some text ≡ plain_shell table limit
-    → expansion (setting_of table (automatic_in node part) limit place) said shell_text ≡ with_text said text
+    → expansion (setting_of table (automatic_in node part) limit place) shell_text said ≡ Gave said text
 unfolding plain_shell expansion
 shell_is node part table limit place said text found =
-    ap ending (both_are node part table limit (Some place) said text _ _ refl refl found)
+    ap (leaving (λ w. w.said)) (both_are node part table limit (Some place) said text _ _ refl refl found)

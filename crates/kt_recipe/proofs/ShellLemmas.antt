@@ -1,15 +1,16 @@
--- Messages only grow while a command comes about, and what a step that stops tells is told by all that it stands in.
-use Rattle.std.proofs.Common.{ℕ, Bool, true, false, List, [], ◌∷◌, Option, Some, Err, ◌||◌, if◌then◌else◌, unwrap_or, slice_get, ap}
+-- Messages only grow while a command comes about, and a step that is stopped stops all that begins with it.
+use Rattle.std.proofs.Common.{◌≡◌, ℕ, Bool, true, false, List, [], ◌∷◌, Option, Some, Ok, Err, ◌||◌, if◌then◌else◌, unwrap_or, slice_get, ap, subst}
 use Rattle.kt_text.specs.Words.{Text, is_nonempty}
 use Rattle.kt_rules.specs.declared.entry.RecipeLine.{RecipeLine}
 use Rattle.kt_eval.specs.declared.stop.Stop.{Stop}
 use Rattle.kt_eval.specs.declared.stop.Stop.TheVariants as stops
 use Rattle.kt_eval.specs.Files.{Store}
 use Rattle.kt_eval.specs.Fronts.{IsFront}
-use Rattle.kt_eval.specs.State.{frozen_world}
+use Rattle.kt_eval.specs.State.{World, frozen_world}
 use Rattle.kt_eval.specs.Expansion.{expanded}
 use Rattle.kt_eval.specs.Levels.{evaluator}
-use Rattle.kt_eval.specs.Step.{Outcome, Gave, Stopped, world_of, Ending, with_text, with_fault, ending, messages_of, Ends}
+use Rattle.kt_eval.specs.Outcome.{Outcome, Gave, Stopped, StepOver, Fails, IfCutBy, leaving, left_of, then_do, done}
+use Rattle.kt_eval.specs.Pure.{Says}
 use Rattle.kt_eval.specs.Table.{Table}
 use Rattle.kt_eval.proofs.GrowingLemmas.{front_same, front_next}
 use Rattle.kt_eval.proofs.GrowingReads.{expanding_grows}
@@ -17,101 +18,105 @@ use Rattle.kt_graph.specs.Node.{Node}
 use Rattle.kt_graph.specs.Views.{part_lines}
 use Rattle.kt_recipe.specs.Auto.{automatic_in}
 use Rattle.kt_recipe.specs.Lines.{after_run, is_marked, pieces_of}
-use Rattle.kt_recipe.specs.Shell.{Progress, goes_on, ends, on_text, and_then, joined, wrapped, Setting, setting_of, shell_text, expansion, put_piece, put_pieces, put_line, put_lines, put_part, put_parts}
-use Rattle.kt_recipe.specs.Views.{said_of, Stops}
+use Rattle.kt_recipe.specs.Shell.{joined, wrapped, Setting, setting_of, shell_text, expansion, put_piece, put_pieces, put_line, put_lines, put_part, put_parts}
 
-ending_front : (said : List Text) (o : Outcome Text) → IsFront said (world_of o).said → IsFront said (messages_of (ending o))
-ending_front said (Gave w x) h = h
-ending_front said (Stopped w x) h = h
+-- the messages before a step are a prefix of those that it leaves
+abbrev pub Keeps : {A : Type 0} → StepOver (List Text) A → Type 0
+Keeps step = (said : List Text) → IsFront said (left_of (step said))
 
-pub expansion_front : (at : Setting) (said : List Text) (text : Text) → IsFront said (messages_of (expansion at said text))
-unfolding expansion
-expansion_front at said text =
-    ending_front said (expanded (evaluator false [] at.limit) text (frozen_world at.table at.automatic at.place said))
-    (expanding_grows false [] at.limit text (frozen_world at.table at.automatic at.place said)).0
+pub then_front : {A B : Type 0} (said : List Text) (o : Outcome (List Text) A) (next : A → StepOver (List Text) B) → ((x : A) → Keeps (next x))
+    → IsFront said (left_of o) → IsFront said (left_of (then_do o next))
+then_front said (Gave heard x) next more h = front_next said heard (left_of (next x heard)) h (more x heard)
+then_front said (Stopped heard fault) next more h = h
 
--- what is done with a text or a command keeps the messages
-abbrev pub KeepsText : (List Text → Text → Progress) → Type 0
-KeepsText next = (heard : List Text) (text : Text) → IsFront heard (said_of (next heard text))
+-- ---- a step that is stopped
 
-abbrev pub Keeps : (List Text → Option Text → Progress) → Type 0
-Keeps next = (heard : List Text) (command : Option Text) → IsFront heard (said_of (next heard command))
+fails_then : {A B : Type 0} (stop : Stop) (heard : List Text) (o : Outcome (List Text) A) (next : A → StepOver (List Text) B)
+    → Fails stop heard o → Fails stop heard (then_do o next)
+fails_then (stops.Fault fault) heard o next h = ap (λ p. then_do p next) h
+fails_then (stops.Device name) heard o next h = tt
+fails_then stops.Memory heard o next h = tt
 
-pub on_text_front : (e : Ending) (next : List Text → Text → Progress) → KeepsText next → IsFront (messages_of e) (said_of (on_text e next))
-on_text_front (with_text said text) next h = h said text
-on_text_front (with_fault said fault) next h = front_same said
+cut_then : {A B : Type 0} (stop : Stop) (heard : List Text) (o : Outcome (List Text) A) (next : A → StepOver (List Text) B) → ((x : A) → Keeps (next x))
+    → IfCutBy stop (IsFront heard (left_of o)) → IfCutBy stop (IsFront heard (left_of (then_do o next)))
+cut_then (stops.Fault fault) heard o next more h = tt
+cut_then (stops.Device name) heard o next more h = then_front heard o next more h
+cut_then stops.Memory heard o next more h = then_front heard o next more h
 
-pub and_then_front : (p : Progress) (next : List Text → Option Text → Progress) → Keeps next → IsFront (said_of p) (said_of (and_then p next))
-and_then_front (goes_on said command) next h = h said command
-and_then_front (ends said fault) next h = front_same said
+-- a step that is stopped stops the whole, of which so much was done before it
+pub stops_all : {A B C D : Type 0} (see : A → C) (other : B → D) (stop : Stop) (start now new : List Text) (first : StepOver (List Text) C)
+    (next : C → StepOver (List Text) D) (whole : StepOver (List Text) D)
+    → ((x : C) → Keeps (next x)) → IsFront start now → then_do (first now) next ≡ whole start
+    → Says see first (Err stop) now new → Says other whole (Err stop) start new
+stops_all {D} see other stop start now new first next whole more before is h = record {
+  gives = subst (λ (o : Outcome (List Text) D). Fails stop new o) is (fails_then stop new (first now) next h.gives);
+  appends = front_next start now new before h.appends;
+  cut = subst (λ (o : Outcome (List Text) D). IfCutBy stop (IsFront new (left_of o))) is (cut_then stop new (first now) next more h.cut);
+  asks_nothing = h.asks_nothing;
+}
 
--- an expansion that stops stops what it is made for
-pub text_stops : (stop : Stop) (said : List Text) (e : Ending) (next : List Text → Text → Progress) → KeepsText next
-    → Ends (Err stop) said e → Stops stop said (on_text e next)
-text_stops (stops.Fault fault) said e next h is = ap (λ e. on_text e next) is
-text_stops (stops.Device name) said e next h is = absurd is
-text_stops stops.Memory said e next h is = front_next said (messages_of e) (said_of (on_text e next)) is (on_text_front e next h)
+-- nothing was said before memory was refused
+pub out_of_memory : {A B : Type 0} (see : A → B) (step : StepOver (List Text) B) (said : List Text) → Keeps step → Says see step (Err stops.Memory) said said
+out_of_memory see step said keeps = record { gives = tt; appends = front_same said; cut = keeps said; asks_nothing = tt }
 
--- a step that stops stops all that it begins
-pub step_stops : (stop : Stop) (said : List Text) (p : Progress) (next : List Text → Option Text → Progress) → Keeps next
-    → Stops stop said p → Stops stop said (and_then p next)
-step_stops (stops.Fault fault) said p next h is = ap (λ p. and_then p next) is
-step_stops (stops.Device name) said p next h is = absurd is
-step_stops stops.Memory said p next h is = front_next said (said_of p) (said_of (and_then p next)) is (and_then_front p next h)
+-- a step that says nothing
+pub says_nothing : {A B : Type 0} (see : A → B) (step : StepOver (List Text) B) (x : A) (said : List Text) → step said ≡ Gave said (see x)
+    → Says see step (Ok x) said said
+says_nothing see step x said is = record { gives = is; appends = front_same said; cut = tt; asks_nothing = tt }
 
 -- ---- messages only grow
 
-piece_front : (b : Bool) (e : Ending) (next : List Text → Text → Progress) (said : List Text) (command : Option Text) → IsFront said (messages_of e) → KeepsText next
-    → IsFront said (said_of (if b then on_text e next else goes_on said command))
-piece_front true e next said command h k = front_next said (messages_of e) (said_of (on_text e next)) h (on_text_front e next k)
-piece_front false e next said command h k = front_same said
+leaving_front : (said : List Text) (o : Outcome World Text) → IsFront said (left_of o).said → IsFront said (left_of (leaving (λ w. w.said) o))
+leaving_front said (Gave w x) h = h
+leaving_front said (Stopped w fault) h = h
 
-pub put_piece_front : (at : Setting) (marked : Bool) (piece : Text) (said : List Text) (command : Option Text)
-    → IsFront said (said_of (put_piece at marked piece said command))
+pub expansion_front : (at : Setting) (text : Text) → Keeps (expansion at text)
+unfolding expansion
+expansion_front at text said =
+    leaving_front said (expanded (evaluator false [] at.limit) text (frozen_world at.table at.automatic at.place said))
+    (expanding_grows false [] at.limit text (frozen_world at.table at.automatic at.place said)).0
+
+front_if : {A : Type 0} (b : Bool) (one other : StepOver (List Text) A) → Keeps one → Keeps other → Keeps (if b then one else other)
+front_if true one other h k = h
+front_if false one other h k = k
+
+pub put_piece_front : (at : Setting) (marked : Bool) (piece : Text) (command : Option Text) → Keeps (put_piece at marked piece command)
 unfolding put_piece
-put_piece_front at marked piece said command =
-    piece_front (is_nonempty (after_run piece)) (expansion at said shell_text)
-    (λ heard shell. goes_on heard (Some (joined command (wrapped (marked || is_marked piece) shell (after_run piece))))) said command
-    (expansion_front at said shell_text) (λ heard shell. front_same heard)
+put_piece_front at marked piece command = front_if (is_nonempty (after_run piece)) _ _
+    (λ said. then_front said (expansion at shell_text said)
+    (λ shell. done (Some (joined command (wrapped (marked || is_marked piece) shell (after_run piece)))))
+    (λ shell heard. front_same heard) (expansion_front at shell_text said))
+    (λ said. front_same said)
 
-pub put_pieces_front : (at : Setting) (marked : Bool) (pieces : List Text) (said : List Text) (command : Option Text)
-    → IsFront said (said_of (put_pieces at marked pieces said command))
+pub put_pieces_front : (at : Setting) (marked : Bool) (pieces : List Text) (command : Option Text) → Keeps (put_pieces at marked pieces command)
 unfolding put_pieces
-put_pieces_front at marked [] said command = front_same said
-put_pieces_front at marked (piece ∷ pieces) said command =
-    let step = put_piece at marked piece said command in
-    front_next said (said_of step) (said_of (and_then step (put_pieces at marked pieces)))
-    (put_piece_front at marked piece said command) (and_then_front step (put_pieces at marked pieces) (put_pieces_front at marked pieces))
+put_pieces_front at marked [] command said = front_same said
+put_pieces_front at marked (piece ∷ pieces) command said =
+    then_front said (put_piece at marked piece command said) (put_pieces at marked pieces)
+    (put_pieces_front at marked pieces) (put_piece_front at marked piece command said)
 
-pub put_line_front : (at : Setting) (line : Text) (said : List Text) (command : Option Text) → IsFront said (said_of (put_line at line said command))
+pub put_line_front : (at : Setting) (line : Text) (command : Option Text) → Keeps (put_line at line command)
 unfolding put_line
-put_line_front at line said command =
-    let e = expansion at said (after_run line) in
-    let next = λ (heard : List Text) (text : Text). put_pieces at (is_marked line) (pieces_of text) heard command in
-    front_next said (messages_of e) (said_of (on_text e next)) (expansion_front at said (after_run line))
-    (on_text_front e next (λ heard text. put_pieces_front at (is_marked line) (pieces_of text) heard command))
+put_line_front at line command said =
+    then_front said (expansion at (after_run line) said) (λ text. put_pieces at (is_marked line) (pieces_of text) command)
+    (λ text. put_pieces_front at (is_marked line) (pieces_of text) command) (expansion_front at (after_run line) said)
 
-pub put_lines_front : (table : Table) (automatic : Store) (limit : ℕ) (lines : List RecipeLine) (said : List Text) (command : Option Text)
-    → IsFront said (said_of (put_lines table automatic limit lines said command))
+pub put_lines_front : (table : Table) (automatic : Store) (limit : ℕ) (lines : List RecipeLine) (command : Option Text)
+    → Keeps (put_lines table automatic limit lines command)
 unfolding put_lines
-put_lines_front table automatic limit [] said command = front_same said
-put_lines_front table automatic limit (line ∷ lines) said command =
-    let step = put_line (setting_of table automatic limit line.place) line.text said command in
-    front_next said (said_of step) (said_of (and_then step (put_lines table automatic limit lines)))
-    (put_line_front (setting_of table automatic limit line.place) line.text said command)
-    (and_then_front step (put_lines table automatic limit lines) (put_lines_front table automatic limit lines))
+put_lines_front table automatic limit [] command said = front_same said
+put_lines_front table automatic limit (line ∷ lines) command said =
+    then_front said (put_line (setting_of table automatic limit line.place) line.text command said) (put_lines table automatic limit lines)
+    (put_lines_front table automatic limit lines) (put_line_front (setting_of table automatic limit line.place) line.text command said)
 
-pub put_part_front : (table : Table) (limit : ℕ) (node : Node) (part : ℕ) (said : List Text) (command : Option Text)
-    → IsFront said (said_of (put_part table limit node part said command))
+pub put_part_front : (table : Table) (limit : ℕ) (node : Node) (part : ℕ) (command : Option Text) → Keeps (put_part table limit node part command)
 unfolding put_part
-put_part_front table limit node part said command =
-    put_lines_front table (automatic_in node part) limit (unwrap_or (part_lines (slice_get node.parts part)) []) said command
+put_part_front table limit node part command =
+    put_lines_front table (automatic_in node part) limit (unwrap_or (part_lines (slice_get node.parts part)) []) command
 
-pub put_parts_front : (table : Table) (limit : ℕ) (node : Node) (parts : List ℕ) (said : List Text) (command : Option Text)
-    → IsFront said (said_of (put_parts table limit node parts said command))
+pub put_parts_front : (table : Table) (limit : ℕ) (node : Node) (parts : List ℕ) (command : Option Text) → Keeps (put_parts table limit node parts command)
 unfolding put_parts
-put_parts_front table limit node [] said command = front_same said
-put_parts_front table limit node (part ∷ parts) said command =
-    let step = put_part table limit node part said command in
-    front_next said (said_of step) (said_of (and_then step (put_parts table limit node parts)))
-    (put_part_front table limit node part said command) (and_then_front step (put_parts table limit node parts) (put_parts_front table limit node parts))
+put_parts_front table limit node [] command said = front_same said
+put_parts_front table limit node (part ∷ parts) command said =
+    then_front said (put_part table limit node part command said) (put_parts table limit node parts)
+    (put_parts_front table limit node parts) (put_part_front table limit node part command said)

@@ -3,7 +3,6 @@ pub mod Auto
 pub mod Quoting
 pub mod Lines
 pub mod Shell
-pub mod Deeper
 pub mod Views
 pub mod Rows
 pub mod inner

@@ -6,12 +6,13 @@ use Rattle.kt_rules.specs.declared.entry.RecipeLine.{RecipeLine}
 use Rattle.kt_eval.specs.declared.macros.Flavour.TheVariants.{Deferred}
 use Rattle.kt_eval.specs.declared.macros.Macro.{Macro}
 use Rattle.kt_eval.specs.Files.{look}
+use Rattle.kt_eval.specs.Outcome.{Outcome, Gave, Stopped}
 use Rattle.kt_eval.specs.Step.{fault_at}
 use Rattle.kt_eval.specs.Table.{Table, set_by_makefile}
 use Rattle.kt_graph.specs.declared.node.NodeKind.TheVariants.{DoubleColon, Explicit}
 use Rattle.kt_graph.specs.Node.{Node, Part}
 use Rattle.kt_recipe.specs.Auto.{automatic_in}
-use Rattle.kt_recipe.specs.Shell.{Progress, goes_on, ends, shell_of}
+use Rattle.kt_recipe.specs.Shell.{shell_of}
 
 abbrev pub at_m : ℕ → Option Place
 at_m number = Some (record { file = codes "m"; line = number })
@@ -61,7 +62,7 @@ abbrev pub with_shell : Table → Table
 with_shell more = deferred (codes "SHELL") (codes "/bin/sh") ∷ deferred (codes ".SHELLFLAGS") (codes "-c") ∷ more
 
 -- the command of a node, with 9 levels and no message before it
-abbrev pub comes_to : Table → Node → Progress
+abbrev pub comes_to : Table → Node → Outcome (List Text) (Option Text)
 comes_to table node = shell_of table 9 node []
 
 -- automatic macros
@@ -89,52 +90,52 @@ pub record RowsOfCommands : Type 0 where
   pub quotes :
       comes_to (with_shell [])
       (simple (line 1 (codes "echo \"it's $$HOME\"") ∷ []))
-      ≡ goes_on [] (Some (codes "/bin/sh -c 'echo \"it'\\''s $HOME\"'"))
+      ≡ Gave [] (Some (codes "/bin/sh -c 'echo \"it'\\''s $HOME\"'"))
   pub canned :
       comes_to (with_shell (deferred (codes "go") (codes "@echo one\n-false") ∷ []))
       (simple (line 1 (codes "$(go)") ∷ []))
-      ≡ goes_on [] (Some (codes "/bin/sh -c 'echo one' && { /bin/sh -c 'false' || :; }"))
+      ≡ Gave [] (Some (codes "/bin/sh -c 'echo one' && { /bin/sh -c 'false' || :; }"))
   pub marked :
       comes_to (with_shell [])
       (simple (line 1 (codes "@-a") ∷ []))
-      ≡ goes_on [] (Some (codes "{ /bin/sh -c 'a' || :; }"))
+      ≡ Gave [] (Some (codes "{ /bin/sh -c 'a' || :; }"))
   pub marked_line :
       comes_to (with_shell (deferred (codes "X") (codes "a\n @- \nb") ∷ []))
       (simple (line 1 (codes "-$(X)") ∷ []))
-      ≡ goes_on [] (Some (codes "{ /bin/sh -c 'a' || :; } && { /bin/sh -c 'b' || :; }"))
+      ≡ Gave [] (Some (codes "{ /bin/sh -c 'a' || :; } && { /bin/sh -c 'b' || :; }"))
   pub trailing_blank :
       comes_to (with_shell [])
       (simple (line 1 (codes "a ") ∷ line 2 (codes " @ ") ∷ []))
-      ≡ goes_on [] (Some (codes "/bin/sh -c 'a '"))
+      ≡ Gave [] (Some (codes "/bin/sh -c 'a '"))
   pub no_piece :
       comes_to (with_shell [])
       (simple (line 1 (codes "$(X)") ∷ []))
-      ≡ goes_on [] None
+      ≡ Gave [] None
   pub double_colon :
       comes_to (with_shell [])
       (doubled)
-      ≡ goes_on [] (Some (codes "/bin/sh -c 'one b' && /bin/sh -c 'two c'"))
+      ≡ Gave [] (Some (codes "/bin/sh -c 'one b' && /bin/sh -c 'two c'"))
   pub message :
       comes_to (with_shell [])
       (simple (line 1 (codes "a$(info hi)") ∷ []))
-      ≡ goes_on (codes "hi" ∷ []) (Some (codes "/bin/sh -c 'a'"))
+      ≡ Gave (codes "hi" ∷ []) (Some (codes "/bin/sh -c 'a'"))
   pub shell_anew :
       comes_to (deferred (codes "SHELL") (codes "$(info s)sh") ∷ deferred (codes ".SHELLFLAGS") (codes "-c") ∷ [])
       (simple (line 1 (codes "$(info 1)a") ∷ line 2 (codes "$(info 2)b") ∷ []))
-      ≡ goes_on (codes "1" ∷ codes "s" ∷ codes "2" ∷ codes "s" ∷ []) (Some (codes "sh -c 'a' && sh -c 'b'"))
+      ≡ Gave (codes "1" ∷ codes "s" ∷ codes "2" ∷ codes "s" ∷ []) (Some (codes "sh -c 'a' && sh -c 'b'"))
   pub fault_in_shell :
       comes_to (deferred (codes "SHELL") (codes "$(error $@)") ∷ [])
       (simple (line 3 (codes "a") ∷ []))
-      ≡ ends [] (fault_at (at_m 3) 19 (codes "t"))
+      ≡ Stopped [] (fault_at (at_m 3) 19 (codes "t"))
   pub eval_refused :
       comes_to (with_shell [])
       (simple (line 1 (codes "$(eval A = 1)") ∷ []))
-      ≡ ends [] (fault_at (at_m 1) 32 (codes "eval in a recipe"))
+      ≡ Stopped [] (fault_at (at_m 1) 32 (codes "eval in a recipe"))
   pub first_fault :
       comes_to (with_shell [])
       (simple (line 2 (codes "$(info 1)a") ∷ line 3 (codes "$(x") ∷ []))
-      ≡ ends (codes "1" ∷ []) (fault_at (at_m 3) 7 (codes "unterminated reference"))
+      ≡ Stopped (codes "1" ∷ []) (fault_at (at_m 3) 7 (codes "unterminated reference"))
   pub hidden_table :
       comes_to (with_shell (deferred (codes "@") (codes "table") ∷ []))
       (simple (line 1 (codes "$(foreach @,a b,$@) $@") ∷ []))
-      ≡ goes_on [] (Some (codes "/bin/sh -c 'a b t'"))
+      ≡ Gave [] (Some (codes "/bin/sh -c 'a b t'"))

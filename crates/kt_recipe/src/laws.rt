@@ -1,13 +1,14 @@
 //! Laws of the definitions. These functions do nothing: their contracts are what counts.
-ghost use Rattle.std.specs.Prelude.{◌≡◌, List, Some};
+ghost use Rattle.std.specs.Prelude.{◌≡◌, Some};
 ghost use Rattle.std.specs.List.{join_with_byte};
 ghost use Rattle.kt_text.specs.Words.{Text};
+ghost use Rattle.kt_eval.specs.Growing.{StaysOneDeeper};
 ghost use Rattle.kt_eval.specs.Table.{Table};
 ghost use Rattle.kt_graph.specs.Node.{Node};
-ghost use Rattle.kt_recipe.specs.Deeper.{StaysOneDeeper};
 ghost use Rattle.kt_recipe.specs.Lines.{pieces_of};
 ghost use Rattle.kt_recipe.specs.Quoting.{quoted, word_of_quotes};
 ghost use Rattle.kt_recipe.specs.Rows.{RowsOfCommands, RowsOfMacros};
+ghost use Rattle.kt_recipe.specs.Shell.{shell_of};
 
 /// A shell reads a text between single quotes as that text.
 pub fn quotes_are_read_back()
@@ -21,7 +22,7 @@ pub fn pieces_are_the_line()
 
 /// A command that isn't too deep (E08) with so many levels is the same with one more.
 pub fn one_deeper()
-    ensures { (table : Table) (node : Node) (said : List Text) → StaysOneDeeper table node said }
+    ensures { (table : Table) (node : Node) → StaysOneDeeper (λ limit. shell_of table limit node) }
 {}
 
 /// Worked values of automatic macros.

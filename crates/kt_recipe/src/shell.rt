@@ -1,14 +1,13 @@
 //! The commands of nodes.
 ghost use Rattle.std.specs.Prelude.{◌≡◌, None, length, map, option_map, unwrap_or, slice_get};
 ghost use Rattle.std.specs.List.{range_with_len};
-ghost use Rattle.kt_eval.specs.Fronts.{IsFront};
-ghost use Rattle.kt_eval.specs.Step.{Ends};
+ghost use Rattle.kt_eval.specs.Pure.{Says};
 ghost use Rattle.kt_graph.specs.Views.{part_lines};
 ghost use Rattle.kt_recipe.specs.Auto.{automatic_in};
 ghost use Rattle.kt_recipe.specs.Lines.{pieces_of};
 ghost use Rattle.kt_recipe.specs.Shell.{expansion, put_line, put_lines, put_part, put_parts, put_piece, put_pieces};
 ghost use Rattle.kt_recipe.specs.Shell.{shell_of, shell_text};
-ghost use Rattle.kt_recipe.specs.Views.{Tells, command_in, setting_at};
+ghost use Rattle.kt_recipe.specs.Views.{command_in, setting_at};
 
 use crate::automatic::auto_of;
 use crate::calls::put_call;
@@ -32,9 +31,9 @@ pub fn command(
     messages: &mut Vec<Sequence<u8>>,
     limit: u64,
 ) -> Result<Option<Vec<u8>>, Stop>
-    ensures appends { IsFront messages.old.items messages.new.items }
-    ensures ends { Tells (option_map (λ text. text.items)) result messages.new.items
-        (shell_of macros.now limit node.now messages.old.items) }
+    ensures { Says (option_map (λ text. text.items))
+        (shell_of macros.now limit node.now)
+        result messages.old.items messages.new.items }
 {
     let mut command = Vec::new(alloc);
     put_parts(alloc, macros, node, limit, &mut command, messages)?;
@@ -61,10 +60,9 @@ fn put_parts(
     command: &mut Vec<u8>,
     messages: &mut Vec<Sequence<u8>>,
 ) -> Result<(), Stop>
-    ensures appends { IsFront messages.old.items messages.new.items }
-    ensures ends { Tells (λ _. command_in command.new.items) result messages.new.items
-        (put_parts macros.now limit node.now (range_with_len 0 (length node.now.parts)) messages.old.items
-        (command_in command.old.items)) }
+    ensures { Says (λ _. command_in command.new.items)
+        (put_parts macros.now limit node.now (range_with_len 0 (length node.now.parts)) (command_in command.old.items))
+        result messages.old.items messages.new.items }
 {
     for part in 0..node.parts() {
         let shell = Shell {
@@ -93,10 +91,9 @@ impl<'a, 'g> Shell<'a, 'g> {
     // Appends the command of the part.
     #[tactic(auto, unfolding(crate::specs::Shell::put_part))]
     fn put_part(&self, command: &mut Vec<u8>, messages: &mut Vec<Sequence<u8>>) -> Result<(), Stop>
-        ensures appends { IsFront messages.old.items messages.new.items }
-        ensures ends { Tells (λ _. command_in command.new.items) result messages.new.items
-            (put_part self.now.macros.now self.now.limit self.now.node.now self.now.part messages.old.items
-            (command_in command.old.items)) }
+        ensures { Says (λ _. command_in command.new.items)
+            (put_part self.now.macros.now self.now.limit self.now.node.now self.now.part (command_in command.old.items))
+            result messages.old.items messages.new.items }
     {
         match self.node.recipe(self.part) {
             Some(lines) => self.put_lines(lines, command, messages),
@@ -111,10 +108,9 @@ impl<'a, 'g> Shell<'a, 'g> {
         command: &mut Vec<u8>,
         messages: &mut Vec<Sequence<u8>>,
     ) -> Result<(), Stop>
-        ensures appends { IsFront messages.old.items messages.new.items }
-        ensures ends { Tells (λ _. command_in command.new.items) result messages.new.items
-            (put_lines self.now.macros.now (automatic_in self.now.node.now self.now.part) self.now.limit lines.now
-            messages.old.items (command_in command.old.items)) }
+        ensures { Says (λ _. command_in command.new.items)
+            (put_lines self.now.macros.now (automatic_in self.now.node.now self.now.part) self.now.limit lines.now (command_in command.old.items))
+            result messages.old.items messages.new.items }
     {
         for line in lines {
             self.put_line(line, command, messages)?;
@@ -130,10 +126,9 @@ impl<'a, 'g> Shell<'a, 'g> {
         command: &mut Vec<u8>,
         messages: &mut Vec<Sequence<u8>>,
     ) -> Result<(), Stop>
-        ensures appends { IsFront messages.old.items messages.new.items }
-        ensures ends { Tells (λ _. command_in command.new.items) result messages.new.items
-            (put_line (setting_at self.now line.now.place) line.now.text messages.old.items
-            (command_in command.old.items)) }
+        ensures { Says (λ _. command_in command.new.items)
+            (put_line (setting_at self.now line.now.place) line.now.text (command_in command.old.items))
+            result messages.old.items messages.new.items }
     {
         let line_text = line.text.as_slice();
         let text = self.expand(&line.place, after_run(line_text), messages)?;
@@ -150,10 +145,9 @@ impl<'a, 'g> Shell<'a, 'g> {
         command: &mut Vec<u8>,
         messages: &mut Vec<Sequence<u8>>,
     ) -> Result<(), Stop>
-        ensures appends { IsFront messages.old.items messages.new.items }
-        ensures ends { Tells (λ _. command_in command.new.items) result messages.new.items
-            (put_pieces (setting_at self.now place.now) marked (pieces_of text.now) messages.old.items
-            (command_in command.old.items)) }
+        ensures { Says (λ _. command_in command.new.items)
+            (put_pieces (setting_at self.now place.now) marked (pieces_of text.now) (command_in command.old.items))
+            result messages.old.items messages.new.items }
     {
         let pieces = pieces(self.alloc, text)?;
         self.put_pieces(place, marked, pieces.as_slice(), command, messages)
@@ -168,10 +162,9 @@ impl<'a, 'g> Shell<'a, 'g> {
         command: &mut Vec<u8>,
         messages: &mut Vec<Sequence<u8>>,
     ) -> Result<(), Stop>
-        ensures appends { IsFront messages.old.items messages.new.items }
-        ensures ends { Tells (λ _. command_in command.new.items) result messages.new.items
-            (put_pieces (setting_at self.now place.now) marked (map
-            (λ piece. piece.now) pieces.now) messages.old.items (command_in command.old.items)) }
+        ensures { Says (λ _. command_in command.new.items)
+            (put_pieces (setting_at self.now place.now) marked (map (λ piece. piece.now) pieces.now) (command_in command.old.items))
+            result messages.old.items messages.new.items }
     {
         for piece in pieces {
             self.put_piece(place, marked, *piece, command, messages)?;
@@ -189,10 +182,9 @@ impl<'a, 'g> Shell<'a, 'g> {
         command: &mut Vec<u8>,
         messages: &mut Vec<Sequence<u8>>,
     ) -> Result<(), Stop>
-        ensures appends { IsFront messages.old.items messages.new.items }
-        ensures ends { Tells (λ _. command_in command.new.items) result messages.new.items
-            (put_piece (setting_at self.now place.now) marked piece.now messages.old.items
-            (command_in command.old.items)) }
+        ensures { Says (λ _. command_in command.new.items)
+            (put_piece (setting_at self.now place.now) marked piece.now (command_in command.old.items))
+            result messages.old.items messages.new.items }
     {
         let text = after_run(piece);
         if text.is_empty() {
@@ -206,9 +198,9 @@ impl<'a, 'g> Shell<'a, 'g> {
     // The shell that a piece is for; it is expanded only where one of its values has to be.
     #[tactic(auto, using(crate::proofs::PlainLemmas::shell_is))]
     fn shell(&self, place: &Place, messages: &mut Vec<Sequence<u8>>) -> Result<Vec<u8>, Stop>
-        ensures appends { IsFront messages.old.items messages.new.items }
-        ensures ends { Ends result messages.new.items
-            (expansion (setting_at self.now place.now) messages.old.items shell_text) }
+        ensures { Says (λ v. v.items)
+            (expansion (setting_at self.now place.now) shell_text)
+            result messages.old.items messages.new.items }
     {
         match plain_shell(self.alloc, self.macros, self.limit)? {
             Some(shell) => Ok(shell),
@@ -223,9 +215,9 @@ impl<'a, 'g> Shell<'a, 'g> {
         text: &[u8],
         messages: &mut Vec<Sequence<u8>>,
     ) -> Result<Vec<u8>, Stop>
-        ensures appends { IsFront messages.old.items messages.new.items }
-        ensures ends { Ends result messages.new.items
-            (expansion (setting_at self.now place.now) messages.old.items text.now) }
+        ensures { Says (λ v. v.items)
+            (expansion (setting_at self.now place.now) text.now)
+            result messages.old.items messages.new.items }
     {
         let automatic = auto_of(self.node, self.part);
         let place = Some(place.share()?);

@@ -1,5 +1,9 @@
 -- What a step returns that doesn't go on (kati's own).
-use Rattle.std.specs.Prelude.{◌≡◌, None}
+use Rattle.std.specs.Prelude.{◌≡◌, List, None, Some}
+use Rattle.kt_text.specs.Words.{Text}
+use Rattle.kt_rules.specs.Entry.{Rule}
+use Rattle.kt_graph.specs.Faults.{fault_number, fault_words}
+use Rattle.kt_graph.specs.Reach.{ComesFirst, Trouble}
 use Rattle.kt_graph.specs.declared.fault.GraphFault.{GraphFault}
 use Rattle.kt_graph.specs.declared.fault.GraphFault.TheVariants as graphs
 use Rattle.kt_eval.specs.declared.fault.Fault.{Fault}
@@ -17,3 +21,11 @@ IsFaultOf expected stops.Memory = Unit {0}
 abbrev pub IsStopOf : GraphFault → Stop → Type 0
 IsStopOf graphs.Memory stop = stop ≡ stops.Memory
 IsStopOf (graphs.Refused number words) stop = stop ≡ stops.Fault (fault_at None number words)
+
+-- what comes first of what is wrong with a graph, which is at no line, or being out of memory
+abbrev pub IsFirstStop : List Rule → List Text → List Text → Stop → Type 0
+IsFirstStop rules known goals (stops.Fault fault) =
+    (trouble : Trouble) × ComesFirst rules known goals (Some trouble)
+    × (fault ≡ fault_at None (fault_number trouble) (fault_words trouble))
+IsFirstStop rules known goals (stops.Device name) = ⊥
+IsFirstStop rules known goals stops.Memory = Unit {0}

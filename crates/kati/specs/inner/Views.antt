@@ -1,30 +1,37 @@
 -- What the code's own types say (kati's own).
-use Rattle.std.specs.Prelude.{◌≡◌, Bool, true, false, List, Result, Ok, Err}
+use Rattle.std.specs.Prelude.{ℕ, Bool, true, false, List, Result, Ok, Err}
 use Rattle.kt_ninja.specs.Writable.{Trouble, no_output, bad_name, bad_command, repeated, not_an_output}
 use Rattle.kt_text.specs.Words.{Text}
 use Rattle.kt_eval.specs.declared.stop.Stop.{Stop}
 use Rattle.kt_eval.specs.declared.stop.Stop.TheVariants as stops
 use Rattle.kt_ninja.specs.declared.plan.Plan.{Plan}
-use Rattle.kt_ninja.specs.declared.plan.Statement.{Statement}
 use Rattle.kati.specs.declared.faults.RunFault.{RunFault}
 use Rattle.kati.specs.declared.faults.RunFault.TheVariants as faults
-use Rattle.kati.specs.declared.outcome.Outcome.{Outcome}
-use Rattle.kati.specs.Makefile.{Read}
+use Rattle.kati.specs.declared.outcome.Outcome.{Outcome as Ended}
+use Rattle.kt_eval.specs.Files.{Store}
+use Rattle.kt_eval.specs.Machines.{Read, Trace, read_of}
+use Rattle.kt_eval.specs.Outcome.{Outcome}
+use Rattle.kati_args.specs.declared.args.Args.{Args}
+use Rattle.kati.specs.Meaning.{Means, MeansGoals, Wanted, meaning_of}
 use Rattle.kati.specs.declared.reading.Makefile.{Makefile}
-use Rattle.kati.specs.Planned.{Planning, planned, at_fault}
+use Rattle.kati.specs.declared.translating.Sources.{Sources}
 
-abbrev pub read_of : Makefile → Read
-read_of makefile = record { table = makefile.macros; book = makefile.book }
+abbrev pub read_told : Makefile → Read
+read_told makefile = read_of makefile.macros makefile.book
 
--- what a call returned, seen by `see`, and the messages that it left are these statements; no device is there to fail
-abbrev pub Plans : {A : Type 0} → (A → List Statement) → Result A Stop → List Text → Planning → Type 0
-Plans see (Ok x) said planning = planning ≡ planned said (see x)
-Plans see (Err (stops.Fault fault)) said planning = planning ≡ at_fault said fault
-Plans see (Err (stops.Device name)) said planning = ⊥
-Plans see (Err stops.Memory) said planning = Unit {0}
+abbrev pub wanted_told : Sources → List Text → Wanted
+wanted_told sources goals = record { read = read_told sources.makefile; known = sources.known; goals = goals }
+
+-- an end that goals mean, after what was left before them
+abbrev pub GoalsEnd : ℕ → Wanted → Trace → Outcome Trace Plan → Type 0
+GoalsEnd limit want trace end = MeansGoals limit want trace (meaning_of end)
+
+-- an end that the whole means, after these names were asked for
+abbrev pub EndMeans : Args → Store → List Text → Outcome Trace Plan → Type 0
+EndMeans args store asked end = Means args store asked (meaning_of end)
 
 -- how a run goes on that came to a plan, with these messages, or was stopped
-abbrev pub outcome_of : List Text → Result Plan Stop → Result Outcome RunFault
+abbrev pub outcome_of : List Text → Result Plan Stop → Result Ended RunFault
 outcome_of said (Ok plan) = Ok (record { messages = said; result = Ok plan })
 outcome_of said (Err (stops.Fault fault)) = Ok (record { messages = said; result = Err fault })
 outcome_of said (Err (stops.Device name)) = Err (faults.Read name)

@@ -1,9 +1,13 @@
 -- What each method of an evaluation that expands or reads promises (kati's own).
-use Rattle.std.specs.Prelude.{ℕ, Bool, Result}
+use Rattle.std.specs.Prelude.{ℕ, Bool, Option, Result}
+use Rattle.kt_syntax.specs.Reading.{left_at}
 use Rattle.kt_eval.specs.declared.stop.Stop.{Stop}
-use Rattle.kt_eval.specs.Step.{AreKnown, Blames, Gives, Keeps, Seen, Step, store_of}
+use Rattle.kt_eval.specs.Outcome.{Gives, IfCut, left_of}
+use Rattle.kt_eval.specs.Step.{AreKnown, Blames, GoesOn, Keeps, Seen, Step, store_of}
 use Rattle.kt_eval.specs.Expansion.{Evaluator}
+use Rattle.kt_eval.specs.Files.{Store}
 use Rattle.kt_eval.specs.Levels.{evaluator}
+use Rattle.kt_eval.specs.Reading.{Sheet, read_items}
 
 -- The call does the step, with so many levels left below it; what it returned is seen by `see`.
 pub record Does {A B : Type 0} (see : A → B) (writable : Bool) (levels : ℕ) (step : Evaluator → Step B)
@@ -11,7 +15,15 @@ pub record Does {A B : Type 0} (see : A → B) (writable : Bool) (levels : ℕ) 
   -- where the bytes of the named files are known, the result and the world that it leaves are what the step gives
   pub gives : AreKnown old.known
       → Gives see result new.world (step (evaluator writable (store_of old.known) levels) old.world)
+  -- where memory was refused or a device failed, the messages and the names asked for are a prefix of those of the step
+  pub cut : AreKnown old.known
+      → IfCut result (GoesOn new.world (left_of (step (evaluator writable (store_of old.known) levels) old.world)))
   -- files, messages and names asked for are kept
   pub kept : Keeps old new
   -- a device's failure is told as one, and nothing else is
   pub blames : Blames result old.failed new.failed new.world.asked
+
+-- what is left of a page from the line of a place on
+abbrev pub reading_from : Bool → Option Store → ℕ → Sheet → ℕ → Step (Unit {0})
+reading_from writable known levels sheet place =
+    read_items (evaluator writable (store_of known) levels) sheet (left_at sheet.blocks.steps place)

@@ -1,7 +1,7 @@
 use Rattle.std.proofs.Common.{ap, sym, ◌∙◌}
 use Rattle.kt_rules.specs.declared.fault_kind.FaultKind.TheVariants.{CommandNotWritable, NameNotWritable}
 use Rattle.kt_ninja.specs.Writable.{told_trouble}
-use Rattle.kati.specs.Course.{fault_nowhere}
+use Rattle.kati.specs.Steps.{fault_nowhere}
 use Rattle.kati.specs.Planned.{text_fault}
 use Rattle.kati.proofs.planning.stop_of.Goals as goal
 

@@ -1,12 +1,22 @@
 use Rattle.std.proofs.Common.{map, refl, rules}
+use Rattle.kt_eval.specs.Machines.{read_of, traced}
 use Rattle.kt_eval.specs.Step.{told, asked_for}
-use Rattle.kt_eval.proofs.MachineLemmas.{reads_when}
+use Rattle.kt_eval.proofs.MachineLemmas.{cut_when, reads_when}
 use Rattle.kt_eval.proofs.PureLemmas.{front_by}
 use Rattle.kt_eval.proofs.machine.read_once.Goals as goal
 
 pub returns-clause-reads : goal.returns-clause-reads
 returns-clause-reads g c =
-    reads_when (g.F.Files.known c.args.files.now) (map (λ name. name.now) c.args.names.now) c.args.limit c.args.makefile.macros c.args.makefile.book c.args.messages.items (g.F.Files.names c.args.files.now) c.new.result.items c.read_first-result.result c.read_first-result.new.self.world _ _ _ _ c.new.ensures.items (search rules) (search rules) (search rules) (search rules) c.read_first-result.ensures.gives
+    reads_when (map (λ name. name.now) c.args.names.now) c.args.limit (read_of c.args.makefile.macros c.args.makefile.book)
+    (traced c.args.messages.items (g.F.Files.names c.args.files.now)) c.new.result.items c.read_first-result.result c.read_first-result.new.self.world
+    _ _ _ _ c.new.ensures.items (search rules) (search rules) (search rules) (search rules) (g.F.Files.known c.args.files.now) c.read_first-result.ensures.gives
+
+pub returns-clause-cut : goal.returns-clause-cut
+returns-clause-cut g c =
+    let left = c.read_first-result.new.self.world in
+    cut_when (map (λ name. name.now) c.args.names.now) c.args.limit (read_of c.args.makefile.macros c.args.makefile.book)
+    (traced c.args.messages.items (g.F.Files.names c.args.files.now)) c.new.result.items c.read_first-result.result left
+    left.table left.book _ _ c.new.ensures.items refl refl (search rules) (search rules) (g.F.Files.known c.args.files.now) c.read_first-result.ensures.cut
 
 pub returns-clause-said : goal.returns-clause-said
 returns-clause-said g c =

@@ -1,12 +1,24 @@
+use Rattle.std.proofs.Common.{◌∙◌, ◌+◌, ◌-◌, length}
+use Rattle.std.specs.List.{range_with_len}
 use Rattle.std.proofs.lemmas.Result.{err_from_is_err_and}
+use Rattle.kt_recipe.specs.Shell.{put_part, put_parts}
 use Rattle.kt_recipe.specs.Views.{command_in}
-use Rattle.kt_recipe.proofs.LoopLemmas.{parts_end}
+use Rattle.kt_recipe.proofs.LoopLemmas.{parts_from}
+use Rattle.kt_recipe.proofs.ShellLemmas.{put_parts_front, stops_all}
 use Rattle.kt_recipe.proofs.shell.put_parts.Goals as goal
 
-pub returns-in_err-put_part-clause-ends : goal.returns-in_err-put_part-clause-ends
-returns-in_err-put_part-clause-ends c =
+pub returns-in_err-put_part : goal.returns-in_err-put_part
+returns-in_err-put_part c =
     let p = err_from_is_err_and c.from_residual.result c.from_residual.ensures.1 in
+    let table = c.args.macros.now in
+    let node = c.args.node.now in
+    let part = c.loop-part.part in
+    let end = c.parts-part-end.result in
+    let command = command_in c.loop-part.command.items in
     rw (p.1, p.2)
-    (parts_end c.in_err-put_part.field-0.0 c.put_part.new.messages.items c.args.macros.now c.args.limit c.args.node.now c.loop-part.part
-    c.parts-part-end.result c.loop-part.messages.items (command_in c.loop-part.command.items) _ c.loop-part-test.true c.loop-part.invariant.rest
-    c.in_err-put_part.ensures.ends)
+    (stops_all _ _ c.in_err-put_part.field-0.0 c.args.messages.now.items c.loop-part.messages.items c.put_part.new.messages.items
+    (put_part table c.args.limit node part command) (put_parts table c.args.limit node (range_with_len (part + 1) (end - (part + 1))))
+    (put_parts table c.args.limit node (range_with_len 0 (length node.parts)) (command_in c.args.command.now.items))
+    (put_parts_front table c.args.limit node (range_with_len (part + 1) (end - (part + 1)))) c.loop-part.invariant.kept
+    (parts_from table c.args.limit node part end command c.loop-part.messages.items c.loop-part-test.true ∙ c.loop-part.invariant.rest)
+    c.in_err-put_part.ensures)

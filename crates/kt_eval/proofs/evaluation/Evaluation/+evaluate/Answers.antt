@@ -2,9 +2,11 @@ use Rattle.std.proofs.Common.{◌∙◌, ap, List, rules, subst}
 use Rattle.kt_text.specs.Words.{Text}
 use Rattle.kt_syntax.specs.Reading.{left_at}
 use Rattle.kt_eval.specs.inner.Views.{compared_told}
-use Rattle.kt_eval.specs.Step.{Gave, Fails, GoesOn, Outcome, store_of, world_of}
+use Rattle.kt_eval.specs.Outcome.{Gave, Outcome, left_of}
+use Rattle.kt_eval.specs.State.{World}
+use Rattle.kt_eval.specs.Step.{AreKnown, GoesOn, store_of}
 use Rattle.std.proofs.lemmas.Result.{err_from_is_err_and}
-use Rattle.kt_eval.proofs.EarlyLemmas.{eval_fails, foreach_fails, word_fails, sheet_fails, equal_fails, argument_at_fails, argument_at_front, or_at_fails, and_at_fails, definition_fails, first_fails, branch_fails}
+use Rattle.kt_eval.proofs.EarlyLemmas.{Early, call_fails, close_fails, eval_fails, foreach_fails, word_fails, sheet_fails, equal_fails, argument_at_fails, argument_at_front, or_at_fails, and_at_fails, definition_fails, first_fails, branch_fails}
 use Rattle.kt_eval.proofs.StepLemmas.{call_by_name_front, rule_of_parts_front}
 use Rattle.std.specs.Prelude.{Some, option_map, map}
 use Rattle.kt_eval.specs.Levels.{evaluator}
@@ -12,193 +14,276 @@ use Rattle.kt_eval.specs.Reading.{read_items}
 use Rattle.kt_eval.proofs.ReadingLemmas.{first_taken}
 use Rattle.kt_eval.proofs.evaluation.Evaluation.+evaluate.Goals as goal
 
-pub read_conditional-returns-then-branch-clause-gives :
-    goal.read_conditional-returns-then-branch-clause-gives
-read_conditional-returns-then-branch-clause-gives g t c = λ known.
+pub read_conditional-returns-then-branch-clause-goes_on :
+    goal.read_conditional-returns-then-branch-clause-goes_on
+read_conditional-returns-then-branch-clause-goes_on g t c = λ known.
     let e = evaluator g.M.Scope.writable (store_of c.args.self.now.known) c.args.below in
     rw c.behind.ensures
     (first_taken e c.args.page.now c.args.page.now.blocks.steps c.args.place c.args.next c.args.after c.args.self.now.world c.branch_holds.new.self.world
     c.requires.reads (c.in_ok-branch_holds.ensures.gives known ∙ ap (λ b. Gave c.branch_holds.new.self.world b) c.if-branch.true))
 
 pub apply_foreach-returns-in_err-expanded : goal.apply_foreach-returns-in_err-expanded
-apply_foreach-returns-in_err-expanded g t c = record {
-  gives = λ known.
-      let p = err_from_is_err_and c.from_residual.result c.from_residual.ensures.1 in
-      rw (p.1, p.2)
-      (foreach_fails g.M.Scope.writable (store_of c.args.self.now.known) c.args.below c.in_err-expanded.field-0.0 c.args.self.now.world c.expand.new.self.world c.args.variable.now c.args.list.now c.args.body.now (c.in_err-expanded.ensures.gives known));
-  kept = search rules;
-  blames = search rules;
-}
+apply_foreach-returns-in_err-expanded g t c =
+    let p = err_from_is_err_and c.from_residual.result c.from_residual.ensures.1 in
+    let early = λ (known : AreKnown c.args.self.now.known).
+    (foreach_fails g.M.Scope.writable (store_of c.args.self.now.known) c.args.below c.in_err-expanded.field-0.0 c.args.self.now.world c.expand.new.self.world c.args.variable.now c.args.list.now c.args.body.now (c.in_err-expanded.ensures.gives known, c.in_err-expanded.ensures.cut known)) in
+    record {
+      gives = λ known. rw (p.1, p.2) (early known).0;
+      cut = λ known. rw (p.1, p.2) (early known).1;
+      kept = search rules;
+      blames = search rules;
+    }
 
 pub apply_eval-returns-in_err-x : goal.apply_eval-returns-in_err-x
-apply_eval-returns-in_err-x g t c = record {
-  gives = λ known.
-      let p = err_from_is_err_and c.from_residual-in_err-x.result c.from_residual-in_err-x.ensures.1 in
-      rw (p.1, p.2)
-      (eval_fails g.M.Scope.writable (store_of c.args.self.now.known) c.args.below c.in_err-x.field-0.0 c.args.self.now.world c.expand.new.self.world c.args.text.now (search rules) (c.in_err-x.ensures.gives known));
-  kept = search rules;
-  blames = search rules;
-}
+apply_eval-returns-in_err-x g t c =
+    let p = err_from_is_err_and c.from_residual-in_err-x.result c.from_residual-in_err-x.ensures.1 in
+    let early = λ (known : AreKnown c.args.self.now.known).
+    (eval_fails g.M.Scope.writable (store_of c.args.self.now.known) c.args.below c.in_err-x.field-0.0 c.args.self.now.world c.expand.new.self.world c.args.text.now (search rules) (c.in_err-x.ensures.gives known, c.in_err-x.ensures.cut known)) in
+    record {
+      gives = λ known. rw (p.1, p.2) (early known).0;
+      cut = λ known. rw (p.1, p.2) (early known).1;
+      kept = search rules;
+      blames = search rules;
+    }
 
 pub call_by_name-returns-in_err-from_slice : goal.call_by_name-returns-in_err-from_slice
-call_by_name-returns-in_err-from_slice g t c = record {
-  gives = λ known.
-      let p = err_from_is_err_and c.from_residual-in_err-from_slice.result c.from_residual-in_err-from_slice.ensures.1 in
-      rw (p.1, p.2) (call_by_name_front g.M.Scope.writable (store_of c.args.self.now.known) c.args.below c.args.name.now (map (λ a. a.now) c.args.texts.now) c.args.self.now.world);
-  kept = search rules;
-  blames = search rules;
-}
+call_by_name-returns-in_err-from_slice g t c =
+    let p = err_from_is_err_and c.from_residual-in_err-from_slice.result c.from_residual-in_err-from_slice.ensures.1 in
+    record {
+      gives = λ known. rw (p.1, p.2) tt;
+      cut = λ known. rw (p.1, p.2)
+          (call_by_name_front g.M.Scope.writable (store_of c.args.self.now.known) c.args.below c.args.name.now (map (λ a. a.now) c.args.texts.now) c.args.self.now.world);
+      kept = search rules;
+      blames = search rules;
+    }
 
 pub call_by_name-returns-in_err-from_vec : goal.call_by_name-returns-in_err-from_vec
-call_by_name-returns-in_err-from_vec g t c = record {
-  gives = λ known.
-      let p = err_from_is_err_and c.from_residual-in_err-from_vec.result c.from_residual-in_err-from_vec.ensures.1 in
-      rw (p.1, p.2) (call_by_name_front g.M.Scope.writable (store_of c.args.self.now.known) c.args.below c.args.name.now (map (λ a. a.now) c.args.texts.now) c.args.self.now.world);
-  kept = search rules;
-  blames = search rules;
-}
+call_by_name-returns-in_err-from_vec g t c =
+    let p = err_from_is_err_and c.from_residual-in_err-from_vec.result c.from_residual-in_err-from_vec.ensures.1 in
+    record {
+      gives = λ known. rw (p.1, p.2) tt;
+      cut = λ known. rw (p.1, p.2)
+          (call_by_name_front g.M.Scope.writable (store_of c.args.self.now.known) c.args.below c.args.name.now (map (λ a. a.now) c.args.texts.now) c.args.self.now.world);
+      kept = search rules;
+      blames = search rules;
+    }
 
 pub call_by_name-returns-in_err-push : goal.call_by_name-returns-in_err-push
-call_by_name-returns-in_err-push g t c = record {
-  gives = λ known.
-      let p = err_from_is_err_and c.from_residual-in_err-push.result c.from_residual-in_err-push.ensures.1 in
-      rw (p.1, p.2) (call_by_name_front g.M.Scope.writable (store_of c.args.self.now.known) c.args.below c.args.name.now (map (λ a. a.now) c.args.texts.now) c.args.self.now.world);
-  kept = search rules;
-  blames = search rules;
-}
+call_by_name-returns-in_err-push g t c =
+    let p = err_from_is_err_and c.from_residual-in_err-push.result c.from_residual-in_err-push.ensures.1 in
+    record {
+      gives = λ known. rw (p.1, p.2) tt;
+      cut = λ known. rw (p.1, p.2)
+          (call_by_name_front g.M.Scope.writable (store_of c.args.self.now.known) c.args.below c.args.name.now (map (λ a. a.now) c.args.texts.now) c.args.self.now.world);
+      kept = search rules;
+      blames = search rules;
+    }
+
+pub call_by_name-returns-in_err-arguments : goal.call_by_name-returns-in_err-arguments
+call_by_name-returns-in_err-arguments g t c =
+    let p = err_from_is_err_and c.from_residual-in_err-arguments.result c.from_residual-in_err-arguments.ensures.1 in
+    let early = λ (known : AreKnown c.args.self.now.known).
+    (call_fails g.M.Scope.writable (store_of c.args.self.now.known) c.args.below c.in_err-arguments.field-0.0 c.args.self.now.world c.each_argument.new.self.world c.args.name.now c.push.new.self.items (map (λ a. a.now) c.args.texts.now) (search rules) (search rules) (c.in_err-arguments.ensures.gives known, c.in_err-arguments.ensures.cut known)) in
+    record {
+      gives = λ known. rw (p.1, p.2) (early known).0;
+      cut = λ known. rw (p.1, p.2) (early known).1;
+      kept = search rules;
+      blames = search rules;
+    }
 
 pub read_rule-returns-in_err-recipe : goal.read_rule-returns-in_err-recipe
-read_rule-returns-in_err-recipe g t c = record {
-  gives = λ known.
-      let p = err_from_is_err_and c.from_residual.result c.from_residual.ensures.1 in
-      rw (p.1, p.2) (rule_of_parts_front g.M.Scope.writable (store_of c.args.self.now.known) c.args.below (Some (record { head = c.args.head.now; recipe = option_map (λ text. text.now) c.args.recipe })) c.args.self.now.world);
-  kept = search rules;
-  blames = search rules;
-}
+read_rule-returns-in_err-recipe g t c =
+    let p = err_from_is_err_and c.from_residual.result c.from_residual.ensures.1 in
+    record {
+      gives = λ known. rw (p.1, p.2) tt;
+      cut = λ known. rw (p.1, p.2)
+          (rule_of_parts_front g.M.Scope.writable (store_of c.args.self.now.known) c.args.below (Some (record { head = c.args.head.now; recipe = option_map (λ text. text.now) c.args.recipe })) c.args.self.now.world);
+      kept = search rules;
+      blames = search rules;
+    }
 
 pub read_rule-returns-in_err-head : goal.read_rule-returns-in_err-head
-read_rule-returns-in_err-head g t c = record {
-  gives = λ known.
-      let p = err_from_is_err_and c.from_residual-in_err-head.result c.from_residual-in_err-head.ensures.1 in
-      rw (p.1, p.2) (rule_of_parts_front g.M.Scope.writable (store_of c.args.self.now.known) c.args.below (Some (record { head = c.args.head.now; recipe = option_map (λ text. text.now) c.args.recipe })) c.args.self.now.world);
-  kept = search rules;
-  blames = search rules;
-}
+read_rule-returns-in_err-head g t c =
+    let p = err_from_is_err_and c.from_residual-in_err-head.result c.from_residual-in_err-head.ensures.1 in
+    record {
+      gives = λ known. rw (p.1, p.2) tt;
+      cut = λ known. rw (p.1, p.2)
+          (rule_of_parts_front g.M.Scope.writable (store_of c.args.self.now.known) c.args.below (Some (record { head = c.args.head.now; recipe = option_map (λ text. text.now) c.args.recipe })) c.args.self.now.world);
+      kept = search rules;
+      blames = search rules;
+    }
 
 pub are_equal-returns-in_err-x : goal.are_equal-returns-in_err-x
-are_equal-returns-in_err-x g t c = record {
-  gives = λ known.
-      let p = err_from_is_err_and c.from_residual.result c.from_residual.ensures.1 in
-      rw (p.1, p.2, c.in-Some.is)
-      (equal_fails g.M.Scope.writable (store_of c.args.self.now.known) c.args.below c.in_err-x.field-0.0 c.args.self.now.world c.expand_here.new.self.world (compared_told c.in-Some.compared) (c.in_err-x.ensures.gives known));
-  kept = search rules;
-  blames = search rules;
-}
+are_equal-returns-in_err-x g t c =
+    let p = err_from_is_err_and c.from_residual.result c.from_residual.ensures.1 in
+    let early = λ (known : AreKnown c.args.self.now.known).
+    (equal_fails g.M.Scope.writable (store_of c.args.self.now.known) c.args.below c.in_err-x.field-0.0 c.args.self.now.world c.expand_here.new.self.world (compared_told c.in-Some.compared) (c.in_err-x.ensures.gives known, c.in_err-x.ensures.cut known)) in
+    record {
+      gives = λ known. rw (p.1, p.2, c.in-Some.is) (early known).0;
+      cut = λ known. rw (p.1, p.2, c.in-Some.is) (early known).1;
+      kept = search rules;
+      blames = search rules;
+    }
 
 pub each_argument-returns-in_err-x : goal.each_argument-returns-in_err-x
-each_argument-returns-in_err-x g t c = record {
-  gives = λ known.
-      let p = err_from_is_err_and c.from_residual.result c.from_residual.ensures.1 in
-      let h = rw c.arguments.invariant.kept.0 at c.in_err-x.ensures.gives in
-      rw (p.1, p.2)
-      (subst (λ (o : Outcome (List Text)). Fails c.in_err-x.field-0.0 c.expand.new.self.world o) (c.arguments.invariant.rest known)
-      (argument_at_fails g.M.Scope.writable (store_of c.args.self.now.known) c.args.below c.in_err-x.field-0.0 c.arguments.self.world c.expand.new.self.world c.arguments.out.items c.args.texts.now c.arguments.place _ c.arguments-test.true (h known)));
-  kept = search rules;
-  blames = search rules;
-}
+each_argument-returns-in_err-x g t c =
+    let p = err_from_is_err_and c.from_residual.result c.from_residual.ensures.1 in
+    let h = rw c.arguments.invariant.kept.0 at c.in_err-x.ensures.gives in
+    let k = rw c.arguments.invariant.kept.0 at c.in_err-x.ensures.cut in
+    let early = λ (known : AreKnown c.args.self.now.known).
+    (subst (λ (o : Outcome World (List Text)). Early c.in_err-x.field-0.0 c.expand.new.self.world o) (c.arguments.invariant.rest known)
+    (argument_at_fails g.M.Scope.writable (store_of c.args.self.now.known) c.args.below c.in_err-x.field-0.0 c.arguments.self.world c.expand.new.self.world c.arguments.out.items c.args.texts.now c.arguments.place _ c.arguments-test.true (h known, k known))) in
+    record {
+      gives = λ known. rw (p.1, p.2) (early known).0;
+      cut = λ known. rw (p.1, p.2) (early known).1;
+      kept = search rules;
+      blames = search rules;
+    }
 
 pub each_argument-returns-in_err-from_vec : goal.each_argument-returns-in_err-from_vec
-each_argument-returns-in_err-from_vec g t c = record {
-  gives = λ known.
-      let p = err_from_is_err_and c.from_residual-in_err-from_vec.result c.from_residual-in_err-from_vec.ensures.1 in
-      let h = rw c.arguments.invariant.kept.0 at c.in_ok-x.ensures.gives in
-      rw (p.1, p.2)
-      (subst (λ (o : Outcome (List Text)). GoesOn c.expand.new.self.world (world_of o)) (c.arguments.invariant.rest known)
-      (argument_at_front g.M.Scope.writable (store_of c.args.self.now.known) c.args.below c.arguments.self.world c.expand.new.self.world c.arguments.out.items c.args.texts.now c.arguments.place _ _ c.arguments-test.true (h known)));
-  kept = search rules;
-  blames = search rules;
-}
+each_argument-returns-in_err-from_vec g t c =
+    let p = err_from_is_err_and c.from_residual-in_err-from_vec.result c.from_residual-in_err-from_vec.ensures.1 in
+    let h = rw c.arguments.invariant.kept.0 at c.in_ok-x.ensures.gives in
+    record {
+      gives = λ known. rw (p.1, p.2) tt;
+      cut = λ known. rw (p.1, p.2)
+          (subst (λ (o : Outcome World (List Text)). GoesOn c.expand.new.self.world (left_of o)) (c.arguments.invariant.rest known)
+          (argument_at_front g.M.Scope.writable (store_of c.args.self.now.known) c.args.below c.arguments.self.world c.expand.new.self.world c.arguments.out.items c.args.texts.now c.arguments.place _ _ c.arguments-test.true (h known)));
+      kept = search rules;
+      blames = search rules;
+    }
 
 pub each_argument-returns-in_err-push : goal.each_argument-returns-in_err-push
-each_argument-returns-in_err-push g t c = record {
-  gives = λ known.
-      let p = err_from_is_err_and c.from_residual-in_err-push.result c.from_residual-in_err-push.ensures.1 in
-      let h = rw c.arguments.invariant.kept.0 at c.in_ok-x.ensures.gives in
-      rw (p.1, p.2)
-      (subst (λ (o : Outcome (List Text)). GoesOn c.expand.new.self.world (world_of o)) (c.arguments.invariant.rest known)
-      (argument_at_front g.M.Scope.writable (store_of c.args.self.now.known) c.args.below c.arguments.self.world c.expand.new.self.world c.arguments.out.items c.args.texts.now c.arguments.place _ _ c.arguments-test.true (h known)));
-  kept = search rules;
-  blames = search rules;
-}
+each_argument-returns-in_err-push g t c =
+    let p = err_from_is_err_and c.from_residual-in_err-push.result c.from_residual-in_err-push.ensures.1 in
+    let h = rw c.arguments.invariant.kept.0 at c.in_ok-x.ensures.gives in
+    record {
+      gives = λ known. rw (p.1, p.2) tt;
+      cut = λ known. rw (p.1, p.2)
+          (subst (λ (o : Outcome World (List Text)). GoesOn c.expand.new.self.world (left_of o)) (c.arguments.invariant.rest known)
+          (argument_at_front g.M.Scope.writable (store_of c.args.self.now.known) c.args.below c.arguments.self.world c.expand.new.self.world c.arguments.out.items c.args.texts.now c.arguments.place _ _ c.arguments-test.true (h known)));
+      kept = search rules;
+      blames = search rules;
+    }
 
 pub each_word-returns-in_err-x : goal.each_word-returns-in_err-x
-each_word-returns-in_err-x g t c = record {
-  gives = λ known.
-      let p = err_from_is_err_and c.from_residual-in_err-x.result c.from_residual-in_err-x.ensures.1 in
-      let h = rw (c.in_ok-bind.ensures.done, c.words.invariant.kept.0) at c.in_err-x.ensures.gives in
-      rw (p.1, p.2)
-      (subst (λ (o : Outcome Text). Fails c.in_err-x.field-0.0 c.expand.new.self.world o) (c.words.invariant.rest known)
-      (word_fails g.M.Scope.writable (store_of c.args.self.now.known) c.args.below c.in_err-x.field-0.0 c.words.self.world c.expand.new.self.world c.args.name.now c.args.body.now c.words.out.items c.words.separator.now _ _ c.in-Some.word.now c.words.rest c.next.new.self c.in-Some.ensures.steps (search rules) (search rules) (h known)));
-  kept = search rules;
-  blames = search rules;
-}
+each_word-returns-in_err-x g t c =
+    let p = err_from_is_err_and c.from_residual-in_err-x.result c.from_residual-in_err-x.ensures.1 in
+    let h = rw (c.in_ok-bind.ensures.done, c.words.invariant.kept.0) at c.in_err-x.ensures.gives in
+    let k = rw (c.in_ok-bind.ensures.done, c.words.invariant.kept.0) at c.in_err-x.ensures.cut in
+    let early = λ (known : AreKnown c.args.self.now.known).
+    (subst (λ (o : Outcome World Text). Early c.in_err-x.field-0.0 c.expand.new.self.world o) (c.words.invariant.rest known)
+    (word_fails g.M.Scope.writable (store_of c.args.self.now.known) c.args.below c.in_err-x.field-0.0 c.words.self.world c.expand.new.self.world c.args.name.now c.args.body.now c.words.out.items c.words.separator.now _ _ c.in-Some.word.now c.words.rest c.next.new.self c.in-Some.ensures.steps (search rules) (search rules) (h known, k known))) in
+    record {
+      gives = λ known. rw (p.1, p.2) (early known).0;
+      cut = λ known. rw (p.1, p.2) (early known).1;
+      kept = search rules;
+      blames = search rules;
+    }
 
 pub read_page-returns-in_err-read_items : goal.read_page-returns-in_err-read_items
-read_page-returns-in_err-read_items g t c = record {
-  gives = λ known.
-      let p = err_from_is_err_and c.from_residual.result c.from_residual.ensures.1 in
-      rw (p.1, p.2)
-      (sheet_fails g.M.Scope.writable (store_of c.args.self.now.known) c.args.below c.args.page.now c.in_err-read_items.field-0.0 c.args.self.now.world c.read_items.new.self.world (c.in_err-read_items.ensures.gives known));
-  kept = search rules;
-  blames = search rules;
-}
+read_page-returns-in_err-read_items g t c =
+    let p = err_from_is_err_and c.from_residual.result c.from_residual.ensures.1 in
+    let early = λ (known : AreKnown c.args.self.now.known).
+    (sheet_fails g.M.Scope.writable (store_of c.args.self.now.known) c.args.below c.args.page.now c.in_err-read_items.field-0.0 c.args.self.now.world c.read_items.new.self.world (c.in_err-read_items.ensures.gives known, c.in_err-read_items.ensures.cut known)) in
+    record {
+      gives = λ known. rw (p.1, p.2) (early known).0;
+      cut = λ known. rw (p.1, p.2) (early known).1;
+      kept = search rules;
+      blames = search rules;
+    }
+
+pub read_page-returns-in_err-close_rule : goal.read_page-returns-in_err-close_rule
+read_page-returns-in_err-close_rule g t c =
+    let p = err_from_is_err_and c.from_residual-in_err-close_rule.result c.from_residual-in_err-close_rule.ensures.1 in
+    let early = λ (known : AreKnown c.args.self.now.known).
+    (close_fails g.M.Scope.writable (store_of c.args.self.now.known) c.args.below c.args.page.now c.in_err-close_rule.field-0.0 c.args.self.now.world c.read_items.new.self.world c.close_rule.new.self.world _ (c.in_ok-read_items.ensures.gives known) (c.in_err-close_rule.ensures.gives, c.in_err-close_rule.ensures.cut)) in
+    record {
+      gives = λ known. rw (p.1, p.2) (early known).0;
+      cut = λ known. rw (p.1, p.2) (early known).1;
+      kept = search rules;
+      blames = search rules;
+    }
 
 pub apply_or-returns-in_err-x : goal.apply_or-returns-in_err-x
-apply_or-returns-in_err-x g t c = record {
-  gives = λ known.
-      let p = err_from_is_err_and c.from_residual.result c.from_residual.ensures.1 in
-      let h = rw (c.arguments.invariant.kept.0, c.stripped.ensures) at c.in_err-x.ensures.gives in
-      rw (p.1, p.2)
-      (subst (λ (o : Outcome Text). Fails c.in_err-x.field-0.0 c.expand.new.self.world o) (c.arguments.invariant.rest known)
-      (or_at_fails g.M.Scope.writable (store_of c.args.self.now.known) c.args.below c.in_err-x.field-0.0 c.arguments.self.world c.expand.new.self.world c.args.texts.now c.arguments.place _ c.arguments-test.true (h known)));
-  kept = search rules;
-  blames = search rules;
-}
+apply_or-returns-in_err-x g t c =
+    let p = err_from_is_err_and c.from_residual.result c.from_residual.ensures.1 in
+    let h = rw (c.arguments.invariant.kept.0, c.stripped.ensures) at c.in_err-x.ensures.gives in
+    let k = rw (c.arguments.invariant.kept.0, c.stripped.ensures) at c.in_err-x.ensures.cut in
+    let early = λ (known : AreKnown c.args.self.now.known).
+    (subst (λ (o : Outcome World Text). Early c.in_err-x.field-0.0 c.expand.new.self.world o) (c.arguments.invariant.rest known)
+    (or_at_fails g.M.Scope.writable (store_of c.args.self.now.known) c.args.below c.in_err-x.field-0.0 c.arguments.self.world c.expand.new.self.world c.args.texts.now c.arguments.place _ c.arguments-test.true (h known, k known))) in
+    record {
+      gives = λ known. rw (p.1, p.2) (early known).0;
+      cut = λ known. rw (p.1, p.2) (early known).1;
+      kept = search rules;
+      blames = search rules;
+    }
 
 pub apply_and-returns-in_err-x : goal.apply_and-returns-in_err-x
-apply_and-returns-in_err-x g t c = record {
-  gives = λ known.
-      let p = err_from_is_err_and c.from_residual.result c.from_residual.ensures.1 in
-      let h = rw (c.arguments.invariant.kept.0, c.stripped.ensures) at c.in_err-x.ensures.gives in
-      rw (p.1, p.2)
-      (subst (λ (o : Outcome Text). Fails c.in_err-x.field-0.0 c.expand.new.self.world o) (c.arguments.invariant.rest known)
-      (and_at_fails g.M.Scope.writable (store_of c.args.self.now.known) c.args.below c.in_err-x.field-0.0 c.arguments.self.world c.expand.new.self.world c.args.texts.now c.arguments.place _ c.arguments-test.true (h known)));
-  kept = search rules;
-  blames = search rules;
-}
+apply_and-returns-in_err-x g t c =
+    let p = err_from_is_err_and c.from_residual.result c.from_residual.ensures.1 in
+    let h = rw (c.arguments.invariant.kept.0, c.stripped.ensures) at c.in_err-x.ensures.gives in
+    let k = rw (c.arguments.invariant.kept.0, c.stripped.ensures) at c.in_err-x.ensures.cut in
+    let early = λ (known : AreKnown c.args.self.now.known).
+    (subst (λ (o : Outcome World Text). Early c.in_err-x.field-0.0 c.expand.new.self.world o) (c.arguments.invariant.rest known)
+    (and_at_fails g.M.Scope.writable (store_of c.args.self.now.known) c.args.below c.in_err-x.field-0.0 c.arguments.self.world c.expand.new.self.world c.args.texts.now c.arguments.place _ c.arguments-test.true (h known, k known))) in
+    record {
+      gives = λ known. rw (p.1, p.2) (early known).0;
+      cut = λ known. rw (p.1, p.2) (early known).1;
+      kept = search rules;
+      blames = search rules;
+    }
 
-pub read_conditional-returns-in_err-branch_holds-clause-gives : goal.read_conditional-returns-in_err-branch_holds-clause-gives
-read_conditional-returns-in_err-branch_holds-clause-gives g t c = λ known.
+pub read_conditional-returns-in_err-branch_holds-clause-fails : goal.read_conditional-returns-in_err-branch_holds-clause-fails
+read_conditional-returns-in_err-branch_holds-clause-fails g t c = λ known.
     let p = err_from_is_err_and c.from_residual.result c.from_residual.ensures.1 in
     let r = c.requires.reads in
     rw (p.1, p.2)
-    (first_fails g.M.Scope.writable (store_of c.args.self.now.known) c.args.below c.args.page.now c.in_err-branch_holds.field-0.0 c.args.self.now.world c.branch_holds.new.self.world (left_at c.args.page.now.blocks.steps c.args.place) c.args.place r.first r.others r.rest r.left (c.in_err-branch_holds.ensures.gives known))
+    (first_fails g.M.Scope.writable (store_of c.args.self.now.known) c.args.below c.args.page.now c.in_err-branch_holds.field-0.0 c.args.self.now.world c.branch_holds.new.self.world (left_at c.args.page.now.blocks.steps c.args.place) c.args.place r.first r.others r.rest r.left (c.in_err-branch_holds.ensures.gives known, c.in_err-branch_holds.ensures.cut known)).0
 
-pub read_step-returns-in_err-read_define-in-Define-clause-gives : goal.read_step-returns-in_err-read_define-in-Define-clause-gives
-read_step-returns-in_err-read_define-in-Define-clause-gives g t c = λ known.
+pub read_conditional-returns-in_err-branch_holds-clause-cut : goal.read_conditional-returns-in_err-branch_holds-clause-cut
+read_conditional-returns-in_err-branch_holds-clause-cut g t c = λ known.
+    let p = err_from_is_err_and c.from_residual.result c.from_residual.ensures.1 in
+    let r = c.requires.reads in
+    rw (p.1, p.2)
+    (first_fails g.M.Scope.writable (store_of c.args.self.now.known) c.args.below c.args.page.now c.in_err-branch_holds.field-0.0 c.args.self.now.world c.branch_holds.new.self.world (left_at c.args.page.now.blocks.steps c.args.place) c.args.place r.first r.others r.rest r.left (c.in_err-branch_holds.ensures.gives known, c.in_err-branch_holds.ensures.cut known)).1
+
+pub read_step-returns-in_err-read_define-in-Define-clause-fails : goal.read_step-returns-in_err-read_define-in-Define-clause-fails
+read_step-returns-in_err-read_define-in-Define-clause-fails g t c = λ known.
     let p = err_from_is_err_and c.from_residual-in_err-read_define-in-Define.result c.from_residual-in_err-read_define-in-Define.ensures.1 in
     let h = rw c.in_ok-line-in-Define.ensures.done at c.in_err-read_define-in-Define.ensures.gives in
+    let k = rw c.in_ok-line-in-Define.ensures.done at c.in_err-read_define-in-Define.ensures.cut in
     let is = rw c.in-Define.is at c.requires.reads in
     rw (p.1, p.2)
-    (definition_fails g.M.Scope.writable (store_of c.args.self.now.known) c.args.below c.args.page.now c.in_err-read_define-in-Define.field-0.0 c.args.self.now.world c.read_define.new.self.world (left_at c.args.page.now.blocks.steps c.args.place) (left_at c.args.page.now.blocks.steps c.in-Define.end) c.args.place c.in-Define.end _ _ is (search rules) (search rules) (h known))
+    (definition_fails g.M.Scope.writable (store_of c.args.self.now.known) c.args.below c.args.page.now c.in_err-read_define-in-Define.field-0.0 c.args.self.now.world c.read_define.new.self.world (left_at c.args.page.now.blocks.steps c.args.place) (left_at c.args.page.now.blocks.steps c.in-Define.end) c.args.place c.in-Define.end _ _ is (search rules) (search rules) (h known, k known)).0
 
-pub read_conditional-returns-in_err-branch_holds-2-clause-gives : goal.read_conditional-returns-in_err-branch_holds-2-clause-gives
-read_conditional-returns-in_err-branch_holds-2-clause-gives g t c = λ known.
+pub read_step-returns-in_err-read_define-in-Define-clause-cut : goal.read_step-returns-in_err-read_define-in-Define-clause-cut
+read_step-returns-in_err-read_define-in-Define-clause-cut g t c = λ known.
+    let p = err_from_is_err_and c.from_residual-in_err-read_define-in-Define.result c.from_residual-in_err-read_define-in-Define.ensures.1 in
+    let h = rw c.in_ok-line-in-Define.ensures.done at c.in_err-read_define-in-Define.ensures.gives in
+    let k = rw c.in_ok-line-in-Define.ensures.done at c.in_err-read_define-in-Define.ensures.cut in
+    let is = rw c.in-Define.is at c.requires.reads in
+    rw (p.1, p.2)
+    (definition_fails g.M.Scope.writable (store_of c.args.self.now.known) c.args.below c.args.page.now c.in_err-read_define-in-Define.field-0.0 c.args.self.now.world c.read_define.new.self.world (left_at c.args.page.now.blocks.steps c.args.place) (left_at c.args.page.now.blocks.steps c.in-Define.end) c.args.place c.in-Define.end _ _ is (search rules) (search rules) (h known, k known)).1
+
+pub read_conditional-returns-in_err-branch_holds-2-clause-fails : goal.read_conditional-returns-in_err-branch_holds-2-clause-fails
+read_conditional-returns-in_err-branch_holds-2-clause-fails g t c = λ known.
     let p = err_from_is_err_and c.from_residual-in_err-branch_holds-2.result c.from_residual-in_err-branch_holds-2.ensures.1 in
     let h = rw c.branches.invariant.kept.0 at c.in_err-branch_holds-2.ensures.gives in
+    let k = rw c.branches.invariant.kept.0 at c.in_err-branch_holds-2.ensures.cut in
     rw (p.1, p.2)
     (branch_fails g.M.Scope.writable (store_of c.args.self.now.known) c.args.below c.args.page.now c.args.page.now.blocks.steps c.branches.at c.args.after c.branches.self.world _ c.in_Some-condition.condition c.in_Some-condition.next c.in_Some-condition.ensures.some.0 c.in_err-branch_holds-2.field-0.0 c.branch_holds-in_Some-condition.new.self.world
-    (c.branches.invariant.rest known) c.in_Some-condition.ensures.before c.in_Some-condition.ensures.some.1 (h known))
+    (c.branches.invariant.rest known) c.in_Some-condition.ensures.before c.in_Some-condition.ensures.some.1 (h known, k known)).0
+
+pub read_conditional-returns-in_err-branch_holds-2-clause-cut : goal.read_conditional-returns-in_err-branch_holds-2-clause-cut
+read_conditional-returns-in_err-branch_holds-2-clause-cut g t c = λ known.
+    let p = err_from_is_err_and c.from_residual-in_err-branch_holds-2.result c.from_residual-in_err-branch_holds-2.ensures.1 in
+    let h = rw c.branches.invariant.kept.0 at c.in_err-branch_holds-2.ensures.gives in
+    let k = rw c.branches.invariant.kept.0 at c.in_err-branch_holds-2.ensures.cut in
+    rw (p.1, p.2)
+    (branch_fails g.M.Scope.writable (store_of c.args.self.now.known) c.args.below c.args.page.now c.args.page.now.blocks.steps c.branches.at c.args.after c.branches.self.world _ c.in_Some-condition.condition c.in_Some-condition.next c.in_Some-condition.ensures.some.0 c.in_err-branch_holds-2.field-0.0 c.branch_holds-in_Some-condition.new.self.world
+    (c.branches.invariant.rest known) c.in_Some-condition.ensures.before c.in_Some-condition.ensures.some.1 (h known, k known)).1
 
 pub read_items-lines-init : goal.read_items-lines-init
 read_items-lines-init g t c =

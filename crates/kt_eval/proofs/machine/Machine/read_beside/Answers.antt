@@ -4,3 +4,8 @@ pub returns-clause-reads : goal.returns-clause-reads
 returns-clause-reads g c =
     rw (← c.self.view_is)
     (rw (c.replace-book.ensures.value, c.replace-macros.ensures.value, c.replace-messages.ensures.value) at c.read_once-makefile.ensures.reads)
+
+pub returns-clause-cut : goal.returns-clause-cut
+returns-clause-cut g c =
+    rw (← c.self.view_is)
+    (rw (c.replace-book.ensures.value, c.replace-macros.ensures.value, c.replace-messages.ensures.value) at c.read_once-makefile.ensures.cut)

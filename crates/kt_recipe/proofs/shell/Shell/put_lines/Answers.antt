@@ -1,13 +1,25 @@
+use Rattle.std.proofs.Common.{◌∙◌, ◌+◌, drop}
 use Rattle.std.proofs.lemmas.Result.{err_from_is_err_and}
 use Rattle.kt_recipe.specs.Auto.{automatic_in}
-use Rattle.kt_recipe.specs.Views.{command_in}
-use Rattle.kt_recipe.proofs.LoopLemmas.{lines_end}
+use Rattle.kt_recipe.specs.Shell.{put_line, put_lines}
+use Rattle.kt_recipe.specs.Views.{command_in, setting_at}
+use Rattle.kt_recipe.proofs.LoopLemmas.{lines_from}
+use Rattle.kt_recipe.proofs.ShellLemmas.{put_lines_front, stops_all}
 use Rattle.kt_recipe.proofs.shell.Shell.put_lines.Goals as goal
 
-pub returns-in_err-put_line-clause-ends : goal.returns-in_err-put_line-clause-ends
-returns-in_err-put_line-clause-ends c =
+pub returns-in_err-put_line : goal.returns-in_err-put_line
+returns-in_err-put_line c =
     let p = err_from_is_err_and c.from_residual.result c.from_residual.ensures.1 in
+    let shell = c.args.self.now in
+    let automatic = automatic_in shell.node.now shell.part in
+    let line = c.line-item.result in
+    let i = c.loop-line.line-index in
+    let command = command_in c.loop-line.command.items in
     rw (p.1, p.2)
-    (lines_end c.in_err-put_line.field-0.0 c.put_line.new.messages.items c.args.self.now.macros.now (automatic_in c.args.self.now.node.now c.args.self.now.part)
-    c.args.self.now.limit c.args.lines.now c.loop-line.line-index c.line-item.result c.loop-line.messages.items (command_in c.loop-line.command.items) _
-    c.loop-line-test.true c.line-item.is c.loop-line.invariant.rest c.in_err-put_line.ensures.ends)
+    (stops_all _ _ c.in_err-put_line.field-0.0 c.args.messages.now.items c.loop-line.messages.items c.put_line.new.messages.items
+    (put_line (setting_at shell line.place) line.text command) (put_lines shell.macros.now automatic shell.limit (drop (i + 1) c.args.lines.now))
+    (put_lines shell.macros.now automatic shell.limit c.args.lines.now (command_in c.args.command.now.items))
+    (put_lines_front shell.macros.now automatic shell.limit (drop (i + 1) c.args.lines.now)) c.loop-line.invariant.kept
+    (lines_from shell.macros.now automatic shell.limit c.args.lines.now i line command c.loop-line.messages.items c.loop-line-test.true c.line-item.is
+    ∙ c.loop-line.invariant.rest)
+    c.in_err-put_line.ensures)

@@ -1,0 +1,51 @@
+-- What a step leaves, and what comes after it.
+use Rattle.std.proofs.Common.{◌≡◌, List, [], Result, Ok, Err, refl}
+use Rattle.kt_text.specs.Words.{Text}
+use Rattle.kt_eval.specs.declared.stop.Stop.{Stop}
+use Rattle.kt_eval.specs.declared.stop.Stop.TheVariants as stops
+use Rattle.kt_eval.specs.Files.{Store}
+use Rattle.kt_eval.specs.Fronts.{IsFront}
+use Rattle.kt_eval.specs.Machines.{Read, Trace, traced}
+use Rattle.kt_eval.specs.Outcome.{Gives, Outcome, Gave, Stopped, StepOver, leaving, left_of, then_do}
+use Rattle.kt_eval.proofs.GrowingLemmas.{front_next}
+use Rattle.kati_args.specs.declared.args.Args.{Args}
+use Rattle.kati.specs.Listing.{listed}
+use Rattle.kati.specs.Makefile.{makefile_read}
+use Rattle.kati.specs.Meaning.{Wanted, prepared, wanted_by}
+use Rattle.kati.specs.Steps.{telling}
+
+-- two steps that came to a value
+pub record GaveBoth {L A B : Type 0} (first : Outcome L A) (next : A → StepOver L B) (left : L) (value : B) : Type 0 where
+  pub middle : L
+  pub given : A
+  pub is : first ≡ Gave middle given
+  pub rest : next given middle ≡ Gave left value
+
+pub gave_both : {L A B : Type 0} (first : Outcome L A) (next : A → StepOver L B) (left : L) (value : B) → then_do first next ≡ Gave left value
+    → GaveBoth first next left value
+gave_both (Gave middle x) next left value e = record { middle = middle; given = x; is = refl; rest = e }
+gave_both (Stopped middle fault) next left value e = absurd (cc e)
+
+pub telling_asks : {A : Type 0} (trace : Trace) (step : StepOver (List Text) A) → (left_of (telling step trace)).asked ≡ trace.asked
+telling_asks {A} trace step = by (step trace.said)
+  where
+    by : (o : Outcome (List Text) A) → (left_of (leaving (λ said. traced said trace.asked) o)).asked ≡ trace.asked
+    by (Gave said x) = refl
+    by (Stopped said fault) = refl
+
+-- names that are asked for before the end of a step are before that of a longer one
+pub asked_then : {A B : Type 0} (names : List Text) (first : Outcome Trace A) (next : A → StepOver Trace B)
+    → ((x : A) (trace : Trace) → IsFront trace.asked (left_of (next x trace)).asked) → IsFront names (left_of first).asked
+    → IsFront names (left_of (then_do first next)).asked
+asked_then names (Gave trace x) next more h = front_next names trace.asked (left_of (next x trace)).asked h (more x trace)
+asked_then names (Stopped trace fault) next more h = h
+
+-- the goals are chosen after the list and the makefile are read
+pub chosen_after : {A : Type 0} (see : A → Wanted) (args : Args) (store : Store) (asked middle names said heard : List Text) (list : Text) (read : Read)
+    (result : Result A Stop) → listed store args.files (traced [] asked) ≡ Gave (traced [] middle) list
+    → makefile_read args store (traced [] middle) ≡ Gave (traced said names) read → Gives see result heard (wanted_by args list read said)
+    → Gives see result (traced heard names) (prepared args store (traced [] asked))
+chosen_after see args store asked middle names said heard list read (Ok x) is also h = rw is (rw also (rw h refl))
+chosen_after see args store asked middle names said heard list read (Err (stops.Fault fault)) is also h = rw is (rw also (rw h refl))
+chosen_after see args store asked middle names said heard list read (Err (stops.Device name)) is also h = tt
+chosen_after see args store asked middle names said heard list read (Err stops.Memory) is also h = tt
