@@ -1,5 +1,12 @@
 """The command kati-build: translates a makefile, keeps the translation up to date, and runs ninja."""
-from . import words
+import os
+import subprocess
+import sys
+
+from . import compile_commands, files, header_dependencies, includes, ninja_text, sources, top_file, translating, words
+from .programs import Stop, bytes_of, ending, need, say
+
+TOOL = "kati-build"
 
 ABOUT = """\
 Lists the sources, translates the makefile by kati, writes a Ninja file that translates it again where that is needed, and runs ninja.
@@ -46,7 +53,7 @@ def parser():
     """The command line of kati-build."""
     made = words.Parser(prog="kati-build", description=ABOUT, epilog=MORE,
                         usage="kati-build [--files-from git|find|FILE] [--deps] [--builtin] [-o FILE] [--no-ninja] "
-                              "[--compile-commands]\n                  [--kati PROGRAM] [KATI WORDS] [-- NINJA WORDS]")
+                              "[--compile-commands]\n                  [--kati PROGRAM] [--kati-asked PROGRAM] [KATI WORDS] [-- NINJA WORDS]")
     words.add_files_from(made)
     made.add_argument("--deps", action="store_true", help="header dependencies, see below")
     words.add_builtin(made)
@@ -55,11 +62,92 @@ def parser():
     made.add_argument("--compile-commands", action="store_true",
                       help="writes compile_commands.json too, for editors: each compilation without the shell round it")
     words.add_kati(made)
+    made.add_argument("--kati-asked", metavar="PROGRAM", help="the program kati-asked; without it KATI_ASKED, then as kati is found")
     words.add_kati_words(made)
     return made
 
 
+class Build:
+    """What kati-build was asked for, and where its files are."""
+
+    def __init__(self, asked):
+        self.asked, self.output = asked, os.path.normpath(asked.output)
+        self.room = os.path.splitext(self.output)[0] + ".kati"
+        self.translated = os.path.join(self.room, sources.TRANSLATED)
+        self.list = os.path.join(self.room, "files.txt")
+        if any("\n" in word for word in [self.output, *asked.words]):
+            raise Stop("a word with a newline, which no Ninja file can hold", words.WRONG_USAGE)
+        os.makedirs(self.room, exist_ok=True)
+        self.program = translating.find_asked(asked.kati_asked)
+        self.translator = translating.Translator(asked, self.room)
+
+    def command(self):
+        """The words by which ninja has the translation made anew."""
+        asked, tool = self.asked, os.path.abspath(sys.argv[0])
+        found = [tool, "--no-ninja", "-o", self.output, "--files-from", asked.files_from, "--kati", self.translator.kati]
+        found += ["--kati-asked", self.program] if self.program else []
+        found += [word for word, is_on in (("--deps", asked.deps), ("--builtin", asked.builtin),
+                                           ("--compile-commands", asked.compile_commands)) if is_on]
+        found += ["-f", asked.makefile] if asked.makefile is not None else []
+        found += ["--depth", str(asked.depth)] if asked.depth is not None else []
+        return found + asked.words
+
+    def names_asked(self, listing):
+        """What the translation asked for; without kati-asked a guess. kati's list and its makefile for --builtin are no sources."""
+        found = self.translator.asked(self.program, listing)
+        if found is None:
+            makefile = self.translator.makefile
+            found = includes.asked(["makefile", "Makefile"] if makefile is None else [makefile], listing.names)
+        own = {self.translator.list, self.translator.makefile if self.asked.builtin else None}
+        own.update(os.path.join(self.room, one) for one in (translating.MACROS, translating.RULES))
+        return [name for name in found if name not in own]
+
+    def translate(self):
+        """Makes the translation and the file that ninja reads; answers kati's status."""
+        before = files.read(self.list)
+        old = ninja_text.statements(files.read(self.translated) or "")
+        listing = sources.listing(self.asked.files_from, self.output, self.room)
+        kept = listing.names if before is None else before.split("\n")
+        found = self.translator.translate(listing, ninja_text.outputs(old), kept)
+        sys.stderr.buffer.write(bytes_of(found.said))
+        if found.status:
+            what = f"; {self.output} stays as it is" if os.path.exists(self.output) else ""
+            say(TOOL, f"kati ended with status {found.status}{what}")
+            os.unlink(self.translator.list)
+            return found.status
+        self.write(found, listing)
+        return 0
+
+    def write(self, found, listing):
+        """Replaces the files of which the bytes differ; the one that ninja reads is the last."""
+        content, unknown = header_dependencies.add(found.text, found.statements) if self.asked.deps else (found.text, [])
+        for name in unknown:
+            say(TOOL, f"{name}: it can't be told where its header dependencies are written; -MF FILE says it")
+        names = top_file.watched(self.names_asked(listing), listing, ninja_text.outputs(found.statements), self.output)
+        makefile = self.asked.makefile or translating.default_makefile() or "the makefile"
+        top = top_file.text(self.output, self.room, self.translated, self.command(), makefile, names, found.statements, content)
+        os.replace(self.translator.list, self.list)
+        if self.asked.compile_commands:
+            files.replace(compile_commands.NAME, compile_commands.text(found.statements), self.room)
+        files.replace(self.translated, content, self.room)
+        files.replace(self.output, top, self.room)
+
+    def run_ninja(self, more):
+        """Runs ninja on the file; answers its status."""
+        sys.stdout.flush()
+        sys.stderr.flush()
+        return subprocess.run([need("ninja"), "-f", self.output, *more]).returncode
+
+
+def build(asked, more):
+    """Translates, and runs ninja where kati takes the makefile."""
+    made = Build(asked)
+    status = made.translate()
+    return status if status or asked.no_ninja else made.run_ninja(more)
+
+
 def main(line):
     """Runs the command on the words of its command line, and answers its exit status."""
-    parser().parse_intermixed_args(line)
-    return 3
+    at = line.index("--") if "--" in line else len(line)
+    asked = parser().parse_intermixed_args(line[:at])
+    return ending(TOOL, build, asked, line[at + 1:])
