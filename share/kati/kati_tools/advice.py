@@ -5,6 +5,8 @@ NO_FAULT = "no fault"
 ADVICE = {
     "shell": "run it before kati and pass the value: kati-port --macros prints it as a word for kati",
     "wildcard": "write the names out, or pass them: kati-port --macros prints them as a word for kati",
+    "elsewhere": "assign its value to a macro, use that here, and pass it: NAME=VALUE",
+    "in recipe": "let the recipe's shell do it, as by $$(command), or assign the value to a macro and pass that: NAME=VALUE",
     "function": "write its result out, or pass it: NAME=VALUE",
     "call": "call the function itself: $(NAME ..)",
     "!=": "assign the value by = and pass it: NAME=VALUE; != stays a fault",
@@ -25,8 +27,8 @@ ADVICE = {
     ".EXPORT_ALL_VARIABLES": "set what commands need in the recipes: NAME=$(NAME) command",
     "specific": "use a macro for each target, as $(CFLAGS_$@) in the recipe",
     "tab": "indent it by spaces",
-    "tab condition": "indent it by spaces, or put it at the line's beginning",
-    "recipe condition": "make hands this line to the shell as well; put it at the line's beginning",
+    "tab condition": "indent it, its else and its endif by spaces, or put them at the line's beginning",
+    "recipe condition": "make hands such lines to the shell as well; put them at the line's beginning",
     "blank": "put a blank after it",
     "separator": "a rule has a colon; a macro's name is one word",
     "absent": "make the file first, or write -include",
@@ -48,7 +50,7 @@ ADVICE = {
 }
 
 NUMBERS = {
-    "shell": "E16", "wildcard": "E16", "function": "E16", "call": "E16", "!=": "E17", "export": "E17", "override": "E17",
+    "shell": "E16", "wildcard": "E16", "elsewhere": "E16", "in recipe": "E16", "function": "E16", "call": "E16", "!=": "E17", "export": "E17", "override": "E17",
     "undefine": "E17", "private": "E17", "vpath": "E17", "load": "E17", "eval in recipe": "E32", "name": "E20", "archive": "E20",
     ".ONESHELL": "E22", ".SECONDEXPANSION": "E22", ".DEFAULT": "E22", ".IGNORE": "E22", ".WAIT": "E22", ".EXPORT_ALL_VARIABLES": "E22",
     "specific": "E23", "tab": "E06", "tab condition": "E06", "blank": "E05", "separator": "E05", "absent": "E04", "group": "E35",

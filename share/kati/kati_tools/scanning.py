@@ -24,6 +24,8 @@ class Scan:
         self.uses, self.needed, self.wild = {}, {}, {}
         # The rules, with whether they have a recipe, and the words of values.
         self.rules, self.values, self.read = [], [], set()
+        # Of each conditional that isn't closed: whether it began behind a tab, and how many rules were there.
+        self.blocks = []
 
     def add(self, line, form, kind):
         self.findings.append(Finding(self.file, line.number, form, kind))
@@ -34,7 +36,7 @@ class Scan:
         if text is None:
             raise Stop(f"no file {name}")
         self.read.add(name)
-        self.file, self.open, self.depth, left = name, None, 0, []
+        self.file, self.open, self.depth, self.blocks, left = name, None, 0, [], []
         for line in makefile_text.lines(text):
             left += self.line(line)
         for include in left:
@@ -63,19 +65,39 @@ class Scan:
 
     def tab_line(self, line, word):
         """A line that begins with a tab: a recipe line where a rule is open."""
+        text = makefile_text.without_comment(line.joined)
+        found = makefile_text.assignment(text)
+        if self.open is not None and self.open.is_doubtful and (found or word in makefile_text.CONDITIONS):
+            self.open = None
         if self.open is not None:
             self.open.has_recipe = True
-            if word in makefile_text.CONDITIONS:
-                self.add(line, word, "recipe condition")
+            if word in makefile_text.CONDITIONS and self.is_new_block(word, True):
+                self.add(line, line.joined, "recipe condition")
             self.recipe(line, line.text)
         elif word in makefile_text.CONDITIONS:
-            self.add(line, word, "tab condition")
+            if self.is_new_block(word, True):
+                self.add(line, line.joined, "tab condition")
+            self.expanded(line, text)
+        elif found:
+            self.assign(line, *found)
         elif word and not word.startswith("#"):
-            found = makefile_text.assignment(makefile_text.without_comment(line.joined))
-            if found:
-                self.assign(line, *found)
-            else:
-                self.add(line, line.joined, "tab")
+            self.add(line, line.joined, "tab")
+            if word in makefile_text.REFUSED:
+                self.refused(line, word, text)
+
+    def is_new_block(self, word, is_tab):
+        """Follows the nesting of conditionals; answers whether the line begins one, or has a tab where the beginning has none.
+
+        A rule from a branch may not be the one that is open behind it, if that branch isn't taken."""
+        if word not in ("else", "endif"):
+            self.blocks.append((is_tab, len(self.rules)))
+            return True
+        began_by_tab, rules = self.blocks[-1] if self.blocks else (False, 0)
+        if self.open is not None and len(self.rules) > rules:
+            self.open.is_doubtful = True
+        if word == "endif" and self.blocks:
+            self.blocks.pop()
+        return is_tab and not began_by_tab
 
     def recipe(self, line, text):
         """The text of a recipe."""
@@ -86,13 +108,20 @@ class Scan:
             if reference in ("$?", "$%") or re.fullmatch(r"\$[({][?%][DF]?[)}]", reference):
                 self.add(line, reference, "$?" if "?" in reference else "$%")
 
-    def expanded(self, line, text):
+    def kind_of(self, function, is_assigned):
+        """What to say of a function that kati refuses: how its value is handed in depends on where it stands."""
+        if function not in ("shell", "wildcard"):
+            return "function"
+        if is_assigned:
+            return function
+        return "elsewhere" if self.open is None else "in recipe"
+
+    def expanded(self, line, text, is_assigned=False):
         """A text that is expanded: its functions, and the macros that it refers to."""
         for reference in makefile_text.references(text):
             function = FUNCTION.match(reference)
             if function:
-                kind = function.group(1)
-                self.add(line, reference, kind if kind in ("shell", "wildcard") else "function")
+                self.add(line, reference, self.kind_of(function.group(1), is_assigned))
             elif CALL.match(reference):
                 self.add(line, reference, "call")
             name = re.fullmatch(r"\$[({]([^ \t\n:,$(){}]+)(?::[^=]*=[^)}]*)?[)}]", reference)
@@ -127,7 +156,7 @@ class Scan:
         if operator == "!=":
             self.add(line, f"{name} != {value}", "!=")
             return
-        self.expanded(line, value)
+        self.expanded(line, value, "$" not in name)
         self.values += [(self.file, line.number, word) for word in makefile_text.words(value)]
         if name in ("VPATH", ".RECIPEPREFIX"):
             self.add(line, f"{name} {operator} {value}", name)
@@ -137,6 +166,7 @@ class Scan:
 
     def condition(self, line, word, text):
         """A conditional."""
+        self.is_new_block(word, False)
         rest = text.strip()[len(word):]
         inner = rest.strip().split(None, 1)
         if word == "else" and inner and inner[0] in makefile_text.CONDITIONS:
@@ -171,8 +201,9 @@ class Scan:
 
     def rule(self, line):
         """A rule line."""
+        self.open = None
         rule = makefile_text.Rule(line.joined)
-        rule.file, rule.number, rule.has_recipe = self.file, line.number, rule.recipe is not None
+        rule.file, rule.number, rule.has_recipe, rule.is_doubtful = self.file, line.number, rule.recipe is not None, False
         self.expanded(line, line.joined if rule.recipe is None else line.joined[:len(line.joined) - len(rule.recipe)])
         if not rule.is_rule:
             self.no_rule(line)
