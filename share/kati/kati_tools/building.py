@@ -81,6 +81,10 @@ class Build:
         self.program = translating.find_asked(asked.kati_asked)
         self.translator = translating.Translator(asked, self.room)
 
+    def makefile(self):
+        """The makefile's name."""
+        return self.asked.makefile or translating.default_makefile() or "the makefile"
+
     def command(self):
         """The words by which ninja has the translation made anew."""
         asked, tool = self.asked, os.path.abspath(sys.argv[0])
@@ -120,17 +124,16 @@ class Build:
 
     def write(self, found, listing):
         """Replaces the files of which the bytes differ; the one that ninja reads is the last."""
-        content, unknown = header_dependencies.add(found.text, found.statements) if self.asked.deps else (found.text, [])
-        for name in unknown:
+        headers = header_dependencies.Dependencies(found.statements if self.asked.deps else [])
+        for name in headers.unknown:
             say(TOOL, f"{name}: it can't be told where its header dependencies are written; -MF FILE says it")
+        text = headers.added(found.text, found.statements)
         names = top_file.watched(self.names_asked(listing), listing, ninja_text.outputs(found.statements), self.output)
-        makefile = self.asked.makefile or translating.default_makefile() or "the makefile"
-        top = top_file.text(self.output, self.room, self.translated, self.command(), makefile, names, found.statements, content)
         os.replace(self.translator.list, self.list)
         if self.asked.compile_commands:
             files.replace(compile_commands.NAME, compile_commands.text(found.statements), self.room)
-        files.replace(self.translated, content, self.room)
-        files.replace(self.output, top, self.room)
+        files.replace(self.translated, text, self.room)
+        files.replace(self.output, top_file.text(self, headers.pools(), names, found.statements, text), self.room)
 
     def run_ninja(self, more):
         """Runs ninja on the file; answers its status."""

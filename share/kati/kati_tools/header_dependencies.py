@@ -1,10 +1,12 @@
 """Header dependencies: which file a compiler writes them to, and the lines that tell Ninja."""
 import os
+from collections import Counter
 
 from . import ninja_text, shell_text
 
 FLAGS = ("-MD", "-MMD")
 UNKNOWN = set("$`*?[")
+POOL = "kati_build_deps_"
 
 
 def after(words, flag):
@@ -77,17 +79,39 @@ def depfile_of(command):
     return found
 
 
-def add(text, found):
-    """kati's text with `depfile` and `deps` in the blocks of the statements that have dependencies; and the outputs without them.
+class Dependencies:
+    """Where statements write their header dependencies.
 
-    Ninja takes them from a block too. There kati reads them as variables, so that kati --check still says the same build."""
-    lines, unknown = text.split("\n"), []
-    for statement in reversed(found):
-        name = None if statement.command is None else depfile_of(statement.command)
-        if name is None:
-            continue
-        if not name:
-            unknown.append(statement.outputs[0])
-            continue
-        lines.insert(statement.line + 1, f" depfile = {ninja_text.escaped_value(name)}\n deps = gcc")
-    return "\n".join(lines), unknown[::-1]
+    `files` has the file of each statement's output, `unknown` the outputs of which it can't be told, and `shared` the files that
+    several statements write, in order: of these only one may run at a time, or it would lose what the other writes."""
+
+    def __init__(self, found):
+        self.files, self.unknown = {}, []
+        for statement in found:
+            name = None if statement.command is None else depfile_of(statement.command)
+            if name:
+                self.files[statement.outputs[0]] = name
+            elif name is not None:
+                self.unknown.append(statement.outputs[0])
+        counts = Counter(self.files.values())
+        self.shared = [name for name in counts if counts[name] > 1]
+
+    def lines(self, output):
+        """The lines of a statement's block."""
+        name = self.files[output]
+        found = f" depfile = {ninja_text.escaped_value(name)}\n deps = gcc"
+        return f"{found}\n pool = {POOL}{self.shared.index(name)}" if name in self.shared else found
+
+    def pools(self):
+        """The pools that the blocks name, for the file that takes in kati's text."""
+        return "".join(f"pool {POOL}{number}\n depth = 1\n" for number in range(len(self.shared)))
+
+    def added(self, text, found):
+        """kati's text with the lines of each statement that has dependencies.
+
+        Ninja takes these keys from a block too. There kati reads them as variables, so that kati --check still says the same build."""
+        lines = text.split("\n")
+        for statement in reversed(found):
+            if statement.outputs[0] in self.files:
+                lines.insert(statement.line + 1, self.lines(statement.outputs[0]))
+        return "\n".join(lines)
