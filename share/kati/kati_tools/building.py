@@ -125,15 +125,15 @@ class Build:
     def write(self, found, listing):
         """Replaces the files of which the bytes differ; the one that ninja reads is the last."""
         headers = header_dependencies.Dependencies(found.statements if self.asked.deps else [])
-        for name in headers.unknown:
-            say(TOOL, f"{name}: it can't be told where its header dependencies are written; -MF FILE says it")
+        for doubt in headers.doubts:
+            say(TOOL, doubt)
         text = headers.added(found.text, found.statements)
         names = top_file.watched(self.names_asked(listing), listing, ninja_text.outputs(found.statements), self.output)
         os.replace(self.translator.list, self.list)
         if self.asked.compile_commands:
             files.replace(compile_commands.NAME, compile_commands.text(found.statements), self.room)
         files.replace(self.translated, text, self.room)
-        files.replace(self.output, top_file.text(self, headers.pools(), names, found.statements, text), self.room)
+        files.replace(self.output, top_file.text(self, names, found.statements, text), self.room)
 
     def run_ninja(self, more):
         """Runs ninja on the file; answers its status."""

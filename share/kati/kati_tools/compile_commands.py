@@ -12,9 +12,9 @@ def entries(found):
     for statement in found:
         for piece in shell_text.pieces(statement.command or "") or []:
             for words in shell_text.simple_commands(piece.text):
-                source = header_dependencies.source_of(words)
-                if "-c" in words and source:
-                    yield {"directory": os.getcwd(), "file": source, "arguments": words, "output": statement.outputs[0]}
+                sources = header_dependencies.sources_of(words)
+                if "-c" in words and len(sources) == 1:
+                    yield {"directory": os.getcwd(), "file": sources[0], "arguments": words, "output": statement.outputs[0]}
 
 
 def text(found):

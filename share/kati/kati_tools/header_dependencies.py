@@ -1,12 +1,10 @@
 """Header dependencies: which file a compiler writes them to, and the lines that tell Ninja."""
 import os
-from collections import Counter
 
 from . import ninja_text, shell_text
 
 FLAGS = ("-MD", "-MMD")
 UNKNOWN = set("$`*?[")
-POOL = "kati_build_deps_"
 
 
 def after(words, flag):
@@ -20,11 +18,12 @@ def after(words, flag):
     return found
 
 
-def source_of(words):
-    """The only source among a compiler's words, or None."""
-    found = [word for word in words[1:] if os.path.splitext(word)[1].lower() in
-             (".c", ".cc", ".cpp", ".cxx", ".c++", ".m", ".mm", ".s", ".sx", ".i", ".ii") and not word.startswith("-")]
-    return found[0] if len(found) == 1 else None
+SOURCES = (".c", ".cc", ".cpp", ".cxx", ".c++", ".cp", ".m", ".mm", ".s", ".sx", ".i", ".ii")
+
+
+def sources_of(words):
+    """The sources among a compiler's words."""
+    return [word for word in words[1:] if os.path.splitext(word)[1].lower() in SOURCES and not word.startswith("-")]
 
 
 def written_by(words):
@@ -37,11 +36,12 @@ def written_by(words):
     named = after(words, "-MF")
     if named:
         return named
-    output, source = after(words, "-o"), source_of(words)
-    if not source:
-        return ""
+    output, sources = after(words, "-o"), sources_of(words)
+    if len(sources) != 1:
+        # Objects that are bound have none.
+        return "" if sources else None
     # A program that is compiled and linked at once has its dependencies beside it too; without a name that is `a`.
-    named = output or (os.path.basename(source) if "-c" in words else "a")
+    named = output or (os.path.basename(sources[0]) if "-c" in words else "a")
     return os.path.splitext(named)[0] + ".d"
 
 
@@ -80,38 +80,31 @@ def depfile_of(command):
 
 
 class Dependencies:
-    """Where statements write their header dependencies.
+    """Where statements write their header dependencies: `files` has the file of each statement's first output.
 
-    `files` has the file of each statement's output, `unknown` the outputs of which it can't be told, and `shared` the files that
-    several statements write, in order: of these only one may run at a time, or it would lose what the other writes."""
+    `doubts` tells of those for which that is no help. Of two statements that write one file, which both may run at a time, one
+    would lose what the other has read and removed; so none of them gets it."""
 
     def __init__(self, found):
-        self.files, self.unknown = {}, []
+        named, unknown = {}, []
         for statement in found:
             name = None if statement.command is None else depfile_of(statement.command)
             if name:
-                self.files[statement.outputs[0]] = name
+                named.setdefault(name, []).append(statement.outputs[0])
             elif name is not None:
-                self.unknown.append(statement.outputs[0])
-        counts = Counter(self.files.values())
-        self.shared = [name for name in counts if counts[name] > 1]
-
-    def lines(self, output):
-        """The lines of a statement's block."""
-        name = self.files[output]
-        found = f" depfile = {ninja_text.escaped_value(name)}\n deps = gcc"
-        return f"{found}\n pool = {POOL}{self.shared.index(name)}" if name in self.shared else found
-
-    def pools(self):
-        """The pools that the blocks name, for the file that takes in kati's text."""
-        return "".join(f"pool {POOL}{number}\n depth = 1\n" for number in range(len(self.shared)))
+                unknown.append(statement.outputs[0])
+        self.files = {outputs[0]: name for name, outputs in named.items() if len(outputs) == 1}
+        self.doubts = [f"{output}: it can't be told where its header dependencies are written; -MF FILE says it" for output in unknown]
+        self.doubts += [f"{', '.join(outputs)}: header dependencies are written to one file, {name}, and so aren't used; "
+                        "-MF '$@.d' gives each its own" for name, outputs in named.items() if len(outputs) > 1]
 
     def added(self, text, found):
-        """kati's text with the lines of each statement that has dependencies.
+        """kati's text with `depfile` and `deps` in the block of each statement that has dependencies.
 
         Ninja takes these keys from a block too. There kati reads them as variables, so that kati --check still says the same build."""
         lines = text.split("\n")
         for statement in reversed(found):
-            if statement.outputs[0] in self.files:
-                lines.insert(statement.line + 1, self.lines(statement.outputs[0]))
+            name = self.files.get(statement.outputs[0])
+            if name:
+                lines.insert(statement.line + 1, f" depfile = {ninja_text.escaped_value(name)}\n deps = gcc")
         return "\n".join(lines)

@@ -19,7 +19,7 @@ TEMPLATE = """\
 # Written by kati-build, which writes it anew when the makefile changes.
 # What kati wrote has the sum {sum}.
 builddir = {room}
-{pools}rule kati_build
+rule kati_build
  command = {command}
  description = kati-build: translating {makefile}
  generator = 1
@@ -45,14 +45,13 @@ def watched(asked, listing, made, output):
     return [name for name in found if name != os.path.normpath(output) and not (name in made and os.path.isdir(name))]
 
 
-def text(build, pools, names, found, content):
+def text(build, names, found, content):
     """The text of the file for a `Build`; `names` are those that it depends on, `found` the statements of the text `content`."""
     made = {os.path.normpath(name) for name in ninja_text.outputs(found)}
     present = [ninja_text.escaped(name) for name in names if name not in made]
     return TEMPLATE.format(
         sum=hashlib.sha256(bytes_of(content)).hexdigest(),
         room=ninja_text.escaped_value(build.room),
-        pools=pools,
         command=ninja_text.escaped_value(" ".join(shlex.quote(word) for word in build.command())),
         makefile=ninja_text.escaped_value(build.makefile()),
         output=ninja_text.escaped(build.output),
