@@ -125,14 +125,16 @@ class Build:
     def write(self, found, listing):
         """Replaces the files of which the bytes differ; the one that ninja reads is the last."""
         headers = header_dependencies.Dependencies(found.statements if self.asked.deps else [])
-        for doubt in headers.doubts:
-            say(TOOL, doubt)
         text = headers.added(found.text, found.statements)
         names = top_file.watched(self.names_asked(listing), listing, ninja_text.outputs(found.statements), self.output)
-        os.replace(self.translator.list, self.list)
+        files.replace(self.list, files.read(self.translator.list), self.room)
+        os.unlink(self.translator.list)
         if self.asked.compile_commands:
             files.replace(compile_commands.NAME, compile_commands.text(found.statements), self.room)
-        files.replace(self.translated, text, self.room)
+        is_new = files.replace(self.translated, text, self.room)
+        # ninja, which asks for no other run of it, needn't hear it each time.
+        for doubt in headers.doubts if is_new or not self.asked.no_ninja else []:
+            say(TOOL, doubt)
         files.replace(self.output, top_file.text(self, names, found.statements, text), self.room)
 
     def run_ninja(self, more):
