@@ -69,6 +69,10 @@ class Tree(unittest.TestCase):
     def run_in(self, *words, **environment):
         return Ran(words, self.top, **environment)
 
+    @staticmethod
+    def tool_path(name):
+        return TOOLS / name
+
     def tool(self, name, *words, **environment):
         """Runs a tool by the name of its file."""
         return self.run_in(TOOLS / name, *words, **environment)

@@ -129,8 +129,7 @@ class Regenerating(Tree):
         self.assertEqual(self.made_anew(self.ninja), [])
 
     def test_a_new_source_in_a_new_folder(self):
-        self.write(Makefile="all: sub/x.o\n%.o: %.s\n\tas $< -o $@\n%.o: other/%.c\n\tcc -c $< -o $@\n", sub__other__x_c="")
-        self.put("Makefile", "all: sub/x.o\n%.o: new/%.c\n\tcc -c $< -o $@\n%.o: %.c\n\tcc -c $< -o $@\n")
+        self.write(Makefile="all: sub/x.o\n%.o: new/%.c\n\tcc -c $< -o $@\n%.o: %.c\n\tcc -c $< -o $@\n")
         self.put("sub/x.c", "")
         self.start()
         self.put("new/sub/x.c", "")
