@@ -3,11 +3,11 @@
 
     scripts/run_checks.py [--gate COMMAND | --no-gate]
 
-The checks are the gate, `rt ci`, which proves and builds everything; then, on what it built, the tests of the tools
-(tools/tests) and the scripts check_docs.py and refuse_growths.py, where they are there. Their lines come through as they
-are written. Each ends with a line `N passed, M failed` or `N passed, M failed, K skipped`; one that ends without such a
-line, or with another status than 0 and no failure, counts as one failure. Where tests were skipped, a line before the
-last says how many; which and why is among the lines of the check.
+The checks are the gate, `rt ci`, which proves and builds everything; then, on what it built, the tests of the
+tools (tools/tests) and the scripts check_docs.py and refuse_growths.py, where they are there. Their lines come
+through as they are written. Each ends with a line `N passed, M failed` or `N passed, M failed, K skipped`; one
+that ends without such a line, or with another status than 0 and no failure, counts as one failure. Where tests
+were skipped, a line before the last says how many; which and why is among the lines of the check.
 
 examples:
   scripts/run_checks.py

@@ -3,9 +3,9 @@
 
     python3 tools/tests [--kati PROGRAM] [NAME]..
 
-NAME is a test's name or the beginning of one, as test_build.Headers; all of them without one. A test whose program isn't
-there is skipped. The names of tests that failed or were skipped are told, and the last line is
-`N passed, M failed, K skipped`. The exit status is 1 where one failed, else 0.
+NAME is a test's name or the beginning of one, as test_build.Headers; all of them without one. A test whose program
+isn't there is skipped. The names of tests that failed or were skipped are told, and the last line is `N passed, M
+failed, K skipped`. The exit status is 1 where one failed, else 0.
 
 examples:
   python3 tools/tests

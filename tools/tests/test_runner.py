@@ -1,4 +1,5 @@
-"""scripts/run_checks.py: what comes through, what is added up, and how it ends. Other checks stand in for the real ones."""
+"""scripts/run_checks.py: what comes through, what is added up, and how it ends. Other checks stand in for the real
+ones."""
 import re
 import shutil
 import sys

@@ -6,7 +6,7 @@ ADVICE = {
     "shell": "run it before kati and pass the value: kati-port --macros prints it as a word for kati",
     "wildcard": "write the names out, or pass them: kati-port --macros prints them as a word for kati",
     "elsewhere": "assign its value to a macro, use that here, and pass it: NAME=VALUE",
-    "in recipe": "let the recipe's shell do it, as by $$(command), or assign the value to a macro and pass that: NAME=VALUE",
+    "in recipe": "let the recipe's shell do it: $$(command); or assign the value to a macro and pass it",
     "function": "write its result out, or pass it: NAME=VALUE",
     "call": "call the function itself: $(NAME ..)",
     "!=": "assign the value by = and pass it: NAME=VALUE; != stays a fault",
@@ -49,13 +49,20 @@ ADVICE = {
     "library": "it is a plain name here; write the library's path, or move it into the recipe",
 }
 
-NUMBERS = {
-    "shell": "E16", "wildcard": "E16", "elsewhere": "E16", "in recipe": "E16", "function": "E16", "call": "E16", "!=": "E17", "export": "E17", "override": "E17",
-    "undefine": "E17", "private": "E17", "vpath": "E17", "load": "E17", "eval in recipe": "E32", "name": "E20", "archive": "E20",
-    ".ONESHELL": "E22", ".SECONDEXPANSION": "E22", ".DEFAULT": "E22", ".IGNORE": "E22", ".WAIT": "E22", ".EXPORT_ALL_VARIABLES": "E22",
-    "specific": "E23", "tab": "E06", "tab condition": "E06", "blank": "E05", "separator": "E05", "absent": "E04", "group": "E35",
-    "mixed colons": "E24", "escaped percent": "E20",
+KINDS = {
+    "E04": ["absent"],
+    "E05": ["blank", "separator"],
+    "E06": ["tab", "tab condition"],
+    "E16": ["shell", "wildcard", "elsewhere", "in recipe", "function", "call"],
+    "E17": ["!=", "export", "override", "undefine", "private", "vpath", "load"],
+    "E20": ["name", "archive", "escaped percent"],
+    "E22": [".ONESHELL", ".SECONDEXPANSION", ".DEFAULT", ".IGNORE", ".WAIT", ".EXPORT_ALL_VARIABLES"],
+    "E23": ["specific"],
+    "E24": ["mixed colons"],
+    "E32": ["eval in recipe"],
+    "E35": ["group"],
 }
+NUMBERS = {kind: number for number, kinds in KINDS.items() for kind in kinds}
 
 
 class Finding:

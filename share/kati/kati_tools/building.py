@@ -9,60 +9,68 @@ from .programs import Stop, bytes_of, ending, need, say
 TOOL = "kati-build"
 
 ABOUT = """\
-Lists the sources, translates the makefile by kati, writes a Ninja file that translates it again where that is needed, and runs ninja.
+Lists the sources, translates the makefile by kati, writes a Ninja file that has it translated again
+where that is needed, and runs ninja.
 
-Where kati refuses the makefile, the build of before is kept. A file is replaced only where its bytes differ."""
+Where kati refuses the makefile, the build of before is kept. A file is replaced only where its
+bytes differ."""
 
 MORE = """\
 files:
-  FILE of -o (build.ninja)     the file that ninja reads. It translates again when the makefile, an include or the list of sources
-                               changes, or an absent include comes into being; so a plain `ninja` is enough from then on
-  build.kati/translated.ninja  what kati wrote, with --deps what it says of header dependencies too
-  build.kati/files.txt         the list of the files that exist, as it was handed to kati
-  build.kati/                  also holds ninja's own log. The folder has the name of FILE, with .kati in place of .ninja
+  build.ninja                  what ninja reads, or FILE of -o. It has the makefile translated again
+                               when it, an include or the list of sources changes, or an absent
+                               include comes into being. So a plain `ninja` is enough from then on
+  build.kati/translated.ninja  what kati wrote; with --deps, where header dependencies are too
+  build.kati/files.txt         the list of the files that exist, as kati got it
+  build.kati/                  has ninja's own log too. It is named after FILE: .kati for .ninja
 
 which files are watched:
-  The program kati-asked, if it is beside kati, tells each file that the translation asked for. Without it, the lines that begin with
-  `include`, `-include` or `sinclude` are looked for; of a name that holds a reference, each listed file that it could name is watched.
-  The list of sources is made anew when a folder in which files are listed has changed. Files that the build itself makes aren't listed,
-  unless they were there when the list was first made.
+  The program kati-asked, where it is found, tells each file that the translation asked for.
+  Without it, lines that begin with `include`, `-include` or `sinclude` are looked for. Of a name
+  that holds a reference, each listed file that it could name is watched.
+  The list of sources is made again when a folder that it is made from has changed. What the build
+  itself makes isn't listed, unless it was there when the list was first made.
 
 header dependencies:
-  --deps gives each statement whose command has -MD or -MMD the file that it writes (by -MF, or by the name after -o), so that ninja
-  makes again what includes a changed header.
+  --deps gives each statement whose command has -MD or -MMD the file that the compiler writes: that
+  of -MF, or the one named after the output. So ninja makes again what includes a changed header.
+  Of two statements that write the same file none can use it; this is said.
 
 environment:
   KATI, KATI_ASKED, NINJA      the programs kati, kati-asked and ninja
 
 examples:
-  kati-build                           builds the first target
-  kati-build --deps all CC=clang       builds the target `all` by clang, with header dependencies
-  kati-build --builtin -- -j4 -v       with make's usual rules; ninja runs four jobs and shows the commands
-  kati-build -o clean.ninja clean      another file for another goal, so that build.ninja stays
+  kati-build                         builds the first target
+  kati-build --deps all CC=clang     builds `all` by clang, with header dependencies
+  kati-build --builtin -- -j4 -v     with make's usual rules; ninja runs four jobs and shows commands
+  kati-build -o clean.ninja clean    another file for another goal, so that build.ninja stays
 
 exit status:
-  0     built
-  2     the makefile has a fault, as kati says; the build of before is kept (ninja itself ends with 2 where it is interrupted)
+  0     built; with --no-ninja: translated
+  2     the makefile has a fault, as kati says; the build of before is kept
   3     a file can't be read or written, or a program isn't there
   4     kati has not memory enough
   64    wrong usage
-  else  ninja's own: 1 where a command failed"""
+  else  ninja's own: 1 where a command failed, 2 and 130 where it was interrupted"""
 
 
 def parser():
     """The command line of kati-build."""
     made = words.Parser(prog="kati-build", description=ABOUT, epilog=MORE,
-                        usage="kati-build [--files-from git|find|FILE] [--deps] [--builtin] [-o FILE] [--no-ninja] "
-                              "[--compile-commands]\n                  [--kati PROGRAM] [--kati-asked PROGRAM] [KATI WORDS] [-- NINJA WORDS]")
+                        usage="kati-build [--files-from git|find|FILE] [--deps] [--builtin] [-o FILE] [--no-ninja]\n"
+                              "                  [--compile-commands] [--kati PROGRAM] [--kati-asked PROGRAM]\n"
+                              "                  [KATI WORDS] [-- NINJA WORDS]")
     words.add_files_from(made)
     made.add_argument("--deps", action="store_true", help="header dependencies, see below")
     words.add_builtin(made)
-    made.add_argument("-o", dest="output", metavar="FILE", default="build.ninja", help="the Ninja file; build.ninja without it")
+    made.add_argument("-o", dest="output", metavar="FILE", default="build.ninja",
+                      help="the Ninja file; build.ninja without it")
     made.add_argument("--no-ninja", action="store_true", help="translates, and doesn't run ninja")
     made.add_argument("--compile-commands", action="store_true",
-                      help="writes compile_commands.json too, for editors: each compilation without the shell round it")
+                      help="writes compile_commands.json too, for editors: compilations without the shell round them")
     words.add_kati(made)
-    made.add_argument("--kati-asked", metavar="PROGRAM", help="the program kati-asked; without it KATI_ASKED, then as kati is found")
+    made.add_argument("--kati-asked", metavar="PROGRAM",
+                      help="the program kati-asked; without it KATI_ASKED, then as kati is found")
     words.add_kati_words(made)
     return made
 
@@ -88,7 +96,8 @@ class Build:
     def command(self):
         """The words by which ninja has the translation made anew."""
         asked, tool = self.asked, os.path.abspath(sys.argv[0])
-        found = [tool, "--no-ninja", "-o", self.output, "--files-from", asked.files_from, "--kati", self.translator.kati]
+        found = [tool, "--no-ninja", "-o", self.output, "--files-from", asked.files_from]
+        found += ["--kati", self.translator.kati]
         found += ["--kati-asked", self.program] if self.program else []
         found += [word for word, is_on in (("--deps", asked.deps), ("--builtin", asked.builtin),
                                            ("--compile-commands", asked.compile_commands)) if is_on]
@@ -97,7 +106,8 @@ class Build:
         return found + asked.words
 
     def names_asked(self, listing):
-        """What the translation asked for; without kati-asked a guess. kati's list and its makefile for --builtin are no sources."""
+        """What the translation asked for; without kati-asked a guess. kati's list and its makefile for --builtin
+        are no sources."""
         found = self.translator.asked(self.program, listing)
         if found is None:
             makefile = self.translator.makefile

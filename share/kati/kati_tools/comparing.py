@@ -8,26 +8,30 @@ from .programs import Stop, ending, need, run, say, write_text
 TOOL = "kati-compare"
 
 ABOUT = """\
-Compares the commands that make would run from nothing with those of the Ninja file that kati writes, each without the shell round it,
-whatever their order. Nothing is run but make -n, kati and ninja -t commands."""
+Compares the commands that make would run from nothing with those of the Ninja file that kati
+writes, each without the shell round it, whatever their order. Nothing is run but make -n, kati and
+ninja -t commands."""
 
 MORE = """\
 what is said:
-  same: N commands            both have the same commands, each as often
-  nothing to compare          neither has a command
-  else                        lines with - are make's alone, lines with + kati's alone, and a count
+  same: N commands      both have the same commands, each as often
+  nothing to compare    neither has a command
+  else                  lines with - are make's alone, lines with + kati's alone, and a count
+  With --build, a line with ! is a file that has other bytes.
 
 how make is asked:
-  make -n -B -r -R -f SUFFIXES -f - GOALS MACROS SHELL=noop < MAKEFILE, where SUFFIXES is a file with the list of suffixes that kati
-  begins with, `-f -` keeps make from making its makefile again, and noop, which does nothing, keeps it from running lines with $(MAKE).
-  A backslash and its newline in a recipe are joined as kati joins them. The environment of both is PATH and HOME alone, since
-  kati takes no macros from it.
+  make -n -B -r -R -f SUFFIXES -f - GOALS MACROS SHELL=noop < MAKEFILE
+  SUFFIXES is a file with the suffixes that kati begins with. `-f -` keeps make from making its
+  makefile again. noop, which does nothing, keeps it from running lines with $(MAKE). A backslash
+  and its newline in a recipe are joined as kati joins them. The environment is PATH, HOME and
+  TMPDIR alone, since kati takes no macros from it; so it is for both builds of --build, in which
+  make has its own rules.
 
 examples:
   kati-compare                      the first target of the makefile
-  kati-compare all install          all the commands of both goals
+  kati-compare all install          all commands of both goals
   kati-compare --builtin -f lua.mk  with make's usual macros and rules on both sides
-  kati-compare --build              builds both ways in scratch copies of this folder, and compares the files by their bytes
+  kati-compare --build              builds both ways in scratch copies, and compares the bytes
 
 exit status:
   0   the same, or nothing to compare
@@ -41,9 +45,11 @@ exit status:
 def parser():
     """The command line of kati-compare."""
     made = words.Parser(prog="kati-compare", description=ABOUT, epilog=MORE,
-                        usage="kati-compare [--build] [--builtin] [--files-from git|find|FILE] [--kati PROGRAM] [KATI WORDS]")
+                        usage="kati-compare [--build] [--builtin] [--files-from git|find|FILE] [--kati PROGRAM]\n"
+                              "                    [KATI WORDS]")
     made.add_argument("--build", action="store_true",
-                      help="builds by make and by ninja, each in a scratch copy of this folder, and compares the files that came into being")
+                      help="builds by make and by ninja, each in a scratch copy of this folder, and compares the files "
+                           "that came into being")
     words.add_builtin(made)
     words.add_files_from(made)
     words.add_kati(made)
@@ -87,7 +93,8 @@ def alone(lines, others):
 
 
 def without_messages(lines, before, said):
-    """make's lines without those before it makes the goals, and those of $(info ..), which kati writes on standard error."""
+    """make's lines without those before it makes the goals, and those of $(info ..), which kati writes on standard
+    error."""
     messages = Counter(line.strip() for line in said.split("\n")) - Counter(before)
     return alone(lines, [*before, *messages.elements()])
 

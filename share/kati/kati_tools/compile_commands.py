@@ -14,9 +14,11 @@ def entries(found):
             for words in shell_text.simple_commands(piece.text):
                 sources = header_dependencies.sources_of(words)
                 if "-c" in words and len(sources) == 1:
-                    yield {"directory": os.getcwd(), "file": sources[0], "arguments": words, "output": statement.outputs[0]}
+                    yield {"directory": os.getcwd(), "file": sources[0], "arguments": words,
+                           "output": statement.outputs[0]}
 
 
 def text(found):
     """The text of the file."""
-    return json.dumps(list(entries(found)), indent=1).encode("utf-8", "surrogateescape").decode("utf-8", "replace") + "\n"
+    told = json.dumps(list(entries(found)), indent=1, ensure_ascii=False)
+    return told.encode("utf-8", "surrogateescape").decode("utf-8", "replace") + "\n"

@@ -27,7 +27,8 @@ def sources_of(words):
 
 
 def written_by(words):
-    """The file to which a compiler's command writes dependencies: None if it writes none, and "" if that can't be told."""
+    """The file to which a compiler's command writes dependencies: None if it writes none, and "" if that can't be
+    told."""
     for word in words:
         if word.startswith(("-Wp,-MD,", "-Wp,-MMD,")):
             return word.split(",")[2]
@@ -82,8 +83,8 @@ def depfile_of(command):
 class Dependencies:
     """Where statements write their header dependencies: `files` has the file of each statement's first output.
 
-    `doubts` tells of those for which that is no help. Of two statements that write one file, which both may run at a time, one
-    would lose what the other has read and removed; so none of them gets it."""
+    `doubts` tells of those for which that is no help. Of two statements that write one file, which both may run at
+    a time, one would lose what the other has read and removed; so none of them gets it."""
 
     def __init__(self, found):
         named, unknown = {}, []
@@ -94,14 +95,16 @@ class Dependencies:
             elif name is not None:
                 unknown.append(statement.outputs[0])
         self.files = {outputs[0]: name for name, outputs in named.items() if len(outputs) == 1}
-        self.doubts = [f"{output}: it can't be told where its header dependencies are written; -MF FILE says it" for output in unknown]
-        self.doubts += [f"{', '.join(outputs)}: header dependencies are written to one file, {name}, and so aren't used; "
-                        "-MF '$@.d' gives each its own" for name, outputs in named.items() if len(outputs) > 1]
+        self.doubts = [f"{output}: it can't be told where its header dependencies are written; -MF FILE says it"
+                       for output in unknown]
+        self.doubts += [f"{', '.join(outputs)}: header dependencies are written to one file, {name}, and so aren't "
+                        "used; -MF '$@.d' gives each its own" for name, outputs in named.items() if len(outputs) > 1]
 
     def added(self, text, found):
         """kati's text with `depfile` and `deps` in the block of each statement that has dependencies.
 
-        Ninja takes these keys from a block too. There kati reads them as variables, so that kati --check still says the same build."""
+        Ninja takes these keys from a block too. There kati reads them as variables, so that kati --check still
+        says the same build."""
         lines = text.split("\n")
         for statement in reversed(found):
             name = self.files.get(statement.outputs[0])

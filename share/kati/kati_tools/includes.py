@@ -1,7 +1,7 @@
 """The files that a makefile may ask for, by its `include` lines: a guess, for where kati-asked isn't there.
 
-A name that holds a reference is taken as a pattern, which each listed file fits that it could name. So more files are watched
-than are read, rather than fewer; what a watched file costs is a translation when it changes."""
+A name that holds a reference is taken as a pattern, which each listed file fits that it could name. So more files
+are watched than are read, rather than fewer; what a watched file costs is a translation when it changes."""
 import fnmatch
 import os
 import re
@@ -21,7 +21,8 @@ def joined(text):
 
 
 def pattern_of(name):
-    """A name as a pattern: each reference is any text; one that gives its words an ending, as $(OBJS:.o=.d), keeps the ending."""
+    """A name as a pattern: each reference is any text; one that gives its words an ending, as $(OBJS:.o=.d), keeps
+    the ending."""
     found = name
     while True:
         reference = REFERENCE.search(found)

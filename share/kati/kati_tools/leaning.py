@@ -1,4 +1,5 @@
-"""What a makefile takes for granted that make has and kati hasn't: built-in rules, macros, and what it is told by its surroundings."""
+"""What a makefile takes for granted that make has and kati hasn't: built-in rules, macros, and what it is told by
+its surroundings."""
 import re
 
 from . import files
@@ -7,12 +8,15 @@ from .programs import SHARE
 from .scanning import is_suffix_rule
 from .translating import MACROS
 
-OF_MAKE = {"MAKEFLAGS", "MFLAGS", "CURDIR", "MAKEFILE_LIST", "MAKECMDGOALS", "MAKELEVEL", "MAKE_VERSION", "MAKE_HOST", "MAKE_COMMAND",
-           "MAKE_RESTARTS", "MAKEFILES", "MAKEOVERRIDES", ".FEATURES", ".INCLUDE_DIRS", ".VARIABLES", ".LIBPATTERNS", ".SHELLSTATUS"}
-OF_THE_ENVIRONMENT = {"HOME", "PATH", "PWD", "OLDPWD", "USER", "LOGNAME", "HOSTNAME", "TMPDIR", "LANG", "TERM", "DISPLAY"}
+OF_MAKE = {"MAKEFLAGS", "MFLAGS", "CURDIR", "MAKEFILE_LIST", "MAKECMDGOALS", "MAKELEVEL", "MAKE_VERSION", "MAKE_HOST",
+           "MAKE_COMMAND", "MAKE_RESTARTS", "MAKEFILES", "MAKEOVERRIDES", ".FEATURES", ".INCLUDE_DIRS", ".VARIABLES",
+           ".LIBPATTERNS", ".SHELLSTATUS"}
+OF_THE_ENVIRONMENT = {"HOME", "PATH", "PWD", "OLDPWD", "USER", "LOGNAME", "HOSTNAME", "TMPDIR", "LANG", "TERM",
+                      "DISPLAY"}
 # Those of share/kati, and those of make's other languages.
-OTHER_MACROS = {"CO", "COFLAGS", "FC", "F77", "GET", "LINT", "M2C", "MAKEINFO", "OBJC", "PC", "TANGLE", "TEX", "TEXI2DVI", "WEAVE", "CWEAVE",
-                "CTANGLE", "COMPILE.f", "COMPILE.m", "COMPILE.p", "LINK.f", "LINK.m", "LINK.p"}
+OTHER_MACROS = {"CO", "COFLAGS", "FC", "F77", "GET", "LINT", "M2C", "MAKEINFO", "OBJC", "PC", "TANGLE", "TEX",
+                "TEXI2DVI", "WEAVE", "CWEAVE", "CTANGLE", "COMPILE.f", "COMPILE.m", "COMPILE.p", "LINK.f", "LINK.m",
+                "LINK.p"}
 SOURCES = (".c", ".cc", ".C", ".cpp", ".s", ".S", ".o")
 
 
@@ -56,8 +60,10 @@ def programs(scan):
 def suffix_rules(scan):
     """Rules that look like suffix rules and have prerequisites."""
     for rule in scan.rules:
-        if rule.needs and rule.has_recipe and not rule.is_double and any(is_suffix_rule(name) for name in rule.targets):
-            yield Finding(rule.file, rule.number, f"{' '.join(rule.targets)}: {' '.join(rule.needs)}", "suffix prerequisites")
+        is_suffix = not rule.is_double and any(is_suffix_rule(name) for name in rule.targets)
+        if is_suffix and rule.needs and rule.has_recipe:
+            form = f"{' '.join(rule.targets)}: {' '.join(rule.needs)}"
+            yield Finding(rule.file, rule.number, form, "suffix prerequisites")
 
 
 def groups(scan):
@@ -69,9 +75,10 @@ def groups(scan):
 
 def macros(scan, has_builtin):
     """Macros that are referred to and that nothing assigns, though make has them."""
-    builtin = macros_of_share()
     kinds = {**dict.fromkeys(OTHER_MACROS, "built-in macro"), **dict.fromkeys(OF_MAKE, "of make"),
-             **dict.fromkeys(OF_THE_ENVIRONMENT, "environment"), **({} if has_builtin else dict.fromkeys(builtin, "built-in macro"))}
+             **dict.fromkeys(OF_THE_ENVIRONMENT, "environment")}
+    if not has_builtin:
+        kinds.update(dict.fromkeys(macros_of_share(), "built-in macro"))
     for name, (file, number) in scan.uses.items():
         if name in kinds and name not in scan.assigned:
             yield Finding(file, number, f"$({name})", kinds[name])

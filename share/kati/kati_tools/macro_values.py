@@ -16,23 +16,25 @@ def names_in(text):
     """The macros in whose assignment such a function stands, each once."""
     found = {}
     for line in makefile_text.lines(text):
-        assigned = makefile_text.assignment(makefile_text.without_comment(line.joined))
-        if assigned and "$" not in assigned[0] and any(FUNCTION.match(one) for one in makefile_text.references(assigned[2])):
-            found[assigned[0]] = True
+        name, _, value = makefile_text.assignment(makefile_text.without_comment(line.joined)) or ("$", "", "")
+        if "$" not in name and any(FUNCTION.match(one) for one in makefile_text.references(value)):
+            found[name] = True
     return list(found)
 
 
 def values(makefile, names, given):
     """What `make -pn` tells of these macros, in a copy of this folder, since the functions may write files.
 
-    A deferred macro is told unexpanded; so each is assigned, at once, to another. make prints its dollars doubled, as kati wants them."""
+    A deferred macro is told unexpanded; so each is assigned, at once, to another. make prints its dollars doubled,
+    as kati wants them."""
     with tempfile.TemporaryDirectory(prefix="kati-port-") as room:
         tree, more = os.path.join(room, "tree"), os.path.join(room, "asked.mk")
         sources.copy_tree(tree)
         with open(more, "w", encoding="utf-8", errors="surrogateescape") as file:
             file.writelines(f"{ASKED}{number} := $({name})\n" for number, name in enumerate(names))
             file.write(f".PHONY: {ASKED}\n{ASKED}: ;\n")
-        _, out, said = run(["make", "-pn", "-f", makefile, "-f", more, ASKED, *given], executable=need("make"), cwd=tree, env=environment())
+        call = ["make", "-pn", "-f", makefile, "-f", more, ASKED, *given]
+        _, out, said = run(call, executable=need("make"), cwd=tree, env=environment())
     found = dict(re.findall(rf"^{ASKED}(\d+) := ?(.*)$", out, re.MULTILINE))
     if len(found) < len(names):
         raise Stop(f"make -pn doesn't tell the values: {said.strip()}")

@@ -6,9 +6,11 @@ import shutil
 from . import files
 from .programs import Stop, need, run
 
-# The suffixes that kati begins with: `make -r` begins with none. What is made on the way stays, as with kati: `.SECONDARY`.
+# The suffixes that kati begins with: `make -r` begins with none. What is made on the way stays, as with kati:
+# `.SECONDARY`.
 SUFFIXES = ".SUFFIXES: .o .c .cc .cpp .s .S .y .l .h .sh .a .f\n.SECONDARY:\n"
-# A goal that nothing is needed for, before which make only makes the files that it reads. No default goal comes of it.
+# A goal that nothing is needed for, before which make only makes the files that it reads. No default goal comes of
+# it.
 NO_GOAL = "kati_compare_makes_nothing"
 NO_RULE = f".PHONY: {NO_GOAL}\n{NO_GOAL}: ;\n.DEFAULT_GOAL :=\n"
 CONTINUED = re.compile(r"(?<!\\)((?:\\\\)*)\\\n")
@@ -22,7 +24,7 @@ def environment(**more):
 
 
 def lines_of(text):
-    """What make printed, a command a line, continued lines joined as kati joins them; not what make says for itself."""
+    """What make printed, a command a line, continued lines joined as kati joins them; nothing make says for itself."""
     lines = CONTINUED.sub(r"\1", text).split("\n")
     return [line.strip() for line in lines if line.strip() and not NOTHING.fullmatch(line)]
 
@@ -39,10 +41,11 @@ def ask(told, suffixes, words, noop):
 
 
 def commands(makefile, goals, macros, shell, room):
-    """The commands for a makefile's text; `shell` is what stands for $(SHELL). And what make prints before it makes the goals.
+    """The commands for a makefile's text; `shell` is what stands for $(SHELL). And what make prints before it
+    makes the goals.
 
-    `noop` is given as the shell, so that what make runs even under -n, lines with $(MAKE), does nothing. make also makes the includes
-    anew, which kati doesn't: those commands are the ones that a goal without any needs."""
+    `noop` is given as the shell, so that what make runs even under -n, lines with $(MAKE), does nothing. make also
+    makes the includes anew, which kati doesn't: those commands are the ones that a goal without any needs."""
     suffixes, told, noop = (os.path.join(room, name) for name in ("suffixes", "makefile", "noop"))
     files.replace(suffixes, SUFFIXES + NO_RULE, room)
     files.replace(told, makefile, room)

@@ -4,7 +4,8 @@ import re
 CONDITIONS = {"ifeq", "ifneq", "ifdef", "ifndef", "else", "endif"}
 INCLUDES = {"include", "-include", "sinclude"}
 REFUSED = {"override", "export", "unexport", "undefine", "private", "vpath", "load", "-load"}
-ASSIGNED = re.compile(r"[ \t]*((?:\$\([^()]*\)|\$\{[^{}]*\}|[^\s:#=?+!$]|[?+!](?!=)|\$[^({])+)[ \t]*(:::=|::=|:=|\+=|\?=|!=|=)(.*)", re.DOTALL)
+ASSIGNED = re.compile(r"[ \t]*((?:\$\([^()]*\)|\$\{[^{}]*\}|[^\s:#=?+!$]|[?+!](?!=)|\$[^({])+)[ \t]*"
+                      r"(:::=|::=|:=|\+=|\?=|!=|=)(.*)", re.DOTALL)
 CLOSING = {"(": ")", "{": "}"}
 
 
@@ -96,7 +97,8 @@ def assignment(text):
 
 
 class Rule:
-    """The parts of a rule line: targets, colon, what stands after it, and the recipe on the line, None where there is none."""
+    """The parts of a rule line: targets, colon, what stands after it, and the recipe on the line, None where there
+    is none."""
 
     def __init__(self, text):
         end = find_outside(text, ";")

@@ -9,19 +9,21 @@ from .programs import Stop, ending, write_text
 TOOL = "kati-port"
 
 ABOUT = """\
-Tells everything in makefiles, and in the files that they include by a plain name, that kati refuses or that would silently mean
-something else: FILE:LINE, the form, the number of the fault (docs/LANGUAGE.md), one line of advice. Then a line that counts them,
-and the first fault of kati itself.
+Tells everything in makefiles, and in the files that they include by a plain name, that kati refuses
+or that would silently mean something else: FILE:LINE, the form, the number of the fault
+(docs/LANGUAGE.md) and one line of advice. Then come a line that counts them, and the first fault of
+kati itself.
 
-The makefile is looked through without expanding anything, so what is told is a hint. What kati itself says counts."""
+The makefile is looked through without expanding anything, so what is told is a hint. What kati
+itself says counts."""
 
 MORE = """\
 examples:
   kati-port Makefile                 what stands in the way
-  kati-port --builtin src/Makefile   the same for kati-build --builtin, where make's usual macros and rules are there
+  kati-port --builtin src/Makefile   the same for kati-build --builtin
   kati-port Makefile CC=gcc          the same, where CC is given to kati
-  kati-port --macros Makefile        the values of macros that come from $(shell ..) and $(wildcard ..), as words for kati
-  kati-port --macros Makefile | xargs kati-build all           hands them to kati-build
+  kati-port --macros Makefile        macros that come from $(shell ..) and $(wildcard ..), as words
+  kati-port --macros Makefile | xargs kati-build all       hands these words to kati-build
 
 exit status:
   0   nothing stands in the way, and kati takes the makefile; --macros: the words are printed
@@ -33,14 +35,17 @@ exit status:
 def parser():
     """The command line of kati-port."""
     made = words.Parser(prog="kati-port", description=ABOUT, epilog=MORE,
-                        usage="kati-port [--macros] [--builtin] [--files-from git|find|FILE] [--kati PROGRAM] MAKEFILE.. [NAME=VALUE]..")
+                        usage="kati-port [--macros] [--builtin] [--files-from git|find|FILE] [--kati PROGRAM]\n"
+                              "                 MAKEFILE.. [NAME=VALUE]..")
     made.add_argument("--macros", action="store_true",
-                      help="asks `make -pn`, in a copy of the tree, for the values of macros that come from $(shell ..) and $(wildcard ..), "
-                           "and prints them as NAME=VALUE words for kati, quoted for a shell, one a line")
+                      help="asks `make -pn`, in a copy of this folder, for the values of macros that come from "
+                           "$(shell ..) and $(wildcard ..), and prints them as NAME=VALUE words for kati, quoted for a "
+                           "shell, one a line")
     words.add_builtin(made)
     words.add_files_from(made)
     words.add_kati(made)
-    made.add_argument("words", nargs="+", metavar="MAKEFILE|NAME=VALUE", help="a makefile; a macro that is given to kati")
+    made.add_argument("words", nargs="+", metavar="MAKEFILE|NAME=VALUE",
+                      help="a makefile; a macro that is given to kati")
     return made
 
 
@@ -87,7 +92,8 @@ def ask_macros(makefile, macros):
     """Prints the words for the macros of a makefile and its includes."""
     scan = scanning.Scan(())
     scan.file_of(makefile)
-    names = [name for file in sorted(scan.read, key=lambda one: one != makefile) for name in macro_values.names_in(files.read(file))]
+    read = sorted(scan.read, key=lambda one: (one != makefile, one))
+    names = [name for file in read for name in macro_values.names_in(files.read(file))]
     write_text("".join(f"{word}\n" for word in macro_values.words(makefile, list(dict.fromkeys(names)), macros)))
 
 

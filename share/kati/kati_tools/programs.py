@@ -33,7 +33,8 @@ def places(name):
 
 
 def find(name, given=None):
-    """The absolute path of a program of the project, or None: the one that was given, or that the environment names, else by `places`."""
+    """The absolute path of a program of the project, or None: the one that was given, or that the environment
+    names, else by `places`."""
     named = given or os.environ.get(name.upper().replace("-", "_"))
     if named:
         found = shutil.which(named)
@@ -50,7 +51,7 @@ def find_kati(given):
     """The program kati."""
     found = find("kati", given)
     if not found:
-        raise Stop("no program kati beside this tool or on PATH: name it by --kati, or by the environment variable KATI")
+        raise Stop("no program kati beside this tool or on PATH: name it by --kati or the environment variable KATI")
     return found
 
 
@@ -75,7 +76,8 @@ def bytes_of(text):
 
 def run(words, **rest):
     """Runs a command; answers its status, standard output and standard error as texts."""
-    ran = subprocess.run(words, stdout=subprocess.PIPE, stderr=subprocess.PIPE, **{"stdin": subprocess.DEVNULL, **rest})
+    how = {"stdin": subprocess.DEVNULL, **rest}
+    ran = subprocess.run(words, stdout=subprocess.PIPE, stderr=subprocess.PIPE, **how)
     return ran.returncode, text_of(ran.stdout), text_of(ran.stderr)
 
 

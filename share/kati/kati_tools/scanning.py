@@ -1,4 +1,5 @@
-"""Everything in a makefile and its literal includes that kati refuses, or that means something else, found without expansion."""
+"""Everything in a makefile and its literal includes that kati refuses, or that means something else, found without
+expansion."""
 import os
 import re
 
@@ -7,8 +8,9 @@ from .advice import Finding
 from .programs import Stop
 
 FUNCTION = re.compile(r"\$[({](shell|wildcard|realpath|abspath|origin|flavor|file|guile|let|intcmp)[ \t\n]")
-CALL = re.compile(r"\$[({]call[ \t\n]+(subst|patsubst|strip|findstring|filter|filter-out|sort|word|wordlist|words|firstword|lastword|dir|"
-                  r"notdir|suffix|basename|addsuffix|addprefix|join|if|or|and|foreach|call|value|eval|error|warning|info)[,)}]")
+CALL = re.compile(r"\$[({]call[ \t\n]+(subst|patsubst|strip|findstring|filter|filter-out|sort|word|wordlist|words|"
+                  r"firstword|lastword|dir|notdir|suffix|basename|addsuffix|addprefix|join|if|or|and|foreach|call|"
+                  r"value|eval|error|warning|info)[,)}]")
 SPECIAL = {".ONESHELL", ".SECONDEXPANSION", ".DEFAULT", ".IGNORE", ".WAIT", ".EXPORT_ALL_VARIABLES", ".NOTPARALLEL"}
 WILD = re.compile(r"[*?\[]|^~")
 MEMBER = re.compile(r"[^\s()$]+\([^()]*\)")
@@ -20,7 +22,8 @@ class Scan:
 
     def __init__(self, given):
         self.findings, self.assigned, self.colons = [], set(given), {}
-        # Where each macro is first referred to: (file, number). What rules need, by macro. Values that hold a wildcard.
+        # Where each macro is first referred to: (file, number). What rules need, by macro. Values that hold a
+        # wildcard.
         self.uses, self.needed, self.wild = {}, {}, {}
         # The rules, with whether they have a recipe, and the words of values.
         self.rules, self.values, self.read = [], [], set()
@@ -86,7 +89,8 @@ class Scan:
                 self.refused(line, word, text)
 
     def is_new_block(self, word, is_tab):
-        """Follows the nesting of conditionals; answers whether the line begins one, or has a tab where the beginning has none.
+        """Follows the nesting of conditionals; answers whether the line begins one, or has a tab where the
+        beginning has none.
 
         A rule from a branch may not be the one that is open behind it, if that branch isn't taken."""
         if word not in ("else", "endif"):
@@ -203,7 +207,8 @@ class Scan:
         """A rule line."""
         self.open = None
         rule = makefile_text.Rule(line.joined)
-        rule.file, rule.number, rule.has_recipe, rule.is_doubtful = self.file, line.number, rule.recipe is not None, False
+        rule.file, rule.number = self.file, line.number
+        rule.has_recipe, rule.is_doubtful = rule.recipe is not None, False
         self.expanded(line, line.joined if rule.recipe is None else line.joined[:len(line.joined) - len(rule.recipe)])
         if not rule.is_rule:
             self.no_rule(line)

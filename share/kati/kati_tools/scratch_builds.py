@@ -38,15 +38,15 @@ class Built:
     def __init__(self, name, words, tree):
         sources.copy_tree(tree)
         before = snapshot(tree)
-        ran = subprocess.run([name, *words], executable=need(name), cwd=tree, env=environment(**DAY), stdin=subprocess.DEVNULL,
-                             stdout=subprocess.PIPE, stderr=subprocess.STDOUT)
+        ran = subprocess.run([name, *words], executable=need(name), cwd=tree, env=environment(**DAY),
+                             stdin=subprocess.DEVNULL, stdout=subprocess.PIPE, stderr=subprocess.STDOUT)
         self.status = ran.returncode
         self.said = "\n".join(text_of(ran.stdout).rstrip().split("\n")[-SHOWN:])
         self.files = {name: one for name, one in snapshot(tree).items() if before.get(name) != one}
 
 
 def both(makefile, words, translation, room):
-    """The build by make and the one by ninja. Both have the same path, since compilers write it into what they make."""
+    """The build by make and the one by ninja, both at one path, since compilers write it into what they make."""
     tree, translated, top = (os.path.join(room, name) for name in ("tree", "translated.ninja", "top.ninja"))
     files.replace(translated, translation.text, room)
     escaped = ninja_text.escaped_value

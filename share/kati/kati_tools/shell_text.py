@@ -30,7 +30,8 @@ def pieces(command):
             end = quoted_end(command, start)
             shell = command[at:start]
             is_ignored = shell.startswith("{ ")
-            found.append(Piece(shell[2 if is_ignored else 0:].rstrip(), command[start + 1:end - 1].replace("'\\''", "'")))
+            text = command[start + 1:end - 1].replace("'\\''", "'")
+            found.append(Piece(shell[2 if is_ignored else 0:].rstrip(), text))
             at = end
             if is_ignored and command.startswith(IGNORED, at):
                 at += len(IGNORED)

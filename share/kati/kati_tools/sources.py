@@ -13,14 +13,15 @@ TRANSLATED = "translated.ninja"
 
 
 class Listing:
-    """Names of files, those of them that are sources whatever makes them, and the folders and files on which the list depends."""
+    """Names of files, those of them that are sources whatever makes them, and the folders and files on which the
+    list depends."""
 
     def __init__(self, names, certain=(), folders=(), watched=()):
         self.names, self.certain = sorted(name for name in names if "\n" not in name), set(certain)
         self.folders, self.watched = list(folders), list(watched)
 
     def without(self, made, before):
-        """The names without those that the build makes, but for those that were listed before, and those that are certain."""
+        """The names without those that the build makes, but for those listed before, and those that are certain."""
         kept = self.certain.union(before)
         return [name for name in self.names if name in kept or name not in made]
 
@@ -31,7 +32,8 @@ def plain(name):
 
 
 def walk(skipped):
-    """The folders below this one and the files in them; folders of control, those of kati-build and the skipped ones aside."""
+    """The folders below this one and the files in them; folders of control, those of kati-build and the skipped
+    ones aside."""
     names, folders = [], []
     for at, inside, found in os.walk("."):
         if TRANSLATED in found:
@@ -57,7 +59,9 @@ def from_git(skipped):
     others = [name for name in git("--others", "--exclude-standard") if os.path.isfile(name)]
     ignored = git("--others", "--ignored", "--exclude-standard", "--directory")
     folders = walk({name.rstrip("/") for name in ignored} | skipped)[1]
-    others = [name for name in others if (os.path.dirname(name) or ".") in folders and os.path.basename(name) not in OWN]
+    inside = set(folders)
+    others = [name for name in others
+              if (os.path.dirname(name) or ".") in inside and os.path.basename(name) not in OWN]
     rules = [name for name in tracked + others if os.path.basename(name) == ".gitignore"]
     return Listing(set(tracked + others), tracked, folders, rules)
 

@@ -1,13 +1,17 @@
 """The Ninja file of kati-build: it takes in what kati wrote, and has it written anew.
 
-Ninja first makes the file that it reads, if that is an output. So a statement makes this file from all that the translation
-depends on, by kati-build itself, and ninja reads the file again where that changed it:
+Ninja first makes the file that it reads, if that is an output. So a statement makes this file from all that the
+translation depends on, by kati-build itself, and ninja reads the file again where that changed it:
 
-- `restat`: where nothing changed, ninja goes on as it was. This file holds a sum of what kati wrote, so it changes with that.
-- `generator`: `ninja -t clean` leaves the file alone, and another spelling of the command alone makes nothing anew.
-- A file that is gone would stop ninja, so each stands as a `phony` output, which may be absent. One that isn't there yet can't be an
-  input; the folder in which it would come into being is one. So is each folder of the list of sources.
-- Ninja's own log stands in a folder that nothing depends on, or each run of ninja would change what this file depends on."""
+- `restat`: where nothing changed, ninja goes on as it was. This file holds a sum of what kati wrote, so it changes
+  with that.
+- `generator`: `ninja -t clean` leaves the file alone, and another spelling of the command alone makes nothing
+  anew.
+- A file that is gone would stop ninja, so each stands as a `phony` output, which may be absent. One that isn't
+  there yet can't be an input; the folder in which it would come into being is one. So is each folder of the list
+  of sources.
+- Ninja's own log stands in a folder that nothing depends on, or each run of ninja would change what this file
+  depends on."""
 import hashlib
 import os
 import shlex
@@ -38,7 +42,8 @@ def nearest_folder(name):
 
 
 def watched(asked, listing, made, output):
-    """The names that the translation depends on, each once: files that are there, and folders; none that the build makes as a folder."""
+    """The names that the translation depends on, each once: files that are there, and folders; none that the build
+    makes as a folder."""
     names = [name if os.path.lexists(name) else nearest_folder(name) for name in asked]
     found = dict.fromkeys(os.path.normpath(name) for name in [*names, *listing.watched, *listing.folders])
     made = {os.path.normpath(name) for name in made}
@@ -46,7 +51,8 @@ def watched(asked, listing, made, output):
 
 
 def text(build, names, found, content):
-    """The text of the file for a `Build`; `names` are those that it depends on, `found` the statements of the text `content`."""
+    """The text of the file for a `Build`; `names` are those that it depends on, `found` the statements of the text
+    `content`."""
     made = {os.path.normpath(name) for name in ninja_text.outputs(found)}
     present = [ninja_text.escaped(name) for name in names if name not in made]
     return TEMPLATE.format(

@@ -16,7 +16,7 @@ def default_makefile():
 
 
 def with_builtin(makefile, room):
-    """The name of a makefile in the folder `room` that holds make's usual macros, the makefile and make's usual rules."""
+    """The name of a makefile in the folder `room`: make's usual macros, the makefile, and make's usual rules."""
     name = makefile or default_makefile()
     if name is None:
         raise Stop("no makefile", 2)
@@ -65,8 +65,9 @@ class Translator:
     def translate(self, listing, made=(), before=()):
         """The translation by the files of a listing, but for what the build makes and `before` doesn't name.
 
-        `made` is what the build of before makes. A name that stands in the list because it was made once, and is made no more,
-        or that doesn't because of that, would tell kati otherwise than the disk: so what is made is asked again until it stays."""
+        `made` is what the build of before makes. A name that stands in the list because it was made once, and is
+        made no more, or that doesn't because of that, would tell kati otherwise than the disk: so what is made is
+        asked again until it stays."""
         names = listing.without(set(made), before)
         found = self.with_list(names)
         if found.status and names != listing.names:
@@ -79,7 +80,7 @@ class Translator:
         return found
 
     def asked(self, program, listing):
-        """The names that the translation asked for, in order, by kati-asked; None where that isn't there or has a fault."""
+        """The names that the translation asked for, in order, by kati-asked; None where it isn't there or has a fault."""
         if program is None:
             return None
         status, out, _ = run(self.command(program))
