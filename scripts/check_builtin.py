@@ -23,19 +23,24 @@ sys.path.insert(0, str(TOP / "share/kati"))
 from kati_tools import comparing, files, make_commands, programs, sources, translating  # noqa: E402
 
 LANGUAGES = {"", ".o", ".c", ".cc", ".C", ".cpp", ".s", ".S", ".y", ".l"}
-TREE = ["one.c", "two.cc", "three.C", "four.cpp", "five.s", "six.S", "seven.y", "eight.l", "nine.c", "ten.cc", "eleven.S",
-        "part.c", "thirteen.l", "fourteen.S", "fifteen.C", "sixteen.cpp", "seventeen.s"]
-GOALS = ["one.o", "two.o", "three.o", "four.o", "five.o", "six.o", "seven.o", "eight.o", "nine", "ten", "eleven", "twelve",
-         "seven", "thirteen.c", "fourteen.s", "fifteen", "sixteen", "seventeen"]
+TREE = ["one.c", "two.cc", "three.C", "four.cpp", "five.s", "six.S", "seven.y", "eight.l", "nine.c", "ten.cc",
+        "eleven.S", "part.c", "thirteen.l", "fourteen.S", "fifteen.C", "sixteen.cpp", "seventeen.s"]
+GOALS = ["one.o", "two.o", "three.o", "four.o", "five.o", "six.o", "seven.o", "eight.o", "nine", "ten", "eleven",
+         "twelve", "seven", "thirteen.c", "fourteen.s", "fifteen", "sixteen", "seventeen"]
 # Rules without recipes, and values for macros that make leaves empty.
 MAKEFILE = "twelve: twelve.o part.o\ntwelve.o: one.c\n\tcp one.o twelve.o\none.o: one.h\none.h: ; touch one.h\n" \
-    "CFLAGS = -Wall\nCPPFLAGS = -DX\nCXXFLAGS = -g\nLDFLAGS = -s\nLDLIBS = -lm\nASFLAGS = -g\nYFLAGS = -d\nLFLAGS = -8\n" \
-    "TARGET_ARCH = -m64\nTARGET_MACH = -m32\nLOADLIBES = -lc\n"
+    "CFLAGS = -Wall\nCPPFLAGS = -DX\nCXXFLAGS = -g\nLDFLAGS = -s\nLDLIBS = -lm\nASFLAGS = -g\nYFLAGS = -d\n" \
+    "LFLAGS = -8\nTARGET_ARCH = -m64\nTARGET_MACH = -m32\nLOADLIBES = -lc\n"
+
+
+def run_make(words, **rest):
+    """Runs make by itself, without macros from the environment."""
+    return programs.run(["make", *words], executable=programs.need("make"), env=make_commands.environment(), **rest)
 
 
 def told_by_make():
     """The macros and the rules that `make -p` tells, a rule by its target and prerequisites."""
-    _, out, _ = programs.run(["make", "-p", "-f", os.devnull], executable=programs.need("make"), env=make_commands.environment())
+    _, out, _ = run_make(["-p", "-f", os.devnull])
     return parts_of(out.split("# Implicit Rules")[0])[0], parts_of(out)[1]
 
 
@@ -79,12 +84,11 @@ def differences_of_commands(kati):
         for name in TREE:
             Path(name).touch()
         Path("Makefile").write_text(MAKEFILE)
-        call = ["make", "-n", "-B", "-f", "-", *GOALS]
         # What is made on the way stays, as with kati.
         with open("given", "w+b") as given:
             given.write(f"{MAKEFILE}.SECONDARY:\n".encode())
             given.seek(0)
-            status, out, said = programs.run(call, executable=programs.need("make"), stdin=given, env=make_commands.environment())
+            status, out, said = run_make(["-n", "-B", "-f", "-", *GOALS], stdin=given)
         asked = argparse.Namespace(kati=kati, makefile="Makefile", builtin=True, depth=None, words=GOALS)
         found = translating.Translator(asked, room).translate(sources.Listing(TREE))
         os.chdir(TOP)

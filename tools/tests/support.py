@@ -30,8 +30,7 @@ class Ran:
     """What a command did: its status, and its standard output and error as texts."""
 
     def __init__(self, words, cwd, **environment):
-        given = {**os.environ, "LC_ALL": "C", **environment}
-        ran = subprocess.run([str(word) for word in words], cwd=cwd, env={name: one for name, one in given.items() if one is not None},
+        ran = subprocess.run([str(word) for word in words], cwd=cwd, env={**os.environ, "LC_ALL": "C", **environment},
                              stdin=subprocess.DEVNULL, stdout=subprocess.PIPE, stderr=subprocess.PIPE, timeout=120)
         self.status, self.out, self.said = ran.returncode, ran.stdout.decode(), ran.stderr.decode()
         self.all = self.out + self.said

@@ -34,7 +34,8 @@ class Builtin(Tree):
         return by_make, [line.split("'")[1] for line in by_kati]
 
     def test_own_rules_come_first(self):
-        for rule in ("%.o: %.c\n\tmine $<\n", ".c.o:\n\tmine $<\n", "%.o: %.c a.h\n\tmine $<\na.h: ; touch a.h\n", "a.o: a.c\n\tmine $<\n"):
+        for rule in ("%.o: %.c\n\tmine $<\n", ".c.o:\n\tmine $<\n", "a.o: a.c\n\tmine $<\n",
+                     "%.o: %.c a.h\n\tmine $<\na.h: ; touch a.h\n"):
             with self.subTest(rule):
                 by_make, by_kati = self.commands("all: a.o\n" + rule)
                 self.assertIn("mine a.c", by_make)

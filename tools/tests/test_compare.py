@@ -33,7 +33,8 @@ class Comparing(Tree):
 
     def test_what_is_known_to_differ(self):
         self.differ("A =\nA += y\nall: ; echo [$(A)]\n", ["echo [y]"], ["echo [ y]"])
-        self.differ("A = $(patsubst a,,a b)\nall: one ; echo '[$A]'\none: ; echo one\n", ["echo '[ b]'"], ["echo '[b]'"])
+        self.differ("A = $(patsubst a,,a b)\nall: one ; echo '[$A]'\none: ; echo one\n",
+                    ["echo '[ b]'"], ["echo '[b]'"])
 
     def test_what_one_has_more_often(self):
         self.differ("all: a\n\techo one\na: ; echo $(A)\nA =\nA += y\n", ["echo y"], ["echo  y"])
@@ -101,10 +102,12 @@ class Building(Tree):
     def test_the_example(self):
         self.copy_example()
         self.assertEqual(self.compared(0), "same: 3 commands\nsame: 3 files came into being\n")
-        self.assertEqual(sorted(path.name for path in self.top.iterdir()), sorted(path.name for path in (TOP / "example").iterdir()))
+        there, wanted = (sorted(path.name for path in top.iterdir()) for top in (self.top, TOP / "example"))
+        self.assertEqual(there, wanted)
 
     def test_other_bytes_and_files_of_one_side(self):
-        self.write(Makefile="A =\nA += y\nall: out $(A)\nout: ; echo '[$(A)]' > out; touch '_$(A)'; ln -s x link\ny: ; touch y\n")
+        recipe = "echo '[$(A)]' > out; touch '_$(A)'; ln -s x link"
+        self.write(Makefile=f"A =\nA += y\nall: out $(A)\nout: ; {recipe}\ny: ; touch y\n")
         lines = self.compared(1).splitlines()
         self.assertIn("! out: other bytes", lines)
         self.assertIn("- _y: made by make alone", lines)

@@ -89,7 +89,8 @@ class Porting(Tree):
                 kati_says = self.run_in(kati()).said
                 self.assertIn(f"[{number}]", kati_says)
                 found = self.port(1, "Makefile")
-                self.assertEqual(re.findall(r"^(Makefile:\d+): .* \[(E\d+)\] ", found[0]), [(f"Makefile:{line}", number)])
+                place = re.findall(r"^(Makefile:\d+): .* \[(E\d+)\] ", found[0])
+                self.assertEqual(place, [(f"Makefile:{line}", number)])
                 self.assertIn(f"1 {number}", found[-2])
                 self.assertEqual(found[-1], f"kati's first fault: {kati_says.strip()}")
 
@@ -118,7 +119,7 @@ class Porting(Tree):
                    a_mk="export A\n\nB != ls\ninclude b/c.mk\n", b__c_mk="vpath %.c src\n")
         found = self.port(1, "Makefile")
         self.assertEqual([one.split(" ")[0] for one in found[:-2]],
-                         ["Makefile:2:", "Makefile:2:", "Makefile:3:", "Makefile:3:", "a.mk:1:", "a.mk:3:", "b/c.mk:1:"])
+                         [*["Makefile:2:"] * 2, *["Makefile:3:"] * 2, "a.mk:1:", "a.mk:3:", "b/c.mk:1:"])
         self.assertEqual(found[-2], "Makefile: 7 in the way: 2 E16, 3 E17, 2 no fault")
 
     def test_given_macros_and_built_in_files(self):
@@ -141,7 +142,8 @@ class Porting(Tree):
 class Macros(Tree):
     """kati-port --macros."""
 
-    MAKEFILE = "A = $(shell echo \"it's\" '$$x' '*  y')\nB := $(wildcard *.c) z\nC = $(A)\nD += $(shell touch ran; pwd)\n" \
+    MAKEFILE = "A = $(shell echo \"it's\" '$$x' '*  y')\nB := $(wildcard *.c) z\nC = $(A)\n" \
+        "D += $(shell touch ran; pwd)\n" \
         "all: ; printf '%s\\n' '$(subst ','\\'',$(A))' '$(B)' '$(D)' > out\n"
 
     def test_the_words_give_kati_what_make_has(self):
@@ -155,7 +157,8 @@ class Macros(Tree):
         wanted = self.read("out")
         self.assertIn(str(self.top), wanted)
         (self.top / "out").unlink()
-        built = self.run_in("sh", "-c", f"{self.tool_path('kati-port')} --macros Makefile | xargs {self.tool_path('kati-build')}")
+        port, build = self.tool_path("kati-port"), self.tool_path("kati-build")
+        built = self.run_in("sh", "-c", f"{port} --macros Makefile | xargs {build}")
         self.assertEqual(built.status, 0, built.all)
         self.assertEqual(self.read("out"), wanted)
 

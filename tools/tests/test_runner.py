@@ -46,7 +46,8 @@ class Running(Tree):
                 self.assertRegex(lines[-1], r"^\d+ passed, 2 failed$")
 
     def test_a_check_without_a_count_or_with_a_bad_status_fails(self):
-        for lines, status in ((["well"], 0), ([], 1), (["4 passed, 0 failed"], 1), (["4 passed, 0 failed", "died"], 0)):
+        well = "4 passed, 0 failed"
+        for lines, status in ((["well"], 0), ([], 1), ([well], 1), ([well, "died"], 0)):
             with self.subTest(lines):
                 gate = self.check("gate.py", *lines, status=status)
                 ended, told = self.run_checks("--gate", gate)
@@ -75,6 +76,7 @@ class Tests(Tree):
                  "    @unittest.skip('without it')\n    def test_not(self):\n        pass\n")
         ran = self.run_in(sys.executable, ".")
         self.assertEqual(ran.status, 1)
-        self.assertEqual(ran.out.splitlines()[-2:], ["skipped: test_some.A.test_not: without it", "1 passed, 1 failed, 1 skipped"])
+        self.assertEqual(ran.out.splitlines()[-2:],
+                         ["skipped: test_some.A.test_not: without it", "1 passed, 1 failed, 1 skipped"])
         ran = self.run_in(sys.executable, ".", "test_some.A.test_well")
         self.assertEqual((ran.status, ran.out.splitlines()[-1]), (0, "1 passed, 0 failed, 0 skipped"))

@@ -48,8 +48,8 @@ def parser():
                         usage="kati-compare [--build] [--builtin] [--files-from git|find|FILE] [--kati PROGRAM]\n"
                               "                    [KATI WORDS]")
     made.add_argument("--build", action="store_true",
-                      help="builds by make and by ninja, each in a scratch copy of this folder, and compares the files "
-                           "that came into being")
+                      help="builds by make and by ninja, each in a scratch copy of this folder, and compares the "
+                           "files that came into being")
     words.add_builtin(made)
     words.add_files_from(made)
     words.add_kati(made)

@@ -39,8 +39,8 @@ def parser():
                               "                 MAKEFILE.. [NAME=VALUE]..")
     made.add_argument("--macros", action="store_true",
                       help="asks `make -pn`, in a copy of this folder, for the values of macros that come from "
-                           "$(shell ..) and $(wildcard ..), and prints them as NAME=VALUE words for kati, quoted for a "
-                           "shell, one a line")
+                           "$(shell ..) and $(wildcard ..), and prints them as NAME=VALUE words for kati, quoted for "
+                           "a shell, one a line")
     words.add_builtin(made)
     words.add_files_from(made)
     words.add_kati(made)

@@ -80,7 +80,7 @@ class Translator:
         return found
 
     def asked(self, program, listing):
-        """The names that the translation asked for, in order, by kati-asked; None where it isn't there or has a fault."""
+        """The names that the translation asked for, in order, by kati-asked; None where that is absent or fails."""
         if program is None:
             return None
         status, out, _ = run(self.command(program))

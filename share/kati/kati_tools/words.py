@@ -19,16 +19,16 @@ class Parser(argparse.ArgumentParser):
 def add_kati(parser):
     """The option that names the program kati."""
     parser.add_argument("--kati", metavar="PROGRAM",
-                        help="the program kati; without it the environment variable KATI, then kati beside this tool, then "
-                             "on PATH")
+                        help="the program kati; without it the environment variable KATI, then kati beside this tool, "
+                             "then on PATH")
 
 
 def add_files_from(parser):
     """The options that say which files exist."""
     parser.add_argument("--files-from", "--files", dest="files_from", metavar="git|find|FILE", default="find",
-                        help="where the list of the files that exist comes from: `git` asks git for tracked files and others "
-                             "that it doesn't ignore; `find` takes each file below this folder, but in folders named .git, "
-                             ".hg or .svn; FILE has one name a line. find without it")
+                        help="where the list of the files that exist comes from: `git` asks git for tracked files and "
+                             "others that it doesn't ignore; `find` takes each file below this folder, but in folders "
+                             "named .git, .hg or .svn; FILE has one name a line. find without it")
 
 
 def add_builtin(parser):
