@@ -75,6 +75,17 @@ class Building(Tree):
         self.assertEqual(self.tool("kati-build", "--files-from", "no/such/list").status, 3)
         self.assertEqual(self.tool("kati-build", NINJA="no/such/ninja").status, 3)
 
+    def test_a_file_of_another_program_stays(self):
+        self.write(Makefile="all: ; echo all\n", build_ninja="rule r\n command = echo\nbuild all: r\n")
+        ran = self.tool("kati-build")
+        self.assertEqual(ran.status, 64)
+        self.assertIn("build.ninja isn't kati-build's", ran.said)
+        self.assertEqual(self.read("build.ninja"), "rule r\n command = echo\nbuild all: r\n")
+        self.put("build.ninja", self.run_in(kati()).out)
+        self.build()
+        self.build("-o", "sub/folder/x.ninja")
+        self.assertEqual(self.tool("kati-build", "-f", "/dev/stdin").status, 64)
+
     def test_ninjas_status_is_its_own(self):
         self.write(Makefile="all: ; exit 3\n")
         self.assertEqual(self.tool("kati-build").status, 1)

@@ -7,6 +7,7 @@ from . import compile_commands, files, header_dependencies, includes, ninja_text
 from .programs import Stop, bytes_of, ending, need, say
 
 TOOL = "kati-build"
+KATIS_FIRST_LINE = "# kati\n"
 
 ABOUT = """\
 Lists the sources, translates the makefile by kati, writes a Ninja file that has it translated again
@@ -50,7 +51,7 @@ exit status:
   2     the makefile has a fault, as kati says; the build of before is kept
   3     a file can't be read or written, or a program isn't there
   4     kati has not memory enough
-  64    wrong usage
+  64    wrong usage; the Ninja file that is there isn't one of kati's
   else  ninja's own: 1 where a command failed, 2 and 130 where it was interrupted"""
 
 
@@ -75,6 +76,17 @@ def parser():
     return made
 
 
+def refuse_words(asked, output):
+    """Stops at words that no file which is made again can hold, and at a file that another program or a hand wrote."""
+    if any("\n" in word for word in [output, *asked.words]):
+        raise Stop("a word with a newline, which no Ninja file can hold", words.WRONG_USAGE)
+    if asked.makefile is not None and os.path.exists(asked.makefile) and not os.path.isfile(asked.makefile):
+        raise Stop(f"{asked.makefile} is no file that can be read again", words.WRONG_USAGE)
+    there = files.read(output)
+    if there and not there.startswith((top_file.FIRST_LINE, KATIS_FIRST_LINE)):
+        raise Stop(f"{output} isn't kati-build's: remove it, or name another file by -o", words.WRONG_USAGE)
+
+
 class Build:
     """What kati-build was asked for, and where its files are."""
 
@@ -83,8 +95,7 @@ class Build:
         self.room = os.path.splitext(self.output)[0] + ".kati"
         self.translated = os.path.join(self.room, sources.TRANSLATED)
         self.list = os.path.join(self.room, "files.txt")
-        if any("\n" in word for word in [self.output, *asked.words]):
-            raise Stop("a word with a newline, which no Ninja file can hold", words.WRONG_USAGE)
+        refuse_words(asked, self.output)
         os.makedirs(self.room, exist_ok=True)
         self.program = translating.find_asked(asked.kati_asked)
         self.translator = translating.Translator(asked, self.room)

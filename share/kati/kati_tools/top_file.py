@@ -19,8 +19,8 @@ import shlex
 from . import ninja_text
 from .programs import bytes_of
 
-TEMPLATE = """\
-# Written by kati-build, which writes it anew when the makefile changes.
+FIRST_LINE = "# Written by kati-build, which writes it anew when the makefile changes.\n"
+TEMPLATE = FIRST_LINE + """\
 # What kati wrote has the sum {sum}.
 builddir = {room}
 rule kati_build
