@@ -138,6 +138,13 @@ class Regenerating(Tree):
         self.assertIn(wanted, self.ninja("-v"))
         self.assertEqual(self.made_anew(self.ninja), [])
 
+    def test_a_new_source_in_a_folder(self):
+        self.write(Makefile="all: sub/x.o\n%.o: %.s\n\tas $< -o $@\n%.o: %.c\n\tcc -c $< -o $@\n", sub__x_c="")
+        self.start("-f", "Makefile")
+        self.ninja()
+        self.put("sub/x.s", "")
+        self.assertIn("as sub/x.s -o sub/x.o", self.ninja("-v"))
+
     def test_a_new_source_in_a_new_folder(self):
         self.write(Makefile="all: sub/x.o\n%.o: new/%.c\n\tcc -c $< -o $@\n%.o: %.c\n\tcc -c $< -o $@\n")
         self.put("sub/x.c", "")

@@ -107,7 +107,8 @@ class Build:
     def command(self):
         """The words by which ninja has the translation made anew."""
         asked, tool = self.asked, os.path.abspath(sys.argv[0])
-        found = [tool, "--no-ninja", "-o", self.output, "--files-from", asked.files_from]
+        # By the Python that runs now, whatever PATH has later, and without packages, which cost time.
+        found = [sys.executable or "python3", "-S", tool, "--no-ninja", "-o", self.output, "--files-from", asked.files_from]
         found += ["--kati", self.translator.kati]
         found += ["--kati-asked", self.program] if self.program else []
         found += [word for word, is_on in (("--deps", asked.deps), ("--builtin", asked.builtin),
