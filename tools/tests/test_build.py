@@ -19,7 +19,7 @@ class Building(Tree):
 
     def test_the_example_is_built_once(self):
         self.copy_example()
-        self.build()
+        self.assertNotIn("translating", self.build())
         self.assertEqual(self.run_in("./prog").status, 0)
         self.assertEqual(self.made_anew(self.build), [])
         self.assertEqual(self.made_anew(self.ninja), [])
