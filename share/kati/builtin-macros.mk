@@ -1,0 +1,34 @@
+# The macros that make has by itself, for C, C++, assembler, lex and yacc. kati has none: include this file before a makefile,
+# and builtin-rules.mk after it. Each may be assigned anew by the makefile or on the command line.
+
+AR = ar
+ARFLAGS = rv
+AS = as
+CC = cc
+CXX = g++
+CPP = $(CC) -E
+LD = ld
+LEX = lex
+YACC = yacc
+RM = rm -f
+
+OUTPUT_OPTION = -o $@
+
+# One file translated: COMPILE by its suffix. All files bound to a program: LINK by that of the first.
+COMPILE.c = $(CC) $(CFLAGS) $(CPPFLAGS) $(TARGET_ARCH) -c
+LINK.c = $(CC) $(CFLAGS) $(CPPFLAGS) $(LDFLAGS) $(TARGET_ARCH)
+COMPILE.cc = $(CXX) $(CXXFLAGS) $(CPPFLAGS) $(TARGET_ARCH) -c
+LINK.cc = $(CXX) $(CXXFLAGS) $(CPPFLAGS) $(LDFLAGS) $(TARGET_ARCH)
+COMPILE.C = $(COMPILE.cc)
+LINK.C = $(LINK.cc)
+COMPILE.cpp = $(COMPILE.cc)
+LINK.cpp = $(LINK.cc)
+COMPILE.s = $(AS) $(ASFLAGS) $(TARGET_MACH)
+LINK.s = $(CC) $(ASFLAGS) $(LDFLAGS) $(TARGET_MACH)
+COMPILE.S = $(CC) $(ASFLAGS) $(CPPFLAGS) $(TARGET_MACH) -c
+LINK.S = $(CC) $(ASFLAGS) $(CPPFLAGS) $(LDFLAGS) $(TARGET_MACH)
+LINK.o = $(CC) $(LDFLAGS) $(TARGET_ARCH)
+
+PREPROCESS.S = $(CC) -E $(CPPFLAGS)
+LEX.l = $(LEX) $(LFLAGS) -t
+YACC.y = $(YACC) $(YFLAGS)

@@ -1,0 +1,180 @@
+"""The command kati-build: translates a makefile, keeps the translation up to date, and runs ninja."""
+import os
+import subprocess
+import sys
+
+from . import compile_commands, files, header_dependencies, includes, ninja_text, sources, top_file, translating, words
+from .programs import Stop, bytes_of, ending, need, say
+
+TOOL = "kati-build"
+KATIS_FIRST_LINE = "# kati\n"
+
+ABOUT = """\
+Lists the sources, translates the makefile by kati, writes a Ninja file that has it translated again
+where that is needed, and runs ninja.
+
+Where kati refuses the makefile, the build of before is kept. A file is replaced only where its
+bytes differ."""
+
+MORE = """\
+files:
+  build.ninja                  what ninja reads, or FILE of -o. It has the makefile translated again
+                               when it, an include or the list of sources changes, or an absent
+                               include comes into being. So a plain `ninja` is enough from then on
+  build.kati/translated.ninja  what kati wrote; with --deps, where header dependencies are too
+  build.kati/files.txt         the list of the files that exist, as kati got it
+  build.kati/                  has ninja's own log too. It is named after FILE: .kati for .ninja
+
+which files are watched:
+  The program kati-asked, where it is found, tells each file that the translation asked for.
+  Without it, lines that begin with `include`, `-include` or `sinclude` are looked for. Of a name
+  that holds a reference, each listed file that it could name is watched.
+  The list of sources is made again when a folder that it is made from has changed. What the build
+  itself makes isn't listed, unless it was there when the list was first made.
+
+header dependencies:
+  --deps gives each statement whose command has -MD or -MMD the file that the compiler writes: that
+  of -MF, or the one named after the output. So ninja makes again what includes a changed header.
+  Of two statements that write the same file none can use it; this is said.
+
+environment:
+  KATI, KATI_ASKED, NINJA      the programs kati, kati-asked and ninja
+
+examples:
+  kati-build                         builds the first target
+  kati-build --deps all CC=clang     builds `all` by clang, with header dependencies
+  kati-build --builtin -- -j4 -v     with make's usual rules; ninja runs four jobs and shows commands
+  kati-build -o clean.ninja clean    another file for another goal, so that build.ninja stays
+
+exit status:
+  0     built; with --no-ninja: translated
+  2     the makefile has a fault, as kati says; the build of before is kept
+  3     a file can't be read or written, or a program isn't there
+  4     kati has not memory enough
+  64    wrong usage; the Ninja file that is there isn't one of kati's
+  else  ninja's own: 1 where a command failed, 2 and 130 where it was interrupted"""
+
+
+def parser():
+    """The command line of kati-build."""
+    made = words.Parser(prog="kati-build", description=ABOUT, epilog=MORE,
+                        usage="kati-build [--files-from git|find|FILE] [--deps] [--builtin] [-o FILE] [--no-ninja]\n"
+                              "                  [--compile-commands] [--kati PROGRAM] [--kati-asked PROGRAM]\n"
+                              "                  [KATI WORDS] [-- NINJA WORDS]")
+    words.add_files_from(made)
+    made.add_argument("--deps", action="store_true", help="header dependencies, see below")
+    words.add_builtin(made)
+    made.add_argument("-o", dest="output", metavar="FILE", default="build.ninja",
+                      help="the Ninja file; build.ninja without it")
+    made.add_argument("--no-ninja", action="store_true", help="translates, and doesn't run ninja")
+    made.add_argument("--compile-commands", action="store_true",
+                      help="writes compile_commands.json too, for editors: compilations without the shell round them")
+    words.add_kati(made)
+    made.add_argument("--kati-asked", metavar="PROGRAM",
+                      help="the program kati-asked; without it KATI_ASKED, then as kati is found")
+    words.add_kati_words(made)
+    return made
+
+
+def refuse_words(asked, output):
+    """Stops at words that no file which is made again can hold, and at a file that another program or a hand wrote."""
+    if any("\n" in word for word in [output, *asked.words]):
+        raise Stop("a word with a newline, which no Ninja file can hold", words.WRONG_USAGE)
+    if asked.makefile is not None and os.path.exists(asked.makefile) and not os.path.isfile(asked.makefile):
+        raise Stop(f"{asked.makefile} is no file that can be read again", words.WRONG_USAGE)
+    there = files.read(output)
+    if there and not there.startswith((top_file.FIRST_LINE, KATIS_FIRST_LINE)):
+        raise Stop(f"{output} isn't kati-build's: remove it, or name another file by -o", words.WRONG_USAGE)
+
+
+class Build:
+    """What kati-build was asked for, and where its files are."""
+
+    def __init__(self, asked):
+        self.asked, self.output = asked, os.path.normpath(asked.output)
+        self.room = os.path.splitext(self.output)[0] + ".kati"
+        self.translated = os.path.join(self.room, sources.TRANSLATED)
+        self.list = os.path.join(self.room, "files.txt")
+        refuse_words(asked, self.output)
+        os.makedirs(self.room, exist_ok=True)
+        self.program = translating.find_asked(asked.kati_asked)
+        self.translator = translating.Translator(asked, self.room)
+
+    def makefile(self):
+        """The makefile's name."""
+        return self.asked.makefile or translating.default_makefile() or "the makefile"
+
+    def command(self):
+        """The words by which ninja has the translation made anew."""
+        asked, tool = self.asked, os.path.abspath(sys.argv[0])
+        # By the Python that runs now, whatever PATH has later, and without packages, which cost time.
+        found = [sys.executable or "python3", "-S", tool, "--no-ninja", "-o", self.output, "--files-from", asked.files_from]
+        found += ["--kati", self.translator.kati]
+        found += ["--kati-asked", self.program] if self.program else []
+        found += [word for word, is_on in (("--deps", asked.deps), ("--builtin", asked.builtin),
+                                           ("--compile-commands", asked.compile_commands)) if is_on]
+        found += ["-f", asked.makefile] if asked.makefile is not None else []
+        found += ["--depth", str(asked.depth)] if asked.depth is not None else []
+        return found + asked.words
+
+    def names_asked(self, listing):
+        """What the translation asked for; without kati-asked a guess. kati's list and its makefile for --builtin
+        are no sources."""
+        found = self.translator.asked(self.program, listing)
+        if found is None:
+            makefile = self.translator.makefile
+            found = includes.asked(["makefile", "Makefile"] if makefile is None else [makefile], listing.names)
+        own = {self.translator.list, self.translator.makefile if self.asked.builtin else None}
+        own.update(os.path.join(self.room, one) for one in (translating.MACROS, translating.RULES))
+        return [name for name in found if name not in own]
+
+    def translate(self):
+        """Makes the translation and the file that ninja reads; answers kati's status."""
+        before = files.read(self.list)
+        old = ninja_text.statements(files.read(self.translated) or "")
+        listing = sources.listing(self.asked.files_from, self.output, self.room)
+        kept = listing.names if before is None else before.split("\n")
+        found = self.translator.translate(listing, ninja_text.outputs(old), kept)
+        sys.stderr.buffer.write(bytes_of(found.said))
+        if found.status:
+            what = f"; {self.output} stays as it is" if os.path.exists(self.output) else ""
+            say(TOOL, f"kati ended with status {found.status}{what}")
+            os.unlink(self.translator.list)
+            return found.status
+        self.write(found, listing)
+        return 0
+
+    def write(self, found, listing):
+        """Replaces the files of which the bytes differ; the one that ninja reads is the last."""
+        headers = header_dependencies.Dependencies(found.statements if self.asked.deps else [])
+        text = headers.added(found.text, found.statements)
+        names = top_file.watched(self.names_asked(listing), listing, ninja_text.outputs(found.statements), self.output)
+        files.replace(self.list, files.read(self.translator.list), self.room)
+        os.unlink(self.translator.list)
+        if self.asked.compile_commands:
+            files.replace(compile_commands.NAME, compile_commands.text(found.statements), self.room)
+        is_new = files.replace(self.translated, text, self.room)
+        # ninja, which asks for no other run of it, needn't hear it each time.
+        for doubt in headers.doubts if is_new or not self.asked.no_ninja else []:
+            say(TOOL, doubt)
+        files.replace(self.output, top_file.text(self, names, found.statements, text), self.room)
+
+    def run_ninja(self, more):
+        """Runs ninja on the file; answers its status."""
+        sys.stdout.flush()
+        sys.stderr.flush()
+        return subprocess.run([need("ninja"), "-f", self.output, *more]).returncode
+
+
+def build(asked, more):
+    """Translates, and runs ninja where kati takes the makefile."""
+    made = Build(asked)
+    status = made.translate()
+    return status if status or asked.no_ninja else made.run_ninja(more)
+
+
+def main(line):
+    """Runs the command on the words of its command line, and answers its exit status."""
+    at = line.index("--") if "--" in line else len(line)
+    asked = parser().parse_intermixed_args(line[:at])
+    return ending(TOOL, build, asked, line[at + 1:])

@@ -1,0 +1,113 @@
+"""Header dependencies: which file a compiler writes them to, and the lines that tell Ninja."""
+import os
+
+from . import ninja_text, shell_text
+
+FLAGS = ("-MD", "-MMD")
+UNKNOWN = set("$`*?[")
+
+
+def after(words, flag):
+    """The word that a flag has, apart or joined to it; the last one counts."""
+    found = None
+    for at, word in enumerate(words):
+        if word == flag and at + 1 < len(words):
+            found = words[at + 1]
+        elif word.startswith(flag) and len(word) > len(flag):
+            found = word[len(flag):]
+    return found
+
+
+SOURCES = (".c", ".cc", ".cpp", ".cxx", ".c++", ".cp", ".m", ".mm", ".s", ".sx", ".i", ".ii")
+
+
+def sources_of(words):
+    """The sources among a compiler's words."""
+    return [word for word in words[1:] if os.path.splitext(word)[1].lower() in SOURCES and not word.startswith("-")]
+
+
+def written_by(words):
+    """The file to which a compiler's command writes dependencies: None if it writes none, and "" if that can't be
+    told."""
+    for word in words:
+        if word.startswith(("-Wp,-MD,", "-Wp,-MMD,")):
+            return word.split(",")[2]
+    if not any(flag in words for flag in FLAGS):
+        return None
+    named = after(words, "-MF")
+    if named:
+        return named
+    output, sources = after(words, "-o"), sources_of(words)
+    if len(sources) != 1:
+        # Objects that are bound have none.
+        return "" if sources else None
+    # A program that is compiled and linked at once has its dependencies beside it too; without a name that is `a`.
+    named = output or (os.path.basename(sources[0]) if "-c" in words else "a")
+    return os.path.splitext(named)[0] + ".d"
+
+
+def moved(name, words):
+    """The name of a file after a command that may move it."""
+    if words[0] != "mv":
+        return name
+    names = [word for word in words[1:] if not word.startswith("-")]
+    return names[1] if len(names) == 2 and names[0] == name else name
+
+
+def written_in(text):
+    """The same for a shell's text: the file at its end, where it may be moved."""
+    found, is_elsewhere = None, False
+    for words in shell_text.simple_commands(text):
+        is_elsewhere = is_elsewhere or words[0] == "cd"
+        written = written_by(words)
+        if found is None and written is not None:
+            found = "" if is_elsewhere or set(written) & UNKNOWN else written
+        elif found:
+            found = moved(found, words)
+    return found
+
+
+def depfile_of(command):
+    """The file of dependencies of a statement's command: None if it has none, and "" if that can't be told."""
+    found = None
+    for piece in shell_text.pieces(command) or []:
+        written = written_in(piece.text)
+        if found is None:
+            found = written
+        elif found:
+            for words in shell_text.simple_commands(piece.text):
+                found = moved(found, words)
+    return found
+
+
+class Dependencies:
+    """Where statements write their header dependencies: `files` has the file of each statement's first output.
+
+    `doubts` tells of those for which that is no help. Of two statements that write one file, which both may run at
+    a time, one would lose what the other has read and removed; so none of them gets it."""
+
+    def __init__(self, found):
+        named, unknown = {}, []
+        for statement in found:
+            name = None if statement.command is None else depfile_of(statement.command)
+            if name:
+                named.setdefault(name, []).append(statement.outputs[0])
+            elif name is not None:
+                unknown.append(statement.outputs[0])
+        self.files = {outputs[0]: name for name, outputs in named.items() if len(outputs) == 1}
+        self.doubts = [f"{output}: it can't be told where its header dependencies are written; -MF FILE says it"
+                       for output in unknown]
+        self.doubts += [f"{', '.join(outputs)}: header dependencies are written to one file, {name}, and so aren't "
+                        "used; -MF '$@.d' gives each its own" for name, outputs in named.items() if len(outputs) > 1]
+
+    def added(self, text, found):
+        """kati's text with `depfile` and `deps` in the block of each statement that has dependencies.
+
+        Ninja takes these keys from a block too. There kati reads them as variables, so that kati --check still
+        says the same build."""
+        lines = text.split("\n")
+        for statement in reversed(found):
+            name = self.files.get(statement.outputs[0])
+            if name:
+                lines.insert(statement.line + 1, f" depfile = {ninja_text.escaped_value(name)}\n deps = gcc")
+        return "\n".join(lines)

@@ -1,0 +1,79 @@
+"""The files that a makefile may ask for, by its `include` lines: a guess, for where kati-asked isn't there.
+
+A name that holds a reference is taken as a pattern, which each listed file fits that it could name. So more files
+are watched than are read, rather than fewer; what a watched file costs is a translation when it changes."""
+import fnmatch
+import os
+import re
+
+from . import files
+
+LINE = re.compile(r"^[ \t]*(?:-include|sinclude|include)[ \t]+(.*)$")
+IN_EVAL = re.compile(r"\$[({]eval[ \t]+(?:-include|sinclude|include)[ \t]+(.*)[)}]")
+REFERENCE = re.compile(r"\$(?:\([^()]*\)|\{[^{}]*\}|[^({])")
+ENDING = re.compile(r"(?::[^=]*=|[ ,])%?([^ ,%(){}$:=]+)[)}]$")
+MOST = 2**20
+
+
+def joined(text):
+    """The lines of a makefile, continued ones joined."""
+    return re.sub(r"\\\r?\n[ \t]*", " ", text).split("\n")
+
+
+def pattern_of(name):
+    """A name as a pattern: each reference is any text; one that gives its words an ending, as $(OBJS:.o=.d), keeps
+    the ending."""
+    found = name
+    while True:
+        reference = REFERENCE.search(found)
+        if not reference:
+            return found
+        ending = ENDING.search(reference.group())
+        found = found[:reference.start()] + "*" + (ending.group(1) if ending else "") + found[reference.end():]
+
+
+def words_of(text):
+    """The words of a text, cut at blanks outside references."""
+    found, depth = [""], 0
+    for at, byte in enumerate(text):
+        if byte in "({" and (depth or text[at - 1:at] == "$"):
+            depth += 1
+        elif byte in ")}" and depth:
+            depth -= 1
+        if byte in " \t\r" and not depth:
+            found.append("")
+        else:
+            found[-1] += byte
+    return [word for word in found if word]
+
+
+def named_in(text):
+    """The names and patterns after `include` in a makefile's text."""
+    found = []
+    for line in joined(text):
+        for match in filter(None, (LINE.match(line), IN_EVAL.search(line))):
+            found += words_of(match.group(1).split("#")[0])
+    return [pattern_of(name) for name in found]
+
+
+def fitting(pattern, listed):
+    """The files that a name or a pattern may mean."""
+    if "*" not in pattern:
+        return [pattern]
+    # `?` and `[` stand for themselves, since kati refuses them in an include's name.
+    form = re.compile(fnmatch.translate(re.sub(r"([?\[])", r"[\1]", pattern)))
+    return [name for name in listed if form.match(name)]
+
+
+def asked(makefiles, listed):
+    """The names that may be asked for, each once: the makefiles, and what they and their includes may include."""
+    left, found = list(reversed(makefiles)), {}
+    while left:
+        name = left.pop()
+        if name in found or "\0" in name:
+            continue
+        found[name] = True
+        if os.path.isfile(name) and os.path.getsize(name) <= MOST:
+            patterns = named_in(files.read(name))
+            left += [one for pattern in reversed(patterns) for one in fitting(pattern, listed)]
+    return list(found)

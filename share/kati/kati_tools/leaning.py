@@ -1,0 +1,97 @@
+"""What a makefile takes for granted that make has and kati hasn't: built-in rules, macros, and what it is told by
+its surroundings."""
+import re
+
+from . import files
+from .advice import Finding
+from .programs import SHARE
+from .scanning import is_suffix_rule
+from .translating import MACROS
+
+OF_MAKE = {"MAKEFLAGS", "MFLAGS", "CURDIR", "MAKEFILE_LIST", "MAKECMDGOALS", "MAKELEVEL", "MAKE_VERSION", "MAKE_HOST",
+           "MAKE_COMMAND", "MAKE_RESTARTS", "MAKEFILES", "MAKEOVERRIDES", ".FEATURES", ".INCLUDE_DIRS", ".VARIABLES",
+           ".LIBPATTERNS", ".SHELLSTATUS"}
+OF_THE_ENVIRONMENT = {"HOME", "PATH", "PWD", "OLDPWD", "USER", "LOGNAME", "HOSTNAME", "TMPDIR", "LANG", "TERM",
+                      "DISPLAY"}
+# Those of share/kati, and those of make's other languages.
+OTHER_MACROS = {"CO", "COFLAGS", "FC", "F77", "GET", "LINT", "M2C", "MAKEINFO", "OBJC", "PC", "TANGLE", "TEX",
+                "TEXI2DVI", "WEAVE", "CWEAVE", "CTANGLE", "COMPILE.f", "COMPILE.m", "COMPILE.p", "LINK.f", "LINK.m",
+                "LINK.p"}
+SOURCES = (".c", ".cc", ".C", ".cpp", ".s", ".S", ".o")
+
+
+def macros_of_share():
+    """The names that share/kati assigns."""
+    return set(re.findall(r"^([A-Za-z_.]+) *=", files.read(SHARE / MACROS), re.MULTILINE))
+
+
+def has_object_rule(rules):
+    """Whether a pattern rule, a static one or a suffix rule makes names that end in .o."""
+    for rule in rules:
+        patterns = [rule.pattern or "", *(name for name in rule.targets if "%" in name)]
+        if any(one.endswith("%.o") or one == "%" for one in patterns):
+            return True
+        if any(name.endswith(".o") and is_suffix_rule(name) for name in rule.targets):
+            return True
+    return False
+
+
+def objects(scan):
+    """Where names that end in .o stand that no rule with a recipe makes: one finding, for the first of them."""
+    if has_object_rule(scan.rules):
+        return
+    made = {name for rule in scan.rules if rule.has_recipe for name in rule.targets}
+    named = [(rule.file, rule.number, name) for rule in scan.rules for name in rule.needs + rule.targets] + scan.values
+    for file, number, name in named:
+        if name.endswith((".o", ".o)", ".o}")) and name not in made and not name.startswith("*"):
+            yield Finding(file, number, name, "built-in rule")
+            return
+
+
+def programs(scan):
+    """Targets without a recipe of which a prerequisite has their name and a suffix."""
+    made = {name for rule in scan.rules if rule.has_recipe for name in rule.targets}
+    for rule in scan.rules:
+        for name in rule.targets:
+            if name not in made and any(name + suffix in rule.needs for suffix in SOURCES):
+                yield Finding(rule.file, rule.number, f"{name}: {' '.join(rule.needs)}", "built-in rule")
+
+
+def suffix_rules(scan):
+    """Rules that look like suffix rules and have prerequisites."""
+    for rule in scan.rules:
+        is_suffix = not rule.is_double and any(is_suffix_rule(name) for name in rule.targets)
+        if is_suffix and rule.needs and rule.has_recipe:
+            form = f"{' '.join(rule.targets)}: {' '.join(rule.needs)}"
+            yield Finding(rule.file, rule.number, form, "suffix prerequisites")
+
+
+def groups(scan):
+    """Grouped targets without a recipe."""
+    for rule in scan.rules:
+        if rule.is_group and not rule.has_recipe:
+            yield Finding(rule.file, rule.number, f"{' '.join(rule.targets)} &:", "group")
+
+
+def macros(scan, has_builtin):
+    """Macros that are referred to and that nothing assigns, though make has them."""
+    kinds = {**dict.fromkeys(OTHER_MACROS, "built-in macro"), **dict.fromkeys(OF_MAKE, "of make"),
+             **dict.fromkeys(OF_THE_ENVIRONMENT, "environment")}
+    if not has_builtin:
+        kinds.update(dict.fromkeys(macros_of_share(), "built-in macro"))
+    for name, (file, number) in scan.uses.items():
+        if name in kinds and name not in scan.assigned:
+            yield Finding(file, number, f"$({name})", kinds[name])
+
+
+def wild_values(scan):
+    """Values with wildcards of macros that a rule's names refer to."""
+    for name, (file, number, word) in scan.wild.items():
+        if name in scan.needed:
+            yield Finding(file, number, f"{name} = {word}", "name")
+
+
+def findings(scan, has_builtin):
+    """All of them."""
+    found = [*suffix_rules(scan), *groups(scan), *macros(scan, has_builtin), *wild_values(scan)]
+    return found if has_builtin else [*found, *objects(scan), *programs(scan)]

@@ -1,0 +1,116 @@
+"""The lines of a makefile and the parts of a line, found without expanding anything."""
+import re
+
+CONDITIONS = {"ifeq", "ifneq", "ifdef", "ifndef", "else", "endif"}
+INCLUDES = {"include", "-include", "sinclude"}
+REFUSED = {"override", "export", "unexport", "undefine", "private", "vpath", "load", "-load"}
+ASSIGNED = re.compile(r"[ \t]*((?:\$\([^()]*\)|\$\{[^{}]*\}|[^\s:#=?+!$]|[?+!](?!=)|\$[^({])+)[ \t]*"
+                      r"(:::=|::=|:=|\+=|\?=|!=|=)(.*)", re.DOTALL)
+CLOSING = {"(": ")", "{": "}"}
+
+
+class Line:
+    """A logical line: its number, from 1, and its text, joined by newlines where it was continued."""
+
+    def __init__(self, number, text):
+        self.number, self.text = number, text
+        self.is_tab = text.startswith("\t")
+        self.joined = re.sub(r"[ \t]*\\\n[ \t]*", " ", text)
+
+    def first_word(self):
+        words = self.joined.split(None, 1)
+        return words[0] if words else ""
+
+
+def lines(text):
+    """The logical lines of a makefile."""
+    found, rest = [], text.replace("\r\n", "\n").split("\n")
+    number = 0
+    while number < len(rest):
+        start = number
+        while re.search(r"(?<!\\)(\\\\)*\\$", rest[number]) and number + 1 < len(rest):
+            number += 1
+        number += 1
+        found.append(Line(start + 1, "\n".join(rest[start:number])))
+    return found
+
+
+def end_of_reference(text, at):
+    """Where the reference ends whose `$` stands at `at`."""
+    if at + 1 >= len(text) or text[at + 1] not in CLOSING:
+        return at + 2
+    opening, depth = text[at + 1], 0
+    for end in range(at + 1, len(text)):
+        depth += (text[end] == opening) - (text[end] == CLOSING[opening])
+        if not depth:
+            return end + 1
+    return len(text)
+
+
+def references(text):
+    """The references of a text, those in others too; `$$` is none."""
+    found, at = [], text.find("$")
+    while 0 <= at < len(text) - 1:
+        end = end_of_reference(text, at)
+        if text[at + 1] != "$":
+            found.append(text[at:end])
+            found += references(text[at + 2:end - 1])
+        at = text.find("$", end)
+    return found
+
+
+def find_outside(text, marks):
+    """Where the first of these marks stands outside references and not behind a backslash; -1 where none does."""
+    at = 0
+    while at < len(text):
+        if text[at] == "$":
+            at = end_of_reference(text, at)
+        elif text[at] == "\\":
+            at += 2
+        elif text[at] in marks:
+            return at
+        else:
+            at += 1
+    return -1
+
+
+def without_comment(text):
+    """A line that is no recipe, to its comment."""
+    at = find_outside(text, "#")
+    return text if at < 0 else text[:at]
+
+
+def words(text):
+    """The words of a text, cut at blanks outside references."""
+    found, rest = [], text.strip()
+    while rest:
+        at = find_outside(rest, " \t\n")
+        found.append(rest if at < 0 else rest[:at])
+        rest = "" if at < 0 else rest[at:].strip()
+    return found
+
+
+def assignment(text):
+    """The name, operator and value of an assignment; None for another line."""
+    found = ASSIGNED.fullmatch(text)
+    return found and (found.group(1), found.group(2), found.group(3).strip())
+
+
+class Rule:
+    """The parts of a rule line: targets, colon, what stands after it, and the recipe on the line, None where there
+    is none."""
+
+    def __init__(self, text):
+        end = find_outside(text, ";")
+        head, self.recipe = (text, None) if end < 0 else (text[:end], text[end + 1:])
+        head = without_comment(head)
+        at = find_outside(head, ":")
+        self.is_rule = at >= 0
+        targets, rest = head[:at], head[at + 1:]
+        self.is_double, self.is_group = rest.startswith(":"), targets.endswith("&")
+        self.rest = rest[1:] if self.is_double else rest
+        self.targets = words(targets[:-1] if self.is_group else targets)
+        self.specific = assignment(re.sub(r"^[ \t]*((export|override|private)[ \t]+)*", "", self.rest))
+        second = find_outside(self.rest, ":")
+        self.pattern = None if second < 0 else self.rest[:second].strip()
+        self.needs = words(self.rest[second + 1:])

@@ -1,0 +1,69 @@
+"""A build by make and one by ninja, each in a scratch copy of this folder, and what came into being in them."""
+import hashlib
+import os
+import shutil
+import subprocess
+
+from . import files, ninja_text, sources
+from .make_commands import environment
+from .programs import need, text_of
+
+# What a compiler writes of the day of the build is the same in both.
+DAY = {"SOURCE_DATE_EPOCH": "0"}
+SHOWN = 20
+
+
+def content(path):
+    """What tells a file from another: where a link leads, or a sum of the bytes."""
+    if os.path.islink(path):
+        return "link " + os.readlink(path)
+    with open(path, "rb") as file:
+        return hashlib.sha256(file.read()).hexdigest()
+
+
+def snapshot(top):
+    """What is in a folder, by name; pipes and their kin aside."""
+    found = {}
+    for at, _, names in os.walk(top):
+        for name in names:
+            path = os.path.join(at, name)
+            if os.path.islink(path) or os.path.isfile(path):
+                found[os.path.relpath(path, top)] = content(path)
+    return found
+
+
+class Built:
+    """A build's status and the end of what it said, and the files that came into being or changed."""
+
+    def __init__(self, name, words, tree):
+        sources.copy_tree(tree)
+        before = snapshot(tree)
+        ran = subprocess.run([name, *words], executable=need(name), cwd=tree, env=environment(**DAY),
+                             stdin=subprocess.DEVNULL, stdout=subprocess.PIPE, stderr=subprocess.STDOUT)
+        self.status = ran.returncode
+        self.said = "\n".join(text_of(ran.stdout).rstrip().split("\n")[-SHOWN:])
+        self.files = {name: one for name, one in snapshot(tree).items() if before.get(name) != one}
+
+
+def both(makefile, words, translation, room):
+    """The build by make and the one by ninja, both at one path, since compilers write it into what they make."""
+    tree, translated, top = (os.path.join(room, name) for name in ("tree", "translated.ninja", "top.ninja"))
+    files.replace(translated, translation.text, room)
+    escaped = ninja_text.escaped_value
+    files.replace(top, f"builddir = {escaped(room)}\nsubninja {ninja_text.escaped(translated)}\n", room)
+    by_make = Built("make", [f"-j{os.cpu_count()}", *(["-f", makefile] if makefile else []), *words], tree)
+    shutil.rmtree(tree)
+    return by_make, Built("ninja", ["-f", top], tree)
+
+
+def told(by_make, by_ninja):
+    """Lines that tell how two builds differ; none where they don't."""
+    for name, built in (("make", by_make), ("ninja", by_ninja)):
+        if built.status:
+            yield f"the build by {name} failed with status {built.status}:\n{built.said}"
+    for name in sorted({*by_make.files, *by_ninja.files}):
+        one, other = by_make.files.get(name), by_ninja.files.get(name)
+        if one is None or other is None:
+            yield f"{'-' if other is None else '+'} {name}: made by {'make' if other is None else 'ninja'} alone"
+        elif one != other:
+            yield f"! {name}: other bytes"

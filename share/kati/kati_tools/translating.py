@@ -1,0 +1,92 @@
+"""A makefile's translation by kati, with the list of the files that exist."""
+import os
+
+from . import files, ninja_text, sources
+from .programs import SHARE, Stop, find, find_kati, run
+from .words import WRONG_USAGE
+
+MACROS, RULES = "builtin-macros.mk", "builtin-rules.mk"
+# What is told by a list with what the build makes may change what the build makes; it doesn't go on for ever.
+ROUNDS = 4
+
+
+def default_makefile():
+    """The makefile that kati reads without -f, or None."""
+    return next((name for name in ("makefile", "Makefile") if os.path.isfile(name)), None)
+
+
+def with_builtin(makefile, room):
+    """The name of a makefile in the folder `room`: make's usual macros, the makefile, and make's usual rules."""
+    name = makefile or default_makefile()
+    if name is None:
+        raise Stop("no makefile", 2)
+    copies = [os.path.join(room, one) for one in (MACROS, RULES)]
+    for copy, one in zip(copies, (MACROS, RULES)):
+        files.replace(copy, files.read(SHARE / one), room)
+    three = [copies[0], name, copies[1]]
+    if any(set(one) & set(" \t#$%*?[~") for one in three):
+        raise Stop(f"--builtin: {' '.join(three)}: a name that `include` can't have", WRONG_USAGE)
+    if not os.path.isfile(name):
+        raise Stop(f"no makefile {name}", 2)
+    top = os.path.join(room, "with-builtin.mk")
+    files.replace(top, "".join(f"include {one}\n" for one in three), room)
+    return top
+
+
+class Translation:
+    """What kati said: its status, its Ninja text and its messages; with the names of the list it had."""
+
+    def __init__(self, status, text, said, names):
+        self.status, self.text, self.said, self.names = status, text, said, names
+        self.statements = ninja_text.statements(text) if status == 0 else []
+
+
+class Translator:
+    """kati with its words, for one makefile; its files stand in the folder `room`."""
+
+    def __init__(self, asked, room):
+        self.kati = find_kati(asked.kati)
+        self.room = room
+        self.makefile = with_builtin(asked.makefile, room) if asked.builtin else asked.makefile
+        self.list = os.path.join(room, "files.txt.new")
+        self.options = ["--depth", str(asked.depth)] if asked.depth is not None else []
+        self.options += ["-f", self.makefile] if self.makefile is not None else []
+        self.words = list(asked.words)
+
+    def command(self, program, *more):
+        """The words of a run of kati, or of kati-asked."""
+        return [program, *self.options, "--files", self.list, *more, "--", *self.words]
+
+    def with_list(self, names):
+        """The translation by this list."""
+        sources.write_list(names, self.list)
+        return Translation(*run(self.command(self.kati)), names)
+
+    def translate(self, listing, made=(), before=()):
+        """The translation by the files of a listing, but for what the build makes and `before` doesn't name.
+
+        `made` is what the build of before makes. A name that stands in the list because it was made once, and is
+        made no more, or that doesn't because of that, would tell kati otherwise than the disk: so what is made is
+        asked again until it stays."""
+        names = listing.without(set(made), before)
+        found = self.with_list(names)
+        if found.status and names != listing.names:
+            found = self.with_list(listing.names)
+        for _ in range(ROUNDS):
+            names = listing.without(ninja_text.outputs(found.statements), before)
+            if found.status or names == found.names:
+                break
+            found = self.with_list(names)
+        return found
+
+    def asked(self, program, listing):
+        """The names that the translation asked for, in order, by kati-asked; None where that is absent or fails."""
+        if program is None:
+            return None
+        status, out, _ = run(self.command(program))
+        return [name for name in out.split("\n") if name] if status == 0 else None
+
+
+def find_asked(given):
+    """The program kati-asked, or None."""
+    return find("kati-asked", given)

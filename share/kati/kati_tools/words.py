@@ -1,0 +1,58 @@
+"""The words of the command line that the tools share, in argparse's terms."""
+import argparse
+import sys
+
+WRONG_USAGE = 64
+
+
+class Parser(argparse.ArgumentParser):
+    """A parser that ends with kati's status for a wrong command line."""
+
+    def __init__(self, **rest):
+        super().__init__(formatter_class=argparse.RawDescriptionHelpFormatter, allow_abbrev=False, **rest)
+
+    def error(self, message):
+        self.print_usage(sys.stderr)
+        self.exit(WRONG_USAGE, f"{self.prog}: {message}\n")
+
+
+def add_kati(parser):
+    """The option that names the program kati."""
+    parser.add_argument("--kati", metavar="PROGRAM",
+                        help="the program kati; without it the environment variable KATI, then kati beside this tool, "
+                             "then on PATH")
+
+
+def add_files_from(parser):
+    """The options that say which files exist."""
+    parser.add_argument("--files-from", "--files", dest="files_from", metavar="git|find|FILE", default="find",
+                        help="where the list of the files that exist comes from: `git` asks git for tracked files and "
+                             "others that it doesn't ignore; `find` takes each file below this folder, but in folders "
+                             "named .git, .hg or .svn; FILE has one name a line. find without it")
+
+
+def add_builtin(parser):
+    """The option that adds make's usual macros and rules."""
+    parser.add_argument("--builtin", action="store_true",
+                        help="puts make's usual macros before the makefile and its usual rules after it")
+
+
+def add_kati_words(parser):
+    """The words that go to kati as they are."""
+    group = parser.add_argument_group("words for kati")
+    group.add_argument("-f", dest="makefile", metavar="FILE",
+                       help="the makefile; without it `makefile`, then `Makefile`")
+    group.add_argument("--depth", type=int, metavar="N", help="how many levels macros and includes may nest, 1 to 400")
+    group.add_argument("--ninja", action="store_true", help="taken, and always on")
+    group.add_argument("words", nargs="*", metavar="GOAL|NAME=VALUE",
+                       help="what to make; a macro that overrides the makefile's assignments")
+
+
+def macros_of(words):
+    """The words that are macros."""
+    return [word for word in words if "=" in word]
+
+
+def goals_of(words):
+    """The words that are goals."""
+    return [word for word in words if "=" not in word]

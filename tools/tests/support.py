@@ -1,0 +1,98 @@
+"""What the tests of the tools share: scratch folders, and the programs that they run."""
+import os
+import shutil
+import subprocess
+import sys
+import tempfile
+import time
+import unittest
+from pathlib import Path
+
+TOP = Path(__file__).resolve().parent.parent.parent
+TOOLS = TOP / "tools"
+sys.path.insert(0, str(TOP / "share/kati"))
+
+from kati_tools import programs  # noqa: E402
+
+
+def kati():
+    """The program kati, or None."""
+    return programs.find("kati")
+
+
+def needs(*names):
+    """Skips a test where one of these programs isn't there; `kati` is that of the checkout, or of the environment."""
+    lacking = [name for name in names if not (kati() if name == "kati" else shutil.which(name))]
+    return unittest.skipIf(lacking, f"without {', '.join(lacking)}")
+
+
+class Ran:
+    """What a command did: its status, and its standard output and error as texts."""
+
+    def __init__(self, words, cwd, **environment):
+        ran = subprocess.run([str(word) for word in words], cwd=cwd, env={**os.environ, "LC_ALL": "C", **environment},
+                             stdin=subprocess.DEVNULL, stdout=subprocess.PIPE, stderr=subprocess.PIPE, timeout=120)
+        self.status, self.out, self.said = ran.returncode, ran.stdout.decode(), ran.stderr.decode()
+        self.all = self.out + self.said
+
+
+class Tree(unittest.TestCase):
+    """A test in a folder of its own."""
+
+    maxDiff = None
+
+    def setUp(self):
+        room = tempfile.TemporaryDirectory(prefix="kati-tests-")
+        self.addCleanup(room.cleanup)
+        self.top = Path(room.name) / "tree"
+        self.top.mkdir()
+
+    def write(self, **texts):
+        """Writes files: their names have _ for . and __ for /."""
+        for name, text in texts.items():
+            self.put(name.replace("__", "/").replace("_", "."), text)
+
+    def put(self, name, text):
+        """Writes a file, later than what stands there."""
+        path = self.top / name
+        path.parent.mkdir(parents=True, exist_ok=True)
+        path.write_text(text)
+
+    def copy_example(self):
+        """Copies example/ of the repository."""
+        shutil.copytree(TOP / "example", self.top, dirs_exist_ok=True)
+
+    def read(self, name):
+        return (self.top / name).read_text()
+
+    def run_in(self, *words, **environment):
+        return Ran(words, self.top, **environment)
+
+    @staticmethod
+    def tool_path(name):
+        return TOOLS / name
+
+    def tool(self, name, *words, **environment):
+        """Runs a tool by the name of its file."""
+        return self.run_in(TOOLS / name, *words, **environment)
+
+    def ninja(self, *words):
+        """Runs ninja, and answers what it said; it must end well."""
+        ran = self.run_in("ninja", *words)
+        self.assertEqual(ran.status, 0, ran.all)
+        return ran.all
+
+    def made(self):
+        """The time of each file, by which it is seen what was made anew."""
+        return {path.name: path.stat().st_mtime_ns for path in self.top.rglob("*") if path.is_file()}
+
+    def made_anew(self, call):
+        """The files that came into being or changed by a call, but for those of kati-build and ninja."""
+        before = self.made()
+        call()
+        return sorted(name for name, at in self.made().items() if before.get(name) != at and not name.startswith("."))
+
+    def touch(self, name):
+        """Gives a file the time of now, which is later than all before."""
+        time.sleep(0.02)
+        os.utime(self.top / name)
