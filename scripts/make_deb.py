@@ -22,6 +22,7 @@ import shutil
 import subprocess
 import sys
 import tempfile
+from email.utils import formatdate
 from pathlib import Path
 
 ROOT = Path(__file__).resolve().parent.parent
@@ -95,15 +96,14 @@ def as_debian_has_it(tree):
     run("strip", "--remove-section=.comment", str(tree / "usr/bin/kati"))
     for page in sorted((tree / "usr/share/man/man1").iterdir()):
         compress(page)
-    compress((tree / f"usr/share/doc/{NAME}/CHANGELOG.md").rename(tree / f"usr/share/doc/{NAME}/changelog"))
+    changes = tree / f"usr/share/doc/{NAME}/changelog"
+    changes.write_text(f"{NAME} ({version()}) unstable; urgency=medium\n\n  * CHANGELOG.md says what is new.\n\n"
+                       f" -- {maintainer()}  {formatdate(localtime=True)}\n", encoding="utf-8")
+    compress(changes)
     for tool in sorted((tree / "usr/bin").iterdir()):
         text = tool.read_bytes()
         if text.startswith(b"#!/usr/bin/env python3\n"):
             tool.write_bytes(text.replace(b"#!/usr/bin/env python3", b"#!/usr/bin/python3", 1))
-    for folder, _, names in os.walk(tree):
-        os.chmod(folder, 0o755)
-        for name in names:
-            os.utime(os.path.join(folder, name), (0, 0), follow_symlinks=False)
 
 
 def files_of(tree):
