@@ -6,7 +6,8 @@ What is checked:
              page and the completions, too
   faults     each number in the code stands in docs/LANGUAGE.md, and the other way round; each example there gives its
              fault
-  files      each file that a document names, and each relative link, is there
+  cases      the makefiles of docs/PORTING.md are those of the file porting.cases, in order
+  files      each file that a document names, and each link within the repository, leads somewhere
   lines      no line of a document has more than 120 columns, but in tables and output
   examples   each block of README.md, example/README.md and docs/USING.md that begins with ```console is run, in a copy
              of the repository, by bash with the built program, the tools, make and ninja; what it prints has to be what
@@ -221,7 +222,27 @@ def check_faults(place, report):
             report.check(fine, f"the example of {number} gives status {status}", out.strip())
 
 
-# ---- files and lines
+# ---- cases, files and lines
+
+
+def makefiles_of_cases(text):
+    """The file Makefile of each case, in order; of texts only plain lines are known."""
+    found = []
+    for line in text.splitlines():
+        if re.match(r"[a-z]", line):
+            found += [""] * (line == "file Makefile")
+            is_makefile = line == "file Makefile"
+        elif line and is_makefile:
+            found[-1] += line[1:] + "\n"
+    return found
+
+
+def check_cases(place, report):
+    blocks = re.findall(r"^```make\n(.*?)^```$", place.text("docs/PORTING.md"), re.MULTILINE | re.DOTALL)
+    cases = makefiles_of_cases(place.text("crates/kati_cases/data/porting.cases"))
+    report.check(len(blocks) == len(cases), f"docs/PORTING.md has {len(blocks)} makefiles, porting.cases {len(cases)}")
+    for block, case in zip(blocks, cases):
+        report.check(block == case, "a makefile of docs/PORTING.md isn't that of its case:", *block.splitlines())
 
 
 def named_files(text):
@@ -245,6 +266,8 @@ def check_files(place, report):
         for link in re.findall(r"\]\(([^)#:]+)[)#]", text):
             if not (path.parent / link).exists():
                 missing.append(link)
+        heads = {re.sub(r"[^\w -]", "", head).lower().replace(" ", "-") for head in re.findall(r"^#+ (.*)$", text, re.M)}
+        missing += ["#" + link for link in re.findall(r"\]\(#([^)]+)\)", text) if link not in heads]
         report.check(not missing, f"{path.relative_to(place.root)} names what isn't there: {', '.join(missing)}")
 
 
@@ -367,8 +390,8 @@ def check_gate(place, report):
     report.check(fine, f"README names neither .ci/run nor what it runs: {command}")
 
 
-CHECKS = {"options": check_options, "faults": check_faults, "files": check_files, "lines": check_lines,
-          "examples": check_examples, "scripts": check_scripts, "gate": check_gate}
+CHECKS = {"options": check_options, "faults": check_faults, "cases": check_cases, "files": check_files,
+          "lines": check_lines, "examples": check_examples, "scripts": check_scripts, "gate": check_gate}
 
 
 class Parser(argparse.ArgumentParser):
