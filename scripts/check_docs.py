@@ -307,9 +307,9 @@ def commands_of(lines):
 
 
 def copy_of(place, folder):
-    """A copy of the repository without what is built, and a folder of its commands."""
+    """A copy of the repository without the crates, and a folder of its commands."""
     copy = Path(folder, "kati")
-    left_out = shutil.ignore_patterns("out", ".git", "__pycache__", "proofs")
+    left_out = shutil.ignore_patterns("crates", ".git", "__pycache__")
     shutil.copytree(place.root, copy, symlinks=True, ignore=left_out)
     commands = Path(folder, "bin")
     commands.mkdir()
