@@ -20,6 +20,7 @@ FISH = $(PREFIX)/share/fish/vendor_completions.d
 COMMANDS = kati kati-build kati-port kati-compare
 TOOLS = $(filter-out kati,$(COMMANDS))
 PAGES = $(COMMANDS:%=%.1)
+EXAMPLE = Makefile README.md config.mk files.txt list.c list.h main.c
 PAPERS = README.md CHANGELOG.md CONTRIBUTING.md SECURITY.md NOTICE
 
 # The folders that are this package's alone, and its files in folders of others.
@@ -39,7 +40,7 @@ install: $(PROGRAM)
 	install -m 644 $(PAGES:%=share/man/man1/%) $(DESTDIR)$(MAN)
 	install -m 644 $(PAPERS) $(DESTDIR)$(DOC)
 	install -m 644 docs/*.md $(DESTDIR)$(DOC)/docs
-	install -m 644 example/* $(DESTDIR)$(DOC)/example
+	install -m 644 $(EXAMPLE:%=example/%) $(DESTDIR)$(DOC)/example
 	install -m 644 share/bash-completion/completions/kati $(DESTDIR)$(BASH)
 	for tool in $(TOOLS); do ln -sf kati $(DESTDIR)$(BASH)/$$tool || exit 1; done
 	install -m 644 share/zsh/site-functions/_kati $(DESTDIR)$(ZSH)

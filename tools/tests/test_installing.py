@@ -120,6 +120,15 @@ class Installing(Scratch):
             self.assertTrue((doc / path.relative_to(ROOT)).is_file(), path)
 
     @needs("make")
+    def test_the_whole_example_and_nothing_that_was_built(self):
+        doc = self.install() / "share/doc/kati-ninja/example"
+        tracked = subprocess.run(["git", "ls-files", "example"], cwd=ROOT, stdout=subprocess.PIPE, text=True, check=False)
+        names = sorted(Path(name).name for name in tracked.stdout.split())
+        if not names:
+            self.skipTest("not there: git, or no checkout")
+        self.assertEqual(sorted(path.name for path in doc.iterdir()), names)
+
+    @needs("make")
     def test_uninstall_leaves_nothing(self):
         usr = self.install()
         (usr / "bin/other").write_text("stays")
