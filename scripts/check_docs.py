@@ -266,7 +266,8 @@ def check_files(place, report):
         for link in re.findall(r"\]\(([^)#:]+)[)#]", text):
             if not (path.parent / link).exists():
                 missing.append(link)
-        heads = {re.sub(r"[^\w -]", "", head).lower().replace(" ", "-") for head in re.findall(r"^#+ (.*)$", text, re.M)}
+        heads = re.findall(r"^#+ (.*)$", text, re.MULTILINE)
+        heads = {re.sub(r"[^\w -]", "", head).lower().replace(" ", "-") for head in heads}
         missing += ["#" + link for link in re.findall(r"\]\(#([^)]+)\)", text) if link not in heads]
         report.check(not missing, f"{path.relative_to(place.root)} names what isn't there: {', '.join(missing)}")
 

@@ -10,7 +10,8 @@ from pathlib import Path
 
 ROOT = Path(__file__).resolve().parent.parent.parent
 KATI = Path(os.environ.get("KATI") or ROOT / "crates/kati_program/out/kati_program").resolve()
-SKIPS = unittest.skipUnless(KATI.is_file() and shutil.which("ninja") and shutil.which("cc"), "not there: kati, ninja or cc")
+IS_COMPLETE = KATI.is_file() and shutil.which("ninja") and shutil.which("cc")
+SKIPS = unittest.skipUnless(IS_COMPLETE, "not there: kati, ninja or cc")
 
 
 class Spoiling(unittest.TestCase):
@@ -36,11 +37,13 @@ class Spoiling(unittest.TestCase):
 
     def check(self, *checks, failed):
         """Runs the script, which has to fail so often, and answers what it said."""
-        done = subprocess.run([sys.executable, "-B", ROOT / "scripts/check_docs.py", "--root", self.root, "--kati", KATI, *checks],
-                              stdout=subprocess.PIPE, stderr=subprocess.STDOUT, text=True, check=False)
+        words = ["--root", self.root, "--kati", KATI, *checks]
+        done = subprocess.run([sys.executable, "-B", ROOT / "scripts/check_docs.py", *words], stdout=subprocess.PIPE,
+                              stderr=subprocess.STDOUT, text=True, check=False)
         last = done.stdout.splitlines()[-1]
         self.assertRegex(last, r"^\d+ passed, \d+ failed(, \d+ skipped)?$", done.stdout)
-        self.assertEqual((int(re.search(r"(\d+) failed", last).group(1)), done.returncode), (failed, 1 if failed else 0), done.stdout)
+        self.assertEqual(int(re.search(r"(\d+) failed", last).group(1)), failed, done.stdout)
+        self.assertEqual(done.returncode, 1 if failed else 0)
         return done.stdout
 
     def test_as_it_is(self):
@@ -65,7 +68,8 @@ class Spoiling(unittest.TestCase):
 
     @unittest.skipUnless(KATI.is_file(), "not there: kati")
     def test_an_example_of_another_fault(self):
-        self.spoil("docs/LANGUAGE.md", "`endif` outside a conditional | `endif` |", "`endif` outside a conditional | `endef` |")
+        row = "`endif` outside a conditional | "
+        self.spoil("docs/LANGUAGE.md", row + "`endif` |", row + "`endef` |")
         self.assertIn("the example of E11", self.check("faults", failed=1))
 
     def test_a_makefile_that_is_not_its_case(self):
@@ -103,7 +107,8 @@ class Spoiling(unittest.TestCase):
         self.check("gate", failed=1)
 
     def test_a_check_that_is_none(self):
-        done = subprocess.run([sys.executable, "-B", ROOT / "scripts/check_docs.py", "everything"], stderr=subprocess.PIPE, check=False)
+        words = [sys.executable, "-B", ROOT / "scripts/check_docs.py", "everything"]
+        done = subprocess.run(words, stderr=subprocess.PIPE, check=False)
         self.assertEqual(done.returncode, 64)
 
 

@@ -65,8 +65,8 @@ class Completing(unittest.TestCase):
             words = line.split(" ")
             script = (f'source {SHARE}/bash-completion/completions/kati; COMP_WORDS=("$@"); COMP_CWORD=$(($# - 1)); '
                       f'_kati "$1"; printf "%s\\n" "${{COMPREPLY[@]}}"')
-            done = subprocess.run(["bash", "-c", script, "bash", *words], cwd=self.folder, stdout=subprocess.PIPE, text=True,
-                                  check=True)
+            done = subprocess.run(["bash", "-c", script, "bash", *words], cwd=self.folder, stdout=subprocess.PIPE,
+                                  text=True, check=True)
             return done.stdout.split("\n")
 
         self.ask(offered)
@@ -81,8 +81,8 @@ class Completing(unittest.TestCase):
     def test_fish(self):
         def offered(line):
             script = f"source {SHARE}/fish/vendor_completions.d/kati.fish; complete -C '{line}'"
-            done = subprocess.run(["fish", "--no-config", "-c", script], cwd=self.folder, stdout=subprocess.PIPE, text=True,
-                                  env={**os.environ, "HOME": self.folder}, check=True)
+            done = subprocess.run(["fish", "--no-config", "-c", script], cwd=self.folder, stdout=subprocess.PIPE,
+                                  text=True, env={**os.environ, "HOME": self.folder}, check=True)
             return [word.split("\t")[0] for word in done.stdout.splitlines()]
 
         self.ask(offered)
@@ -106,8 +106,8 @@ class Terminal:
         self.process, self.end = pty.fork()
         if self.process == 0:
             os.chdir(folder)
-            variables = {"PATH": os.environ["PATH"], "HOME": folder, "TERM": "dumb", "COLUMNS": "200", "LC_ALL": "C.UTF-8"}
-            os.execvpe(words[0], words, variables)
+            variables = {"PATH": os.environ["PATH"], "HOME": folder, "TERM": "dumb", "COLUMNS": "200"}
+            os.execvpe(words[0], words, {**variables, "LC_ALL": "C.UTF-8"})
 
     def send(self, text):
         os.write(self.end, text.encode())

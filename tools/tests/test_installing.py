@@ -22,8 +22,8 @@ def needs(*names):
 
 def run(*words, status=0, **rest):
     """The output of a command, with its errors, which has to end with this status."""
-    done = subprocess.run([str(word) for word in words], stdout=subprocess.PIPE, stderr=subprocess.STDOUT, text=True, env=QUIET,
-                          check=False, **rest)
+    done = subprocess.run([str(word) for word in words], stdout=subprocess.PIPE, stderr=subprocess.STDOUT, text=True,
+                          env=QUIET, check=False, **rest)
     if done.returncode != status:
         raise AssertionError(f"{words}: status {done.returncode}\n{done.stdout}")
     return done.stdout
@@ -122,7 +122,8 @@ class Installing(Scratch):
     @needs("make")
     def test_the_whole_example_and_nothing_that_was_built(self):
         doc = self.install() / "share/doc/kati-ninja/example"
-        tracked = subprocess.run(["git", "ls-files", "example"], cwd=ROOT, stdout=subprocess.PIPE, text=True, check=False)
+        tracked = subprocess.run(["git", "ls-files", "example"], cwd=ROOT, stdout=subprocess.PIPE, text=True,
+                                 check=False)
         names = sorted(Path(name).name for name in tracked.stdout.split())
         if not names:
             self.skipTest("not there: git, or no checkout")
@@ -169,8 +170,8 @@ class Packaging(Scratch):
             entry = ("Package: {}\nStatus: install ok installed\nMaintainer: a <a@example.org>\n"
                      "Architecture: {}\nVersion: 9\nDescription: stands in\n\n")
             (base / "status").write_text(entry.format("libc6", "amd64") + entry.format("python3", "amd64") + known)
-        return run("dpkg", f"--root={root}", "--force-not-root", "--force-script-chrootless", f"--log={self.folder}/log", *words,
-                   status=status)
+        forced = ["--force-not-root", "--force-script-chrootless", f"--log={self.folder}/log"]
+        return run("dpkg", f"--root={root}", *forced, *words, status=status)
 
     @needs("make", "dpkg", "dpkg-deb", "strip")
     def test_installs_and_goes_without_a_trace(self):

@@ -6,7 +6,8 @@ import unittest
 from pathlib import Path
 
 PAGES = sorted((Path(__file__).resolve().parent.parent.parent / "share/man/man1").glob("*.1"))
-PARTS = ["NAME", "SYNOPSIS", "DESCRIPTION", "OPTIONS", "EXIT STATUS", "FILES", "EXAMPLES", "DIFFERENCES FROM MAKE", "SEE ALSO"]
+PARTS = ["NAME", "SYNOPSIS", "DESCRIPTION", "OPTIONS", "EXIT STATUS", "FILES", "EXAMPLES", "DIFFERENCES FROM MAKE",
+         "SEE ALSO"]
 
 
 def told(*words, **variables):
@@ -35,7 +36,8 @@ class Pages(unittest.TestCase):
     def test_man_warns_of_nothing(self):
         for page in PAGES:
             with self.subTest(page.name):
-                done = told("man", "--warnings", "-E", "UTF-8", "-l", "-Tutf8", "-Z", page, LC_ALL="C.UTF-8", MANWIDTH="80")
+                done = told("man", "--warnings", "-E", "UTF-8", "-l", "-Tutf8", "-Z", page, LC_ALL="C.UTF-8",
+                            MANWIDTH="80")
                 self.assertEqual((done.returncode, done.stderr), (0, ""))
 
 

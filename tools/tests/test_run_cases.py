@@ -37,7 +37,8 @@ class Running(unittest.TestCase):
         self.assertEqual(self.ran(GOOD), ("1 passed, 0 failed\n", 0))
 
     def test_each_part_of_a_case_may_fail(self):
-        for old, new, said in (("status 0", "status 2", "status 0, not 2"), ("cc -c a.c'", "cc a.c'", "output without its lines"),
+        for old, new, said in (("status 0", "status 2", "status 0, not 2"),
+                               ("cc -c a.c'", "cc a.c'", "output without its lines"),
                                ("err\n", "err\n|kati: *** no targets [E26]\n", "error output b''"),
                                ("has\n", "out\n", 'output b"# kati')):
             with self.subTest(new):
