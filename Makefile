@@ -1,6 +1,6 @@
 # Installs kati and makes its Debian package. GNU make takes this file, and so does kati.
 #
-#     make install PREFIX=/usr DESTDIR=/tmp/root
+#     make install PREFIX=/usr DESTDIR=root
 #
 # The program has to be built first (README.md), or named by PROGRAM=FILE.
 

@@ -6,7 +6,7 @@ of `make install`. Needed are make, dpkg-deb and the built program, but no root.
 
 examples:
   scripts/make_deb.py                          kati-ninja_VERSION_ARCHITECTURE.deb in this folder
-  scripts/make_deb.py --output /tmp            the same in /tmp
+  scripts/make_deb.py --output packages        the same in that folder, which has to be there
   scripts/make_deb.py --program ./kati         of another built program
 
 exit status:
