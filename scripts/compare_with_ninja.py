@@ -1,15 +1,22 @@
 #!/usr/bin/env python3
 """Compares what kati reads of Ninja files with what Ninja reads of them.
 
-    scripts/compare_with_ninja.py [PROGRAM]
-
-PROGRAM is the built kati. Each text NAME.ninja in scripts/ninja_texts says the build of the makefile NAME.mk in a spelling of its own;
+Each text NAME.ninja in scripts/ninja_texts says the build of the makefile NAME.mk in a spelling of its own;
 the makefile's goals stand in its first line after `# goals: `. `kati --check` tells whether a text is read as the plan of its makefile.
 Ninja tells whether it reads the text as it reads what kati writes, by the outputs, inputs and commands that `ninja -t targets all`,
 `-t query` and `-t commands -s` print. Both are asked of each text, of each beginning of it, and of what each byte less and some bytes more
 above its last `default` line make of it: some ten thousand texts, in a minute or two. No tool of Ninja's prints default targets, so that
-a text which lacks a `default` line isn't compared. The exit status is 0 where both agree but for what is known.
-"""
+a text which lacks a `default` line isn't compared.
+
+examples:
+  scripts/compare_with_ninja.py           the built program
+  scripts/compare_with_ninja.py ./kati    another
+
+exit status:
+  0   both agree but for what is known
+  1   they don't
+  64  wrong usage"""
+import argparse
 import re
 import subprocess
 import sys
@@ -107,8 +114,18 @@ def known(text, is_plan, does):
     return None
 
 
+class Parser(argparse.ArgumentParser):
+    """A parser that ends with the project's status for wrong usage."""
+
+    def error(self, message):
+        self.print_usage(sys.stderr)
+        self.exit(64, f"{self.prog}: {message}\n")
+
+
 def main():
-    program = str(Path(sys.argv[1] if len(sys.argv) > 1 else BUILT).resolve())
+    parser = Parser(description=__doc__, formatter_class=argparse.RawDescriptionHelpFormatter)
+    parser.add_argument("program", nargs="?", metavar="PROGRAM", default=BUILT, help="the built program")
+    program = str(Path(parser.parse_args().program).resolve())
     compared, wrong, reasons = 0, 0, Counter()
     for path in sorted((HERE / "ninja_texts").glob("*.ninja")):
         pair = Pair(program, path)

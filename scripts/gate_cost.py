@@ -1,17 +1,23 @@
 #!/usr/bin/env python3
 """Runs the gate on a clean checkout of HEAD and tells what it cost.
 
-    scripts/gate_cost.py [REVISION [LOG]]
-    scripts/gate_cost.py --speed
-
 LOG gets what the gate prints. The script prints the gate's last line, the minutes that it took and the processor minutes, and then the
 processor seconds of each crate: its proof, its tests and its edits, told apart by the folder and the arguments of each process of the
 prover, and last the checks that its edits took, in order. A machine with more work than processors takes more processor time too.
 
 With --speed it proves one crate as it once stood, as the gate does, and tells what that took beside what it took on the machine that the
 gate's marks were set on: processor minutes of two machines can be compared by that alone.
-"""
 
+examples:
+  scripts/gate_cost.py                    the gate of HEAD
+  scripts/gate_cost.py HEAD~3 gate.log    that of an earlier commit, with what it prints
+  scripts/gate_cost.py --speed            how fast the machine is
+
+exit status:
+  0   the gate passed; --speed: the crate is proved
+  64  wrong usage
+  else the status of the gate"""
+import argparse
 import os
 import resource
 import shutil
@@ -103,16 +109,34 @@ def tell_speed():
     sys.exit(ran.returncode)
 
 
+class Parser(argparse.ArgumentParser):
+    """A parser that ends with the project's status for wrong usage."""
+
+    def error(self, message):
+        self.print_usage(sys.stderr)
+        self.exit(64, f"{self.prog}: {message}\n")
+
+
+def asked():
+    """What the command line asks for."""
+    parser = Parser(description=__doc__, formatter_class=argparse.RawDescriptionHelpFormatter)
+    parser.add_argument("--speed", action="store_true", help="one crate of an earlier commit alone")
+    parser.add_argument("revision", nargs="?", default="HEAD", metavar="REVISION", help="a commit; HEAD without it")
+    parser.add_argument("log", nargs="?", metavar="LOG", help="where what the gate prints goes")
+    return parser.parse_args()
+
+
 def main():
-    if sys.argv[1:] == ["--speed"]:
+    words = asked()
+    if words.speed:
         tell_speed()
-    revision = sys.argv[1] if len(sys.argv) > 1 else "HEAD"
+    revision = words.revision
     with tempfile.TemporaryDirectory(prefix="gate_") as name:
         folder = Path(name) / "checkout"
         checkout(revision, folder)
         sampler, started = Sampler(folder), time.time()
         sampler.start()
-        path = Path(sys.argv[2] if len(sys.argv) > 2 else Path(name) / "log")
+        path = Path(words.log or Path(name) / "log")
         with open(path, "wb") as log:
             status = subprocess.run([folder / ".ci/run"], stdout=log, stderr=subprocess.STDOUT).returncode
         sampler.ended = True

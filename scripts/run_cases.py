@@ -1,11 +1,18 @@
 #!/usr/bin/env python3
 """Runs a built kati on the cases, each in an empty folder of its own.
 
-    scripts/run_cases.py PROGRAM [FILE.cases]..      (all of crates/kati_cases/data by default)
+Cases that fail are printed, then 'N passed, M failed'. docs/CASES.md says how a case is written. What a case doesn't
+name isn't looked at; the names that kati asks for aren't seen from outside.
 
-Cases that fail are printed, then 'N passed, M failed'; the status is 1 if one failed. docs/CASES.md says how a case is
-written. What a case doesn't name isn't looked at; the names that kati asks for aren't seen from outside.
-"""
+examples:
+  scripts/run_cases.py crates/kati_program/out/kati_program     all of crates/kati_cases/data
+  scripts/run_cases.py ./kati crates/kati_cases/data/porting.cases
+
+exit status:
+  0   each case passed
+  1   one failed
+  64  wrong usage"""
+import argparse
 import glob
 import os
 import re
@@ -110,10 +117,22 @@ def faults_of(program, case, folder):
         return ["no end in %d seconds" % SECONDS]
 
 
+class Parser(argparse.ArgumentParser):
+    """A parser that ends with the project's status for wrong usage."""
+
+    def error(self, message):
+        self.print_usage(sys.stderr)
+        self.exit(64, "%s: %s\n" % (self.prog, message))
+
+
 def main():
-    program = os.path.abspath(sys.argv[1])
+    parser = Parser(description=__doc__, formatter_class=argparse.RawDescriptionHelpFormatter)
+    parser.add_argument("program", metavar="PROGRAM", help="the built program")
+    parser.add_argument("files", nargs="*", metavar="FILE.cases", help="files of cases; without one all of the repository")
+    words = parser.parse_args()
+    program = os.path.abspath(words.program)
     passed = failed = 0
-    for path in sys.argv[2:] or sorted(glob.glob(os.path.join(DATA, "*.cases"))):
+    for path in words.files or sorted(glob.glob(os.path.join(DATA, "*.cases"))):
         for case in cases_in(path):
             with tempfile.TemporaryDirectory() as folder:
                 wrong = faults_of(program, case, folder)

@@ -1,14 +1,20 @@
 #!/usr/bin/env python3
 """Times the built kati beside ckati, make and ninja, and prints the tables of docs/BENCHMARKS.md.
 
-    scripts/times.py [--kati PROGRAM] [--runs N] [--seconds N] [--small] [TABLE]..
-
 TABLE is one of translating, layers, text, reading, hostile; all of them without one. Every makefile is made by
 scripts/large_makefiles.py. The tools run in turn, side by side, and the least time of the runs counts; the memory is the most that any
 run took. Needed are /usr/bin/time and, for their columns, the Debian packages ckati, make and ninja-build. kati gets a stack of 8 MB, and
 the others one of 1 GB, without which ckati doesn't end on a chain of 100,000 targets. --small takes a hundredth of each size, to try
 the script.
-"""
+
+examples:
+  scripts/times.py                      all tables
+  scripts/times.py --runs 1 hostile     one of them, each case once
+  scripts/times.py --small              to try the script
+
+exit status:
+  0   the tables are printed
+  2   wrong usage"""
 import argparse
 import os
 import resource

@@ -1,12 +1,17 @@
 #!/usr/bin/env python3
 """Tells what the built kati's time goes into, case by case, as the table "What the time goes into" of docs/BENCHMARKS.md.
 
-    scripts/where_time_goes.py [--kati PROGRAM] [--small]
-
 Each case of the table "The whole program" is run at half its larger size under `perf record` (Debian's package linux-perf), and each
 sample is put to the first group that its function belongs to. The shares are hundredths of a run's samples; those below one are left out.
 --small takes a hundredth of each size, to try the script.
-"""
+
+examples:
+  scripts/where_time_goes.py            the table, of the built program
+  scripts/where_time_goes.py --small    to try the script
+
+exit status:
+  0   the table is printed
+  2   wrong usage"""
 import argparse
 import re
 import subprocess

@@ -1,8 +1,6 @@
 #!/usr/bin/env python3
 """Tries the wrong bodies of crates, many at a time: each must be refused by the prover.
 
-    scripts/wrong_bodies.py [--jobs N] [--only WORD] [--must-fail] [--self-test] [CRATE]..
-
 An edit is a file of crates/CRATE/wrong-bodies: a line 'file: src/x.rt', then pairs of lines 'old: TEXT' and 'new: TEXT',
 each old text standing once in the file. A round applies edits of different functions to one copy of the repository with what
 earlier checks kept, runs one check, and reads whom it blames. An edit is
@@ -12,9 +10,17 @@ earlier checks kept, runs one check, and reads whom it blames. An edit is
     no refusal   the edited code doesn't compile, or only a name of a proof file went away: it wants another body
 
 An edit of a type or a constant has a round to itself. A function that couldn't be judged, since one that it calls was edited too,
-comes again in a later round without that one. The work tree isn't touched. Status 0 says that all were refused.
-"""
+comes again in a later round without that one. The work tree isn't touched.
 
+examples:
+  scripts/wrong_bodies.py                       all of wrong-bodies/
+  scripts/wrong_bodies.py kt_list --must-fail   of one crate, those of must-fail/ as well
+  scripts/wrong_bodies.py --self-test           shows that an edit without a meaning is let through
+
+exit status:
+  0   all were refused
+  1   one wasn't
+  2   wrong usage"""
 import argparse
 import re
 import shutil

@@ -1,0 +1,58 @@
+# Installs kati and makes its Debian package. GNU make takes this file, and so does kati.
+#
+#     make install PREFIX=/usr DESTDIR=root
+#
+# The program has to be built first (README.md), or named by PROGRAM=FILE.
+
+PREFIX = /usr/local
+DESTDIR =
+PROGRAM = crates/kati_program/out/kati_program
+
+# Where things go below DESTDIR. A Debian package has the functions of zsh in share/zsh/vendor-completions.
+BIN = $(PREFIX)/bin
+SHARE = $(PREFIX)/share/kati
+MAN = $(PREFIX)/share/man/man1
+DOC = $(PREFIX)/share/doc/kati-ninja
+BASH = $(PREFIX)/share/bash-completion/completions
+ZSH = $(PREFIX)/share/zsh/site-functions
+FISH = $(PREFIX)/share/fish/vendor_completions.d
+
+COMMANDS = kati kati-build kati-port kati-compare
+TOOLS = $(filter-out kati,$(COMMANDS))
+PAGES = $(COMMANDS:%=%.1)
+EXAMPLE = Makefile README.md config.mk files.txt list.c list.h main.c
+PAPERS = README.md CHANGELOG.md CONTRIBUTING.md SECURITY.md NOTICE
+
+# The folders that are this package's alone, and its files in folders of others.
+FOLDERS = $(SHARE) $(DOC)
+FILES = $(COMMANDS:%=$(BIN)/%) $(PAGES:%=$(MAN)/%) $(COMMANDS:%=$(BASH)/%) $(ZSH)/_kati $(COMMANDS:%=$(FISH)/%.fish)
+
+all: $(PROGRAM)
+
+.PHONY: all install uninstall deb check
+
+install: $(PROGRAM)
+	install -d $(addprefix $(DESTDIR),$(BIN) $(SHARE)/kati_tools $(MAN) $(DOC)/docs $(DOC)/example $(BASH) $(ZSH) $(FISH))
+	install -m 755 $(PROGRAM) $(DESTDIR)$(BIN)/kati
+	install -m 755 $(TOOLS:%=tools/%) $(DESTDIR)$(BIN)
+	install -m 644 share/kati/*.mk $(DESTDIR)$(SHARE)
+	install -m 644 share/kati/kati_tools/*.py $(DESTDIR)$(SHARE)/kati_tools
+	install -m 644 $(PAGES:%=share/man/man1/%) $(DESTDIR)$(MAN)
+	install -m 644 $(PAPERS) $(DESTDIR)$(DOC)
+	install -m 644 docs/*.md $(DESTDIR)$(DOC)/docs
+	install -m 644 $(EXAMPLE:%=example/%) $(DESTDIR)$(DOC)/example
+	install -m 644 share/bash-completion/completions/kati $(DESTDIR)$(BASH)
+	for tool in $(TOOLS); do ln -sf kati $(DESTDIR)$(BASH)/$$tool || exit 1; done
+	install -m 644 share/zsh/site-functions/_kati $(DESTDIR)$(ZSH)
+	install -m 644 share/fish/vendor_completions.d/kati.fish $(DESTDIR)$(FISH)
+	for tool in $(TOOLS); do ln -sf kati.fish $(DESTDIR)$(FISH)/$$tool.fish || exit 1; done
+
+uninstall:
+	rm -f $(addprefix $(DESTDIR),$(FILES))
+	rm -rf $(addprefix $(DESTDIR),$(FOLDERS))
+
+deb: $(PROGRAM)
+	python3 scripts/make_deb.py --program $(PROGRAM)
+
+check:
+	.ci/run

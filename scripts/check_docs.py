@@ -1,0 +1,432 @@
+#!/usr/bin/env python3
+"""Checks that the documents say what is so.
+
+What is checked:
+  options    those of the program, its manual page, README and the completions are the same; those of each tool, its
+             page and the completions, too
+  faults     each number in the code stands in docs/LANGUAGE.md, and the other way round; each example there gives its
+             fault
+  cases      the makefiles of docs/PORTING.md are those of the file porting.cases, in order
+  files      each file that a document names, and each link within the repository, leads somewhere
+  lines      no line of a document has more than 120 columns, but in tables and output
+  examples   each block of README.md, example/README.md and docs/USING.md that begins with ```console is run, in a copy
+             of the repository, by bash with the built program, the tools, make and ninja; what it prints has to be what
+             stands there. A block ```console long isn't run. Lines that begin with [N/M] may come in any order; a line
+             ... stands for any
+  scripts    each tells its examples and exit statuses by --help
+  gate       README's test command is what .ci/run runs
+
+examples:
+  scripts/check_docs.py                        all, with the built program
+  scripts/check_docs.py --kati /usr/bin/kati   with another
+  scripts/check_docs.py faults files           these alone
+
+What fails is printed, then what is skipped since a program isn't there, then `N passed, M failed`, with `, K skipped`
+where there is such.
+
+exit status:
+  0   nothing failed
+  1   something failed
+  64  wrong usage"""
+import argparse
+import os
+import re
+import shutil
+import subprocess
+import sys
+import tempfile
+from pathlib import Path
+
+HERE = Path(__file__).resolve().parent.parent
+BUILT = "crates/kati_program/out/kati_program"
+TOOLS = ["kati-build", "kati-compare", "kati-port"]
+RUN = ["README.md", "example/README.md", "docs/USING.md"]
+SECONDS = 120
+WIDTH = 120
+
+OPTION = re.compile(r"(?<![\w-])--?[A-Za-z][a-z-]*")
+NAMED = re.compile(r"(?:docs|scripts|crates|tools|share|example|\.ci)/[\w./*{},-]*|\b[A-Z]{3,}\.md\b")
+FAULT = re.compile(r"\w+::\w+(?:\([^)]*\))? => \(?(\d+)\b")
+PROGRESS = re.compile(r"\[\d+/\d+\] ")
+MARK = "\x01done\x01"
+
+
+class Report:
+    """Counts what passed, failed and was skipped, and tells the last two."""
+
+    def __init__(self):
+        self.passed = self.failed = self.skipped = 0
+
+    def check(self, fine, what, *more):
+        """Counts a check; where it isn't fine, says what is wrong."""
+        if fine:
+            self.passed += 1
+            return
+        self.failed += 1
+        print("failed: " + what)
+        for line in more:
+            print("    " + line)
+
+    def same(self, first, second, what):
+        """Counts a check that two sets are the same."""
+        differ = sorted(set(first) ^ set(second))
+        self.check(not differ, f"{what}: {', '.join(differ)}")
+
+    def skip(self, what):
+        self.skipped += 1
+        print("skipped: " + what)
+
+    def last_line(self):
+        return f"{self.passed} passed, {self.failed} failed" + (f", {self.skipped} skipped" if self.skipped else "")
+
+
+class Place:
+    """The repository that is looked at, and the program."""
+
+    def __init__(self, root, kati):
+        self.root, self.kati = root, kati
+
+    def text(self, name):
+        return (self.root / name).read_text(encoding="utf-8")
+
+    def documents(self):
+        return [path for pattern in ("*.md", "docs/*.md", "example/*.md") for path in sorted(self.root.glob(pattern))]
+
+
+def said(*words, **rest):
+    """What a command writes, with its errors, and its status."""
+    done = subprocess.run([str(word) for word in words], stdin=subprocess.DEVNULL, stdout=subprocess.PIPE,
+                          stderr=subprocess.STDOUT, timeout=SECONDS, check=False, **rest)
+    return done.stdout.decode(errors="replace"), done.returncode
+
+
+# ---- options
+
+
+def options_of_code(text):
+    """The options that the program's command line is made with, and those of help."""
+    named = re.findall(r'\.long\("([a-z-]+)"\)', text) + re.findall(r'[^\w]file\(\s*alloc,\s*"([a-z-]+)"', text)
+    short = re.findall(r"\.short\('(.)'\)", text)
+    return {"--" + name for name in named} | {"-" + name for name in short} | {"-h", "--help"}
+
+
+def options_of_help(text):
+    """The options that a help text begins a line with."""
+    found = set()
+    for line in text.splitlines():
+        match = re.match(r" {2,6}(-[^ ,]+( [^ ,]+)?(, -[^ ,]+( [^ ,]+)?)*)", line)
+        if match:
+            found |= set(OPTION.findall(match.group(1)))
+    return found
+
+
+def options_of_page(text):
+    """The options that the part OPTIONS of a manual page is about."""
+    part = re.search(r"^\.SH OPTIONS\n(.*?)^\.SH", text, re.MULTILINE | re.DOTALL).group(1).replace("\\-", "-")
+    part = re.sub(r"\\f.", " ", part)
+    lines = re.findall(r"(?:^\.TP\n\.\w+ |^\.B[IR] (?=-))(.*)$", part, re.MULTILINE)
+    return {option for line in lines for option in OPTION.findall(line)}
+
+
+def options_of_table(text):
+    """The options of README's table."""
+    rows = re.findall(r"^\| (`-.*?) \|", text, re.MULTILINE)
+    return {option for row in rows for option in OPTION.findall(row)}
+
+
+def options_of_bash(place, command):
+    file = place.root / "share/bash-completion/completions/kati"
+    return set(said("bash", "-c", f'source "{file}"; _kati_options {command}')[0].split())
+
+
+def options_of_zsh(text):
+    found = set(re.findall(r"'(?:\([^)]*\))?(--?[a-z-]+)", text))
+    for group in re.findall(r"\{(-[^}]*)\}", text):
+        found |= {word.rstrip("=") for word in group.split(",")}
+    return {option.rstrip("=+") for option in found}
+
+
+def options_of_fish(text):
+    lines = "".join(re.findall(r"^ *complete -c.*\n", text, re.MULTILINE))
+    long, short = re.findall(r" -l ([a-z-]+)", lines), re.findall(r" -s (\w)", lines)
+    return {"--" + name for name in long} | {"-" + name for name in short}
+
+
+def check_options(place, report):
+    wanted = {"kati": options_of_code(place.text("crates/kati_args/src/command.rt"))}
+    report.same(wanted["kati"], options_of_table(place.text("README.md")), "options of the code and of README differ")
+    if place.kati:
+        helped = options_of_help(said(place.kati, "--help")[0])
+        report.same(wanted["kati"], helped, "options of the code and of the help differ")
+    else:
+        report.skip("options of the help: the program isn't built")
+    for tool in TOOLS:
+        wanted[tool] = options_of_help(said(sys.executable, place.root / "tools" / tool, "--help")[0])
+    for command, options in wanted.items():
+        page = options_of_page(place.text(f"share/man/man1/{command}.1"))
+        report.same(options, page, f"options of {command} and of its manual page differ")
+        if shutil.which("bash"):
+            completed = options_of_bash(place, command)
+            report.same(options, completed, f"options of {command} and of its completion for bash differ")
+        else:
+            report.skip("completion for bash: bash isn't there")
+    every = set().union(*wanted.values())
+    zsh = place.text("share/zsh/site-functions/_kati")
+    report.same(every, options_of_zsh(zsh), "options and completions for zsh differ")
+    fish = place.text("share/fish/vendor_completions.d/kati.fish")
+    report.same(every, options_of_fish(fish), "options and completions for fish differ")
+
+
+# ---- faults
+
+
+def faults_of_code(place):
+    """The numbers in the tables of faults, which are matches in functions named `number`."""
+    found = set()
+    for path in place.root.glob("crates/*/src/**/*.rt"):
+        for body in re.findall(r"fn number\(.*?^    }$", path.read_text(encoding="utf-8"), re.MULTILINE | re.DOTALL):
+            found |= {f"E{int(number):02}" for number in FAULT.findall(body)}
+    return found
+
+
+def rows_of_faults(text):
+    """The number of each fault in the table of docs/LANGUAGE.md, and its example."""
+    for row in re.findall(r"^\| (E\d\d \|.*)$", text, re.MULTILINE):
+        cells = re.split(r"(?<!\\) ?\| ?", row)
+        yield cells[0].strip(), cells[3].replace("\\|", "|")
+
+
+def put_example(example, folder):
+    """Makes the makefile of an example: one line after the other, what a shell command writes, or none."""
+    spans = re.findall(r"`([^`]*)`", example)
+    if not spans:
+        return
+    if re.match(r"printf |yes ", spans[0]):
+        subprocess.run(["bash", "-c", spans[0]], cwd=folder, check=True)
+        return
+    Path(folder, "Makefile").write_text("".join(line.replace("→", "\t") + "\n" for line in spans), encoding="utf-8")
+
+
+def check_faults(place, report):
+    rows = list(rows_of_faults(place.text("docs/LANGUAGE.md")))
+    numbers = {number for number, _ in rows}
+    report.same(faults_of_code(place), numbers, "faults of the code and of docs/LANGUAGE.md differ")
+    if not place.kati:
+        report.skip("the examples of faults: the program isn't built")
+        return
+    for number, example in rows:
+        with tempfile.TemporaryDirectory() as folder:
+            put_example(example, folder)
+            out, status = said(place.kati, cwd=folder)
+            fine = status == 2 and f"[{number}]" in out
+            report.check(fine, f"the example of {number} gives status {status}", out.strip())
+
+
+# ---- cases, files and lines
+
+
+def makefiles_of_cases(text):
+    """The file Makefile of each case, in order; of texts only plain lines are known."""
+    found = []
+    for line in text.splitlines():
+        if re.match(r"[a-z]", line):
+            found += [""] * (line == "file Makefile")
+            is_makefile = line == "file Makefile"
+        elif line and is_makefile:
+            found[-1] += line[1:] + "\n"
+    return found
+
+
+def check_cases(place, report):
+    blocks = re.findall(r"^```make\n(.*?)^```$", place.text("docs/PORTING.md"), re.MULTILINE | re.DOTALL)
+    cases = makefiles_of_cases(place.text("crates/kati_cases/data/porting.cases"))
+    report.check(len(blocks) == len(cases), f"docs/PORTING.md has {len(blocks)} makefiles, porting.cases {len(cases)}")
+    for block, case in zip(blocks, cases):
+        report.check(block == case, "a makefile of docs/PORTING.md isn't that of its case:", *block.splitlines())
+
+
+def named_files(text):
+    """The names in a document that look like files of the repository."""
+    for name in NAMED.findall(text):
+        name = name.rstrip(".,;:-")
+        if "/out/" not in name and not re.search(r"\b[A-Z]{2,}\b(?!\.md)", name) and name.strip("./"):
+            yield name
+
+
+def is_there(place, name):
+    if re.fullmatch(r"[A-Z]+\.md", name):
+        return (place.root / name).is_file() or (place.root / "docs" / name).is_file()
+    return any(place.root.glob(name.rstrip("/")))
+
+
+def check_files(place, report):
+    for path in place.documents():
+        text = path.read_text(encoding="utf-8")
+        missing = [name for name in dict.fromkeys(named_files(text)) if not is_there(place, name)]
+        for link in re.findall(r"\]\(([^)#:]+)[)#]", text):
+            if not (path.parent / link).exists():
+                missing.append(link)
+        heads = re.findall(r"^#+ (.*)$", text, re.MULTILINE)
+        heads = {re.sub(r"[^\w -]", "", head).lower().replace(" ", "-") for head in heads}
+        missing += ["#" + link for link in re.findall(r"\]\(#([^)]+)\)", text) if link not in heads]
+        report.check(not missing, f"{path.relative_to(place.root)} names what isn't there: {', '.join(missing)}")
+
+
+def check_lines(place, report):
+    for path in place.documents():
+        fenced, long = False, []
+        for number, line in enumerate(path.read_text(encoding="utf-8").splitlines(), 1):
+            if line.startswith("```"):
+                fenced = not fenced
+            if len(line) > WIDTH and not fenced and not line.startswith(("|", "    ")):
+                long.append(str(number))
+        name = path.relative_to(place.root)
+        report.check(not long, f"{name} has lines of more than {WIDTH} columns: {', '.join(long)}")
+
+
+# ---- examples
+
+
+def blocks_of(text):
+    """The console blocks of a document that are to be run: the number of the first line, and the lines."""
+    for match in re.finditer(r"^```console *\n(.*?)^```$", text, re.MULTILINE | re.DOTALL):
+        yield text.count("\n", 0, match.start()) + 1, match.group(1).splitlines()
+
+
+def commands_of(lines):
+    """The commands of a block, each with the lines that it prints; a command goes on after a backslash."""
+    found, goes_on = [], False
+    for line in lines:
+        if goes_on:
+            found[-1][0] += "\n" + line
+        elif line.startswith("$ "):
+            found.append([line[2:], []])
+        else:
+            found[-1][1].append(line)
+        goes_on = line.endswith("\\") and (goes_on or line.startswith("$ "))
+    return found
+
+
+def copy_of(place, folder):
+    """A copy of the repository without the crates, and a folder of its commands."""
+    copy = Path(folder, "kati")
+    left_out = shutil.ignore_patterns("crates", ".git", "__pycache__")
+    shutil.copytree(place.root, copy, symlinks=True, ignore=left_out)
+    commands = Path(folder, "bin")
+    commands.mkdir()
+    (commands / "kati").symlink_to(place.kati)
+    for tool in TOOLS:
+        (commands / tool).symlink_to(copy / "tools" / tool)
+    return copy, commands
+
+
+def printed(place, commands):
+    """What the commands of a block print, one after the other in one shell."""
+    with tempfile.TemporaryDirectory(prefix="kati-docs-") as folder:
+        copy, known = copy_of(place, folder)
+        script = "".join(f"{command}\nprintf '{MARK}\\n'\n" for command, _ in commands)
+        variables = {"PATH": f"{known}:{os.environ['PATH']}", "HOME": folder, "LC_ALL": "C.UTF-8", "TERM": "dumb"}
+        out, _ = said("bash", "-c", script, cwd=copy, env=variables)
+        return [part.lstrip("\n") if at else part for at, part in enumerate(out.split(MARK)[:-1])]
+
+
+def in_order(lines):
+    """The lines, where those of ninja's progress are sorted and lose their numbers."""
+    plain = [PROGRESS.sub("[] ", line).rstrip() for line in lines]
+    progress = iter(sorted(line for line in plain if line.startswith("[] ")))
+    return [next(progress) if line.startswith("[] ") else line for line in plain]
+
+
+def fits(wanted, got):
+    """Whether lines are as they are wanted, where ... stands for any."""
+    if not wanted or not got:
+        return all(line == "..." for line in wanted) and (bool(wanted) or not got)
+    if wanted[0] == "...":
+        return fits(wanted[1:], got) or fits(wanted, got[1:])
+    return wanted[0] == got[0] and fits(wanted[1:], got[1:])
+
+
+def check_block(place, report, name, lines):
+    commands = commands_of(lines)
+    try:
+        outputs = printed(place, commands)
+    except subprocess.TimeoutExpired:
+        outputs = []
+    for at, (command, wanted) in enumerate(commands):
+        got = outputs[at].splitlines() if at < len(outputs) else ["(nothing: the shell ended, or took too long)"]
+        report.check(fits(in_order(wanted), in_order(got)), f"{name}: {command}", *(f"+ {line}" for line in got))
+
+
+def check_examples(place, report):
+    missing = [name for name in ("bash", "make", "ninja", "cc") if not shutil.which(name)] + ["kati"] * (not place.kati)
+    for name in RUN:
+        if not (place.root / name).is_file():
+            report.check(False, f"{name} isn't there")
+            continue
+        for number, lines in blocks_of(place.text(name)):
+            if missing:
+                report.skip(f"{name}:{number}: not there: {', '.join(missing)}")
+            else:
+                check_block(place, report, f"{name}:{number}", lines)
+
+
+# ---- scripts and gate
+
+
+def check_scripts(place, report):
+    scripts = sorted(place.root.glob("scripts/*.py"))
+    scripts = [path for path in scripts if "__main__" in path.read_text(encoding="utf-8")]
+    for path in scripts + [place.root / "tools" / tool for tool in TOOLS]:
+        told, status = said(sys.executable, "-B", path, "--help")
+        lacks = [word for word in ("usage:", "example", "exit status") if word not in told.lower()]
+        fine = status == 0 and not lacks
+        report.check(fine, f"{path.relative_to(place.root)} --help: status {status}, without {', '.join(lacks)}")
+
+
+def check_gate(place, report):
+    last = [line for line in place.text(".ci/run").splitlines() if line.strip()][-1]
+    command = last.strip()[len("exec "):] if last.strip().startswith("exec ") else last.strip()
+    commands = re.findall(r"^\$ (.*)$", place.text("README.md"), re.MULTILINE)
+    fine = ".ci/run" in commands or command in commands
+    report.check(fine, f"README names neither .ci/run nor what it runs: {command}")
+
+
+CHECKS = {"options": check_options, "faults": check_faults, "cases": check_cases, "files": check_files,
+          "lines": check_lines, "examples": check_examples, "scripts": check_scripts, "gate": check_gate}
+
+
+class Parser(argparse.ArgumentParser):
+    """A parser that ends with the project's status for wrong usage."""
+
+    def error(self, message):
+        self.print_usage(sys.stderr)
+        self.exit(64, f"{self.prog}: {message}\n")
+
+
+def parser():
+    made = Parser(description=__doc__, formatter_class=argparse.RawDescriptionHelpFormatter)
+    made.add_argument("--kati", metavar="PROGRAM",
+                      help="the program; without it that of the variable KATI, then the built one")
+    made.add_argument("--root", metavar="FOLDER", default=str(HERE),
+                      help="the repository; without it that of this script")
+    made.add_argument("checks", nargs="*", metavar="CHECK", help="a check, as they are named above; all without one")
+    return made
+
+
+def main():
+    made = parser()
+    words = made.parse_args()
+    unknown = [name for name in words.checks if name not in CHECKS]
+    if unknown:
+        made.error(f"no check: {', '.join(unknown)}")
+    root = Path(words.root).resolve()
+    kati = Path(words.kati or os.environ.get("KATI") or root / BUILT).resolve()
+    place, report = Place(root, kati if kati.is_file() else None), Report()
+    for name in words.checks or CHECKS:
+        CHECKS[name](place, report)
+    print(report.last_line())
+    return 1 if report.failed else 0
+
+
+if __name__ == "__main__":
+    sys.exit(main())

@@ -1,0 +1,167 @@
+#!/usr/bin/env python3
+"""Makes a Debian package of the built program, the tools, manual pages, completions and documents.
+
+The package is named kati-ninja, since Debian's package kati holds another program of the same path. Its files are those
+of `make install`. Needed are make, dpkg-deb and the built program, but no root.
+
+examples:
+  scripts/make_deb.py                          kati-ninja_VERSION_ARCHITECTURE.deb in this folder
+  scripts/make_deb.py --output packages        the same in that folder, which has to be there
+  scripts/make_deb.py --program ./kati         of another built program
+
+exit status:
+  0   the package is made, and its path is printed
+  1   something failed, as is said
+  64  wrong usage"""
+import argparse
+import gzip
+import hashlib
+import os
+import re
+import shutil
+import subprocess
+import sys
+import tempfile
+from email.utils import formatdate
+from pathlib import Path
+
+ROOT = Path(__file__).resolve().parent.parent
+BUILT = "crates/kati_program/out/kati_program"
+NAME = "kati-ninja"
+# The version of the C library that has each symbol that the program asks for.
+LIBC = "libc6 (>= 2.34)"
+TEXT = """\
+translates makefiles to Ninja files
+ kati reads a makefile of POSIX make, with a named subset of GNU make, once and
+ writes a Ninja file, so that each later build starts from a file that Ninja
+ loads quickly. It is proved that the file says what the makefile says.
+ .
+ The tools kati-build, kati-port and kati-compare translate and build, tell what
+ in a makefile stands in the way, and compare with make.
+"""
+
+
+class Failure(Exception):
+    """The package can't be made; the text says why."""
+
+
+class Parser(argparse.ArgumentParser):
+    """A parser that ends with the project's status for wrong usage."""
+
+    def error(self, message):
+        self.print_usage(sys.stderr)
+        self.exit(64, f"{self.prog}: {message}\n")
+
+
+def parser():
+    made = Parser(description=__doc__, formatter_class=argparse.RawDescriptionHelpFormatter)
+    made.add_argument("--program", default=BUILT, metavar="FILE", help=f"the built program; {BUILT} without it")
+    made.add_argument("--output", default=".", metavar="FOLDER", help="where the package goes; this folder without it")
+    return made
+
+
+def run(*words, **rest):
+    """The output of a command that has to end well."""
+    try:
+        return subprocess.run(words, check=True, stdout=subprocess.PIPE, text=True, **rest).stdout
+    except (OSError, subprocess.CalledProcessError) as error:
+        raise Failure(f"{words[0]}: {error}") from error
+
+
+def version():
+    """The newest version of CHANGELOG.md."""
+    found = re.search(r"^## (\d[\d.]*)", (ROOT / "CHANGELOG.md").read_text(encoding="utf-8"), re.MULTILINE)
+    if not found:
+        raise Failure("CHANGELOG.md names no version")
+    return found.group(1)
+
+
+def installed(program, tree):
+    """Puts the files of `make install` below the tree, where a package has them."""
+    # Words of a make round this script aren't meant for this one.
+    quiet = {key: value for key, value in os.environ.items() if not key.startswith(("MAKE", "MFLAGS"))}
+    run("make", "-s", "-C", str(ROOT), "install", f"DESTDIR={tree}", "PREFIX=/usr", f"PROGRAM={program}",
+        "ZSH=/usr/share/zsh/vendor-completions", env=quiet)
+
+
+def compress(path):
+    """Puts a compressed file in place of a plain one, without a name and a time in it."""
+    with open(f"{path}.gz", "wb") as out, gzip.GzipFile("", "wb", 9, out, mtime=0) as packed:
+        packed.write(path.read_bytes())
+    path.unlink()
+
+
+def as_debian_has_it(tree):
+    """The program without its symbols, pages and changes compressed, and Python by its path."""
+    run("strip", "--remove-section=.comment", str(tree / "usr/bin/kati"))
+    for page in sorted((tree / "usr/share/man/man1").iterdir()):
+        compress(page)
+    changes = tree / f"usr/share/doc/{NAME}/changelog"
+    changes.write_text(f"{NAME} ({version()}) unstable; urgency=medium\n\n  * CHANGELOG.md says what is new.\n\n"
+                       f" -- {maintainer()}  {formatdate(localtime=True)}\n", encoding="utf-8")
+    compress(changes)
+    for tool in sorted((tree / "usr/bin").iterdir()):
+        text = tool.read_bytes()
+        if text.startswith(b"#!/usr/bin/env python3\n"):
+            tool.write_bytes(text.replace(b"#!/usr/bin/env python3", b"#!/usr/bin/python3", 1))
+
+
+def files_of(tree):
+    """The plain files below the tree, as the package names them."""
+    return sorted(path for path in tree.rglob("*") if path.is_file() and not path.is_symlink())
+
+
+def maintainer():
+    """Who makes the package, as git or the environment names them."""
+    name = os.environ.get("DEBFULLNAME") or asked_of_git("user.name") or "kati"
+    mail = os.environ.get("DEBEMAIL") or asked_of_git("user.email") or "kati@example.org"
+    return f"{name} <{mail}>"
+
+
+def asked_of_git(key):
+    done = subprocess.run(["git", "config", key], cwd=ROOT, stdout=subprocess.PIPE, text=True, check=False)
+    return done.stdout.strip()
+
+
+def control(tree, architecture):
+    """The text of the file `control`."""
+    size = sum(-(-path.stat().st_size // 1024) for path in files_of(tree))
+    return (f"Package: {NAME}\nVersion: {version()}\nArchitecture: {architecture}\nMaintainer: {maintainer()}\n"
+            f"Installed-Size: {size}\nDepends: {LIBC}, python3 (>= 3.8)\nRecommends: ninja-build\n"
+            f"Suggests: make\nConflicts: kati\nSection: devel\nPriority: optional\nDescription: {TEXT}")
+
+
+def package(tree, output):
+    """Writes the package of what is below the tree, and answers its path."""
+    architecture = run("dpkg", "--print-architecture").strip()
+    sums = [f"{hashlib.md5(path.read_bytes()).hexdigest()}  {path.relative_to(tree)}\n" for path in files_of(tree)]
+    text = control(tree, architecture)
+    (tree / "DEBIAN").mkdir(0o755)
+    (tree / "DEBIAN/md5sums").write_text("".join(sums), encoding="utf-8")
+    (tree / "DEBIAN/control").write_text(text, encoding="utf-8")
+    path = output / f"{NAME}_{version()}_{architecture}.deb"
+    run("dpkg-deb", "--root-owner-group", "-Zxz", "--build", str(tree), str(path))
+    return path
+
+
+def main():
+    words = parser().parse_args()
+    program = Path(words.program)
+    scratch = Path(tempfile.mkdtemp(prefix="kati-deb-"))
+    try:
+        os.chmod(scratch, 0o755)
+        if not (ROOT / program).is_file():
+            raise Failure(f"{words.program}: no such file; build the program first, or name it by --program")
+        installed((ROOT / program).resolve(), scratch)
+        as_debian_has_it(scratch)
+        print(package(scratch, Path(words.output)))
+    except Failure as failure:
+        print(f"make_deb.py: {failure}", file=sys.stderr)
+        return 1
+    finally:
+        shutil.rmtree(scratch)
+    return 0
+
+
+if __name__ == "__main__":
+    sys.exit(main())

@@ -1,0 +1,116 @@
+"""scripts/check_docs.py finds what it is for: each test spoils one thing in a copy of the repository."""
+import os
+import re
+import shutil
+import subprocess
+import sys
+import tempfile
+import unittest
+from pathlib import Path
+
+ROOT = Path(__file__).resolve().parent.parent.parent
+KATI = Path(os.environ.get("KATI") or ROOT / "crates/kati_program/out/kati_program").resolve()
+IS_COMPLETE = KATI.is_file() and shutil.which("ninja") and shutil.which("cc")
+SKIPS = unittest.skipUnless(IS_COMPLETE, "not there: kati, ninja or cc")
+
+
+class Spoiling(unittest.TestCase):
+    @classmethod
+    def setUpClass(cls):
+        cls.whole = Path(tempfile.mkdtemp(prefix="kati-test-"))
+        cls.addClassCleanup(shutil.rmtree, cls.whole)
+        left_out = shutil.ignore_patterns("out", ".git", "__pycache__", "proofs", "*.edit")
+        shutil.copytree(ROOT, cls.whole / "as_it_is", symlinks=True, ignore=left_out)
+
+    def setUp(self):
+        self.root = self.whole / self.id().rpartition(".")[2]
+        # Links are quicker than copies; what is spoiled becomes a file of its own.
+        shutil.copytree(self.whole / "as_it_is", self.root, symlinks=True, copy_function=os.link)
+
+    def spoil(self, name, old, new):
+        """Puts a text in the place of another, which has to be there."""
+        path = self.root / name
+        text = path.read_text(encoding="utf-8")
+        self.assertIn(old, text)
+        path.unlink()
+        path.write_text(text.replace(old, new, 1), encoding="utf-8")
+
+    def check(self, *checks, failed):
+        """Runs the script, which has to fail so often, and answers what it said."""
+        words = ["--root", self.root, "--kati", KATI, *checks]
+        done = subprocess.run([sys.executable, "-B", ROOT / "scripts/check_docs.py", *words], stdout=subprocess.PIPE,
+                              stderr=subprocess.STDOUT, text=True, check=False)
+        last = done.stdout.splitlines()[-1]
+        self.assertRegex(last, r"^\d+ passed, \d+ failed(, \d+ skipped)?$", done.stdout)
+        self.assertEqual(int(re.search(r"(\d+) failed", last).group(1)), failed, done.stdout)
+        self.assertEqual(done.returncode, 1 if failed else 0)
+        return done.stdout
+
+    def test_as_it_is(self):
+        self.check("options", "cases", "files", "lines", "gate", failed=0)
+
+    def test_an_option_that_only_the_code_has(self):
+        self.spoil("crates/kati_args/src/command.rt", '.long("depth")', '.long("deep")')
+        # README, the help, the manual page, and the completions of three shells.
+        self.assertIn("--deep", self.check("options", failed=6 if KATI.is_file() else 5))
+
+    def test_an_option_that_a_manual_page_lacks(self):
+        self.spoil("share/man/man1/kati-build.1", ".TP\n.B \\-\\-deps\n", ".TP\n.B deps\n")
+        self.assertIn("kati-build and of its manual page differ: --deps", self.check("options", failed=1))
+
+    def test_an_option_that_a_completion_lacks(self):
+        self.spoil("share/fish/vendor_completions.d/kati.fish", "-l check ", "-l chek ")
+        self.assertIn("--check, --chek", self.check("options", failed=1))
+
+    def test_a_fault_that_the_language_lacks(self):
+        self.spoil("docs/LANGUAGE.md", "| E36 |", "| E37 |")
+        self.assertIn("E36, E37", self.check("faults", failed=2 if KATI.is_file() else 1))
+
+    @unittest.skipUnless(KATI.is_file(), "not there: kati")
+    def test_an_example_of_another_fault(self):
+        row = "`endif` outside a conditional | "
+        self.spoil("docs/LANGUAGE.md", row + "`endif` |", row + "`endef` |")
+        self.assertIn("the example of E11", self.check("faults", failed=1))
+
+    def test_a_makefile_that_is_not_its_case(self):
+        self.spoil("docs/PORTING.md", "VPATH = src\n", "VPATH = source\n")
+        self.check("cases", failed=1)
+
+    def test_a_file_that_is_not_there(self):
+        self.spoil("docs/GATE.md", "scripts/run_cases.py", "scripts/walk_cases.py")
+        self.assertIn("scripts/walk_cases.py", self.check("files", failed=1))
+
+    def test_a_link_that_leads_nowhere(self):
+        self.spoil("docs/PORTING.md", "](#override)", "](#overriding)")
+        self.assertIn("#overriding", self.check("files", failed=1))
+
+    def test_a_long_line(self):
+        self.spoil("README.md", "\n\n", "\n\n" + "x " * 61 + "\n\n")
+        self.assertIn("README.md has lines", self.check("lines", failed=1))
+
+    @SKIPS
+    def test_an_example_that_prints_something_else(self):
+        self.spoil("README.md", "still the same\n```", "the same\n```")
+        self.assertIn("+ still the same", self.check("examples", failed=1))
+
+    @SKIPS
+    def test_an_example_that_prints_nothing(self):
+        self.spoil("docs/USING.md", "$ kati-compare\nsame: 3 commands", "$ kati-compare > log\nsame: 3 commands")
+        self.check("examples", failed=1)
+
+    def test_a_script_without_help(self):
+        self.spoil("scripts/make_deb.py", "exit status:", "ends:")
+        self.assertIn("make_deb.py --help: status 0, without exit status", self.check("scripts", failed=1))
+
+    def test_a_gate_that_readme_does_not_name(self):
+        self.spoil("README.md", "$ .ci/run", "$ ci/run")
+        self.check("gate", failed=1)
+
+    def test_a_check_that_is_none(self):
+        words = [sys.executable, "-B", ROOT / "scripts/check_docs.py", "everything"]
+        done = subprocess.run(words, stderr=subprocess.PIPE, check=False)
+        self.assertEqual(done.returncode, 64)
+
+
+if __name__ == "__main__":
+    unittest.main()

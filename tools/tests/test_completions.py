@@ -1,0 +1,141 @@
+"""The completions: each is loaded by its shell and asked, in a folder with a makefile of its own."""
+import os
+import pty
+import re
+import select
+import shutil
+import subprocess
+import tempfile
+import time
+import unittest
+from pathlib import Path
+
+SHARE = Path(__file__).resolve().parent.parent.parent / "share"
+MAKEFILE = """\
+CC = cc
+FLAGS := -O1
+all lib: x.o
+.PHONY: all
+%.o: %.c
+\tcc $<
+x.o: x.c ; cc: $(CC)
+"""
+OTHER = "OTHER ?= 1\nother:\n\ttrue\n"
+
+# The words up to the cursor, and what is to be offered, whatever else is.
+ASKED = [
+    ("kati ", ["all", "lib", "x.o", "CC=", "FLAGS="]),
+    ("kati a", ["all"]),
+    ("kati --", ["--ninja", "--files", "--check", "--depth", "--help"]),
+    ("kati -f o", ["other.mk"]),
+    ("kati --files s", ["sources.txt"]),
+    ("kati --check b", ["build.ninja"]),
+    ("kati -f other.mk ", ["other", "OTHER="]),
+    ("kati-build --", ["--files-from", "--files", "--deps", "--builtin", "--no-ninja", "--compile-commands", "--kati"]),
+    ("kati-build --files-from g", ["git"]),
+    ("kati-build l", ["lib"]),
+    ("kati-port --", ["--macros", "--builtin", "--files-from", "--kati"]),
+    ("kati-port o", ["other.mk"]),
+    ("kati-compare --", ["--build", "--builtin", "--files-from", "--kati", "--depth"]),
+]
+# What a terminal is told beside text.
+CODES = re.compile(r"\x1b\[[0-9;?]*[a-zA-Z]|\x07")
+# What is never offered.
+NEVER = {"%.o", ".PHONY", "cc"}
+
+
+class Completing(unittest.TestCase):
+    def setUp(self):
+        self.folder = tempfile.mkdtemp(prefix="kati-test-")
+        self.addCleanup(shutil.rmtree, self.folder)
+        for name, text in (("Makefile", MAKEFILE), ("other.mk", OTHER), ("sources.txt", ""), ("build.ninja", "")):
+            Path(self.folder, name).write_text(text, encoding="utf-8")
+
+    def ask(self, offered):
+        """Asks all of the table by a function of the line, which answers the words that are offered."""
+        for line, wanted in ASKED:
+            with self.subTest(line):
+                words = offered(line)
+                self.assertEqual([word for word in wanted if word not in words], [], words)
+                self.assertEqual(NEVER & set(words), set())
+
+    @unittest.skipUnless(shutil.which("bash"), "not there: bash")
+    def test_bash(self):
+        def offered(line):
+            words = line.split(" ")
+            script = (f'source {SHARE}/bash-completion/completions/kati; COMP_WORDS=("$@"); COMP_CWORD=$(($# - 1)); '
+                      f'_kati "$1"; printf "%s\\n" "${{COMPREPLY[@]}}"')
+            done = subprocess.run(["bash", "-c", script, "bash", *words], cwd=self.folder, stdout=subprocess.PIPE,
+                                  text=True, check=True)
+            return done.stdout.split("\n")
+
+        self.ask(offered)
+
+    @unittest.skipUnless(shutil.which("bash"), "not there: bash")
+    def test_bash_asks_for_each_command(self):
+        script = f"source {SHARE}/bash-completion/completions/kati; complete -p kati kati-build kati-port kati-compare"
+        done = subprocess.run(["bash", "-c", script], stdout=subprocess.PIPE, text=True, check=True)
+        self.assertEqual(len(done.stdout.splitlines()), 4)
+
+    @unittest.skipUnless(shutil.which("fish"), "not there: fish")
+    def test_fish(self):
+        def offered(line):
+            script = f"source {SHARE}/fish/vendor_completions.d/kati.fish; complete -C '{line}'"
+            done = subprocess.run(["fish", "--no-config", "-c", script], cwd=self.folder, stdout=subprocess.PIPE,
+                                  text=True, env={**os.environ, "HOME": self.folder}, check=True)
+            return [word.split("\t")[0] for word in done.stdout.splitlines()]
+
+        self.ask(offered)
+
+    @unittest.skipUnless(shutil.which("zsh"), "not there: zsh")
+    def test_zsh(self):
+        shell = Terminal(["zsh", "-f", "-i"], self.folder)
+        self.addCleanup(shell.close)
+        shell.send(f"fpath=({SHARE}/zsh/site-functions $fpath); autoload -Uz compinit; compinit -u -D\n")
+        shell.send("bindkey '^X' list-choices; LISTMAX=1000; PS1='> '; print re''ady\n")
+        shell.read_until("ready\r\n", 20)
+        shell.read_until("> ")
+        self.ask(shell.offered)
+
+
+class Terminal:
+    """A shell that thinks that somebody types."""
+
+    def __init__(self, words, folder):
+        self.shown = ""
+        self.process, self.end = pty.fork()
+        if self.process == 0:
+            os.chdir(folder)
+            variables = {"PATH": os.environ["PATH"], "HOME": folder, "TERM": "dumb", "COLUMNS": "200"}
+            os.execvpe(words[0], words, {**variables, "LC_ALL": "C.UTF-8"})
+
+    def send(self, text):
+        os.write(self.end, text.encode())
+
+    def read_until(self, mark, seconds=5):
+        """What is shown up to the mark; what comes after it is left for the next call."""
+        last = time.monotonic() + seconds
+        while mark not in self.shown and time.monotonic() < last:
+            if select.select([self.end], [], [], 0.2)[0]:
+                self.shown += CODES.sub("", os.read(self.end, 65536).decode(errors="replace"))
+        before, _, self.shown = self.shown.partition(mark)
+        return before
+
+    def offered(self, line):
+        """The words that control-X lists after a line, which is shown again then; control-U takes it away.
+
+        What is typed before the list is there would keep zsh from listing."""
+        self.send(line + "\x18")
+        shown = self.read_until("> " + line)
+        self.send("\x15print do''ne\n")
+        self.read_until("done\r\n")
+        self.read_until("> ")
+        return shown.split("\n", 1)[-1].split()
+
+    def close(self):
+        os.close(self.end)
+        os.waitpid(self.process, 0)
+
+
+if __name__ == "__main__":
+    unittest.main()

@@ -1,0 +1,45 @@
+"""The manual pages: nothing that man or mandoc has to say of them."""
+import os
+import shutil
+import subprocess
+import unittest
+from pathlib import Path
+
+PAGES = sorted((Path(__file__).resolve().parent.parent.parent / "share/man/man1").glob("*.1"))
+PARTS = ["NAME", "SYNOPSIS", "DESCRIPTION", "OPTIONS", "EXIT STATUS", "FILES", "EXAMPLES", "DIFFERENCES FROM MAKE",
+         "SEE ALSO"]
+
+
+def told(*words, **variables):
+    """What a command writes to the standard output and the standard error."""
+    return subprocess.run([str(word) for word in words], stdout=subprocess.PIPE, stderr=subprocess.PIPE, text=True,
+                          env={**os.environ, **variables}, check=False)
+
+
+class Pages(unittest.TestCase):
+    def test_there_is_one_for_each_command(self):
+        self.assertEqual([page.name for page in PAGES], ["kati-build.1", "kati-compare.1", "kati-port.1", "kati.1"])
+
+    def test_each_has_its_parts_in_order(self):
+        for page in PAGES:
+            with self.subTest(page.name):
+                heads = [line[4:] for line in page.read_text(encoding="utf-8").splitlines() if line.startswith(".SH ")]
+                self.assertEqual([head for head in heads if head != "ENVIRONMENT"], PARTS)
+
+    @unittest.skipUnless(shutil.which("mandoc"), "not there: mandoc")
+    def test_mandoc_finds_nothing(self):
+        for page in PAGES:
+            with self.subTest(page.name):
+                self.assertEqual(told("mandoc", "-Tlint", page).stdout, "")
+
+    @unittest.skipUnless(shutil.which("man"), "not there: man")
+    def test_man_warns_of_nothing(self):
+        for page in PAGES:
+            with self.subTest(page.name):
+                done = told("man", "--warnings", "-E", "UTF-8", "-l", "-Tutf8", "-Z", page, LC_ALL="C.UTF-8",
+                            MANWIDTH="80")
+                self.assertEqual((done.returncode, done.stderr), (0, ""))
+
+
+if __name__ == "__main__":
+    unittest.main()
