@@ -7,6 +7,10 @@ Each macro of builtin-macros.mk must have the value that `make -p` tells, each r
 and no rule of the languages that they are for may be absent: C, C++, assembler, lex and yacc. Then make and kati
 are asked for the commands of a small tree of such sources. Blanks at the ends of a command don't count.
 
+examples:
+  scripts/check_builtin.py
+  scripts/check_builtin.py --kati crates/kati_program/out/kati_program
+
 The exit status is 0 where all agree, 1 where something differs, 3 where a program isn't there.
 """
 import argparse

@@ -12,16 +12,17 @@ them, to a Ninja file, and writes that to the standard output.";
 
 const AFTER: &str = "\
 Examples:
-  kati > build.ninja             translates `makefile`, or else `Makefile`
+  kati > build.ninja.new && mv build.ninja.new build.ninja
+                                 translates `makefile`, or else `Makefile`; a fault leaves build.ninja as it is
   kati -f lib.mk CC=clang all    translates lib.mk for the target `all`, where CC is `clang`
 
 Exit status:
-  0   the Ninja file is written; with --check: FILE says the same build
-  1   with --check: FILE says another build, is no Ninja file that can be read, or isn't there
-  2   the makefile has a fault, which is told; nothing is written
+  0   the Ninja file is written; with --check: FILE says the same
+  1   with --check: FILE says something else, can't be read as a Ninja file, or isn't there
+  2   the makefile has a fault, as the standard error says; no Ninja file is written
   3   a file can't be read, or an output can't be written
-  4   there isn't memory enough
-  64  the command line is wrong";
+  4   out of memory
+  64  wrong usage";
 
 fn makefile<'a>(alloc: Global) -> Arg<'a>
     ensures rule { rule_of result ≡ makefile_rule }
@@ -41,7 +42,7 @@ fn ninja<'a>(alloc: Global) -> Arg<'a>
     Arg::new(alloc, "ninja")
         .long("ninja")
         .action(ArgAction::SetTrue)
-        .help("Writes a Ninja file, which is always done")
+        .help("Accepted; a Ninja file is always written")
 }
 
 /// An option that names a file.
@@ -75,7 +76,7 @@ fn words<'a>(alloc: Global) -> Arg<'a>
     Arg::new(alloc, "words")
         .value_name("GOAL|NAME=VALUE")
         .action(ArgAction::Append)
-        .help("A target to be made, or a macro, which the makefile doesn't change")
+        .help("A target to be made, or a macro, which overrides the makefile's assignments")
 }
 
 /// The command line of kati.
@@ -95,7 +96,7 @@ pub(crate) fn command<'a>(alloc: Global) -> Result<Command<'a>, AllocError>
         .arg(file(
             alloc,
             "check",
-            "Writes nothing; the exit status tells whether FILE says the same build",
+            "Writes no Ninja file; the exit status says whether FILE has the same statements",
         ))?
         .arg(depth(alloc))?
         .arg(words(alloc))

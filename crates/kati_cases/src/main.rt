@@ -13,7 +13,7 @@ use std::fs;
 use std::io::{Read, Write};
 
 /// The files of cases, without their ending.
-const FILES: [&str; 27] = [
+const FILES: [&str; 28] = [
     "worked",
     "lines_and_terms",
     "lines_and_comments",
@@ -41,6 +41,7 @@ const FILES: [&str; 27] = [
     "outputs",
     "hostile",
     "depth",
+    "porting",
 ];
 
 fn main(rt: HostRuntime) -> Result<()> {
