@@ -1,4 +1,5 @@
 //! The words that the host gives a program.
+ghost use Rattle.std.specs.Prelude.{◌≤◌};
 ghost use Rattle.kati_host.specs.Refused.{Refuses};
 ghost use Rattle.kati_host.specs.declared.words.Wordless.TheVariants.{NotText};
 
@@ -30,7 +31,9 @@ impl Wordless {
 
     /// The exit status of a program that got no words, after telling why, as far as the error output takes it.
     pub fn refuse<E: Sink>(self, err: &mut E) -> u8
-        ensures { Refuses self result (E.failed err.old) (E.failed err.new) (E.written err.old) (E.written err.new) }
+        ensures told { Refuses self result (E.failed err.old) (E.failed err.new) (E.written err.old)
+            (E.written err.new) }
+        ensures counts { E.failed err.old ≤ E.failed err.new }
     {
         match self {
             Wordless::NotText => refuse_bytes(err),
@@ -40,7 +43,9 @@ impl Wordless {
 }
 
 fn refuse_bytes<E: Sink>(err: &mut E) -> u8
-    ensures { Refuses NotText result (E.failed err.old) (E.failed err.new) (E.written err.old) (E.written err.new) }
+    ensures told { Refuses NotText result (E.failed err.old) (E.failed err.new) (E.written err.old)
+        (E.written err.new) }
+    ensures counts { E.failed err.old ≤ E.failed err.new }
 {
     let _ = put(err, b"kati: a word is not UTF-8\n");
     USAGE
