@@ -181,12 +181,8 @@ def check_options(place, report):
 
 
 def faults_of_code(place):
-    """The numbers in the tables of faults, which are matches in functions named `number`."""
-    found = set()
-    for path in place.root.glob("crates/*/src/**/*.rt"):
-        for body in re.findall(r"fn number\(.*?^    }$", path.read_text(encoding="utf-8"), re.MULTILINE | re.DOTALL):
-            found |= {f"E{int(number):02}" for number in FAULT.findall(body)}
-    return found
+    """The numbers in the table of faults, which is a match to pairs of a number and words."""
+    return {f"E{int(number):02}" for number in FAULT.findall(place.text("crates/kt_rules/src/fault_kind.rt"))}
 
 
 def rows_of_faults(text):

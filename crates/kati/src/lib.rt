@@ -19,7 +19,7 @@ mod words;
 pub use faults::RunFault;
 pub use kati_args::{ArgFault, Args, args_of};
 pub use outcome::Outcome;
-pub use program::{USAGE, finish, whole};
+pub use program::{USAGE, finish, refuse, whole};
 pub use running::run;
 pub use status::Status;
 pub use translating::translate;

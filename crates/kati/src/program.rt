@@ -85,7 +85,7 @@ fn give_help<O: Sink, E: Sink>(out: &mut O, err: &mut E, text: &str) -> u8
 }
 
 /// The exit status of words that ask for no run, after telling why.
-fn refuse<O: Sink, E: Sink>(out: &mut O, err: &mut E, fault: &ArgFault) -> u8
+pub fn refuse<O: Sink, E: Sink>(out: &mut O, err: &mut E, fault: &ArgFault) -> u8
     ensures { RefusesBy fault.now result (O.failed out.old) (O.failed out.new) (E.failed err.old) (E.failed err.new)
         (O.written out.old) (O.written out.new) (E.written err.old) (E.written err.new) }
 {

@@ -1,68 +1,15 @@
-//! The host's files and outputs. No contract tells what they hold.
-ghost use Rattle.std.specs.Prelude.{◌≡◌, ◌<◌, ◌≤◌, ◌↔◌, [], None, map, string_bytes, IfErr, IfOk, IfSome, IsNone, IsOk};
-ghost use Rattle.std.specs.Prelude.{length, vec_len};
+//! The host's files. No contract tells what they hold.
+ghost use Rattle.std.specs.Prelude.{◌≡◌, ◌≤◌, ◌↔◌, [], None, map, string_bytes, vec_len, IfErr, IfOk, IsNone, IsOk};
 
 use kt_eval::{FileFault, Files};
-use kt_ninja::{Sink, SinkFault};
 use std::fs;
-use std::io::{ErrorKind, Read, Write};
+use std::io::{ErrorKind, Read};
 
 /// The most bytes, and the most calls, that reading one file takes. With it every read of a file ends.
 const MOST: usize = 1_073_741_824;
 
 /// The bytes that one call reads. The block is cleared once for each file, which for a small file is most of the work.
 const BLOCK: usize = 16_384;
-
-/// One of the process's outputs. Each write is flushed.
-#[derive(Drop)]
-pub struct HostSink<W: Write + Drop> {
-    output: W,
-    failures: u64,
-}
-
-impl<W: Write + Drop> HostSink<W> {
-    /// An output of which no write failed yet.
-    pub fn new(output: W) -> HostSink<W>
-        ensures { result.failures ≡ 0 }
-    {
-        HostSink {
-            output,
-            failures: 0,
-        }
-    }
-}
-
-/// Writes and flushes; `None` where either fails, or nothing was taken.
-fn send<W: Write>(output: &mut W, piece: &[u8]) -> Option<usize>
-    ensures { IfSome result (λ n. (0 < n) × (n ≤ length piece.now)) }
-{
-    let count = output.write(piece).ok()?;
-    output.flush().ok()?;
-    if count > 0 { Some(count) } else { None }
-}
-
-impl<W: Write + Drop> Sink for HostSink<W> {
-    ghost written = { λ _. None };
-
-    ghost failed = { λ s. s.failures };
-
-    fn write(&mut self, piece: &[u8]) -> Result<usize, SinkFault> {
-        if piece.is_empty() {
-            return Ok(0);
-        }
-        match send(&mut self.output, piece) {
-            Some(count) => Ok(count),
-            None => {
-                self.failures = self.failures.saturating_add(1);
-                Err(SinkFault)
-            }
-        }
-    }
-
-    fn failures(&self) -> u64 {
-        self.failures
-    }
-}
 
 /// The host's files, by paths from the current directory.
 #[derive(Drop)]

@@ -1,0 +1,52 @@
+//! The words that the host gives a program.
+ghost use Rattle.std.specs.Prelude.{◌≤◌};
+ghost use Rattle.kati_host.specs.Refused.{Refuses};
+ghost use Rattle.kati_host.specs.declared.words.Wordless.TheVariants.{NotText};
+
+use kati::{RunFault, USAGE, finish};
+use kt_ninja::{Sink, put};
+use std::env;
+use std::io::ErrorKind;
+
+/// Why the host gave no words.
+#[derive(Debug, Drop, Clone, Copy, PartialEq, Eq)]
+pub enum Wordless {
+    /// A word isn't UTF-8.
+    NotText,
+    Memory,
+}
+
+/// The words of the command line, of which the first is the program's name.
+pub fn words_of(rt: &HostRuntime) -> Result<Vec<String>, Wordless> {
+    let words = env::args(rt).map_err(|error| match error.kind() {
+        ErrorKind::OutOfMemory => Wordless::Memory,
+        _ => Wordless::NotText,
+    })?;
+    words.collect(rt.alloc()).map_err(|_| Wordless::Memory)
+}
+
+impl Wordless {
+    ghost use Rattle.std.specs.Prelude.{◌≤◌};
+    ghost use Rattle.kati_host.specs.Refused.{Refuses};
+
+    /// The exit status of a program that got no words, after telling why, as far as the error output takes it.
+    pub fn refuse<E: Sink>(self, err: &mut E) -> u8
+        ensures told { Refuses self result (E.failed err.old) (E.failed err.new) (E.written err.old)
+            (E.written err.new) }
+        ensures counts { E.failed err.old ≤ E.failed err.new }
+    {
+        match self {
+            Wordless::NotText => refuse_bytes(err),
+            Wordless::Memory => finish(err, Err(RunFault::Memory)),
+        }
+    }
+}
+
+fn refuse_bytes<E: Sink>(err: &mut E) -> u8
+    ensures told { Refuses NotText result (E.failed err.old) (E.failed err.new) (E.written err.old)
+        (E.written err.new) }
+    ensures counts { E.failed err.old ≤ E.failed err.new }
+{
+    let _ = put(err, b"kati: a word is not UTF-8\n");
+    USAGE
+}

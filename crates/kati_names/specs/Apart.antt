@@ -1,0 +1,13 @@
+-- That the lines tell the names apart (kati's own).
+use Rattle.std.specs.Prelude.{◌≡◌, Bool, false, ◌==◌, List}
+use Rattle.std.specs.List.{list_any}
+use Rattle.kt_text.specs.Words.{Text}
+use Rattle.kati_names.specs.Names.{names_text}
+
+abbrev pub has_newline : Text → Bool
+has_newline name = list_any (λ byte. byte == 10) name
+
+-- no two lists of names that hold no newline are written alike
+abbrev pub LinesTellNames : Type 0
+LinesTellNames = (one other : List Text) → list_any has_newline one ≡ false → list_any has_newline other ≡ false
+    → names_text one ≡ names_text other → one ≡ other

@@ -1,0 +1,54 @@
+//! The names of a run as text.
+ghost use Rattle.std.specs.Prelude.{◌≡◌, IfOk, map, string_bytes};
+ghost use Rattle.kati_names.specs.Names.{NamesAfter, PutsNames, names_text};
+
+use kati::{RunFault, Status};
+use kt_eval::Files;
+use kt_ninja::{Sink, put};
+use std::alloc::{AllocError, Global};
+
+/// Each name on a line of its own.
+fn names_text(alloc: Global, names: &[String]) -> Result<Vec<u8>, AllocError>
+    ensures { IfOk result (λ text. text.items ≡ names_text (map string_bytes names.now)) }
+{
+    let mut text = Vec::new(alloc);
+    for name in names {
+        text.extend_from_slice(name.as_bytes())?;
+        text.push(b'\n')?;
+    }
+    Ok(text)
+}
+
+/// Puts out the names after a run with this status, at once. Where there is no memory for them, nothing is put out.
+fn put_names<O: Sink>(
+    alloc: Global,
+    status: Status,
+    names: &[String],
+    out: &mut O,
+) -> Result<Status, RunFault>
+    ensures { PutsNames status result (map string_bytes names.now) (O.failed out.old) (O.failed out.new)
+        (O.written out.old) (O.written out.new) }
+{
+    let text = names_text(alloc, names)?;
+    match put(out, text.as_slice()) {
+        Ok(()) => Ok(status),
+        Err(_) => Err(RunFault::WriteOut),
+    }
+}
+
+/// How the program ends after a run: where that came to its end, also at a fault of the makefile, the names that were
+/// asked for are put out.
+pub(crate) fn with_names<F: Files, O: Sink>(
+    alloc: Global,
+    run: Result<Status, RunFault>,
+    files: &F,
+    out: &mut O,
+) -> Result<Status, RunFault>
+    ensures { NamesAfter run result (F.names files.now) (O.failed out.old) (O.failed out.new)
+        (O.written out.old) (O.written out.new) }
+{
+    match run {
+        Ok(status) => put_names(alloc, status, files.asked(), out),
+        Err(fault) => Err(fault),
+    }
+}

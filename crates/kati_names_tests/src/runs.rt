@@ -1,0 +1,261 @@
+//! Runs over memory, whose files and outputs may fail.
+use kati_names::asked_names;
+use kt_eval::MemFiles;
+use kt_ninja::MemSink;
+use std::alloc::Global;
+use std::process::Abort;
+
+/// A run whose devices don't fail: the words after the program's name, the files, the names that are written, the exit
+/// status, and the error output.
+type Row = (
+    &'static [&'static str],
+    &'static [(&'static str, &'static [u8])],
+    &'static [&'static str],
+    u8,
+    &'static [u8],
+);
+
+const RULE: &[u8] = b"a.o: a.c\n\tcc -c a.c -o a.o\n";
+
+const ROWS: [Row; 9] = [
+    (
+        &[],
+        &[("Makefile", RULE)],
+        &["makefile", "Makefile"],
+        0,
+        b"",
+    ),
+    (&[], &[("makefile", RULE)], &["makefile"], 0, b""),
+    // Absent names are among them, and one that is asked for twice.
+    (
+        &["-f", "m"],
+        &[
+            ("m", b"include a.mk\n-include b.mk\ninclude a.mk\nt: ; x\n"),
+            ("a.mk", b"-include c.mk\n"),
+        ],
+        &["m", "a.mk", "c.mk", "b.mk", "a.mk", "c.mk"],
+        0,
+        b"",
+    ),
+    (
+        &["--files", "l"],
+        &[
+            ("Makefile", b"%.o: %.c ; cc $<\nall: x.o\n"),
+            ("l", b"x.c\n"),
+        ],
+        &["l", "makefile", "Makefile"],
+        0,
+        b"",
+    ),
+    // The file to be checked is asked for last.
+    (
+        &["--check", "o"],
+        &[("Makefile", RULE)],
+        &["makefile", "Makefile", "o"],
+        1,
+        b"",
+    ),
+    (
+        &[],
+        &[("Makefile", b"$(info hi)\nt: ; x\n")],
+        &["makefile", "Makefile"],
+        0,
+        b"hi\n",
+    ),
+    // The names up to a fault of the makefile.
+    (
+        &[],
+        &[
+            ("Makefile", b"include a.mk\ninclude no.mk\ninclude b.mk\n"),
+            ("a.mk", b""),
+        ],
+        &["makefile", "Makefile", "a.mk", "no.mk"],
+        2,
+        b"Makefile:2: *** no file no.mk [E04]\n",
+    ),
+    (
+        &["z"],
+        &[("Makefile", RULE)],
+        &["makefile", "Makefile"],
+        2,
+        b"kati: *** no rule for z [E27]\n",
+    ),
+    (
+        &["CC:=x"],
+        &[("Makefile", RULE)],
+        &[],
+        64,
+        b"kati: bad macro CC:=x\n",
+    ),
+];
+
+const CANNOT_WRITE: &[u8] = b"kati: cannot write\n";
+
+const HELP_LEAD: &[u8] = b"kati-asked writes the names that kati asks for:\n\n";
+
+/// Which read fails, or 0, and the room of each output and how much it takes in a call.
+type Devices = (u64, (usize, usize), (usize, usize));
+
+const AMPLE: (usize, usize) = (4096, 4096);
+
+fn put(text: &mut Vec<u8>, part: &[u8]) {
+    let _refused = text.extend_from_slice(part);
+}
+
+/// The names, each on a line.
+fn lines(alloc: Global, names: &[&str]) -> Vec<u8> {
+    let mut text = Vec::new(alloc);
+    for name in names {
+        put(&mut text, name.as_bytes());
+        put(&mut text, b"\n");
+    }
+    text
+}
+
+/// An outcome as one text: the exit status, and what both outputs hold.
+fn outcome(alloc: Global, status: u8, out: &[u8], err: &[&[u8]]) -> Vec<u8> {
+    let mut told = Vec::new(alloc);
+    put(&mut told, &[status]);
+    put(&mut told, b"\nout: ");
+    put(&mut told, out);
+    put(&mut told, b"\nerr: ");
+    for part in err {
+        put(&mut told, part);
+    }
+    told
+}
+
+fn words_of(rt: &impl Abort, alloc: Global, further: &[&str]) -> Vec<String> {
+    let mut words = Vec::new(alloc);
+    words
+        .push("kati-asked".to_string(alloc).expect(rt, "memory"))
+        .ok()
+        .expect(rt, "memory");
+    for word in further {
+        words
+            .push(word.to_string(alloc).expect(rt, "memory"))
+            .ok()
+            .expect(rt, "memory");
+    }
+    words
+}
+
+fn files_of(rt: &impl Abort, alloc: Global, files: &[(&str, &[u8])], nth: u64) -> MemFiles {
+    let mut pairs = Vec::new(alloc);
+    for (name, text) in files {
+        let name = name.to_string(alloc).expect(rt, "memory");
+        let text = Vec::from_slice(alloc, text).expect(rt, "memory");
+        pairs.push((name, text)).ok().expect(rt, "memory");
+    }
+    MemFiles::new(alloc, pairs, nth)
+}
+
+fn sink(rt: &impl Abort, alloc: Global, (room, step): (usize, usize)) -> MemSink {
+    MemSink::new(alloc, room, step).expect(rt, "memory")
+}
+
+/// Calls. It stands apart so that what the contract says burdens no other proof.
+fn exit(
+    alloc: Global,
+    words: &[String],
+    files: &mut MemFiles,
+    out: &mut MemSink,
+    err: &mut MemSink,
+) -> u8 {
+    asked_names(alloc, words, files, out, err)
+}
+
+/// The outcome of the program on the row's words and files, with these devices.
+fn ended(rt: &impl Abort, alloc: Global, row: &Row, (nth, out, err): Devices) -> Vec<u8> {
+    let words = words_of(rt, alloc, row.0);
+    let mut files = files_of(rt, alloc, row.1, nth);
+    let mut out = sink(rt, alloc, out);
+    let mut err = sink(rt, alloc, err);
+    let status = exit(alloc, words.as_slice(), &mut files, &mut out, &mut err);
+    outcome(alloc, status, out.as_slice(), &[err.as_slice()])
+}
+
+/// The run of a row with these devices ends so.
+fn check(
+    rt: &impl Abort,
+    alloc: Global,
+    row: &Row,
+    devices: Devices,
+    status: u8,
+    (out, err): (&[u8], &[&[u8]]),
+) {
+    let wanted = outcome(alloc, status, out, err);
+    let told = ended(rt, alloc, row, devices);
+    assert_eq!(rt; told.as_slice(), wanted.as_slice());
+}
+
+#[test]
+fn writes_names_with_ample_room_and_by_a_byte_a_call(rt: HostRuntime) {
+    for row in ROWS {
+        let names = lines(rt.alloc(), row.2);
+        let told = [row.4];
+        let held = (names.as_slice(), told.as_slice());
+        check(&rt, rt.alloc(), &row, (0, AMPLE, AMPLE), row.3, held);
+        let slow = (4096, 1);
+        check(&rt, rt.alloc(), &row, (0, slow, slow), row.3, held);
+    }
+}
+
+/// After a read that fails no name is written: its own is told.
+#[test]
+fn stops_at_each_read_that_fails(rt: HostRuntime) {
+    for row in ROWS {
+        for before in 0..row.2.len() {
+            let name = row.2[before];
+            let devices = (before as u64 + 1, AMPLE, AMPLE);
+            let told: [&[u8]; 3] = [b"kati: cannot read ", name.as_bytes(), b"\n"];
+            check(&rt, rt.alloc(), &row, devices, 3, (b"", &told));
+        }
+    }
+}
+
+/// An output that fails after any number of bytes holds these.
+#[test]
+fn stops_at_each_byte_of_the_output(rt: HostRuntime) {
+    for row in ROWS {
+        let names = lines(rt.alloc(), row.2);
+        for room in 0..names.len() {
+            let told = [row.4, CANNOT_WRITE];
+            let held = (&names[..room], told.as_slice());
+            check(&rt, rt.alloc(), &row, (0, (room, 4096), AMPLE), 3, held);
+        }
+    }
+}
+
+/// Of an error output that fails nothing more is told, and no name is written.
+#[test]
+fn stops_at_each_byte_of_the_error_output(rt: HostRuntime) {
+    for row in ROWS {
+        if row.3 < 64 {
+            for room in 0..row.4.len() {
+                let told = [&row.4[..room]];
+                let held = (b"".as_slice(), told.as_slice());
+                check(&rt, rt.alloc(), &row, (0, AMPLE, (room, 4096)), 3, held);
+            }
+        }
+    }
+}
+
+/// The help is kati's, under a line that says whose program it is.
+#[test]
+fn helps_as_kati_does(rt: HostRuntime) {
+    let row: Row = (&["--help"], &[], &[], 0, b"");
+    let told = ended(&rt, rt.alloc(), &row, (0, AMPLE, AMPLE));
+    let wanted = outcome(rt.alloc(), 0, HELP_LEAD, &[]);
+    let lead = wanted.as_slice().strip_suffix(b"\nerr: ");
+    if let Some(lead) = lead {
+        assert!(rt; told.as_slice().starts_with(lead));
+        assert!(rt; told.len() > wanted.len() + 100);
+    } else {
+        assert!(rt; false);
+    }
+    let cut = (HELP_LEAD.len() - 1, 4096);
+    let told = [CANNOT_WRITE];
+    let held = (&HELP_LEAD[..cut.0], told.as_slice());
+    check(&rt, rt.alloc(), &row, (0, cut, AMPLE), 3, held);
+}
