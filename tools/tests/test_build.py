@@ -118,8 +118,11 @@ class Regenerating(Tree):
     """What plain ninja does after kati-build."""
 
     def start(self, *words):
+        """Builds, until not even the folders are newer than the translation: what comes then comes of an edit alone."""
         ran = self.tool("kati-build", *words)
         self.assertEqual(ran.status, 0, ran.all)
+        self.ninja()
+        self.assertEqual(self.run_in("ninja").out, "ninja: no work to do.\n")
 
     def test_an_edit_in_an_include(self):
         self.copy_example()
@@ -216,18 +219,23 @@ class Regenerating(Tree):
         self.ninja()
         self.assertEqual(self.read("build.kati/files.txt"), "".join(sorted([*listed.splitlines(True), "new.h\n"])))
 
-    def test_a_made_source_whose_rule_is_gone_is_a_source(self):
-        rule = "gen.c: ; echo 'int x;' > gen.c\n"
-        pattern = "all: gen.o\n%.o: %.c\n\tcc -c $< -o $@\n"
+    def lose_rule(self, goal):
+        """A source that is made loses its rule."""
+        rule, pattern = "gen.c: ; echo 'int x;' > gen.c\n", "all: gen.o\n%.o: %.c\n\tcc -c $< -o $@\n"
         self.write(Makefile=pattern + rule)
-        self.start()
-        self.ninja()
+        self.start(goal)
         self.assertNotIn("gen.c\n", self.read("build.kati/files.txt"))
         self.put("Makefile", pattern)
         self.ninja()
         self.assertIn("gen.c\n", self.read("build.kati/files.txt"))
         self.touch("gen.c")
         self.assertEqual(self.made_anew(self.ninja), ["gen.o"])
+
+    def test_a_made_source_whose_rule_is_gone_is_a_source(self):
+        self.lose_rule("all")
+
+    def test_so_it_is_where_kati_would_find_no_rule_without_it(self):
+        self.lose_rule("gen.o")
 
     def test_an_include_that_the_build_makes(self):
         rule = "made.mk: from.txt ; sed s/^/A=/ from.txt > made.mk\n"

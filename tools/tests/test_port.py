@@ -33,6 +33,7 @@ REFUSED = [
     ("a b &: c\nall: ; echo\n", 1, "E35"),
     ("A = b\n\tifdef A\nall: ; echo\n\tendif\n", 2, "E06"),
     ("A = b\n\techo\nall: ; echo\n", 2, "E06"),
+    ("ifdef NO\nx: y\nendif\n\tifdef A\nall: ; echo\n\tendif\n", 4, "E06"),
     ("ifeq(a,b)\nall: ; echo\nendif\n", 1, "E05"),
     ("a b = c\nall: ; echo\n", 1, "E05"),
     ("include no.mk\nall: ; echo\n", 1, "E04"),

@@ -1,9 +1,11 @@
 """kati's commands without the shell round them, and the simple commands in a shell's text."""
+import re
 import shlex
 
 AND = " && "
 IGNORED = " || :; }"
 STOPS = set("();<>|&")
+SPECIAL = re.compile(r"""[();<>|&'"\\]""")
 
 
 class Piece:
@@ -46,6 +48,9 @@ def pieces(command):
 
 def simple_commands(text):
     """The words of each simple command in a shell's text; none where its quotes don't close."""
+    if not SPECIAL.search(text):
+        # As most are; shlex takes a hundred times as long.
+        return [text.split()] if text.strip() else []
     reader = shlex.shlex(text, posix=True, punctuation_chars=True)
     reader.whitespace_split, reader.commenters = True, ""
     found = [[]]
