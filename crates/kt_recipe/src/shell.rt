@@ -109,7 +109,8 @@ impl<'a, 'g> Shell<'a, 'g> {
         messages: &mut Vec<Sequence<u8>>,
     ) -> Result<(), Stop>
         ensures { Says (λ _. command_in command.new.items)
-            (put_lines self.now.macros.now (automatic_in self.now.node.now self.now.part) self.now.limit lines.now (command_in command.old.items))
+            (put_lines self.now.macros.now (automatic_in self.now.node.now self.now.part) self.now.limit lines.now
+            (command_in command.old.items))
             result messages.old.items messages.new.items }
     {
         for line in lines {
@@ -163,7 +164,8 @@ impl<'a, 'g> Shell<'a, 'g> {
         messages: &mut Vec<Sequence<u8>>,
     ) -> Result<(), Stop>
         ensures { Says (λ _. command_in command.new.items)
-            (put_pieces (setting_at self.now place.now) marked (map (λ piece. piece.now) pieces.now) (command_in command.old.items))
+            (put_pieces (setting_at self.now place.now) marked (map (λ piece. piece.now) pieces.now)
+            (command_in command.old.items))
             result messages.old.items messages.new.items }
     {
         for piece in pieces {
