@@ -2,11 +2,12 @@
 #
 #     make install PREFIX=/usr DESTDIR=root
 #
-# The program has to be built first (README.md), or named by PROGRAM=FILE.
+# The programs kati and kati-asked have to be built first (README.md), or named by PROGRAM=FILE and ASKED=FILE.
 
 PREFIX = /usr/local
 DESTDIR =
 PROGRAM = crates/kati_program/out/kati_program
+ASKED = crates/kati_asked/out/kati_asked
 
 # Where things go below DESTDIR. A Debian package has the functions of zsh in share/zsh/vendor-completions.
 BIN = $(PREFIX)/bin
@@ -17,8 +18,10 @@ BASH = $(PREFIX)/share/bash-completion/completions
 ZSH = $(PREFIX)/share/zsh/site-functions
 FISH = $(PREFIX)/share/fish/vendor_completions.d
 
-COMMANDS = kati kati-build kati-port kati-compare
-TOOLS = $(filter-out kati,$(COMMANDS))
+COMMANDS = kati kati-asked kati-build kati-port kati-compare
+TOOLS = $(filter-out kati kati-asked,$(COMMANDS))
+# The commands whose completions are links to those of kati.
+LINKED = $(filter-out kati,$(COMMANDS))
 PAGES = $(COMMANDS:%=%.1)
 EXAMPLE = Makefile README.md config.mk files.txt list.c list.h main.c
 PAPERS = README.md CHANGELOG.md CONTRIBUTING.md SECURITY.md NOTICE
@@ -27,13 +30,14 @@ PAPERS = README.md CHANGELOG.md CONTRIBUTING.md SECURITY.md NOTICE
 FOLDERS = $(SHARE) $(DOC)
 FILES = $(COMMANDS:%=$(BIN)/%) $(PAGES:%=$(MAN)/%) $(COMMANDS:%=$(BASH)/%) $(ZSH)/_kati $(COMMANDS:%=$(FISH)/%.fish)
 
-all: $(PROGRAM)
+all: $(PROGRAM) $(ASKED)
 
 .PHONY: all install uninstall deb check
 
-install: $(PROGRAM)
+install: $(PROGRAM) $(ASKED)
 	install -d $(addprefix $(DESTDIR),$(BIN) $(SHARE)/kati_tools $(MAN) $(DOC)/docs $(DOC)/example $(BASH) $(ZSH) $(FISH))
 	install -m 755 $(PROGRAM) $(DESTDIR)$(BIN)/kati
+	install -m 755 $(ASKED) $(DESTDIR)$(BIN)/kati-asked
 	install -m 755 $(TOOLS:%=tools/%) $(DESTDIR)$(BIN)
 	install -m 644 share/kati/*.mk $(DESTDIR)$(SHARE)
 	install -m 644 share/kati/kati_tools/*.py $(DESTDIR)$(SHARE)/kati_tools
@@ -42,17 +46,17 @@ install: $(PROGRAM)
 	install -m 644 docs/*.md $(DESTDIR)$(DOC)/docs
 	install -m 644 $(EXAMPLE:%=example/%) $(DESTDIR)$(DOC)/example
 	install -m 644 share/bash-completion/completions/kati $(DESTDIR)$(BASH)
-	for tool in $(TOOLS); do ln -sf kati $(DESTDIR)$(BASH)/$$tool || exit 1; done
+	for command in $(LINKED); do ln -sf kati $(DESTDIR)$(BASH)/$$command || exit 1; done
 	install -m 644 share/zsh/site-functions/_kati $(DESTDIR)$(ZSH)
 	install -m 644 share/fish/vendor_completions.d/kati.fish $(DESTDIR)$(FISH)
-	for tool in $(TOOLS); do ln -sf kati.fish $(DESTDIR)$(FISH)/$$tool.fish || exit 1; done
+	for command in $(LINKED); do ln -sf kati.fish $(DESTDIR)$(FISH)/$$command.fish || exit 1; done
 
 uninstall:
 	rm -f $(addprefix $(DESTDIR),$(FILES))
 	rm -rf $(addprefix $(DESTDIR),$(FOLDERS))
 
-deb: $(PROGRAM)
-	python3 scripts/make_deb.py --program $(PROGRAM)
+deb: $(PROGRAM) $(ASKED)
+	python3 scripts/make_deb.py --program $(PROGRAM) --asked $(ASKED)
 
 check:
 	.ci/run

@@ -2,23 +2,24 @@
 """Checks that the documents say what is so.
 
 What is checked:
-  options    those of the program, its manual page, README and the completions are the same; those of each tool, its
-             page and the completions, too
+  options    those of kati, its manual page, README and the completions are the same, and those of kati-asked, whose
+             words are kati's; those of each tool, its page and the completions, too
   faults     each number in the code stands in docs/LANGUAGE.md, and the other way round; each example there gives its
              fault
   cases      the makefiles of docs/PORTING.md are those of the file porting.cases, in order
   files      each file that a document names, and each link within the repository, leads somewhere
   lines      no line of a document has more than 120 columns, but in tables and output
   examples   each block of README.md, example/README.md and docs/USING.md that begins with ```console is run, in a copy
-             of the repository, by bash with the built program, the tools, make and ninja; what it prints has to be what
-             stands there. A block ```console long isn't run. Lines that begin with [N/M] may come in any order; a line
-             ... stands for any
+             of the repository, by bash with the built programs, the tools, make and ninja; what it prints has to be
+             what stands there. A block ```console long isn't run. Lines that begin with [N/M] may come in any order; a
+             line ... stands for any
   scripts    each tells its examples and exit statuses by --help
   gate       README's test command is what .ci/run runs
 
 examples:
-  scripts/check_docs.py                        all, with the built program
-  scripts/check_docs.py --kati /usr/bin/kati   with another
+  scripts/check_docs.py                        all, with the built programs
+  scripts/check_docs.py --kati /usr/bin/kati --kati-asked /usr/bin/kati-asked
+                                               with others
   scripts/check_docs.py faults files           these alone
 
 What fails is printed, then what is skipped since a program isn't there, then `N passed, M failed`, with `, K skipped`
@@ -38,7 +39,8 @@ import tempfile
 from pathlib import Path
 
 HERE = Path(__file__).resolve().parent.parent
-BUILT = "crates/kati_program/out/kati_program"
+# The programs, and where they are built.
+BUILT = {"kati": "crates/kati_program/out/kati_program", "kati-asked": "crates/kati_asked/out/kati_asked"}
 TOOLS = ["kati-build", "kati-compare", "kati-port"]
 RUN = ["README.md", "example/README.md", "docs/USING.md"]
 SECONDS = 120
@@ -81,10 +83,10 @@ class Report:
 
 
 class Place:
-    """The repository that is looked at, and the program."""
+    """The repository that is looked at, and the programs that are there, by their names."""
 
-    def __init__(self, root, kati):
-        self.root, self.kati = root, kati
+    def __init__(self, root, programs):
+        self.root, self.programs, self.kati = root, programs, programs.get("kati")
 
     def text(self, name):
         return (self.root / name).read_text(encoding="utf-8")
@@ -153,13 +155,15 @@ def options_of_fish(text):
 
 
 def check_options(place, report):
-    wanted = {"kati": options_of_code(place.text("crates/kati_args/src/command.rt"))}
-    report.same(wanted["kati"], options_of_table(place.text("README.md")), "options of the code and of README differ")
-    if place.kati:
-        helped = options_of_help(said(place.kati, "--help")[0])
-        report.same(wanted["kati"], helped, "options of the code and of the help differ")
-    else:
-        report.skip("options of the help: the program isn't built")
+    of_code = options_of_code(place.text("crates/kati_args/src/command.rt"))
+    wanted = dict.fromkeys(BUILT, of_code)
+    report.same(of_code, options_of_table(place.text("README.md")), "options of the code and of README differ")
+    for name in BUILT:
+        if name in place.programs:
+            helped = options_of_help(said(place.programs[name], "--help")[0])
+            report.same(of_code, helped, f"options of the code and of the help of {name} differ")
+        else:
+            report.skip(f"options of the help of {name}: the program isn't built")
     for tool in TOOLS:
         wanted[tool] = options_of_help(said(sys.executable, place.root / "tools" / tool, "--help")[0])
     for command, options in wanted.items():
@@ -310,7 +314,8 @@ def copy_of(place, folder):
     shutil.copytree(place.root, copy, symlinks=True, ignore=left_out)
     commands = Path(folder, "bin")
     commands.mkdir()
-    (commands / "kati").symlink_to(place.kati)
+    for name, program in place.programs.items():
+        (commands / name).symlink_to(program)
     for tool in TOOLS:
         (commands / tool).symlink_to(copy / "tools" / tool)
     return copy, commands
@@ -354,7 +359,8 @@ def check_block(place, report, name, lines):
 
 
 def check_examples(place, report):
-    missing = [name for name in ("bash", "make", "ninja", "cc") if not shutil.which(name)] + ["kati"] * (not place.kati)
+    missing = [name for name in ("bash", "make", "ninja", "cc") if not shutil.which(name)]
+    missing += [name for name in BUILT if name not in place.programs]
     for name in RUN:
         if not (place.root / name).is_file():
             report.check(False, f"{name} isn't there")
@@ -399,10 +405,27 @@ class Parser(argparse.ArgumentParser):
         self.exit(64, f"{self.prog}: {message}\n")
 
 
+def variable(name):
+    """The variable of the environment that names a program."""
+    return name.upper().replace("-", "_")
+
+
+def programs_of(root, words):
+    """The programs that are there, by their names."""
+    found = {}
+    for name, built in BUILT.items():
+        named = getattr(words, name.replace("-", "_")) or os.environ.get(variable(name))
+        path = Path(named or root / built).resolve()
+        if path.is_file():
+            found[name] = path
+    return found
+
+
 def parser():
     made = Parser(description=__doc__, formatter_class=argparse.RawDescriptionHelpFormatter)
-    made.add_argument("--kati", metavar="PROGRAM",
-                      help="the program; without it that of the variable KATI, then the built one")
+    for name in BUILT:
+        made.add_argument("--" + name, metavar="PROGRAM",
+                          help=f"the program; without it that of the variable {variable(name)}, then the built one")
     made.add_argument("--root", metavar="FOLDER", default=str(HERE),
                       help="the repository; without it that of this script")
     made.add_argument("checks", nargs="*", metavar="CHECK", help="a check, as they are named above; all without one")
@@ -416,8 +439,7 @@ def main():
     if unknown:
         made.error(f"no check: {', '.join(unknown)}")
     root = Path(words.root).resolve()
-    kati = Path(words.kati or os.environ.get("KATI") or root / BUILT).resolve()
-    place, report = Place(root, kati if kati.is_file() else None), Report()
+    place, report = Place(root, programs_of(root, words)), Report()
     for name in words.checks or CHECKS:
         CHECKS[name](place, report)
     print(report.last_line())

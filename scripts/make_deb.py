@@ -1,13 +1,14 @@
 #!/usr/bin/env python3
-"""Makes a Debian package of the built program, the tools, manual pages, completions and documents.
+"""Makes a Debian package of the built programs, the tools, manual pages, completions and documents.
 
 The package is named kati-ninja, since Debian's package kati holds another program of the same path. Its files are those
-of `make install`. Needed are make, dpkg-deb and the built program, but no root.
+of `make install`. Needed are make, dpkg-deb and the built programs kati and kati-asked, but no root.
 
 examples:
   scripts/make_deb.py                          kati-ninja_VERSION_ARCHITECTURE.deb in this folder
   scripts/make_deb.py --output packages        the same in that folder, which has to be there
-  scripts/make_deb.py --program ./kati         of another built program
+  scripts/make_deb.py --program ./kati --asked ./kati-asked
+                                               of other built programs
 
 exit status:
   0   the package is made, and its path is printed
@@ -27,8 +28,9 @@ from pathlib import Path
 
 ROOT = Path(__file__).resolve().parent.parent
 BUILT = "crates/kati_program/out/kati_program"
+BUILT_ASKED = "crates/kati_asked/out/kati_asked"
 NAME = "kati-ninja"
-# The version of the C library that has each symbol that the program asks for.
+# The version of the C library that has each symbol that the programs ask for.
 LIBC = "libc6 (>= 2.34)"
 TEXT = """\
 translates makefiles to Ninja files
@@ -36,8 +38,9 @@ translates makefiles to Ninja files
  writes a Ninja file, so that each later build starts from a file that Ninja
  loads quickly. It is proved that the file says what the makefile says.
  .
- The tools kati-build, kati-port and kati-compare translate and build, tell what
- in a makefile stands in the way, and compare with make.
+ The program kati-asked writes the names of the files that kati asks for. The
+ tools kati-build, kati-port and kati-compare translate and build, tell what in
+ a makefile stands in the way, and compare with make.
 """
 
 
@@ -55,7 +58,9 @@ class Parser(argparse.ArgumentParser):
 
 def parser():
     made = Parser(description=__doc__, formatter_class=argparse.RawDescriptionHelpFormatter)
-    made.add_argument("--program", default=BUILT, metavar="FILE", help=f"the built program; {BUILT} without it")
+    made.add_argument("--program", default=BUILT, metavar="FILE", help=f"the built kati; {BUILT} without it")
+    made.add_argument("--asked", default=BUILT_ASKED, metavar="FILE",
+                      help=f"the built kati-asked; {BUILT_ASKED} without it")
     made.add_argument("--output", default=".", metavar="FOLDER", help="where the package goes; this folder without it")
     return made
 
@@ -76,12 +81,20 @@ def version():
     return found.group(1)
 
 
-def installed(program, tree):
+def built(name, option):
+    """The path of a built program, which has to be there."""
+    path = (ROOT / name).resolve()
+    if not path.is_file():
+        raise Failure(f"{name}: no such file; build the program first, or name it by {option}")
+    return path
+
+
+def installed(program, asked, tree):
     """Puts the files of `make install` below the tree, where a package has them."""
     # Words of a make round this script aren't meant for this one.
     quiet = {key: value for key, value in os.environ.items() if not key.startswith(("MAKE", "MFLAGS"))}
     run("make", "-s", "-C", str(ROOT), "install", f"DESTDIR={tree}", "PREFIX=/usr", f"PROGRAM={program}",
-        "ZSH=/usr/share/zsh/vendor-completions", env=quiet)
+        f"ASKED={asked}", "ZSH=/usr/share/zsh/vendor-completions", env=quiet)
 
 
 def compress(path):
@@ -92,8 +105,8 @@ def compress(path):
 
 
 def as_debian_has_it(tree):
-    """The program without its symbols, pages and changes compressed, and Python by its path."""
-    run("strip", "--remove-section=.comment", str(tree / "usr/bin/kati"))
+    """The programs without their symbols, pages and changes compressed, and Python by its path."""
+    run("strip", "--remove-section=.comment", *(str(tree / "usr/bin" / name) for name in ("kati", "kati-asked")))
     for page in sorted((tree / "usr/share/man/man1").iterdir()):
         compress(page)
     changes = tree / f"usr/share/doc/{NAME}/changelog"
@@ -146,13 +159,10 @@ def package(tree, output):
 
 def main():
     words = parser().parse_args()
-    program = Path(words.program)
     scratch = Path(tempfile.mkdtemp(prefix="kati-deb-"))
     try:
         os.chmod(scratch, 0o755)
-        if not (ROOT / program).is_file():
-            raise Failure(f"{words.program}: no such file; build the program first, or name it by --program")
-        installed((ROOT / program).resolve(), scratch)
+        installed(built(words.program, "--program"), built(words.asked, "--asked"), scratch)
         as_debian_has_it(scratch)
         print(package(scratch, Path(words.output)))
     except Failure as failure:

@@ -10,8 +10,10 @@ from pathlib import Path
 
 ROOT = Path(__file__).resolve().parent.parent.parent
 KATI = Path(os.environ.get("KATI") or ROOT / "crates/kati_program/out/kati_program").resolve()
-IS_COMPLETE = KATI.is_file() and shutil.which("ninja") and shutil.which("cc")
-SKIPS = unittest.skipUnless(IS_COMPLETE, "not there: kati, ninja or cc")
+KATI_ASKED = Path(os.environ.get("KATI_ASKED") or ROOT / "crates/kati_asked/out/kati_asked").resolve()
+PROGRAMS = [program for program in (KATI, KATI_ASKED) if program.is_file()]
+IS_COMPLETE = len(PROGRAMS) == 2 and shutil.which("ninja") and shutil.which("cc")
+SKIPS = unittest.skipUnless(IS_COMPLETE, "not there: kati, kati-asked, ninja or cc")
 
 
 class Spoiling(unittest.TestCase):
@@ -37,7 +39,7 @@ class Spoiling(unittest.TestCase):
 
     def check(self, *checks, failed):
         """Runs the script, which has to fail so often, and answers what it said."""
-        words = ["--root", self.root, "--kati", KATI, *checks]
+        words = ["--root", self.root, "--kati", KATI, "--kati-asked", KATI_ASKED, *checks]
         done = subprocess.run([sys.executable, "-B", ROOT / "scripts/check_docs.py", *words], stdout=subprocess.PIPE,
                               stderr=subprocess.STDOUT, text=True, check=False)
         last = done.stdout.splitlines()[-1]
@@ -51,12 +53,16 @@ class Spoiling(unittest.TestCase):
 
     def test_an_option_that_only_the_code_has(self):
         self.spoil("crates/kati_args/src/command.rt", '.long("depth")', '.long("deep")')
-        # README, the help, the manual page, and the completions of three shells.
-        self.assertIn("--deep", self.check("options", failed=6 if KATI.is_file() else 5))
+        # README; the help, the manual page and the completion for bash of both programs; zsh and fish.
+        self.assertIn("--deep", self.check("options", failed=7 + len(PROGRAMS)))
 
     def test_an_option_that_a_manual_page_lacks(self):
         self.spoil("share/man/man1/kati-build.1", ".TP\n.B \\-\\-deps\n", ".TP\n.B deps\n")
         self.assertIn("kati-build and of its manual page differ: --deps", self.check("options", failed=1))
+
+    def test_an_option_that_the_page_of_the_second_program_lacks(self):
+        self.spoil("share/man/man1/kati-asked.1", ".BI \\-\\-depth", ".BI \\-\\-deep")
+        self.assertIn("kati-asked and of its manual page differ: --deep, --depth", self.check("options", failed=1))
 
     def test_an_option_that_a_completion_lacks(self):
         self.spoil("share/fish/vendor_completions.d/kati.fish", "-l check ", "-l chek ")

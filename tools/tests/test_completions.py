@@ -31,6 +31,11 @@ ASKED = [
     ("kati --files s", ["sources.txt"]),
     ("kati --check b", ["build.ninja"]),
     ("kati -f other.mk ", ["other", "OTHER="]),
+    ("kati-asked --", ["--ninja", "--files", "--check", "--depth", "--help"]),
+    ("kati-asked l", ["lib"]),
+    ("kati-asked --files s", ["sources.txt"]),
+    ("kati-asked --check b", ["build.ninja"]),
+    ("kati-asked -f other.mk ", ["other", "OTHER="]),
     ("kati-build --", ["--files-from", "--files", "--deps", "--builtin", "--no-ninja", "--compile-commands", "--kati"]),
     ("kati-build --files-from g", ["git"]),
     ("kati-build l", ["lib"]),
@@ -38,6 +43,7 @@ ASKED = [
     ("kati-port o", ["other.mk"]),
     ("kati-compare --", ["--build", "--builtin", "--files-from", "--kati", "--depth"]),
 ]
+COMMANDS = "kati kati-asked kati-build kati-port kati-compare"
 # What a terminal is told beside text.
 CODES = re.compile(r"\x1b\[[0-9;?]*[a-zA-Z]|\x07")
 # What is never offered.
@@ -73,9 +79,9 @@ class Completing(unittest.TestCase):
 
     @unittest.skipUnless(shutil.which("bash"), "not there: bash")
     def test_bash_asks_for_each_command(self):
-        script = f"source {SHARE}/bash-completion/completions/kati; complete -p kati kati-build kati-port kati-compare"
+        script = f"source {SHARE}/bash-completion/completions/kati; complete -p {COMMANDS}"
         done = subprocess.run(["bash", "-c", script], stdout=subprocess.PIPE, text=True, check=True)
-        self.assertEqual(len(done.stdout.splitlines()), 4)
+        self.assertEqual(len(done.stdout.splitlines()), len(COMMANDS.split()))
 
     @unittest.skipUnless(shutil.which("fish"), "not there: fish")
     def test_fish(self):

@@ -9,9 +9,13 @@ from pathlib import Path
 
 ROOT = Path(__file__).resolve().parent.parent.parent
 KATI = Path(os.environ.get("KATI") or ROOT / "crates/kati_program/out/kati_program").resolve()
-COMMANDS = ["kati", "kati-build", "kati-compare", "kati-port"]
-# Words of a make round the tests aren't meant for those of the tests.
-QUIET = {key: value for key, value in os.environ.items() if not key.startswith(("MAKE", "MFLAGS"))}
+KATI_ASKED = Path(os.environ.get("KATI_ASKED") or ROOT / "crates/kati_asked/out/kati_asked").resolve()
+# The programs, as words of the makefile and of make_deb.py.
+PROGRAMS = [f"PROGRAM={KATI}", f"ASKED={KATI_ASKED}"]
+OPTIONS = ["--program", KATI, "--asked", KATI_ASKED]
+COMMANDS = ["kati", "kati-asked", "kati-build", "kati-compare", "kati-port"]
+# Words of a make round the tests, and programs for them, aren't meant for the commands that they run.
+QUIET = {key: value for key, value in os.environ.items() if not key.startswith(("MAKE", "MFLAGS", "KATI"))}
 
 
 def needs(*names):
@@ -54,8 +58,9 @@ class Scratch(unittest.TestCase):
     """A test with a folder of its own."""
 
     def setUp(self):
-        if not KATI.is_file():
-            self.skipTest(f"not there: {KATI}")
+        for program in (KATI, KATI_ASKED):
+            if not program.is_file():
+                self.skipTest(f"not there: {program}")
         self.folder = Path(tempfile.mkdtemp(prefix="kati-test-"))
         self.addCleanup(shutil.rmtree, self.folder)
 
@@ -63,7 +68,7 @@ class Scratch(unittest.TestCase):
         """A Ninja file of the root's makefile."""
         path = self.folder / "kati.ninja"
         with open(path, "wb") as out:
-            subprocess.run([KATI, "-f", "Makefile", f"PROGRAM={KATI}", *words], cwd=ROOT, stdout=out, check=True)
+            subprocess.run([KATI, "-f", "Makefile", *PROGRAMS, *words], cwd=ROOT, stdout=out, check=True)
         return path
 
 
@@ -76,7 +81,7 @@ class Translating(Scratch):
             with self.subTest(goal):
                 ninja = self.translated("DESTDIR=/x", goal)
                 ours = run("ninja", "-f", ninja, "-t", "commands", cwd=ROOT).splitlines()
-                theirs = run("make", "-n", "-r", "-R", goal, "DESTDIR=/x", f"PROGRAM={KATI}", cwd=ROOT).splitlines()
+                theirs = run("make", "-n", "-r", "-R", goal, "DESTDIR=/x", *PROGRAMS, cwd=ROOT).splitlines()
                 self.assertEqual(Counter(line for command in ours for line in unwrapped(command)), Counter(theirs))
 
 
@@ -84,7 +89,7 @@ class Installing(Scratch):
     """What install puts, and uninstall takes away."""
 
     def install(self, goal="install", name="root"):
-        run("make", "-s", goal, f"DESTDIR={self.folder / name}", "PREFIX=/usr", f"PROGRAM={KATI}", cwd=ROOT)
+        run("make", "-s", goal, f"DESTDIR={self.folder / name}", "PREFIX=/usr", *PROGRAMS, cwd=ROOT)
         return self.folder / name / "usr"
 
     @needs("make")
@@ -99,6 +104,14 @@ class Installing(Scratch):
         self.assertTrue((usr / "share/zsh/site-functions/_kati").is_file())
 
     @needs("make")
+    def test_an_installed_kati_asked_is_the_program(self):
+        usr = self.install()
+        self.assertEqual((usr / "bin/kati-asked").read_bytes(), KATI_ASKED.read_bytes())
+        # As the example's makefile has it: the list, the makefile by its two names, and its include.
+        self.assertEqual(run(usr / "bin/kati-asked", "--files", "files.txt", cwd=ROOT / "example"),
+                         "files.txt\nmakefile\nMakefile\nconfig.mk\n")
+
+    @needs("make")
     def test_an_installed_kati_is_the_program(self):
         usr = self.install()
         self.assertEqual((usr / "bin/kati").read_bytes(), KATI.read_bytes())
@@ -111,6 +124,8 @@ class Installing(Scratch):
         copy = shutil.copytree(ROOT / "example", self.folder / "example")
         run(usr / "bin/kati-build", cwd=copy)
         self.assertTrue((copy / "prog").is_file())
+        # The programs beside it were found, and nobody named them.
+        self.assertIn(f"--kati-asked {usr / 'bin/kati-asked'}", (copy / "build.ninja").read_text())
         self.assertEqual([str(path) for path in usr.rglob("__pycache__")], [])
 
     @needs("make")
@@ -148,16 +163,20 @@ class Installing(Scratch):
 
     @needs("make")
     def test_a_program_that_is_not_there_is_a_fault(self):
-        told = run("make", "install", f"DESTDIR={self.folder}", "PROGRAM=no/such/program", cwd=ROOT, status=2)
-        self.assertIn("no/such/program", told)
-        self.assertEqual(tree(self.folder), {})
+        for name in ("PROGRAM", "ASKED"):
+            for goal in ("all", "install", "deb"):
+                with self.subTest(name=name, goal=goal):
+                    words = [word for word in PROGRAMS if not word.startswith(name)] + [f"{name}=no/such/program"]
+                    told = run("make", goal, f"DESTDIR={self.folder}", *words, cwd=ROOT, status=2)
+                    self.assertIn("no/such/program", told)
+                    self.assertEqual(tree(self.folder), {})
 
 
 class Packaging(Scratch):
     """The Debian package, installed into a folder."""
 
     def package(self):
-        path = run("python3", ROOT / "scripts/make_deb.py", "--program", KATI, "--output", self.folder).strip()
+        path = run("python3", ROOT / "scripts/make_deb.py", *OPTIONS, "--output", self.folder).strip()
         return Path(path)
 
     def dpkg(self, *words, status=0, known=""):
@@ -180,7 +199,8 @@ class Packaging(Scratch):
         before = self.paths()
         self.dpkg("-i", package)
         root = self.folder / "root"
-        self.assertIn("Usage: kati", run(root / "usr/bin/kati", "--help"))
+        for name in ("kati", "kati-asked"):
+            self.assertIn(f"Usage: {name} [", run(root / "usr/bin" / name, "--help"))
         for name in COMMANDS:
             self.assertTrue((root / f"usr/share/man/man1/{name}.1.gz").is_file(), name)
         self.assertTrue((root / "usr/share/zsh/vendor-completions/_kati").is_file())
@@ -209,9 +229,18 @@ class Packaging(Scratch):
         for key, value in wanted.items():
             self.assertEqual(run("dpkg-deb", "-f", package, key).strip(), value)
 
+    def test_a_program_that_is_not_there_is_told(self):
+        for option in ("--program", "--asked"):
+            with self.subTest(option):
+                words = [*OPTIONS, option, "no/such/program", "--output", self.folder]
+                told = run("python3", ROOT / "scripts/make_deb.py", *words, status=1)
+                self.assertEqual(told, f"make_deb.py: no/such/program: no such file; build the program first, or "
+                                       f"name it by {option}\n")
+                self.assertEqual(tree(self.folder), {})
+
     @needs("make", "dpkg-deb", "strip", "objdump")
-    def test_the_library_is_as_new_as_the_program_wants(self):
-        symbols = run("objdump", "-T", KATI)
+    def test_the_library_is_as_new_as_the_programs_want(self):
+        symbols = run("objdump", "-T", KATI) + run("objdump", "-T", KATI_ASKED)
         versions = {tuple(map(int, word.strip("()")[len("GLIBC_"):].split(".")))
                     for word in symbols.split() if word.strip("()").startswith("GLIBC_")}
         self.assertTrue(versions)

@@ -18,7 +18,15 @@ def told(*words, **variables):
 
 class Pages(unittest.TestCase):
     def test_there_is_one_for_each_command(self):
-        self.assertEqual([page.name for page in PAGES], ["kati-build.1", "kati-compare.1", "kati-port.1", "kati.1"])
+        names = ["kati-asked.1", "kati-build.1", "kati-compare.1", "kati-port.1", "kati.1"]
+        self.assertEqual([page.name for page in PAGES], names)
+
+    def test_each_names_all_others(self):
+        for page in PAGES:
+            with self.subTest(page.name):
+                last = page.read_text(encoding="utf-8").partition(".SH SEE ALSO\n")[2].replace("\\-", "-")
+                lacking = [other.stem for other in PAGES if other != page and f".BR {other.stem} (1)" not in last]
+                self.assertEqual(lacking, [])
 
     def test_each_has_its_parts_in_order(self):
         for page in PAGES:

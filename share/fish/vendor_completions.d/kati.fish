@@ -1,4 +1,4 @@
-# Completion of kati, kati-build, kati-port and kati-compare for fish.
+# Completion of kati, kati-asked, kati-build, kati-port and kati-compare for fish.
 
 # The targets of the makefile, and its macros with an equals sign.
 function __kati_names
@@ -12,14 +12,16 @@ function __kati_names
         -e 's/^\([^:#=$%]*\):.*/\1/p' $file 2>/dev/null | tr -s ' &' '\n\n' | grep -v '^\.[A-Z]'
 end
 
-for command in kati kati-build kati-compare
+for command in kati kati-asked kati-build kati-compare
     complete -c $command -f -a '(__kati_names)'
     complete -c $command -s f -r -F -d 'reads FILE in place of makefile or Makefile'
     complete -c $command -l ninja -d 'is accepted; a Ninja file is always written'
     complete -c $command -l depth -x -d 'how many levels macros and includes may nest, 1 to 400'
 end
-complete -c kati -l files -r -F -d 'the names of the files that exist, one a line'
-complete -c kati -l check -r -F -d 'writes nothing; says whether FILE says the same'
+for command in kati kati-asked
+    complete -c $command -l files -r -F -d 'the names of the files that exist, one a line'
+    complete -c $command -l check -r -F -d 'writes nothing; says whether FILE says the same'
+end
 
 for command in kati-build kati-port kati-compare
     complete -c $command -l files-from -r -F -a 'git find' -d 'where the list of files comes from'
@@ -27,7 +29,7 @@ for command in kati-build kati-port kati-compare
     complete -c $command -l builtin -d "make's usual macros and rules"
     complete -c $command -l kati -r -F -d 'the program kati'
 end
-for command in kati kati-build kati-port kati-compare
+for command in kati kati-asked kati-build kati-port kati-compare
     complete -c $command -s h -l help -d help
 end
 complete -c kati-build -s o -r -F -d 'the Ninja file'
