@@ -4,10 +4,10 @@
     scripts/run_checks.py [--gate COMMAND | --no-gate]
 
 The checks are the gate, `rt ci`, which proves and builds everything; then, on what it built, the tests of the
-tools (tools/tests) and the scripts check_docs.py and refuse_growths.py, where they are there. Their lines come
-through as they are written. Each ends with a line `N passed, M failed` or `N passed, M failed, K skipped`; one
-that ends without such a line, or with another status than 0 and no failure, counts as one failure. Where tests
-were skipped, a line before the last says how many; which and why is among the lines of the check.
+tools (tools/tests), of which a short run of refuse_growths.py is one, and check_docs.py. Their lines come through
+as they are written. Each ends with a line `N passed, M failed` or `N passed, M failed, K skipped`; one that ends
+without such a line, or with another status than 0 and no failure, counts as one failure. Where tests were skipped,
+a line before the last says how many; which and why is among the lines of the check.
 
 examples:
   scripts/run_checks.py
@@ -16,7 +16,6 @@ examples:
 The exit status is 0 where nothing failed, else 1.
 """
 import argparse
-import os
 import re
 import shlex
 import subprocess
@@ -72,9 +71,7 @@ def checks(gate):
     if gate:
         yield gate
     yield [sys.executable, "tools/tests"]
-    for name in ("check_docs.py", "refuse_growths.py"):
-        if os.path.exists(TOP / "scripts" / name):
-            yield [sys.executable, f"scripts/{name}"]
+    yield [sys.executable, "scripts/check_docs.py"]
 
 
 def main():
