@@ -16,6 +16,8 @@ OPTIONS = ["--program", KATI, "--asked", KATI_ASKED]
 COMMANDS = ["kati", "kati-asked", "kati-build", "kati-compare", "kati-port"]
 # Words of a make round the tests, and programs for them, aren't meant for the commands that they run.
 QUIET = {key: value for key, value in os.environ.items() if not key.startswith(("MAKE", "MFLAGS", "KATI"))}
+# dpkg wants ldconfig and start-stop-daemon, which stand where a user's PATH may not lead.
+QUIET["PATH"] = QUIET.get("PATH", os.defpath) + ":/usr/sbin:/sbin"
 
 
 def needs(*names):
