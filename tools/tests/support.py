@@ -21,8 +21,10 @@ def kati():
 
 
 def needs(*names):
-    """Skips a test where one of these programs isn't there; `kati` is that of the checkout, or of the environment."""
-    lacking = [name for name in names if not (kati() if name == "kati" else shutil.which(name))]
+    """Skips a test where one of these programs isn't there; `kati` and `kati-asked` are those of the checkout, or of
+    the environment."""
+    own = ("kati", "kati-asked")
+    lacking = [name for name in names if not (programs.find(name) if name in own else shutil.which(name))]
     return unittest.skipIf(lacking, f"without {', '.join(lacking)}")
 
 

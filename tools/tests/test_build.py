@@ -117,9 +117,9 @@ class Building(Tree):
 class Regenerating(Tree):
     """What plain ninja does after kati-build."""
 
-    def start(self, *words):
+    def start(self, *words, **environment):
         """Builds, until not even the folders are newer than the translation: what comes then comes of an edit alone."""
-        ran = self.tool("kati-build", *words)
+        ran = self.tool("kati-build", *words, **environment)
         self.assertEqual(ran.status, 0, ran.all)
         self.ninja()
         self.assertEqual(self.run_in("ninja").out, "ninja: no work to do.\n")
@@ -248,12 +248,36 @@ class Regenerating(Tree):
         self.ninja()
         self.assertEqual(self.read("out"), "two\n")
 
+    def watched(self):
+        """What the translation depends on, as build.ninja says it."""
+        return self.read("build.ninja").split("\nbuild build.ninja: kati_build")[1].split("\nbuild")[0].split(" $\n    ")[1:]
+
     def test_an_include_with_a_computed_name(self):
-        self.write(Makefile="ARCH = x86\ninclude conf/$(ARCH).mk\nout: ; echo $(A) > out\n", conf__x86_mk="A = one\n")
+        # With kati-asked, where it is there, and without it.
+        for environment in ({}, {"KATI_ASKED": "false"}):
+            with self.subTest(environment):
+                self.write(Makefile="ARCH = x86\ninclude conf/$(ARCH).mk\nout: ; echo $(A) > out\n",
+                           conf__x86_mk="A = one\n")
+                self.start(**environment)
+                self.put("conf/x86.mk", "A = two\n")
+                self.ninja()
+                self.assertEqual(self.read("out"), "two\n")
+
+    @needs("kati-asked")
+    def test_what_kati_asks_for_is_watched_and_nothing_else(self):
+        makefile = "ARCH = x86\ndefine read\n-include $(1)/$(ARCH).mk\nendef\n" \
+            "$(foreach one,conf more,$(eval $(call read,$(one))))\nifdef NO\ninclude no.mk\nendif\n" \
+            "out: ; echo '$(A) $(B)' > out\n"
+        self.write(Makefile=makefile, conf__x86_mk="A = one\n", conf__arm_mk="A = no\n", no_mk="")
         self.start()
-        self.put("conf/x86.mk", "A = two\n")
+        watched = self.watched()
+        self.assertEqual([name for name in watched if name.endswith(".mk") or "akefile" in name],
+                         ["Makefile", "conf/x86.mk"])
+        self.assertIn(".", watched)
+        self.put("more/x86.mk", "B = two\n")
         self.ninja()
-        self.assertEqual(self.read("out"), "two\n")
+        self.assertEqual(self.read("out"), "one two\n")
+        self.assertIn("more/x86.mk", self.watched())
 
     def test_kati_asked_tells_what_is_watched(self):
         self.write(Makefile="ARCH = x86\ninclude conf/$(ARCH).mk\nout: ; echo $(A) > out\n", conf__x86_mk="A = one\n",
@@ -262,9 +286,8 @@ class Regenerating(Tree):
         asked.write_text(ASKED)
         asked.chmod(asked.stat().st_mode | stat.S_IXUSR)
         self.start("--kati-asked", asked)
-        watched = self.read("build.ninja").split("\nbuild build.ninja: ")[1].split("\nbuild")[0]
-        self.assertIn("conf/x86.mk", watched)
-        self.assertNotIn("conf/arm.mk", watched)
+        self.assertIn("conf/x86.mk", self.watched())
+        self.assertNotIn("conf/arm.mk", self.watched())
         self.put("conf/x86.mk", "A = two\n")
         self.ninja()
         self.assertEqual(self.read("out"), "two\n")
