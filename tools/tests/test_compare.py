@@ -73,9 +73,16 @@ class Comparing(Tree):
         ran = self.tool("kati-compare", CFLAGS="-O9")
         self.assertEqual((ran.status, ran.out), (0, "same: 1 command\n"))
 
-    def test_built_in_files_on_both_sides(self):
-        self.write(Makefile="prog: prog.o\n", prog_c="")
-        self.assertEqual(self.compared(0, "--builtin"), "same: 2 commands\n")
+    def test_built_in_rules_on_both_sides(self):
+        for makefile in ("prog: prog.o\n", "prog: prog.o ; $(CC) -o $@ $^\n.c.o: ; mine $(CFLAGS) $<\n",
+                         "prog: prog.o\n%.o: %.c ; mine $<\n", "prog: prog.o\nprog.o: ; mine $(RM)\n"):
+            with self.subTest(makefile):
+                self.write(prog_c="")
+                self.same(makefile, 2, "--builtin", "CFLAGS=-g")
+
+    def test_a_built_in_rule_that_kati_has_not_is_told(self):
+        self.write(prog_sh="")
+        self.differ("all: prog ; cat prog\n", ["cat prog.sh >prog", "chmod a+x prog"], [], "--builtin")
 
     def test_faults(self):
         self.write(Makefile="all: ; echo $(shell ls)\n")

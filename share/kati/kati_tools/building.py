@@ -50,7 +50,7 @@ exit status:
   0     built; with --no-ninja: translated
   2     the makefile has a fault, as kati says; the build of before is kept
   3     a file can't be read or written, or a program isn't there
-  4     kati has not memory enough
+  4     kati ran out of memory
   64    wrong usage; the Ninja file that is there isn't one of kati's
   else  ninja's own: 1 where a command failed, 2 and 130 where it was interrupted"""
 

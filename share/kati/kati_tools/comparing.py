@@ -9,8 +9,8 @@ TOOL = "kati-compare"
 
 ABOUT = """\
 Compares the commands that make would run from nothing with those of the Ninja file that kati
-writes, each without the shell round it, whatever their order. Nothing is run but make -n, kati and
-ninja -t commands."""
+writes, each without the shell round it, whatever their order. Without --build nothing is run but
+make -n, which runs what $(shell ..) says, kati and ninja -t commands."""
 
 MORE = """\
 what is said:
@@ -24,13 +24,13 @@ how make is asked:
   SUFFIXES is a file with the suffixes that kati begins with. `-f -` keeps make from making its
   makefile again. noop, which does nothing, keeps it from running lines with $(MAKE). A backslash
   and its newline in a recipe are joined as kati joins them. The environment is PATH, HOME and
-  TMPDIR alone, since kati takes no macros from it; so it is for both builds of --build, in which
-  make has its own rules.
+  TMPDIR alone, since kati takes no macros from it; so it is for both builds of --build. With
+  --builtin make is asked without -r and -R, and in both builds it has its own rules in any case.
 
 examples:
   kati-compare                      the first target of the makefile
   kati-compare all install          all commands of both goals
-  kati-compare --builtin -f lua.mk  with make's usual macros and rules on both sides
+  kati-compare --builtin -f lua.mk  make by its own rules, kati by those of share/kati
   kati-compare --build              builds both ways in scratch copies, and compares the bytes
 
 exit status:
@@ -38,7 +38,7 @@ exit status:
   1   they differ; --build: a build failed, or files differ
   2   the makefile has a fault, as kati says
   3   a file can't be read, a program isn't there, or make has a fault where kati has none
-  4   kati has not memory enough
+  4   kati ran out of memory
   64  wrong usage"""
 
 
@@ -141,9 +141,9 @@ def compare(asked):
             return translation.status
         commands = ninja_commands(translation, room)
         by_kati = [text.strip() for command in commands for text in unwrapped(command)]
-        makefile = files.read(translator.makefile or translating.default_makefile())
-        goals, macros = words.goals_of(asked.words), words.macros_of(asked.words)
-        by_make, before = make_commands.commands(makefile, goals, macros, shell_of(commands), room)
+        asking = make_commands.Asking(asked.makefile or translating.default_makefile(), asked.builtin,
+                                      shell_of(commands), room)
+        by_make, before = asking.commands(words.goals_of(asked.words), words.macros_of(asked.words))
         is_same = compare_commands(without_messages(by_make, before, translation.said), by_kati)
         if asked.build:
             is_same = compare_builds(asked, translation, room) and is_same

@@ -29,27 +29,33 @@ def lines_of(text):
     return [line.strip() for line in lines if line.strip() and not NOTHING.fullmatch(line)]
 
 
-def ask(told, suffixes, words, noop):
-    """What make prints for these words, a makefile that it reads by standard input, and a shell that does nothing."""
-    # By its plain name, since $(MAKE) is the name that make has.
-    call = ["make", "-n", "-B", "-r", "-R", "--no-print-directory", "-f", suffixes, "-f", "-", *words, f"SHELL={noop}"]
-    with open(told, "rb") as given:
-        status, out, said = run(call, executable=need("make"), stdin=given, env=environment())
-    if status:
-        raise Stop(f"make ends with status {status} where kati has no fault:\n{said.strip()}")
-    return out
+class Asking:
+    """How make is asked about a makefile: by standard input, with a shell that does nothing.
 
+    `shell` is what stands for $(SHELL). `noop` is given as the shell, so that what make runs even under -n, lines with
+    $(MAKE), does nothing. Without its own macros and rules make has what kati has, a list of suffixes. Its own rules
+    can't be included in their place: make tries suffix rules behind all pattern rules of its makefiles."""
 
-def commands(makefile, goals, macros, shell, room):
-    """The commands for a makefile's text; `shell` is what stands for $(SHELL). And what make prints before it
-    makes the goals.
+    def __init__(self, makefile, has_builtin, shell, room):
+        self.makefile, self.has_builtin, self.shell = makefile, has_builtin, shell
+        self.suffixes, self.noop = (os.path.join(room, name) for name in ("suffixes", "noop"))
+        files.replace(self.suffixes, SUFFIXES + NO_RULE, room)
+        if not os.path.lexists(self.noop):
+            os.symlink(shutil.which("true") or "/bin/true", self.noop)
 
-    `noop` is given as the shell, so that what make runs even under -n, lines with $(MAKE), does nothing. make also
-    makes the includes anew, which kati doesn't: those commands are the ones that a goal without any needs."""
-    suffixes, told, noop = (os.path.join(room, name) for name in ("suffixes", "makefile", "noop"))
-    files.replace(suffixes, SUFFIXES + NO_RULE, room)
-    files.replace(told, makefile, room)
-    if not os.path.lexists(noop):
-        os.symlink(shutil.which("true") or "/bin/true", noop)
-    before = lines_of(ask(told, suffixes, [NO_GOAL, *macros], noop).replace(noop, shell))
-    return lines_of(ask(told, suffixes, [*goals, *macros], noop).replace(noop, shell)), before
+    def ask(self, words):
+        """What make prints for these words, a command a line."""
+        # By its plain name, since $(MAKE) is the name that make has.
+        call = ["make", "-n", "-B", *([] if self.has_builtin else ["-r", "-R"]), "--no-print-directory"]
+        call += ["-f", self.suffixes, "-f", "-", *words, f"SHELL={self.noop}"]
+        with open(self.makefile, "rb") as given:
+            status, out, said = run(call, executable=need("make"), stdin=given, env=environment())
+        if status:
+            raise Stop(f"make ends with status {status} where kati has no fault:\n{said.strip()}")
+        return lines_of(out.replace(self.noop, self.shell))
+
+    def commands(self, goals, macros):
+        """The commands for the goals. And what make prints before it makes them: it makes the includes anew, which
+        kati doesn't, so those commands are the ones that a goal without any needs."""
+        before = self.ask([NO_GOAL, *macros])
+        return self.ask([*goals, *macros]), before
