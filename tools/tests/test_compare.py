@@ -35,6 +35,7 @@ class Comparing(Tree):
         self.differ("A =\nA += y\nall: ; echo [$(A)]\n", ["echo [y]"], ["echo [ y]"])
         self.differ("A = $(patsubst a,,a b)\nall: one ; echo '[$A]'\none: ; echo one\n",
                     ["echo '[ b]'"], ["echo '[b]'"])
+        self.differ("all: x.o\n%.o: %.c ; one\n.c.o: ; two\nx.c: ; touch $@\n", ["one"], ["two"])
 
     def test_what_one_has_more_often(self):
         self.differ("all: a\n\techo one\na: ; echo $(A)\nA =\nA += y\n", ["echo y"], ["echo  y"])

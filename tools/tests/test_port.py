@@ -55,6 +55,8 @@ OTHERWISE = [
     (".NOTPARALLEL:\nall: ; echo\n", 1, "-j1"),
     ("all: -lm ; echo\n", 1, "library"),
     ("all:\n\tifdef X\n\techo\n\tendif\n", 2, "shell"),
+    ("all: ; $(MAKE) -C lib\nmore: ; ${MAKE} -C more\n", 1, "runs make"),
+    ("all: ; echo\n%.o: %.c ; cc $<\n.c.o: ; mine $<\n", 3, "pattern rules"),
 ]
 
 # What looks like such forms and is none.
@@ -70,6 +72,8 @@ FINE = [
     "define R\n$(1): ; echo $(1)\nendef\n$(eval $(call R,all))\n",
     "a b &: c ; echo\nc: ; echo\n",
     "all: a\\:b ; echo\na\\:b: ; echo\n",
+    "MAKE = gmake\nall: ; $(MAKE) -C lib\n",
+    "all: ; echo\n%.o: %.cc ; c++ $<\n.c.o: ; cc $<\n",
     "A := one\nall: $(A) | dir ; echo $| $(@D) $(<F)\none: ; echo\ndir: ; mkdir dir\n",
 ]
 
@@ -127,6 +131,11 @@ class Porting(Tree):
         self.write(Makefile="all: x.o ; $(CC) $(LD)\n", x_c="")
         self.assertEqual(self.port(1, "Makefile", "CC=cc")[-2], "Makefile: 2 in the way: 2 no fault")
         self.assertEqual(self.port(0, "--builtin", "Makefile")[-2], "Makefile: nothing in the way")
+
+    def test_what_is_assigned_to_a_given_macro_is_never_met(self):
+        self.write(Makefile="A := $(shell ls)\nB != ls\nC = $(A)\nall: ; echo $(C) $(shell pwd)\n")
+        self.assertEqual(self.port(1, "Makefile")[-2], "Makefile: 3 in the way: 2 E16, 1 E17")
+        self.assertEqual(self.port(1, "Makefile", "A=x")[-2], "Makefile: 2 in the way: 1 E16, 1 E17")
 
     def test_several_makefiles(self):
         self.write(a_mk="all: ; echo\n", b_mk="all: ; echo $(shell ls)\n")

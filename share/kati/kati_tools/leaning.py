@@ -5,7 +5,7 @@ import re
 from . import files
 from .advice import Finding
 from .programs import SHARE
-from .scanning import is_suffix_rule
+from .scanning import SUFFIXES, is_suffix_rule
 from .translating import MACROS
 
 OF_MAKE = {"MAKEFLAGS", "MFLAGS", "CURDIR", "MAKEFILE_LIST", "MAKECMDGOALS", "MAKELEVEL", "MAKE_VERSION", "MAKE_HOST",
@@ -66,6 +66,21 @@ def suffix_rules(scan):
             yield Finding(rule.file, rule.number, form, "suffix prerequisites")
 
 
+def cut_suffixes(name):
+    """The two suffixes of a target that looks like a suffix rule of two: what is made, and its source."""
+    return [(made, name[:-len(made)]) for made in SUFFIXES if name.endswith(made) and name[:-len(made)] in SUFFIXES]
+
+
+def suffix_order(scan):
+    """Suffix rules for which there is a pattern rule too: make and kati may choose another one of the two."""
+    patterns = {(target, need) for rule in scan.rules for target in rule.targets for need in rule.needs}
+    for rule in scan.rules:
+        names = rule.targets if rule.has_recipe and not rule.needs else []
+        for name in names:
+            if any(("%" + made, "%" + source) in patterns for made, source in cut_suffixes(name)):
+                yield Finding(rule.file, rule.number, f"{name}:", "suffix order")
+
+
 def groups(scan):
     """Grouped targets without a recipe."""
     for rule in scan.rules:
@@ -76,7 +91,7 @@ def groups(scan):
 def macros(scan, has_builtin):
     """Macros that are referred to and that nothing assigns, though make has them."""
     kinds = {**dict.fromkeys(OTHER_MACROS, "built-in macro"), **dict.fromkeys(OF_MAKE, "of make"),
-             **dict.fromkeys(OF_THE_ENVIRONMENT, "environment")}
+             **dict.fromkeys(OF_THE_ENVIRONMENT, "environment"), "MAKE": "inner make"}
     if not has_builtin:
         kinds.update(dict.fromkeys(macros_of_share(), "built-in macro"))
     for name, (file, number) in scan.uses.items():
@@ -93,5 +108,5 @@ def wild_values(scan):
 
 def findings(scan, has_builtin):
     """All of them."""
-    found = [*suffix_rules(scan), *groups(scan), *macros(scan, has_builtin), *wild_values(scan)]
+    found = [*suffix_rules(scan), *suffix_order(scan), *groups(scan), *macros(scan, has_builtin), *wild_values(scan)]
     return found if has_builtin else [*found, *objects(scan), *programs(scan)]

@@ -21,7 +21,9 @@ class Scan:
     """What is found in a makefile and its includes."""
 
     def __init__(self, given):
-        self.findings, self.assigned, self.colons = [], set(given), {}
+        # The macros of the command line: kati never expands what the makefile assigns to them.
+        self.given = set(given)
+        self.findings, self.assigned, self.colons = [], set(self.given), {}
         # Where each macro is first referred to: (file, number). What rules need, by macro. Values that hold a
         # wildcard.
         self.uses, self.needed, self.wild = {}, {}, {}
@@ -159,6 +161,8 @@ class Scan:
         self.expanded(line, name)
         if operator == "!=":
             self.add(line, f"{name} != {value}", "!=")
+            return
+        if name in self.given:
             return
         self.expanded(line, value, "$" not in name)
         self.values += [(self.file, line.number, word) for word in makefile_text.words(value)]
