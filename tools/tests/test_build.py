@@ -1,7 +1,7 @@
 """kati-build: building, translating again, what is kept and what is replaced."""
 import stat
 
-from support import Tree, kati, needs
+from support import TOOLS, Tree, kati, needs
 
 # A shell's list of names stands for kati-asked, which tells what a translation asked for.
 ASKED = "#!/bin/sh\necho makefile\necho Makefile\necho conf/x86.mk\n"
@@ -84,7 +84,16 @@ class Building(Tree):
         self.put("build.ninja", self.run_in(kati()).out)
         self.build()
         self.build("-o", "sub/folder/x.ninja")
-        self.assertEqual(self.tool("kati-build", "-f", "/dev/stdin").status, 64)
+
+    def test_a_makefile_that_can_be_read_but_once(self):
+        self.write(Makefile="all: ; echo all\n")
+        for command in ("kati-build -f /dev/stdin", "kati-compare -f /dev/stdin", "kati-port /dev/stdin"):
+            for line in (f"{TOOLS}/{command} < Makefile", f"cat Makefile | {TOOLS}/{command}"):
+                with self.subTest(line):
+                    ran = self.run_in("sh", "-c", line)
+                    self.assertEqual(ran.status, 64, ran.all)
+                    self.assertIn("/dev/stdin is no file that can be read again", ran.said)
+        self.assertEqual(sorted(path.name for path in self.top.iterdir()), ["Makefile"])
 
     def test_ninjas_status_is_its_own(self):
         self.write(Makefile="all: ; exit 3\n")

@@ -35,16 +35,17 @@ which files are watched:
 header dependencies:
   --deps gives each statement whose command has -MD or -MMD the file that the compiler writes: that
   of -MF, or the one named after the output. So ninja makes again what includes a changed header.
-  Of two statements that write the same file none can use it; this is said.
+  Of two statements that write the same file none can use it; this is said, and -MF $@.d helps.
 
 environment:
   KATI, KATI_ASKED, NINJA      the programs kati, kati-asked and ninja
 
 examples:
-  kati-build                         builds the first target
-  kati-build --deps all CC=clang     builds `all` by clang, with header dependencies
-  kati-build --builtin -- -j4 -v     with make's usual rules; ninja runs four jobs and shows commands
-  kati-build -o clean.ninja clean    another file for another goal, so that build.ninja stays
+  kati-build                             builds the first target
+  kati-build all CC=clang                builds `all` by clang
+  kati-build --deps 'CFLAGS=-O2 -MMD'    with header dependencies, which the compiler writes for -MMD
+  kati-build --builtin -- -j4 -v         with make's usual rules; ninja runs four jobs, shows commands
+  kati-build -o clean.ninja clean        another file for another goal, so that build.ninja stays
 
 exit status:
   0     built; with --no-ninja: translated
@@ -80,8 +81,7 @@ def refuse_words(asked, output):
     """Stops at words that no file which is made again can hold, and at a file that another program or a hand wrote."""
     if any("\n" in word for word in [output, *asked.words]):
         raise Stop("a word with a newline, which no Ninja file can hold", words.WRONG_USAGE)
-    if asked.makefile is not None and os.path.exists(asked.makefile) and not os.path.isfile(asked.makefile):
-        raise Stop(f"{asked.makefile} is no file that can be read again", words.WRONG_USAGE)
+    translating.refuse_passing(asked.makefile)
     there = files.read(output)
     if there and not there.startswith((top_file.FIRST_LINE, KATIS_FIRST_LINE)):
         raise Stop(f"{output} isn't kati-build's: remove it, or name another file by -o", words.WRONG_USAGE)
@@ -108,8 +108,8 @@ class Build:
         """The words by which ninja has the translation made anew."""
         asked, tool = self.asked, os.path.abspath(sys.argv[0])
         # By the Python that runs now, whatever PATH has later, and without packages, which cost time.
-        found = [sys.executable or "python3", "-S", tool, "--no-ninja", "-o", self.output, "--files-from", asked.files_from]
-        found += ["--kati", self.translator.kati]
+        found = [sys.executable or "python3", "-S", tool, "--no-ninja", "-o", self.output]
+        found += ["--files-from", asked.files_from, "--kati", self.translator.kati]
         found += ["--kati-asked", self.program] if self.program else []
         found += [word for word, is_on in (("--deps", asked.deps), ("--builtin", asked.builtin),
                                            ("--compile-commands", asked.compile_commands)) if is_on]

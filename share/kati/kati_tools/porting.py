@@ -15,7 +15,8 @@ or that would silently mean something else: FILE:LINE, the form, the number of t
 kati itself.
 
 The makefile is looked through without expanding anything, so what is told is a hint. What kati
-itself says counts."""
+itself says counts. What stands under `ifdef MAKE_VERSION` is for make alone: GNU make has that
+macro by itself, and kati hasn't."""
 
 MORE = """\
 examples:

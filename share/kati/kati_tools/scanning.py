@@ -14,7 +14,17 @@ CALL = re.compile(r"\$[({]call[ \t\n]+(subst|patsubst|strip|findstring|filter|fi
 SPECIAL = {".ONESHELL", ".SECONDEXPANSION", ".DEFAULT", ".IGNORE", ".WAIT", ".EXPORT_ALL_VARIABLES", ".NOTPARALLEL"}
 WILD = re.compile(r"[*?\[]|^~")
 MEMBER = re.compile(r"[^\s()$]+\([^()]*\)")
+# The parts of a recipe's text: what is escaped or quoted, a comment of the shell that ends in a continued line, others.
+SHELL_PART = re.compile(r"""\\.|'[^']*'|"(?:\\.|[^"\\])*"|(?<![^\s;&|(])#[^\n]*\\\n|.""", re.DOTALL)
 SUFFIXES = (".o", ".c", ".cc", ".cpp", ".s", ".S", ".y", ".l", ".h", ".sh", ".a", ".f")
+
+
+class Block:
+    """A conditional: whether it began behind a tab, how many rules were there, and whether its `else` is make's
+    alone."""
+
+    def __init__(self, is_tab, rules):
+        self.is_tab, self.rules, self.has_makes_else = is_tab, rules, False
 
 
 class Scan:
@@ -29,8 +39,10 @@ class Scan:
         self.uses, self.needed, self.wild = {}, {}, {}
         # The rules, with whether they have a recipe, and the words of values.
         self.rules, self.values, self.read = [], [], set()
-        # Of each conditional that isn't closed: whether it began behind a tab, and how many rules were there.
+        # The conditionals that aren't closed.
         self.blocks = []
+        # How many conditionals are open from the beginning of a branch on that is make's alone; 0 outside such.
+        self.skipped = 0
 
     def add(self, line, form, kind):
         self.findings.append(Finding(self.file, line.number, form, kind))
@@ -41,7 +53,7 @@ class Scan:
         if text is None:
             raise Stop(f"no file {name}")
         self.read.add(name)
-        self.file, self.open, self.depth, self.blocks, left = name, None, 0, [], []
+        self.file, self.open, self.depth, self.blocks, self.skipped, left = name, None, 0, [], 0, []
         for line in makefile_text.lines(text):
             left += self.line(line)
         for include in left:
@@ -51,13 +63,38 @@ class Scan:
     def line(self, line):
         """Looks at a line; answers the files that it includes."""
         word = line.first_word()
-        if self.depth:
+        if self.skipped:
+            self.skipped_line(line, word)
+        elif self.depth:
             self.body_line(line, word)
         elif line.is_tab:
             self.tab_line(line, word)
         elif word and not word.startswith("#"):
             return self.plain_line(line, word)
         return []
+
+    def skipped_line(self, line, word):
+        """A line in a branch that kati never takes: only the ends of blocks count."""
+        if line.is_tab:
+            return
+        if self.depth or word == "define":
+            self.depth += {"define": 1, "endef": -1}.get(word, 0)
+        elif word == "else" and self.skipped == 1:
+            self.skipped = 0
+        elif word in makefile_text.CONDITIONS and word != "else":
+            self.skipped += -1 if word == "endif" else 1
+            if not self.skipped:
+                self.blocks.pop()
+
+    def is_makes_alone(self, word, rest):
+        """Whether kati never takes the branch that begins, which is for make: that of `ifdef MAKE_VERSION`."""
+        if not self.blocks or "MAKE_VERSION" in self.given:
+            return False
+        if word == "else":
+            return self.blocks[-1].has_makes_else
+        is_named = rest.split() == ["MAKE_VERSION"]
+        self.blocks[-1].has_makes_else = is_named and word == "ifndef"
+        return is_named and word == "ifdef"
 
     def body_line(self, line, word):
         """A line between `define` and `endef`."""
@@ -96,18 +133,20 @@ class Scan:
 
         A rule from a branch may not be the one that is open behind it, if that branch isn't taken."""
         if word not in ("else", "endif"):
-            self.blocks.append((is_tab, len(self.rules)))
+            self.blocks.append(Block(is_tab, len(self.rules)))
             return True
-        began_by_tab, rules = self.blocks[-1] if self.blocks else (False, 0)
-        if self.open is not None and len(self.rules) > rules:
+        block = self.blocks[-1] if self.blocks else Block(False, 0)
+        if self.open is not None and len(self.rules) > block.rules:
             self.open.is_doubtful = True
         if word == "endif" and self.blocks:
             self.blocks.pop()
-        return is_tab and not began_by_tab
+        return is_tab and not block.is_tab
 
     def recipe(self, line, text):
         """The text of a recipe."""
         self.expanded(line, text)
+        if has_continued_comment(text.lstrip(" \t@-+")):
+            self.add(line, line.joined, "recipe comment")
         for reference in makefile_text.references(text):
             if re.match(r"\$[({]eval[ \t]", reference):
                 self.add(line, reference, "eval in recipe")
@@ -182,6 +221,8 @@ class Scan:
         self.expanded(line, rest)
         if word in ("ifdef", "ifndef"):
             self.assigned.update(rest.split()[:1])
+        if word != "endif" and self.is_makes_alone(word, rest):
+            self.skipped = 1
 
     def include(self, line, word, text):
         """An include; answers its plain names."""
@@ -189,7 +230,7 @@ class Scan:
         self.expanded(line, " ".join(names))
         for name in names:
             if "$" not in name and WILD.search(name):
-                self.add(line, name, "name")
+                self.add(line, name, "dependencies" if name.endswith(".d") else "name")
             elif "$" not in name and word == "include" and not os.path.exists(name):
                 self.add(line, f"include {name}", "absent")
         return [name for name in names if "$" not in name]
@@ -266,6 +307,11 @@ class Scan:
         for name in rule.targets:
             if "$" not in name and "%" not in name and self.colons.setdefault(name, rule.is_double) != rule.is_double:
                 self.add(line, name, "mixed colons")
+
+
+def has_continued_comment(text):
+    """Whether a line of a recipe's text goes on after a comment of the shell."""
+    return any(re.match("#.", part.group()) for part in SHELL_PART.finditer(text))
 
 
 def is_suffix_rule(name):

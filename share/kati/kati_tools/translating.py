@@ -15,6 +15,13 @@ def default_makefile():
     return next((name for name in ("makefile", "Makefile") if os.path.isfile(name)), None)
 
 
+def refuse_passing(makefile):
+    """Stops at a makefile that can be read but once, as standard input: the tools read it several times."""
+    is_there = makefile is not None and os.path.exists(makefile)
+    if is_there and (makefile.startswith(("/dev/", "/proc/")) or not os.path.isfile(makefile)):
+        raise Stop(f"{makefile} is no file that can be read again", WRONG_USAGE)
+
+
 def with_builtin(makefile, room):
     """The name of a makefile in the folder `room`: make's usual macros, the makefile, and make's usual rules."""
     name = makefile or default_makefile()
@@ -45,6 +52,7 @@ class Translator:
     """kati with its words, for one makefile; its files stand in the folder `room`."""
 
     def __init__(self, asked, room):
+        refuse_passing(asked.makefile)
         self.kati = find_kati(asked.kati)
         self.room = room
         self.makefile = with_builtin(asked.makefile, room) if asked.builtin else asked.makefile

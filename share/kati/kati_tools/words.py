@@ -43,7 +43,7 @@ def add_kati_words(parser):
     group.add_argument("-f", dest="makefile", metavar="FILE",
                        help="the makefile; without it `makefile`, then `Makefile`")
     group.add_argument("--depth", type=int, metavar="N", help="how many levels macros and includes may nest, 1 to 400")
-    group.add_argument("--ninja", action="store_true", help="taken, and always on")
+    group.add_argument("--ninja", action="store_true", help="accepted; a Ninja file is always written")
     group.add_argument("words", nargs="*", metavar="GOAL|NAME=VALUE",
                        help="what to make; a macro that overrides the makefile's assignments")
 
