@@ -46,8 +46,10 @@ class Building(Tree):
 
     def test_a_fault_without_a_build_leaves_none(self):
         self.write(Makefile="all: ; echo $(shell ls)\n")
-        self.assertEqual(self.tool("kati-build").status, 2)
-        self.assertFalse((self.top / "build.ninja").exists())
+        for words in ([], ["--builtin"], ["-f", "absent"], ["--builtin", "-f", "absent"]):
+            with self.subTest(words):
+                self.assertEqual(self.tool("kati-build", *words).status, 2)
+                self.assertEqual([path.name for path in self.top.iterdir()], ["Makefile"])
 
     def test_words_go_to_kati_and_to_ninja(self):
         self.write(other_mk="one: ; echo $(A) > one\ntwo: ; echo two > two\n")

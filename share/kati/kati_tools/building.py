@@ -1,5 +1,6 @@
 """The command kati-build: translates a makefile, keeps the translation up to date, and runs ninja."""
 import os
+import shutil
 import subprocess
 import sys
 
@@ -96,9 +97,10 @@ class Build:
         self.translated = os.path.join(self.room, sources.TRANSLATED)
         self.list = os.path.join(self.room, "files.txt")
         refuse_words(asked, self.output)
-        os.makedirs(self.room, exist_ok=True)
+        self.is_first = not os.path.exists(self.room)
         self.program = translating.find_asked(asked.kati_asked)
         self.translator = translating.Translator(asked, self.room)
+        os.makedirs(self.room, exist_ok=True)
 
     def makefile(self):
         """The makefile's name."""
@@ -140,9 +142,15 @@ class Build:
             what = f"; {self.output} stays as it is" if os.path.exists(self.output) else ""
             say(TOOL, f"kati ended with status {found.status}{what}")
             os.unlink(self.translator.list)
+            self.remove_new_room()
             return found.status
         self.write(found, listing)
         return 0
+
+    def remove_new_room(self):
+        """Takes the folder away where it was made for this run."""
+        if self.is_first:
+            shutil.rmtree(self.room)
 
     def write(self, found, listing):
         """Replaces the files of which the bytes differ; the one that ninja reads is the last."""

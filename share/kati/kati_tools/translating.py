@@ -28,13 +28,14 @@ def with_builtin(makefile, room):
     if name is None:
         raise Stop("no makefile", 2)
     copies = [os.path.join(room, one) for one in (MACROS, RULES)]
-    for copy, one in zip(copies, (MACROS, RULES)):
-        files.replace(copy, files.read(SHARE / one), room)
     three = [copies[0], name, copies[1]]
     if any(set(one) & set(" \t#$%*?[~") for one in three):
         raise Stop(f"--builtin: {' '.join(three)}: a name that `include` can't have", WRONG_USAGE)
     if not os.path.isfile(name):
         raise Stop(f"no makefile {name}", 2)
+    os.makedirs(room, exist_ok=True)
+    for copy, one in zip(copies, (MACROS, RULES)):
+        files.replace(copy, files.read(SHARE / one), room)
     top = os.path.join(room, "with-builtin.mk")
     files.replace(top, "".join(f"include {one}\n" for one in three), room)
     return top
