@@ -67,6 +67,7 @@ OTHERWISE = [
 FINE = [
     "all: ; echo '$$(shell ls)' $$? '*.c'\n",
     "# $(shell ls)\nall: ; echo\n",
+    "VPATH = .\nall: ; echo\n",
     "CC = cc\nAR ?= ar\nall: a.o ; $(CC) $(AR)\n%.o: %.c ; $(CC) -c $<\n",
     "all: a.o ; echo\n.c.o: ; echo $<\n",
     "OBJS = a.o\nall: $(OBJS) ; echo\n$(OBJS): %.o: %.c ; cc -c $<\n",

@@ -205,7 +205,7 @@ class Scan:
             return
         self.expanded(line, value, "$" not in name)
         self.values += [(self.file, line.number, word) for word in makefile_text.words(value)]
-        if name in ("VPATH", ".RECIPEPREFIX"):
+        if name in ("VPATH", ".RECIPEPREFIX") and value not in ("", "."):
             self.add(line, f"{name} {operator} {value}", name)
         wild = [word for word in makefile_text.words(value) if "$" not in word and WILD.search(word)]
         if wild:
