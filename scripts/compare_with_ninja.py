@@ -1,12 +1,12 @@
 #!/usr/bin/env python3
 """Compares what kati reads of Ninja files with what Ninja reads of them.
 
-Each text NAME.ninja in scripts/ninja_texts says the build of the makefile NAME.mk in a spelling of its own;
-the makefile's goals stand in its first line after `# goals: `. `kati --check` tells whether a text is read as the plan of its makefile.
-Ninja tells whether it reads the text as it reads what kati writes, by the outputs, inputs and commands that `ninja -t targets all`,
-`-t query` and `-t commands -s` print. Both are asked of each text, of each beginning of it, and of what each byte less and some bytes more
-above its last `default` line make of it: some ten thousand texts, in a minute or two. No tool of Ninja's prints default targets, so that
-a text which lacks a `default` line isn't compared.
+Each text NAME.ninja in scripts/ninja_texts says the build of the makefile NAME.mk in a spelling of its own; the
+makefile's goals stand in its first line after `# goals: `. `kati --check` tells whether a text is read as the plan of
+its makefile. Ninja tells whether it reads the text as it reads what kati writes, by the outputs, inputs and commands
+that `ninja -t targets all`, `-t query` and `-t commands -s` print. Both are asked of each text, of each beginning of
+it, and of what each byte less and some bytes more above its last `default` line make of it: some ten thousand texts, in
+a minute or two. No tool of Ninja's prints default targets, so that a text which lacks a `default` line isn't compared.
 
 examples:
   scripts/compare_with_ninja.py           the built program
@@ -32,7 +32,8 @@ DEFAULT_LINE = re.compile(rb"\ndefault ")
 
 TAKEN, REFUSED, OTHERWISE = "takes it for the plan", "refuses it", "reads something else"
 
-# What kati is known to take in its own way: whether it says that the text is the plan, what Ninja does, and what stands in the text.
+# What kati is known to take in its own way: whether it says that the text is the plan, what Ninja does, and what stands
+# in the text.
 KNOWN = [
     ("a joined newline where a line begins, which Ninja refuses", True, REFUSED, rb"^ *\$\n"),
     ("a name that goes on after a joined newline; Ninja ends it there", True, REFUSED, rb"\$\w+\$\n *\w"),
@@ -40,7 +41,8 @@ KNOWN = [
     ("the same, where the file's is the command", False, TAKEN, rb"^command *="),
     ("outputs after a bar, which kati refuses", False, TAKEN, rb"^build(\$:|[^:\n])*\|"),
     ("a keyword with no space after it, which kati refuses", False, TAKEN, rb"^build[$=]"),
-    ("a `default` line that is joined to the line above it, of which no tool of Ninja's tells", False, TAKEN, rb"\$\ndefault "),
+    ("a `default` line that is joined to the line above it, of which no tool of Ninja's tells", False, TAKEN,
+     rb"\$\ndefault "),
 ]
 
 
@@ -96,7 +98,8 @@ class Pair:
         return self.is_plan(text), REFUSED if found is None else TAKEN if found == self.plan else OTHERWISE
 
     def texts(self):
-        """The text, its beginnings, and what a byte less or more makes of it, each once; those that hold all `default` lines."""
+        """The text, its beginnings, and what a byte less or more makes of it, each once; those that hold all `default`
+        lines."""
         text, found = self.text, [self.text]
         last = [line.start() for line in DEFAULT_LINE.finditer(text)][-1]
         found += [text[:end] for end in range(len(text))]

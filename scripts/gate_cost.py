@@ -1,12 +1,13 @@
 #!/usr/bin/env python3
 """Runs the gate on a clean checkout of HEAD and tells what it cost.
 
-LOG gets what the gate prints. The script prints the gate's last line, the minutes that it took and the processor minutes, and then the
-processor seconds of each crate: its proof, its tests and its edits, told apart by the folder and the arguments of each process of the
-prover, and last the checks that its edits took, in order. A machine with more work than processors takes more processor time too.
+LOG gets what the gate prints. The script prints the gate's last line, the minutes that it took and the processor
+minutes, and then the processor seconds of each crate: its proof, its tests and its edits, told apart by the folder and
+the arguments of each process of the prover, and last the checks that its edits took, in order. A machine with more work
+than processors takes more processor time too.
 
-With --speed it proves one crate as it once stood, as the gate does, and tells what that took beside what it took on the machine that the
-gate's marks were set on: processor minutes of two machines can be compared by that alone.
+With --speed it proves one crate as it once stood, as the gate does, and tells what that took beside what it took on the
+machine that the gate's marks were set on: processor minutes of two machines can be compared by that alone.
 
 examples:
   scripts/gate_cost.py                    the gate of HEAD
@@ -32,7 +33,8 @@ ROOT = Path(__file__).resolve().parent.parent
 TICKS = os.sysconf("SC_CLK_TCK")
 PARTS = ("proof", "tests", "edits")
 
-# A commit at which the whole gate was measured, one of its crates, and the processor seconds of that crate's proof there.
+# A commit at which the whole gate was measured, one of its crates, and the processor seconds of that crate's proof
+# there.
 MEASURED = "f18215d", "kt_text: memchr bstr thiserror", 60
 
 
@@ -102,10 +104,12 @@ def tell_speed():
         (folder / "crates.txt").write_text(line + "\n")
         before = processor_seconds()
         one_job = os.environ | {"RT_JOBS": "1"}
-        ran = subprocess.run(["rt", "ci"], cwd=folder, env=one_job, stdout=subprocess.PIPE, stderr=subprocess.STDOUT, text=True)
+        ran = subprocess.run(["rt", "ci"], cwd=folder, env=one_job, stdout=subprocess.PIPE, stderr=subprocess.STDOUT,
+                             text=True)
         took = processor_seconds() - before
     print(ran.stdout.rstrip().splitlines()[-1])
-    print(f"{took:.0f} processor seconds for {crate} of {revision}, {took / wanted:.1f} of the {wanted} that it took there")
+    print(f"{took:.0f} processor seconds for {crate} of {revision}, {took / wanted:.1f} of the {wanted} that it took "
+          "there")
     sys.exit(ran.returncode)
 
 

@@ -128,7 +128,8 @@ class Parser(argparse.ArgumentParser):
 def main():
     parser = Parser(description=__doc__, formatter_class=argparse.RawDescriptionHelpFormatter)
     parser.add_argument("program", metavar="PROGRAM", help="the built program")
-    parser.add_argument("files", nargs="*", metavar="FILE.cases", help="files of cases; without one all of the repository")
+    parser.add_argument("files", nargs="*", metavar="FILE.cases",
+                        help="files of cases; without one all of the repository")
     words = parser.parse_args()
     program = os.path.abspath(words.program)
     passed = failed = 0

@@ -1,9 +1,9 @@
 #!/usr/bin/env python3
-"""Tells what the built kati's time goes into, case by case, as the table "What the time goes into" of docs/BENCHMARKS.md.
+"""Tells what the built kati's time goes into, case by case: the table "What the time goes into" of docs/BENCHMARKS.md.
 
-Each case of the table "The whole program" is run at half its larger size under `perf record` (Debian's package linux-perf), and each
-sample is put to the first group that its function belongs to. The shares are hundredths of a run's samples; those below one are left out.
---small takes a hundredth of each size, to try the script.
+Each case of the table "The whole program" is run at half its larger size under `perf record` (Debian's package
+linux-perf), and each sample is put to the first group that its function belongs to. The shares are hundredths of a
+run's samples; those below one are left out. --small takes a hundredth of each size, to try the script.
 
 examples:
   scripts/where_time_goes.py            the table, of the built program
@@ -24,7 +24,8 @@ import times
 # The groups, in the order in which they are asked; a function is told by its path, and one of the kernel's by `[k]`.
 GROUPS = [
     ("Pages", r"\[k\] "),
-    ("Memory", r"\[\.\] ((_int_|__libc_)?(malloc|free|realloc|calloc|memalign)|c?free@|malloc_consolidate|unlink_chunk|sysmalloc"
+    ("Memory", r"\[\.\] ((_int_|__libc_)?(malloc|free|realloc|calloc|memalign)|c?free@"
+               r"|malloc_consolidate|unlink_chunk|sysmalloc"
                r"|rattle_(alloc|dealloc|realloc)|std_alloc::.*grow|.*Destruct.*::drop)"),
     ("Reading and expanding", r"\[\.\] kt_(text|syntax|eval)::"),
     ("Rules", r"\[\.\] kt_rules::"),
@@ -35,18 +36,18 @@ GROUPS = [
     ("Bytes searched, copied", r"\[\.\] .*(memchr|memcpy|memmove|memset|memcmp|memmem|bstr|slice|iter)"),
     ("Else", r""),
 ]
-SHOWN = ["Memory", "Pages", "Reading and expanding", "Rules", "Graph and plan", "Recipes", "Ninja text", "Bytes searched, copied",
-         "Names hashed, sorted", "Else"]
+SHOWN = ["Memory", "Pages", "Reading and expanding", "Rules", "Graph and plan", "Recipes", "Ninja text",
+         "Bytes searched, copied", "Names hashed, sorted", "Else"]
 SAMPLE = re.compile(r"\s*([\d.]+)%\s+(\[[.k]\] .*?)\s*$")
 
 
 def shares(kati, folder):
     """The share of each group in one run in this folder."""
     data = folder / "perf.data"
-    subprocess.run(["perf", "record", "-q", "-F", "4000", "-o", data, kati, "-f", "Makefile", "--files", times.LIST], cwd=folder,
-                   stdout=subprocess.DEVNULL, stderr=subprocess.DEVNULL, check=True)
-    report = subprocess.run(["perf", "report", "-i", data, "--stdio", "--no-children", "-F", "overhead,sym", "--percent-limit", "0"],
-                            capture_output=True, text=True, check=True).stdout
+    subprocess.run(["perf", "record", "-q", "-F", "4000", "-o", data, kati, "-f", "Makefile", "--files", times.LIST],
+                   cwd=folder, stdout=subprocess.DEVNULL, stderr=subprocess.DEVNULL, check=True)
+    asked = ["perf", "report", "-i", data, "--stdio", "--no-children", "-F", "overhead,sym", "--percent-limit", "0"]
+    report = subprocess.run(asked, capture_output=True, text=True, check=True).stdout
     found = Counter()
     for line in report.splitlines():
         if sample := SAMPLE.match(line):

@@ -1,16 +1,16 @@
 #!/usr/bin/env python3
 """Tries the wrong bodies of crates, many at a time: each must be refused by the prover.
 
-An edit is a file of crates/CRATE/wrong-bodies: a line 'file: src/x.rt', then pairs of lines 'old: TEXT' and 'new: TEXT',
-each old text standing once in the file. A round applies edits of different functions to one copy of the repository with what
-earlier checks kept, runs one check, and reads whom it blames. An edit is
+An edit is a file of crates/CRATE/wrong-bodies: a line 'file: src/x.rt', then pairs of lines 'old: TEXT' and
+'new: TEXT', each old text standing once in the file. A round applies edits of different functions to one copy of the
+repository with what earlier checks kept, runs one check, and reads whom it blames. An edit is
 
     refused      its function is blamed for a goal of its own
     let through  its function is proved although it was edited, or nothing but its callees kept it from being proved
     no refusal   the edited code doesn't compile, or only a name of a proof file went away: it wants another body
 
-An edit of a type or a constant has a round to itself. A function that couldn't be judged, since one that it calls was edited too,
-comes again in a later round without that one. The work tree isn't touched.
+An edit of a type or a constant has a round to itself. A function that couldn't be judged, since one that it calls was
+edited too, comes again in a later round without that one. The work tree isn't touched.
 
 examples:
   scripts/wrong_bodies.py                       all of wrong-bodies/
@@ -93,7 +93,8 @@ def owner(text, at):
 
 
 def within_impl(lines, start, indent):
-    """The type, and the trait after it, whose impl block a function stands in, with two colons; nothing outside impls."""
+    """The type, and the trait after it, whose impl block a function stands in, with two colons; nothing outside
+    impls."""
     if not indent:
         return ""
     for line in reversed(lines[:start]):
@@ -111,7 +112,8 @@ def span(text, name):
         header = HEADER.match(line)
         if header and within_impl(lines, start, header.group(1)) + header.group(2) == name:
             indent = header.group(1)
-            end = next((i for i in range(start, len(lines)) if re.match(rf"{indent}(\}}|\{{\}})", lines[i])), len(lines))
+            ends = (i for i in range(start, len(lines)) if re.match(rf"{indent}(\}}|\{{\}})", lines[i]))
+            end = next(ends, len(lines))
             while start and re.match(r"\s*(#\[|///|//)", lines[start - 1]):
                 start -= 1
             return start + 1, end + 1
@@ -137,7 +139,8 @@ def dependencies(crate):
 
 def copy_of(crate, folder):
     """A copy of the repository in the folder, with the kept work of the crate and of those below it."""
-    files = subprocess.run(["git", "ls-files", "-z", "-co", "--exclude-standard"], cwd=ROOT, capture_output=True, check=True)
+    files = subprocess.run(["git", "ls-files", "-z", "-co", "--exclude-standard"], cwd=ROOT, capture_output=True,
+                           check=True)
     for name in files.stdout.decode().split("\0"):
         if name and (ROOT / name).is_file():
             (folder / name).parent.mkdir(parents=True, exist_ok=True)
@@ -161,11 +164,15 @@ class Report:
         lines = [re.sub(r"^so far: ", "", line) for line in output.splitlines()]
         self.judged = any(line.startswith("logic=") for line in lines)
         self.states = dict(
-            match.groups() for match in (re.match(r"(?:fn|impl|struct|enum) (\S+): (.*)", line) for line in lines) if match
+            match.groups()
+            for match in (re.match(r"(?:fn|impl|struct|enum) (\S+): (.*)", line) for line in lines)
+            if match
         )
         self.notes = [
             (match.group(1), int(match.group(2)), match.group(3))
-            for match in (re.match(r"(?:note: |error: )?(?:\./)?(src/\S+?\.rt):(\d+):\d+: (.*)", line) for line in lines)
+            for match in (
+                re.match(r"(?:note: |error: )?(?:\./)?(src/\S+?\.rt):(\d+):\d+: (.*)", line) for line in lines
+            )
             if match
         ]
         self.answers = [
@@ -206,7 +213,8 @@ class Report:
         return bool(found) and all(ONLY_A_NAME.search(words) for words in found)
 
     def answers_of(self, folder):
-        """What is wrong with a function's answers: in a cycle they stand in one folder, and a goal's name begins with the function's."""
+        """What is wrong with a function's answers: in a cycle they stand in one folder, and a goal's name begins with
+        the function's."""
         parent, _, name = folder.rpartition("/")
         return [
             words for where, words in self.answers
@@ -214,11 +222,14 @@ class Report:
         ]
 
     def compile_errors(self):
-        return [(name, line) for name, line, words in self.notes if "error" in words or not words.startswith("it is not")]
+        return [
+            (name, line) for name, line, words in self.notes if "error" in words or not words.startswith("it is not")
+        ]
 
 
 def check(folder, crate, jobs):
-    run = subprocess.run(["rt", "check", "--jobs", str(jobs)], cwd=folder / "crates" / crate, capture_output=True, text=True)
+    words = ["rt", "check", "--jobs", str(jobs)]
+    run = subprocess.run(words, cwd=folder / "crates" / crate, capture_output=True, text=True)
     return Report(run.stdout + run.stderr)
 
 
@@ -276,7 +287,8 @@ class Trial:
             self.judge_one(edit, report, len(chosen) == 1)
 
     def drop_what_does_not_compile(self, chosen, report):
-        """Without a verdict, the edits at the places that the check names are the trouble; else the first is tried alone."""
+        """Without a verdict, the edits at the places that the check names are the trouble; else the first is tried
+        alone."""
         blamed = [edit for edit in chosen if any(self.covers(edit, *place) for place in report.compile_errors())]
         for edit in blamed or chosen[: 1 if len(chosen) == 1 else 0]:
             edit.outcome, edit.why = "no refusal", "doesn't compile"
@@ -325,7 +337,8 @@ def tell(trial, started):
         print(f"{trial.crate} {edit.name}: {edit.outcome} ({edit.why})")
     refused = sum(edit.outcome == "refused" for edit in trial.edits)
     minutes = (time.time() - started) / 60
-    print(f"{trial.crate}: {len(trial.edits)} edits, {refused} refused, {trial.rounds} rounds, {minutes:.1f} minutes", flush=True)
+    counts = f"{len(trial.edits)} edits, {refused} refused, {trial.rounds} rounds, {minutes:.1f} minutes"
+    print(f"{trial.crate}: {counts}", flush=True)
     return refused == len(trial.edits)
 
 
@@ -341,7 +354,8 @@ def main():
     parser = argparse.ArgumentParser(description=__doc__, formatter_class=argparse.RawDescriptionHelpFormatter)
     parser.add_argument("crates", nargs="*", metavar="CRATE")
     parser.add_argument("--jobs", type=int, default=2, help="jobs of each check")
-    parser.add_argument("--only", action="append", metavar="WORD", help="edits with this word in their names; may stand again")
+    parser.add_argument("--only", action="append", metavar="WORD",
+                        help="edits with this word in their names; may stand again")
     parser.add_argument("--must-fail", action="store_true", help="the edits of must-fail as well")
     parser.add_argument("--self-test", action="store_true", help="see that edits without a meaning are let through")
     asked = parser.parse_args()

@@ -1,5 +1,5 @@
-# The macros that make has by itself, for C, C++, assembler, lex and yacc. kati has none: include this file before a makefile,
-# and builtin-rules.mk after it. Each may be assigned anew by the makefile or on the command line.
+# The macros that make has by itself, for C, C++, assembler, lex and yacc. kati has none: include this file before a
+# makefile, and builtin-rules.mk after it. Each may be assigned anew by the makefile or on the command line.
 
 AR = ar
 ARFLAGS = rv

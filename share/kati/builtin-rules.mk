@@ -1,8 +1,8 @@
-# The rules that make has by itself, for C, C++, assembler, lex and yacc, by the macros of builtin-macros.mk. kati has none:
-# include this file after a makefile, so that the makefile's own rules come first.
+# The rules that make has by itself, for C, C++, assembler, lex and yacc, by the macros of builtin-macros.mk. kati has
+# none: include this file after a makefile, so that the makefile's own rules come first.
 #
-# A rule with the targets and prerequisites of an older one would remove it. So each rule here has its first prerequisite twice,
-# which changes nothing else: $< is the first, and $^ holds each once.
+# A rule with the targets and prerequisites of an older one would remove it. So each rule here has its first
+# prerequisite twice, which changes nothing else: $< is the first, and $^ holds each once.
 
 %: %.o %.o
 	$(LINK.o) $^ $(LOADLIBES) $(LDLIBS) -o $@

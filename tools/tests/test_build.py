@@ -261,7 +261,8 @@ class Regenerating(Tree):
 
     def watched(self):
         """What the translation depends on, as build.ninja says it."""
-        return self.read("build.ninja").split("\nbuild build.ninja: kati_build")[1].split("\nbuild")[0].split(" $\n    ")[1:]
+        statement = self.read("build.ninja").split("\nbuild build.ninja: kati_build")[1].split("\nbuild")[0]
+        return statement.split(" $\n    ")[1:]
 
     def test_an_include_with_a_computed_name(self):
         # With kati-asked, where it is there, and without it.

@@ -10,7 +10,8 @@ class Help(Tree):
             with self.subTest(name):
                 ran = self.tool(name, "--help", KATI="no/such/program")
                 self.assertEqual((ran.status, ran.said), (0, ""))
-                for part in (f"usage: {name}", "--files-from", "--builtin", "--kati PROGRAM", "\nexamples:\n", "\nexit status:\n"):
+                for part in (f"usage: {name}", "--files-from", "--builtin", "--kati PROGRAM", "\nexamples:\n",
+                             "\nexit status:\n"):
                     self.assertIn(part, ran.out)
                 self.assertEqual([line for line in ran.out.split("\n") if len(line) >= 120], [])
                 self.assertEqual(self.tool(name, "--such").status, 64)
@@ -21,6 +22,13 @@ class Help(Tree):
                 ran = self.run_in("python3", path, "--help")
                 self.assertEqual(ran.status, 0)
                 self.assertIn("exit status is", ran.out)
+
+    def test_no_line_of_their_code_is_too_long(self):
+        for top in (TOOLS, TOP / "share", TOP / ".ci"):
+            for path in sorted(path for path in top.rglob("*") if path.is_file() and path.suffix != ".pyc"):
+                lines = path.read_text(encoding="utf-8").split("\n")
+                long = [number for number, line in enumerate(lines, 1) if len(line) > 120]
+                self.assertEqual(long, [], path)
 
     def test_tools_leave_nothing_beside_themselves(self):
         self.tool("kati-port", "--help")
