@@ -103,7 +103,7 @@ def tell_speed():
         shutil.rmtree(folder / "crates" / crate / "must-fail")
         (folder / "crates.txt").write_text(line + "\n")
         before = processor_seconds()
-        one_job = os.environ | {"RT_JOBS": "1"}
+        one_job = {**os.environ, "RT_JOBS": "1"}
         ran = subprocess.run(["rt", "ci"], cwd=folder, env=one_job, stdout=subprocess.PIPE, stderr=subprocess.STDOUT,
                              text=True)
         took = processor_seconds() - before
