@@ -87,6 +87,14 @@ class Building(Tree):
         self.build()
         self.build("-o", "sub/folder/x.ninja")
 
+    def test_a_makefile_that_make_alone_reads_is_told_of(self):
+        self.write(GNUmakefile="all: ; echo gnu\n", Makefile="all: ; echo plain\n")
+        for name in ("kati-build", "kati-compare"):
+            with self.subTest(name):
+                self.assertEqual(self.tool(name).said, f"{name}: make reads GNUmakefile here, and kati doesn't: name "
+                                                       "it by -f GNUmakefile\n")
+                self.assertEqual(self.tool(name, "-f", "GNUmakefile").said, "")
+
     def test_a_makefile_that_can_be_read_but_once(self):
         self.write(Makefile="all: ; echo all\n")
         for command in ("kati-build -f /dev/stdin", "kati-compare -f /dev/stdin", "kati-port /dev/stdin"):

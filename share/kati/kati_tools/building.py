@@ -177,6 +177,8 @@ class Build:
 def build(asked, more):
     """Translates, and runs ninja where kati takes the makefile."""
     made = Build(asked)
+    if not asked.no_ninja:
+        translating.tell_of_other(TOOL, asked.makefile)
     status = made.translate()
     return status if status or asked.no_ninja else made.run_ninja(more)
 

@@ -133,6 +133,7 @@ def compare_builds(asked, translation, room):
 
 def compare(asked):
     """Compares, and answers the exit status."""
+    translating.tell_of_other(TOOL, asked.makefile)
     with tempfile.TemporaryDirectory(prefix="kati-compare-") as room:
         translator = translating.Translator(asked, room)
         translation = translator.translate(sources.listing(asked.files_from))

@@ -2,7 +2,7 @@
 import os
 
 from . import files, ninja_text, sources
-from .programs import SHARE, Stop, find, find_kati, run
+from .programs import SHARE, Stop, find, find_kati, run, say
 from .words import WRONG_USAGE
 
 MACROS, RULES = "builtin-macros.mk", "builtin-rules.mk"
@@ -13,6 +13,12 @@ ROUNDS = 4
 def default_makefile():
     """The makefile that kati reads without -f, or None."""
     return next((name for name in ("makefile", "Makefile") if os.path.isfile(name)), None)
+
+
+def tell_of_other(tool, makefile):
+    """Tells of a makefile that make would read and kati doesn't."""
+    if makefile is None and os.path.isfile("GNUmakefile"):
+        say(tool, "make reads GNUmakefile here, and kati doesn't: name it by -f GNUmakefile")
 
 
 def refuse_passing(makefile):
