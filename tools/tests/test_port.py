@@ -4,6 +4,8 @@ import shlex
 
 from support import Tree, kati, needs
 
+from kati_tools import advice, leaning, scanning
+
 # Each makefile has one form that kati refuses, in the line of this number.
 REFUSED = [
     ("all: ; echo $(A)\nA = $(shell ls)\n", 2, "E16"),
@@ -38,6 +40,15 @@ REFUSED = [
     ("a b = c\nall: ; echo\n", 1, "E05"),
     ("include no.mk\nall: ; echo\n", 1, "E04"),
     ("-include *.d\nall: ; echo\n", 1, "E20"),
+    ("ifeq ($(shell ls),)\nA = b\nendif\nall: ; echo\n", 1, "E16"),
+    ("private A = b\nall: ; echo\n", 1, "E17"),
+    ("load x.so\nall: ; echo\n", 1, "E17"),
+    ("-load x.so\nall: ; echo\n", 1, "E17"),
+    ("unexport A\nall: ; echo\n", 1, "E17"),
+    ("all: a\\%b ; echo\n", 1, "E20"),
+    (".DEFAULT: ; echo\nall: ; echo\n", 1, "E22"),
+    (".IGNORE:\nall: ; echo\n", 1, "E22"),
+    (".EXPORT_ALL_VARIABLES:\nall: ; echo\n", 1, "E22"),
 ]
 
 # Forms that kati takes otherwise than make, and words of the advice.
@@ -51,6 +62,8 @@ OTHERWISE = [
     ("all: ; cd $(CURDIR)\n", 1, "empty"),
     ("all: ; cd $(HOME)\n", 1, "environment"),
     ("VPATH = src\nall: ; echo\n", 1, "no effect"),
+    (".RECIPEPREFIX = >\nall: ; echo\n", 1, "no effect"),
+    ("all: ; echo $%\n", 1, "empty"),
     ("all:: ; echo\n", 1, "each time"),
     (".NOTPARALLEL:\nall: ; echo\n", 1, "-j1"),
     ("all:\n\techo one; # first \\\n\techo two\n", 2, "line of its own"),
@@ -116,6 +129,15 @@ class Porting(Tree):
                 self.assertIn("[no fault]", found[0])
                 self.assertIn(words, found[0])
                 self.assertEqual(found[1:], ["Makefile: 1 in the way: 1 no fault", "kati takes Makefile"])
+
+    def test_each_kind_of_advice_is_given(self):
+        untried = set(advice.ADVICE)
+        for makefile, *_ in REFUSED + OTHERWISE:
+            self.write(Makefile=makefile)
+            scan = scanning.Scan(())
+            scan.file_of(str(self.top / "Makefile"))
+            untried -= {one.kind for one in scan.findings + leaning.findings(scan, False)}
+        self.assertEqual(untried, set())
 
     def test_what_stands_in_nobodys_way(self):
         for makefile in FINE:

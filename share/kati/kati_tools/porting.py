@@ -19,6 +19,15 @@ itself says counts. What stands under `ifdef MAKE_VERSION` is for make alone: GN
 macro by itself, and kati hasn't."""
 
 MORE = """\
+what is told:
+  [Enn]       kati refuses the form by this fault, if it meets it: a branch that isn't taken, or a
+              macro that nothing uses, does no harm
+  [no fault]  kati takes the form, in another sense than make: names that lean on built-in rules,
+              built-in macros, what tells of make's run, $(MAKE), variables of the environment that
+              are often asked for, VPATH, suffix rules with prerequisites or beside a pattern rule,
+              double colons without prerequisites, $? and $%, -lNAME as a prerequisite, .NOTPARALLEL,
+              conditionals and comments within a recipe that make hands to the shell
+
 examples:
   kati-port Makefile                 what stands in the way
   kati-port --builtin src/Makefile   the same for kati-build --builtin
