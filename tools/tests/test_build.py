@@ -72,6 +72,9 @@ class Building(Tree):
     def test_wrong_usage_and_absent_programs(self):
         self.write(Makefile="all: ; true\n")
         self.assertEqual(self.tool("kati-build", "--no-such-option").status, 64)
+        ran = self.tool("kati-build", "-j4")
+        self.assertEqual(ran.status, 64)
+        self.assertTrue(ran.said.endswith("unrecognized arguments: -j4; ninja's own stand after --\n"), ran.said)
         self.assertEqual(self.tool("kati-build", "--depth", "0").status, 64)
         self.assertEqual(self.tool("kati-build", "--kati", "no/such/program").status, 3)
         self.assertEqual(self.tool("kati-build", "--files-from", "no/such/list").status, 3)

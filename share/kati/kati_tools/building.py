@@ -59,7 +59,7 @@ exit status:
 
 def parser():
     """The command line of kati-build."""
-    made = words.Parser(prog="kati-build", description=ABOUT, epilog=MORE,
+    made = words.Parser(prog="kati-build", description=ABOUT, epilog=MORE, hint="; ninja's own stand after --",
                         usage="kati-build [--files-from git|find|FILE] [--deps] [--builtin] [-o FILE] [--no-ninja]\n"
                               "                  [--compile-commands] [--kati PROGRAM] [--kati-asked PROGRAM]\n"
                               "                  [KATI WORDS] [-- NINJA WORDS]")

@@ -6,14 +6,16 @@ WRONG_USAGE = 64
 
 
 class Parser(argparse.ArgumentParser):
-    """A parser that ends with kati's status for a wrong command line."""
+    """A parser that ends with kati's status for a wrong command line; of unknown words it also tells `hint`."""
 
-    def __init__(self, **rest):
+    def __init__(self, hint="", **rest):
         super().__init__(formatter_class=argparse.RawDescriptionHelpFormatter, allow_abbrev=False, **rest)
+        self.hint = hint
 
     def error(self, message):
         self.print_usage(sys.stderr)
-        self.exit(WRONG_USAGE, f"{self.prog}: {message}\n")
+        hint = self.hint if message.startswith("unrecognized") else ""
+        self.exit(WRONG_USAGE, f"{self.prog}: {message}{hint}\n")
 
 
 def add_kati(parser):
