@@ -90,6 +90,7 @@ class Building(Tree):
         self.build()
         self.build("-o", "sub/folder/x.ninja")
 
+    @needs("make")
     def test_a_makefile_that_make_alone_reads_is_told_of(self):
         self.write(GNUmakefile="all: ; echo gnu\n", Makefile="all: ; echo plain\n")
         for name in ("kati-build", "kati-compare"):
