@@ -34,6 +34,12 @@ class Pages(unittest.TestCase):
                 heads = [line[4:] for line in page.read_text(encoding="utf-8").splitlines() if line.startswith(".SH ")]
                 self.assertEqual([head for head in heads if head != "ENVIRONMENT"], PARTS)
 
+    def test_each_says_in_a_line_what_its_command_does(self):
+        for page in PAGES:
+            with self.subTest(page.name):
+                name = page.read_text(encoding="utf-8").partition(".SH NAME\n")[2].partition("\n.SH")[0]
+                self.assertRegex(name, rf"^{page.stem} \\- \w.*\w$")
+
     @unittest.skipUnless(shutil.which("mandoc"), "not there: mandoc")
     def test_mandoc_finds_nothing(self):
         for page in PAGES:
