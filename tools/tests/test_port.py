@@ -157,6 +157,11 @@ class Porting(Tree):
                          [*["Makefile:2:"] * 2, *["Makefile:3:"] * 2, "a.mk:1:", "a.mk:3:", "b/c.mk:1:"])
         self.assertEqual(found[-2], "Makefile: 7 in the way: 2 E16, 3 E17, 2 no fault")
 
+    def test_a_fault_that_only_kati_finds(self):
+        self.write(Makefile="ifdef X\nall: ; echo\n")
+        self.assertEqual(self.port(1, "Makefile"), ["Makefile: nothing found beside kati's own fault",
+                                                    "kati's first fault: Makefile:1: *** missing endif [E12]"])
+
     def test_given_macros_and_built_in_files(self):
         self.write(Makefile="all: x.o ; $(CC) $(LD)\n", x_c="")
         self.assertEqual(self.port(1, "Makefile", "CC=cc")[-2], "Makefile: 2 in the way: 2 no fault")

@@ -80,10 +80,10 @@ def first_fault(makefile, asked, macros):
         return lines[-1] if lines else f"status {found.status}"
 
 
-def counted(found):
-    """The line that counts the findings by fault."""
+def counted(found, fault):
+    """The line that counts the findings by fault; `fault` is kati's own."""
     if not found:
-        return "nothing in the way"
+        return "nothing in the way" if fault is None else "nothing found beside kati's own fault"
     counts = Counter(one.fault() for one in found)
     return f"{len(found)} in the way: " + ", ".join(f"{counts[fault]} {fault}" for fault in sorted(counts))
 
@@ -92,7 +92,7 @@ def port(makefile, asked, macros):
     """Tells what stands in the way of one makefile; answers whether something does."""
     found = all_findings(makefile, asked, macros)
     fault = first_fault(makefile, asked, macros)
-    lines = [*(one.told() for one in found), f"{makefile}: {counted(found)}",
+    lines = [*(one.told() for one in found), f"{makefile}: {counted(found, fault)}",
              f"kati takes {makefile}" if fault is None else f"kati's first fault: {fault}"]
     write_text("".join(f"{line}\n" for line in lines))
     return bool(found) or fault is not None
