@@ -385,6 +385,16 @@ class Headers(Tree):
         self.assertIn("a.o, a.so: header dependencies are written to one file, a.d", ran.said)
         self.assertNotIn("depfile", self.read("build.kati/translated.ninja"))
 
+    def test_two_outputs_that_write_a_file_each(self):
+        self.write(Makefile="FLAGS = -O1\nall: x\na.o a.so: a.c ; cc $(FLAGS) -c a.c -o $@\n"
+                            "x: a.o a.so ; cc $(FLAGS) -shared -o $@ a.o\n", a_c=self.SOURCE, a_h="#define A 1\n")
+        ran = self.tool("kati-build", "--deps", "FLAGS=-O1 -fPIC -MMD -MF $@.d")
+        self.assertEqual((ran.status, ran.said), (0, ""), ran.all)
+        self.ninja()
+        self.assertEqual(self.ninja(), "ninja: no work to do.\n")
+        self.touch("a.h")
+        self.assertEqual(self.made_anew(self.ninja), ["a.o", "a.so", "x"])
+
     def test_a_header_that_is_gone(self):
         self.built("cc -MMD -c a.c -o a.o")
         (self.top / "a.h").unlink()
