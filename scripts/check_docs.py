@@ -15,6 +15,7 @@ What is checked:
              line ... stands for any
   scripts    each tells its examples and exit statuses by --help
   gate       README's test command is what .ci/run runs
+  picture    docs/times.svg is drawn from the table in docs/BENCHMARKS.md, as scripts/times.py --picture draws it
 
 examples:
   scripts/check_docs.py                        all, with the built programs
@@ -37,6 +38,9 @@ import subprocess
 import sys
 import tempfile
 from pathlib import Path
+
+sys.dont_write_bytecode = True
+from timing import picture
 
 HERE = Path(__file__).resolve().parent.parent
 # The programs, and where they are built.
@@ -393,8 +397,13 @@ def check_gate(place, report):
     report.check(fine, f"README names neither .ci/run nor what it runs: {command}")
 
 
+def check_picture(place, report):
+    drawn = picture.draw(picture.rows_of(place.text("docs/BENCHMARKS.md")))
+    report.check(drawn == place.text("docs/times.svg"), "docs/times.svg isn't that of the table in docs/BENCHMARKS.md")
+
+
 CHECKS = {"options": check_options, "faults": check_faults, "cases": check_cases, "files": check_files,
-          "lines": check_lines, "examples": check_examples, "scripts": check_scripts, "gate": check_gate}
+          "lines": check_lines, "examples": check_examples, "scripts": check_scripts, "gate": check_gate, "picture": check_picture}
 
 
 class Parser(argparse.ArgumentParser):

@@ -1,22 +1,25 @@
 #!/usr/bin/env python3
 """Times the built kati beside ckati, make and ninja, and prints the tables of docs/BENCHMARKS.md.
 
-TABLE is one of translating, layers, text, reading, hostile; all of them without one. Every makefile is made by
+TABLE is one of translating, units, layers, text, reading, hostile; all of them without one. Every makefile is made by
 scripts/large_makefiles.py. The tools run in turn, side by side, and the least time of the runs counts; the memory is the most that any
 run took. Needed are /usr/bin/time and, for their columns, the Debian packages ckati, make and ninja-build. kati gets a stack of 8 MB, and
 the others one of 1 GB, without which ckati doesn't end on a chain of 100,000 targets. --small takes a hundredth of each size, to try
-the script.
+the script. The table "units" wants a C compiler, which makes the object that counts the allocations, and valgrind, which counts the
+instructions: both figures are the same at each run.
 
 examples:
   scripts/times.py                      all tables
   scripts/times.py --runs 1 hostile     one of them, each case once
   scripts/times.py --small              to try the script
+  scripts/times.py --picture            docs/times.svg from the first table of docs/BENCHMARKS.md
 
 exit status:
   0   the tables are printed
   2   wrong usage"""
 import argparse
 import os
+import re
 import resource
 import shutil
 import signal
@@ -29,8 +32,12 @@ from pathlib import Path
 
 sys.dont_write_bytecode = True
 import large_makefiles as large
+from refusing.runs import CannotTry, Record, RECORD, built_object
+from timing import picture
 
-BUILT = Path(__file__).resolve().parent.parent / "crates/kati_program/out/kati_program"
+ROOT = Path(__file__).resolve().parent.parent
+BUILT = ROOT / "crates/kati_program/out/kati_program"
+FIGURES, PICTURE = ROOT / "docs/BENCHMARKS.md", ROOT / "docs/times.svg"
 MEGABYTE = 2**20
 LIST, PLAN = "files.txt", "plan.ninja"
 MAKE = ["make", "-n", "-r", "-R"]
@@ -227,8 +234,50 @@ def hostile(asked):
         print(f"| {' | '.join(cells)} |", flush=True)
 
 
+def allocations(words, folder, shared_object):
+    """How many times a run asks for memory."""
+    record = folder / "record"
+    record.write_bytes(bytes(RECORD.size))
+    subprocess.run(words, cwd=folder, env=dict(os.environ, LD_PRELOAD=shared_object, REFUSE_RECORD=str(record)),
+                   stdout=subprocess.DEVNULL, check=True)
+    return Record(*RECORD.unpack(record.read_bytes())).growth
+
+
+def instructions(words, folder):
+    """How many instructions a run takes."""
+    counting = ["valgrind", "--tool=callgrind", "--callgrind-out-file=/dev/null", *words]
+    run = subprocess.run(counting, cwd=folder, stdout=subprocess.DEVNULL, stderr=subprocess.PIPE, text=True, check=True)
+    return int(re.search(r"Collected : (\d+)", run.stderr)[1])
+
+
+def unit_figures(make_files, size, asked, shared_object):
+    """Instructions, allocations and peak bytes of one run."""
+    kati = Tool("kati", [asked.kati, "-f", "Makefile", "--files", LIST], 8 * MEGABYTE)
+    with tempfile.TemporaryDirectory(prefix="times_") as name:
+        folder = Path(name)
+        write(folder, *make_files(size))
+        kati.run(folder, asked.seconds)
+        return instructions(kati.words, folder), allocations(kati.words, folder, shared_object), kati.bytes
+
+
+def units(asked):
+    """Prints what one unit more costs: the difference of two sizes, a fifth and two fifths of a case's smaller one."""
+    print("| Case | Instructions a unit | Allocations a unit | Bytes a unit at the peak |")
+    print("|---|---|---|---|")
+    with tempfile.TemporaryDirectory(prefix="times_") as folder:
+        shared_object = built_object(folder)
+        for label, make_files, sizes in TRANSLATING:
+            size = max((sizes[0] // 100 if asked.small else sizes[0]) // 5, 1)
+            one, two = (unit_figures(make_files, n, asked, shared_object) for n in (size, 2 * size))
+            more = [(after - before) / size for before, after in zip(one, two)]
+            # A peak of few pages doesn't tell what a unit takes.
+            memory = f"{more[2]:,.0f}" if two[2] - one[2] >= MEGABYTE // 4 else "-"
+            print(f"| {label} | {more[0]:,.0f} | {more[1]:,.1f} | {memory} |", flush=True)
+
+
 TABLES = {
     "translating": ("The whole program", lambda asked: compare(TRANSLATING, asked)),
+    "units": ("What a unit costs", units),
     "layers": ("Large nodes and lists of names", lambda asked: compare(LAYERS, asked)),
     "text": ("Text functions", lambda asked: compare(TEXT, asked)),
     "reading": ("Reading a Ninja file", read_back),
@@ -243,14 +292,21 @@ def main():
     parser.add_argument("--runs", type=int, default=3, metavar="N", help="runs of each, 3 without it")
     parser.add_argument("--seconds", type=int, default=60, metavar="N", help="the most that a run may take, 60 without it")
     parser.add_argument("--small", action="store_true", help="a hundredth of each size")
+    parser.add_argument("--picture", action="store_true", help="draw docs/times.svg from docs/BENCHMARKS.md, and run nothing")
     asked = parser.parse_args()
+    if asked.picture:
+        PICTURE.write_text(picture.draw(picture.rows_of(FIGURES.read_text())))
+        return
     asked.kati = os.path.abspath(asked.kati)
     if not os.access(asked.kati, os.X_OK):
         sys.exit(f"{asked.kati} isn't built: (cd crates/kati_program && rt run > /dev/null)")
     for name in asked.tables or TABLES:
         title, print_table = TABLES[name]
         print(f"## {title}\n", flush=True)
-        print_table(asked)
+        try:
+            print_table(asked)
+        except CannotTry as why:
+            sys.exit(f"times.py: {why}")
         print(flush=True)
 
 

@@ -49,7 +49,7 @@ class Spoiling(unittest.TestCase):
         return done.stdout
 
     def test_as_it_is(self):
-        self.check("options", "cases", "files", "lines", "gate", failed=0)
+        self.check("options", "cases", "files", "lines", "gate", "picture", failed=0)
 
     def test_an_option_that_only_the_code_has(self):
         self.spoil("crates/kati_args/src/command.rt", '.long("depth")', '.long("deep")')
@@ -111,6 +111,10 @@ class Spoiling(unittest.TestCase):
     def test_a_gate_that_readme_does_not_name(self):
         self.spoil("README.md", "$ .ci/run", "$ ci/run")
         self.check("gate", failed=1)
+
+    def test_a_picture_of_other_figures(self):
+        self.spoil("docs/times.svg", "</svg>", "</svg >")
+        self.assertIn("docs/times.svg", self.check("picture", failed=1))
 
     def test_a_check_that_is_none(self):
         words = [sys.executable, "-B", ROOT / "scripts/check_docs.py", "everything"]
