@@ -403,7 +403,8 @@ def check_picture(place, report):
 
 
 CHECKS = {"options": check_options, "faults": check_faults, "cases": check_cases, "files": check_files,
-          "lines": check_lines, "examples": check_examples, "scripts": check_scripts, "gate": check_gate, "picture": check_picture}
+          "lines": check_lines, "examples": check_examples, "scripts": check_scripts, "gate": check_gate,
+          "picture": check_picture}
 
 
 class Parser(argparse.ArgumentParser):
