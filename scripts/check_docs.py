@@ -6,7 +6,9 @@ What is checked:
              words are kati's; those of each tool, its page and the completions, too
   faults     each number in the code stands in docs/LANGUAGE.md, and the other way round; each example there gives its
              fault
-  cases      the makefiles of docs/PORTING.md are those of the file porting.cases, in order
+  cases      the makefiles of docs/PORTING.md are those of the file porting.cases, in order; no two cases have one
+             name, and none ends in a number in brackets
+  calls      docs/PROOFS.md names a test for each public call that takes memory, which is there and calls it
   files      each file that a document names, and each link within the repository, leads somewhere
   lines      no line of a document has more than 120 columns, but in tables and output
   examples   each block of README.md, example/README.md and docs/USING.md that begins with ```console is run, in a copy
@@ -40,6 +42,7 @@ import tempfile
 from pathlib import Path
 
 sys.dont_write_bytecode = True
+import tested_calls
 from timing import picture
 
 HERE = Path(__file__).resolve().parent.parent
@@ -241,12 +244,27 @@ def makefiles_of_cases(text):
     return found
 
 
+def check_names_of_cases(place, report):
+    names = [name for path in sorted(place.root.glob("crates/kati_cases/data/*.cases"))
+             for name in re.findall(rb"^case (.*)$", path.read_bytes(), re.MULTILINE)]
+    twice = sorted({name.decode() for name in names if names.count(name) > 1})
+    report.check(names and not twice, "cases with one name:", *twice)
+    numbered = [name.decode() for name in names if re.search(rb"\(\d+\)$", name)]
+    report.check(not numbered, "names of cases that end in a number:", *numbered)
+
+
 def check_cases(place, report):
+    check_names_of_cases(place, report)
     blocks = re.findall(r"^```make\n(.*?)^```$", place.text("docs/PORTING.md"), re.MULTILINE | re.DOTALL)
     cases = makefiles_of_cases(place.text("crates/kati_cases/data/porting.cases"))
     report.check(len(blocks) == len(cases), f"docs/PORTING.md has {len(blocks)} makefiles, porting.cases {len(cases)}")
     for block, case in zip(blocks, cases):
         report.check(block == case, "a makefile of docs/PORTING.md isn't that of its case:", *block.splitlines())
+
+
+def check_calls(place, report):
+    found = list(tested_calls.troubles(place.root))
+    report.check(not found, "the table of tests in docs/PROOFS.md:", *found)
 
 
 def named_files(text):
@@ -402,9 +420,9 @@ def check_picture(place, report):
     report.check(drawn == place.text("docs/times.svg"), "docs/times.svg isn't that of the table in docs/BENCHMARKS.md")
 
 
-CHECKS = {"options": check_options, "faults": check_faults, "cases": check_cases, "files": check_files,
-          "lines": check_lines, "examples": check_examples, "scripts": check_scripts, "gate": check_gate,
-          "picture": check_picture}
+CHECKS = {"options": check_options, "faults": check_faults, "cases": check_cases, "calls": check_calls,
+          "files": check_files, "lines": check_lines, "examples": check_examples, "scripts": check_scripts,
+          "gate": check_gate, "picture": check_picture}
 
 
 class Parser(argparse.ArgumentParser):

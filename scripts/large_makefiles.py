@@ -178,6 +178,12 @@ def continued(count):
     return {"Makefile": "W := " + scattered(count, 50_000).replace(" ", " \\\n") + "\nall: ; @echo $(words $(W))\n"}, []
 
 
+def suffixes(count):
+    """So many suffixes, and as many targets that have the form of suffix rules and that a goal needs."""
+    text = ".SUFFIXES: " + words(count, ".{i:05}q") + "\nall: " + words(count, ".{i:05}r") + "\n"
+    return {"Makefile": text + lines(count, ".{i:05}r: ;\n")}, []
+
+
 def nested_conditionals(count):
     return {"Makefile": "ifndef X\n" * count + "$(info in)\n" + "endif\n" * count}, []
 

@@ -75,6 +75,7 @@ WITHOUT_CKATI = (large.two_patterns, large.group)
 HOSTILE = [
     ("a chain of 100,000 targets", large.chain, 100_000),
     ("100,000 nested conditionals", large.nested_conditionals, 100_000),
+    ("30,000 suffixes, as many bare targets", large.suffixes, 30_000),
     ("16 MB of `#`", lambda size: large.repeated(size, "#"), large.MOST),
     ("16 MB of `$(`", lambda size: large.repeated(size, "$("), large.MOST),
     ("16 MB of backslashes", lambda size: large.repeated(size, "\\"), large.MOST),

@@ -49,7 +49,7 @@ class Spoiling(unittest.TestCase):
         return done.stdout
 
     def test_as_it_is(self):
-        self.check("options", "cases", "files", "lines", "gate", "picture", failed=0)
+        self.check("options", "cases", "calls", "files", "lines", "gate", "picture", failed=0)
 
     def test_an_option_that_only_the_code_has(self):
         self.spoil("crates/kati_args/src/command.rt", '.long("depth")', '.long("deep")')
@@ -81,6 +81,28 @@ class Spoiling(unittest.TestCase):
     def test_a_makefile_that_is_not_its_case(self):
         self.spoil("docs/PORTING.md", "VPATH = src\n", "VPATH = source\n")
         self.check("cases", failed=1)
+
+    def test_two_cases_of_one_name(self):
+        self.spoil("crates/kati_cases/data/worked.cases", "case one rule\n", "case empty makefile\n")
+        self.assertIn("    empty makefile\n", self.check("cases", failed=1))
+
+    def test_a_case_whose_name_ends_in_a_number(self):
+        self.spoil("crates/kati_cases/data/worked.cases", "case one rule\n", "case one rule (2)\n")
+        self.assertIn("    one rule (2)\n", self.check("cases", failed=1))
+
+    def test_a_call_without_a_test(self):
+        self.spoil("docs/PROOFS.md", "| kt_text | `findstring` | `needles_are_found` |\n", "")
+        self.assertIn("kt_text: findstring stands in the code alone", self.check("calls", failed=1))
+
+    def test_a_test_that_is_not_there(self):
+        self.spoil("docs/PROOFS.md", "`needles_are_found`", "`needles_are_lost`")
+        self.assertIn("kt_text: there is no test needles_are_lost", self.check("calls", failed=1))
+
+    def test_a_call_that_its_tests_do_not_make(self):
+        tests = "crates/kt_text_tests/src/calls.rt"
+        self.spoil(tests, 'functions::findstring(rt.alloc(), b"a", b"a b c")', 'b"a"')
+        self.spoil(tests, 'functions::findstring(rt.alloc(), b"a", b"b c")', 'b""')
+        self.assertIn("kt_text: the tests don't call findstring", self.check("calls", failed=1))
 
     def test_a_file_that_is_not_there(self):
         self.spoil("docs/GATE.md", "scripts/run_cases.py", "scripts/walk_cases.py")

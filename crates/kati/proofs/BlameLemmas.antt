@@ -1,17 +1,13 @@
 -- What is to blame for a refusal, where no file was asked for.
-use Rattle.std.proofs.Common.{subst, ◌≡◌, ◌≤◌, arith, ℕ, List, Option, Some, None, Result, Ok, Err, ◌∙◌}
-use Rattle.std.specs.Prelude.{IfSome, OnOk}
+use Rattle.std.proofs.Common.{subst, ◌≡◌, ℕ, List, Option, Some, None, Result, Ok, Err}
+use Rattle.std.specs.Prelude.{IfSome, OnErr, OnOk}
 use Rattle.kt_text.specs.Words.{Text}
 use Rattle.kt_eval.specs.declared.stop.Stop.{Stop}
 use Rattle.kt_eval.specs.declared.stop.Stop.TheVariants as stops
 use Rattle.kt_eval.specs.Outcome.{AsksNothing}
-use Rattle.kt_eval.specs.Step.{Blames}
-use Rattle.kati.specs.declared.faults.RunFault.{RunFault}
-use Rattle.kati.specs.declared.faults.RunFault.TheVariants as faults
-use Rattle.kati.specs.declared.status.Status.{Status}
-use Rattle.kati.specs.Headline.{Blames as RunBlames}
+use Rattle.kt_eval.specs.Step.{BlamesBy}
 
-pub asks_blames : {A : Type 0} (result : Result A Stop) (old new : ℕ) (names : List Text) → new ≡ old → AsksNothing result → Blames result old new names
+pub asks_blames : {A : Type 0} (result : Result A Stop) (old new : ℕ) (names : List Text) → new ≡ old → AsksNothing result → BlamesBy result old new names
 asks_blames (Ok x) old new names same h = same
 asks_blames (Err (stops.Fault fault)) old new names same h = same
 asks_blames (Err (stops.Device name)) old new names same h = absurd h
@@ -25,14 +21,13 @@ pub if_some-weaker : {T : Type 0} (o : Option T) (P Q : T → Type 0) → ((x : 
 if_some-weaker None P Q more h = h
 if_some-weaker (Some x) P Q more h = more x h
 
--- what is to blame for a fault of a run stays so where the error output's count goes on rising after it
-pub blames_on : (run : Result Status RunFault) (asked : List Text) (files files' outs outs' errs middle errs' : ℕ) → middle ≤ errs'
-    → OnOk run (errs' ≡ middle) → RunBlames run asked files files' outs outs' errs middle → RunBlames run asked files files' outs outs' errs errs'
-blames_on (Ok status) asked files files' outs outs' errs middle errs' more still blames = (blames.0, blames.1, still ∙ blames.2)
-blames_on (Err (faults.Read name)) asked files files' outs outs' errs middle errs' more still blames = blames
-blames_on (Err faults.WriteOut) asked files files' outs outs' errs middle errs' more still blames = blames
-blames_on (Err faults.WriteErr) asked files files' outs outs' errs middle errs' more still blames = omega arith
-blames_on (Err faults.Memory) asked files files' outs outs' errs middle errs' more still blames = blames
+pub on_err : {A B : Type 0} (r : Result A B) (P : Type 0) → P → OnErr r P
+on_err (Ok x) P h = tt
+on_err (Err e) P h = h
+
+pub on_err_weaker : {A B : Type 0} (r : Result A B) (P Q : Type 0) → (P → Q) → OnErr r P → OnErr r Q
+on_err_weaker (Ok x) P Q more h = tt
+on_err_weaker (Err e) P Q more h = more h
 
 pub on_ok_weaker : {A B : Type 0} (r : Result A B) (P Q : Type 0) → (P → Q) → OnOk r P → OnOk r Q
 on_ok_weaker (Ok x) P Q more h = more h

@@ -1,6 +1,7 @@
 -- Each plan that a run means is the graph of what its goals need.
 use Rattle.std.proofs.Common.{◌≡◌, ◌≢◌, ◌⊎◌, ℕ, zero, suc, Bool, true, false, not, cond, List, [], ◌∷◌, ◌++◌, map, Option, Some, None, Ok, refl, sym, ap, ◌∙◌, subst, ⊎_elim, inl, inr, arith}
 use Rattle.std.specs.List.{AllPairs, Contains, list_any}
+use Rattle.std.specs.List.Sorted.{IsStrictlySortedBy}
 use Rattle.std.proofs.lemmas.Bool.{false≢true, true≢false}
 use Rattle.std.proofs.lemmas.List.Concat.{flat_map-cons}
 use Rattle.std.proofs.lemmas.List.Elements.{Contains-append_cases, Contains-append_right}
@@ -9,7 +10,7 @@ use Rattle.kt_rules.specs.Entry.{Rule}
 use Rattle.kt_eval.specs.Machines.{Read, Trace, traced}
 use Rattle.kt_eval.specs.Outcome.{Gave}
 use Rattle.kt_graph.specs.Faults.{IsSoundGraph}
-use Rattle.kt_graph.specs.Groups.{groups_of, made_nodes}
+use Rattle.kt_graph.specs.Groups.{groups_of, leader_name, made_nodes}
 use Rattle.kt_graph.specs.Node.{Node, is_leaf, node_of}
 use Rattle.kt_graph.specs.Reach.{IsGraph, IsMade}
 use Rattle.kt_graph.proofs.MemberLemmas.{Contains-cases, Contains-from_map, Contains-here, Contains-map, Contains-none, Contains-there}
@@ -18,11 +19,11 @@ use Rattle.kt_ninja.specs.Plan.{outputs}
 use Rattle.kt_ninja.specs.Writable.{IsWritable}
 use Rattle.kt_ninja.specs.declared.plan.Plan.{Plan}
 use Rattle.kt_ninja.specs.declared.plan.Statement.{Statement}
-use Rattle.kati.specs.Exact.{IsAlwaysBuilt, IsMadeOnce, IsOfGroup, PlansAreGraphs, TellsGraph}
+use Rattle.kati.specs.Exact.{IsAlwaysBuilt, IsMadeOnce, IsOfGroup, PlansAreGraphs, StandInOrder, TellsGraph}
 use Rattle.kati.specs.Meaning.{Meaning, MeansGoals, Wanted, prepared}
-use Rattle.kati.specs.Planned.{always_build, always_built, command_for, has_implicit, outs_of, plan_groups, plan_of, statement_of, with_always_built}
+use Rattle.kati.specs.Planned.{always_build, always_built, command_for, first_output, has_implicit, outs_of, plan_groups, plan_of, statement_of, with_always_built}
 use Rattle.kati.proofs.OutcomeLemmas.{gave_both}
-use Rattle.kati.proofs.PlanLemmas.{from_flat, law, name_in, name_reached, node_is, outs_in, outs_told, statements_in, to_flat}
+use Rattle.kati.proofs.PlanLemmas.{from_flat, law, name_in, name_reached, node_is, order, outs_in, outs_told, statements_in, to_flat}
 use Rattle.kati.proofs.ReadBackLemmas.{has_plan, plan_given, read_back, went_on}
 
 -- ---- names that differ
@@ -107,6 +108,28 @@ groups_told read limit (group ∷ groups) before said heard statements e stateme
               (Contains-cases (statement_of read.book group command) [] statement here);
         }))
         (Contains-append_cases before (statement_of read.book group command ∷ []) statement among)
+
+-- ---- in order
+
+map_twice : {A B C : Type 0} (f : A → B) (g : B → C) (xs : List A) → map g (map f xs) ≡ map (λ (x : A). g (f x)) xs
+map_twice f g [] = refl
+map_twice {A} {B} {C} f g (x ∷ xs) = ap (λ (ys : List C). g (f x) ∷ ys) (map_twice f g xs)
+
+first_out : (group : List Node) → first_output (outs_of group) ≡ leader_name group
+first_out [] = refl
+first_out (node ∷ nodes) = refl
+
+first_outs : (groups : List (List Node)) → map (λ (group : List Node). first_output (outs_of group)) groups ≡ map leader_name groups
+first_outs [] = refl
+first_outs (group ∷ groups) =
+    ap (λ (name : Text). name ∷ map (λ (one : List Node). first_output (outs_of one)) groups) (first_out group)
+    ∙ ap (λ (names : List Text). leader_name group ∷ names) (first_outs groups)
+
+-- the least outputs of the statements of groups are the least members
+least_are : (statements : List Statement) (groups : List (List Node)) → map outs_in statements ≡ map outs_of groups
+    → map leader_name groups ≡ map (λ (statement : Statement). first_output statement.outs) statements
+least_are statements groups outs =
+    sym (first_outs groups) ∙ sym (map_twice outs_of first_output groups) ∙ ap (map first_output) (sym outs) ∙ map_twice outs_in first_output statements
 
 -- ---- the plan of a sound graph
 
@@ -209,8 +232,35 @@ module _ (read : Read) (limit : ℕ) (known goals : List Text) (nodes : List Nod
           (λ (later : Contains statements statement). inl (of later))
           (Contains-cases always_built statements statement h)
 
+  always : list_any has_implicit all ≡ true → Contains all always_built
+  unfolding with_always_built
+  always needs = by (list_any has_implicit statements) refl needs
+    where
+      by : (b : Bool) → list_any has_implicit statements ≡ b → list_any has_implicit (cond b (always_built ∷ statements) statements) ≡ true
+          → Contains (cond b (always_built ∷ statements) statements) always_built
+      by true is h = Contains-here always_built statements
+      by false is h = absurd (false≢true (sym is ∙ h))
+
+  ordered : StandInOrder all
+  ordered = record {
+    groups = statements;
+    are = refl;
+    rise = subst (λ (names : List Text). IsStrictlySortedBy order names) (least_are statements (groups_of nodes) outs)
+        (law read.book known goals nodes sound.1).leaders;
+  }
+
   pub tells_graph : TellsGraph read limit known goals (plan_of statements goals)
-  tells_graph = record { nodes = nodes; graph = sound; each = made_once; only = only_made; grouped = grouped; defaults = refl }
+  tells_graph = record {
+    nodes = nodes;
+    graph = sound;
+    each = made_once;
+    different = fine.different;
+    only = only_made;
+    grouped = grouped;
+    always = always;
+    ordered = ordered;
+    defaults = refl;
+  }
 
 -- ---- the whole
 

@@ -12,3 +12,7 @@ pub mod SoundLemmas
 pub mod OnceLemmas
 pub mod SingleLemmas
 pub mod OutcomeLemmas
+pub mod ClosingLemmas
+pub mod FitLemmas
+pub mod BoundLemmas
+pub mod ExistenceLemmas

@@ -21,12 +21,13 @@ use Rattle.kt_ninja.specs.declared.plan.Statement.{Statement}
 use Rattle.kt_recipe.proofs.DeeperLemmas.{Stays, command_stays, leaving_stays, then_stays}
 use Rattle.kati_args.specs.declared.args.Args.{Args}
 use Rattle.kati.specs.Chosen.{chosen_goals, default_goal_text}
-use Rattle.kati.specs.Limits.{IsTooDeep, OnlyCuts, with_limit}
+use Rattle.kati.specs.Limits.{IsTooDeep, OnlyCuts, OnlyCutsRuns, with_limit}
 use Rattle.kati.specs.Listing.{listed}
 use Rattle.kati.specs.Makefile.{command_line_table, makefile_names, makefile_read}
 use Rattle.kati.specs.Meaning.{Meaning, Means, MeansAfter, MeansGoals, Wanted, meaning_of, prepared, wanted_by}
 use Rattle.kati.specs.Planned.{command_for, plan_groups, plan_of, planned, statement_of, written}
 use Rattle.kati.specs.Steps.{telling}
+use Rattle.kati.proofs.RunLemmas.{graph_if_plan}
 
 -- ---- the steps
 
@@ -130,3 +131,21 @@ some_more args store asked limit (suc more) m means fine = subst (λ (n : ℕ). 
 pub only_cuts : OnlyCuts
 only_cuts args store asked limit larger m below means fine =
     subst (λ (n : ℕ). Means (with_limit n args) store asked m) (omega (arith, below)) (some_more args store asked limit (larger - limit) m means fine)
+
+-- ---- a run
+
+pub only_cuts_runs : OnlyCutsRuns
+only_cuts_runs args store limit larger status old new below ends fine =
+    let means = only_cuts args store old.files.names limit larger ends.meaning below ends.means fine in (
+      record {
+        meaning = ends.meaning;
+        means = means;
+        graph = graph_if_plan (with_limit larger args) store old.files.names ends.meaning means;
+        sound = ends.sound;
+        ends = ends.ends;
+        names = ends.names;
+        written = ends.written;
+        told = ends.told;
+      },
+      refl,
+    )

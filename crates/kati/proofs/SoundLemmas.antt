@@ -26,8 +26,8 @@ use Rattle.kt_ninja.specs.declared.plan.Statement.{Statement}
 use Rattle.kt_ninja.specs.Writable.{IsWritable}
 use Rattle.kati.specs.Exact.{IsAlwaysBuilt, IsOfGroup, TellsGraph}
 use Rattle.kati.specs.Meaning.{Wanted}
-use Rattle.kati.specs.Planned.{always_build, implicit_of, joined_inputs, joined_order_only, outs_of, statement_of}
-use Rattle.kati.specs.Sound.{IsNamed, IsSoundPlan, NeedsInput, NeedsItself, PlansAreSound}
+use Rattle.kati.specs.Planned.{always_build, always_built, implicit_of, joined_inputs, joined_order_only, outs_of, statement_of}
+use Rattle.kati.specs.Sound.{IsSoundPlan, IsUnreserved, NeedsInput, NeedsItself, PlansAreSound}
 use Rattle.kati.specs.inner.Views.{GoalsEnd}
 use Rattle.kati.proofs.ExactLemmas.{are_graphs, goals_told, of_group}
 use Rattle.kati.proofs.MeaningLemmas.{meant}
@@ -75,6 +75,23 @@ group_makes : (rules : List Rule) (group : List Node) (command : Option Text) (n
     → Contains (statement_of rules group command).outs name → Contains (outs_of group) name
 unfolding statement_of
 group_makes rules group command name has = has
+
+group_names : (rules : List Rule) (group : List Node) (command : Option Text) (name : Text)
+    → Contains ((statement_of rules group command).outs ++ ((statement_of rules group command).inputs ++ (statement_of rules group command).order_only)) name
+    → Contains (outs_of group) name ⊎ IsNeededBy group name
+unfolding statement_of
+group_names rules group command name has = ⊎_elim
+    (λ (made : Contains (outs_of group) name). inl made)
+    (λ (needed : Contains (joined_inputs group ++ joined_order_only group) name). ⊎_elim
+    (λ (input : Contains (joined_inputs group) name). inr (joined_needed group name input))
+    (λ (later : Contains (joined_order_only group) name). inr (order_only_needed group name later))
+    (Contains-append_cases (joined_inputs group) (joined_order_only group) name needed))
+    (Contains-append_cases (outs_of group) (joined_inputs group ++ joined_order_only group) name has)
+
+group_implicit : (rules : List Rule) (group : List Node) (command : Option Text) (name : Text)
+    → Contains (statement_of rules group command).implicit name → name ≡ always_build
+unfolding statement_of
+group_implicit rules group command name has = implicit_is _ name has
 
 module _ (read : Read) (limit : ℕ) (known goals : List Text) (plan : Plan) (tells : TellsGraph read limit known goals plan) where
   -- a made name isn't reserved
@@ -201,37 +218,26 @@ module _ (read : Read) (limit : ℕ) (known goals : List Text) (plan : Plan) (te
       (sym (node_is read.book known goals tells.nodes tells.graph.1 needed.member
       (in_nodes read.book known goals tells.nodes tells.graph.1 needed.member made))) needed.needs)
 
-  unreserved : (name : Text) → IsNamed plan.statements name → name ≢ always_build → is_reserved name ≡ false
-  unreserved name named other = by (tells.grouped named.statement named.among)
-    where
-      not_reserved : IsReached read.book known goals name → (b : Bool) → is_reserved name ≡ b → b ≡ false
-      not_reserved reached true is = absurd (tells.graph.0.free.free name (record { reached = reached; reserved = is }))
-      not_reserved reached false is = refl
+  not_reserved : (name : Text) → IsReached read.book known goals name → (b : Bool) → is_reserved name ≡ b → b ≡ false
+  not_reserved name reached true is = absurd (tells.graph.0.free.free name (record { reached = reached; reserved = is }))
+  not_reserved name reached false is = refl
 
-      of_statement : (group : List Node) (command : Option Text) → Contains (groups_of tells.nodes) group
-          → Contains (statement_of read.book group command).outs name
-          ⊎ Contains ((statement_of read.book group command).inputs ++ ((statement_of read.book group command).implicit ++ (statement_of read.book group command).order_only)) name
-          → is_reserved name ≡ false
-      of_statement group command is_group (inl made) = not_reserved
-          (of_group read.book known goals tells.nodes tells.graph.1 name group is_group (group_makes read.book group command name made)).reached
-          (is_reserved name) refl
-      of_statement group command is_group (inr needed) = ⊎_elim
-          (λ (by_member : IsNeededBy group name). not_reserved (needed_reached group is_group name by_member) (is_reserved name) refl)
-          (λ (always : name ≡ always_build). absurd (other always))
-          (group_needs read.book group command name needed)
+  free_group : (group : List Node) (command : Option Text) → Contains (groups_of tells.nodes) group → IsUnreserved (statement_of read.book group command)
+  free_group group command is_group = record {
+    free = λ name has. ⊎_elim
+        (λ (made : Contains (outs_of group) name). not_reserved name (of_group read.book known goals tells.nodes tells.graph.1 name group is_group made).reached
+        (is_reserved name) refl)
+        (λ (needed : IsNeededBy group name). not_reserved name (needed_reached group is_group name needed) (is_reserved name) refl)
+        (group_names read.book group command name has);
+    implicit = group_implicit read.book group command;
+  }
 
-      by : IsOfGroup read limit (groups_of tells.nodes) named.statement ⊎ IsAlwaysBuilt plan.statements named.statement
-          → is_reserved name ≡ false
-      by (inl of) =
-          let statement = statement_of read.book of.group of.command in
-          of_statement of.group of.command of.among
-          (Contains-append_cases statement.outs (statement.inputs ++ (statement.implicit ++ statement.order_only)) name
-          (subst (λ (s : Statement). Contains (s.outs ++ (s.inputs ++ (s.implicit ++ s.order_only))) name) of.is named.stands))
-      by (inr always) = ⊎_elim
-          (λ (same : always_build ≡ name). absurd (other (sym same)))
-          (λ (none : Contains [] name). Contains-none name none)
-          (Contains-cases always_build [] name
-          (subst (λ (s : Statement). Contains (s.outs ++ (s.inputs ++ (s.implicit ++ s.order_only))) name) always.0 named.stands))
+  unreserved : (statement : Statement) → Contains plan.statements statement → IsUnreserved statement ⊎ (statement ≡ always_built)
+  unreserved statement has = ⊎_elim
+      (λ (of : IsOfGroup read limit (groups_of tells.nodes) statement).
+      inl (subst (λ (one : Statement). IsUnreserved one) (sym of.is) (free_group of.group of.command of.among)))
+      (λ (always : IsAlwaysBuilt plan.statements statement). inr always.0)
+      (tells.grouped statement has)
 
   pub sound_plan : IsSoundPlan plan
   sound_plan = record { uncircled = uncircled; files_differ = differ; unreserved = unreserved }

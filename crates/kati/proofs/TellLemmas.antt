@@ -1,32 +1,36 @@
--- What a sink is told in pieces.
-use Rattle.std.proofs.Common.{◌≡◌, ◌≤◌, ℕ, ◌++◌, Option, Result, Ok, Err, inl, inr, arith}
-use Rattle.std.specs.Prelude.{OnErr, OnOk}
+-- What a sink is told in pieces, and what is told at the end.
+use Rattle.std.proofs.Common.{◌≡◌, ◌≤◌, ℕ, ◌++◌, Result, Ok, Err, refl, sym, subst, inl, inr, arith}
+use Rattle.std.specs.Prelude.{IfErr, OnErr, OnOk}
 use Rattle.kt_list.specs.Counters.{Rises}
 use Rattle.kt_text.specs.Words.{Text}
-use Rattle.kt_ninja.specs.Written.{appended, GrowsByFront}
-use Rattle.kt_ninja.proofs.Growth.{appended_twice, front_after, front_of_more}
-use Rattle.kati.specs.Told.{Tells}
+use Rattle.kt_ninja.specs.Written.{GrowsByFront, SinkSeen, Takes}
+use Rattle.kt_ninja.proofs.Growth.{front_after, front_of_more, takes_twice}
+use Rattle.kati.specs.declared.faults.RunFault.{RunFault}
+use Rattle.kati.specs.declared.status.Status.{Status}
+use Rattle.kati.specs.Devices.{Devices, devices}
+use Rattle.kt_eval.specs.Files.{FilesSeen}
+use Rattle.kati.specs.Told.{Tells, TellsEnd, fault_words}
 
 -- the first piece was taken, and the others are told after it
-pub told_after : (a b : Text) (failed middle failed' : ℕ) (taken between taken' : Option Text) → failed ≤ middle → between ≡ appended taken a
-    → Tells b middle failed' between taken' → Tells (a ++ b) failed failed' taken taken'
-told_after a b failed middle failed' taken between taken' counts one (inl whole) = inl (appended_twice taken between taken' a b one whole)
-told_after a b failed middle failed' taken between taken' counts one (inr cut) = inr (omega (arith, cut.0), front_after taken between taken' a b one cut.1)
+pub told_after : (a b : Text) (old middle new : SinkSeen) → old.failed ≤ middle.failed → Takes old middle a → Tells b middle new
+    → Tells (a ++ b) old new
+told_after a b old middle new counts one (inl whole) = inl (takes_twice old middle new a b one whole)
+told_after a b old middle new counts one (inr cut) = inr (omega (arith, cut.0), front_after old middle new a b one cut.1)
 
 -- the first piece was cut
-pub told_cut : (a b : Text) (failed failed' : ℕ) (taken taken' : Option Text) → Rises failed failed' → GrowsByFront taken taken' a
-    → Tells (a ++ b) failed failed' taken taken'
-told_cut a b failed failed' taken taken' fails grows = inr (fails, front_of_more taken taken' a b grows)
-
--- the count rose before, too
-pub told_since : (text : Text) (failed middle failed' : ℕ) (taken taken' : Option Text) → failed ≤ middle → Tells text middle failed' taken taken'
-    → Tells text failed failed' taken taken'
-told_since text failed middle failed' taken taken' counts (inl whole) = inl whole
-told_since text failed middle failed' taken taken' counts (inr cut) = inr (omega (arith, cut.0), cut.1)
+pub told_cut : (a b : Text) (old new : SinkSeen) → Rises old.failed new.failed → GrowsByFront old new a → Tells (a ++ b) old new
+told_cut a b old new fails grows = inr (fails, front_of_more old new a b grows)
 
 -- what one call of `put` leaves
-pub told_by : {A B : Type 0} (result : Result A B) (text : Text) (failed failed' : ℕ) (taken taken' : Option Text)
-    → OnOk result (taken' ≡ appended taken text) → OnErr result (GrowsByFront taken taken' text) → OnErr result (Rises failed failed')
-    → Tells text failed failed' taken taken'
-told_by (Ok x) text failed failed' taken taken' whole cut fails = inl whole
-told_by (Err e) text failed failed' taken taken' whole cut fails = inr (fails, cut)
+pub told_by : {A B : Type 0} (result : Result A B) (text : Text) (old new : SinkSeen)
+    → OnOk result (Takes old new text) → OnErr result (GrowsByFront old new text) → OnErr result (Rises old.failed new.failed)
+    → Tells text old new
+told_by (Ok x) text old new whole cut fails = inl whole
+told_by (Err e) text old new whole cut fails = inr (fails, cut)
+
+-- what is told at the end goes to the error output alone
+pub told_end : (result : Result Status RunFault) (files : FilesSeen) (out err err' : SinkSeen) → OnOk result (err' ≡ err)
+    → IfErr result (λ fault. Tells (fault_words fault) err err') → TellsEnd result (devices files out err) (devices files out err')
+told_end (Ok status) files out err err' same told =
+    subst (λ (last : SinkSeen). devices files out last ≡ devices files out err) (sym same) refl
+told_end (Err fault) files out err err' same told = (refl, refl, told)

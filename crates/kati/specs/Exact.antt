@@ -1,7 +1,10 @@
 -- What the statements of a plan are: the graph of what the goals need, and nothing else (kati's own; Ninja manual,
 -- "Build statements").
-use Rattle.std.specs.Prelude.{◌≡◌, ◌⊎◌, ℕ, true, List, [], Option, Ok}
-use Rattle.std.specs.List.{Contains, list_any}
+use Rattle.std.specs.Prelude.{◌≡◌, ◌≢◌, ◌⊎◌, ℕ, true, List, [], map, Option, Ok}
+use Rattle.std.specs.List.{AllPairs, Contains, list_any}
+use Rattle.std.specs.List.Sorted.{IsStrictlySortedBy}
+use Rattle.std.specs.Ordering.{nat_cmp}
+use Rattle.std.specs.Cmp.Lexicographic.{slice_cmp}
 use Rattle.kt_text.specs.Words.{Text}
 use Rattle.kt_eval.specs.Files.{Store}
 use Rattle.kt_eval.specs.Machines.{Read, Trace, traced}
@@ -16,7 +19,8 @@ use Rattle.kt_ninja.specs.declared.plan.Plan.{Plan}
 use Rattle.kt_ninja.specs.declared.plan.Statement.{Statement}
 use Rattle.kati_args.specs.declared.args.Args.{Args}
 use Rattle.kati.specs.Meaning.{Meaning, Means, Wanted, prepared}
-use Rattle.kati.specs.Planned.{always_build, always_built, command_for, has_implicit, statement_of}
+use Rattle.kati.specs.Planned.{always_build, always_built, command_for, first_output, has_implicit, statement_of}
+use Rattle.kati.specs.Planned.{with_always_built}
 
 -- the command of a group's least member, whatever messages came before it
 pub record IsCommandOf (table : Table) (limit : ℕ) (group : List Node) (command : Option Text) : Type 0 where
@@ -43,16 +47,28 @@ pub record IsMadeOnce (statements : List Statement) (name : Text) : Type 0 where
 abbrev pub IsAlwaysBuilt : List Statement → Statement → Type 0
 IsAlwaysBuilt statements statement = (statement ≡ always_built) × (list_any has_implicit statements ≡ true)
 
+-- the statements of groups, in byte order of their least outputs; before them stands that of what is always built,
+-- where one of them needs it
+pub record StandInOrder (statements : List Statement) : Type 0 where
+  pub groups : List Statement
+  pub are : statements ≡ with_always_built groups
+  pub rise : IsStrictlySortedBy (slice_cmp nat_cmp) (map (λ statement. first_output statement.outs) groups)
+
 pub record TellsGraph (read : Read) (limit : ℕ) (known goals : List Text) (plan : Plan) : Type 0 where
   pub nodes : List Node
   pub graph : IsSoundGraph read.book known goals nodes
   -- each target that a rule makes and the goals reach has its statement
   pub each : (name : Text) → IsMade read.book known goals name → IsMadeOnce plan.statements name
+  -- no name is an output twice, so that no statement stands twice
+  pub different : AllPairs (λ one other. one ≢ other) (outputs plan.statements)
   -- and there is no other output and no other statement
   pub only : (name : Text) → Contains (outputs plan.statements) name → IsMade read.book known goals name
       ⊎ (name ≡ always_build)
   pub grouped : (statement : Statement) → Contains plan.statements statement
       → IsOfGroup read limit (groups_of nodes) statement ⊎ IsAlwaysBuilt plan.statements statement
+  -- what is always built has its statement where one needs it
+  pub always : list_any has_implicit plan.statements ≡ true → Contains plan.statements always_built
+  pub ordered : StandInOrder plan.statements
   pub defaults : plan.defaults ≡ goals
 
 -- the graph is that of the goals, by the list, the makefile and the arguments

@@ -7,6 +7,7 @@ pub mod Meaning
 pub mod Asked
 pub mod Messages
 pub mod Checked
+pub mod Devices
 pub mod Exits
 pub mod Told
 pub mod Headline

@@ -5,6 +5,9 @@ use Rattle.kt_eval.specs.declared.fault.Fault.{Fault}
 use Rattle.kt_eval.specs.Files.{Store}
 use Rattle.kt_ninja.specs.declared.plan.Plan.{Plan}
 use Rattle.kati_args.specs.declared.args.Args.{Args}
+use Rattle.kati.specs.declared.status.Status.{Status}
+use Rattle.kati.specs.Devices.{Devices}
+use Rattle.kati.specs.Headline.{Ends}
 use Rattle.kati.specs.Meaning.{Meaning, Means}
 
 -- the same arguments with this limit
@@ -21,3 +24,10 @@ abbrev pub OnlyCuts : Type 0
 OnlyCuts = (args : Args) (store : Store) (asked : List Text) (limit larger : ℕ) (m : Meaning) → limit ≤ larger
     → Means (with_limit limit args) store asked m → (IsTooDeep m.result → ⊥)
     → Means (with_limit larger args) store asked m
+
+-- a run that came to such an end comes to it with a larger limit, too: the same exit status, the same texts on the
+-- outputs, and the same names asked for, that of the file to be checked among them
+abbrev pub OnlyCutsRuns : Type 0
+OnlyCutsRuns = (args : Args) (store : Store) (limit larger : ℕ) (status : Status) (old new : Devices) → limit ≤ larger
+    → (ends : Ends (with_limit limit args) store status old new) → (IsTooDeep ends.meaning.result → ⊥)
+    → (after : Ends (with_limit larger args) store status old new) × (after.meaning ≡ ends.meaning)

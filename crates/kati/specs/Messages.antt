@@ -1,11 +1,10 @@
--- What goes to the outputs (kati's own).
-use Rattle.std.specs.Prelude.{List, [], ◌++◌, Option, Some, None, Result, Ok, Err, codes}
+-- What goes to the error output (kati's own).
+use Rattle.std.specs.Prelude.{List, [], ◌++◌, Result, Ok, Err, codes}
 use Rattle.std.specs.List.{flat_map}
 use Rattle.kt_text.specs.Words.{Text}
 use Rattle.kt_eval.specs.declared.fault.Fault.{Fault}
 use Rattle.kt_eval.specs.Faults.{fault_line}
 use Rattle.kt_ninja.specs.declared.plan.Plan.{Plan}
-use Rattle.kt_ninja.specs.Text.{plan_text}
 use Rattle.kati.specs.Meaning.{Meaning}
 
 abbrev pub fault_text : Result Plan Fault → Text
@@ -19,9 +18,3 @@ messages_text messages = flat_map (λ message. message ++ codes "\n") messages
 -- what goes to the error output
 abbrev pub err_text : Meaning → Text
 err_text m = messages_text m.messages ++ fault_text m.result
-
--- what goes to the output: the text of a plan, unless a file is to be checked; after a fault nothing
-abbrev pub out_text : Option Text → Result Plan Fault → Text
-out_text None (Ok plan) = plan_text plan
-out_text None (Err fault) = []
-out_text (Some checked) result = []

@@ -1,4 +1,4 @@
--- That a run has one meaning (kati's own).
+-- That a run has a meaning, and only one (kati's own).
 use Rattle.std.specs.Prelude.{◌≡◌, List}
 use Rattle.kt_text.specs.Words.{Text}
 use Rattle.kt_eval.specs.Files.{Store}
@@ -9,3 +9,7 @@ use Rattle.kati.specs.Meaning.{Meaning, Means}
 abbrev pub HasOneMeaning : Type 0
 HasOneMeaning = (args : Args) (store : Store) (asked : List Text) (m n : Meaning) → Means args store asked m
     → Means args store asked n → m ≡ n
+
+-- each run has a meaning, whatever its arguments are and its files hold
+abbrev pub HasAMeaning : Type 0
+HasAMeaning = (args : Args) (store : Store) (asked : List Text) → (m : Meaning) × Means args store asked m

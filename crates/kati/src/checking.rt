@@ -18,10 +18,11 @@ pub(crate) fn check<F: Files>(
     name: &str,
     files: &mut F,
 ) -> Result<Status, RunFault>
-    ensures checks { IfSome (F.known files.old) (λ store. IfOk result (IsChecked plan.now (look store name.now))) }
-    ensures asked { OnOk result (F.names files.new ≡ F.names files.old ++ name.now ∷ []) }
-    ensures stopped { IfErr result (λ fault. AskedAtCheck fault name.now (F.names files.old) (F.names files.new)) }
-    ensures blames { ReadBlames result (F.failed files.old) (F.failed files.new) (F.names files.new) }
+    ensures checks { IfSome (F.seen files.old).known (λ store. IfOk result (IsChecked plan.now (look store name.now))) }
+    ensures asked { OnOk result ((F.seen files.new).names ≡ (F.seen files.old).names ++ name.now ∷ []) }
+    ensures stopped { IfErr result
+        (λ fault. AskedAtCheck fault name.now (F.seen files.old).names (F.seen files.new).names) }
+    ensures blames { ReadBlames result (F.seen files.old) (F.seen files.new) }
 {
     // Copied before the read, so that a failed device always has its name.
     let copy = name.to_string(alloc)?;

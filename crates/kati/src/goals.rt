@@ -44,28 +44,20 @@ fn default_goals(
         (chosen_goals limit (read_told makefile.now) [] messages.old.items) }
     ensures asks_nothing { AsksNothing result }
 {
-    let text = default_goal_text(alloc, &makefile.macros, limit, messages)?;
+    let text = default_goal_text(&makefile.macros, limit, messages)?;
     one_goal(alloc, &makefile.book, text.as_slice())
 }
 
 // The text of the macro that names the goal.
 #[tactic(auto, unfolding(crate::specs::Chosen::default_goal_text))]
 fn default_goal_text(
-    alloc: Global,
     macros: &Macros,
     limit: u64,
     messages: &mut Vec<Sequence<u8>>,
 ) -> Result<Vec<u8>, Stop>
     ensures { Says (λ v. v.items) (default_goal_text limit macros.now) result messages.old.items messages.new.items }
 {
-    macros.expand_pure(
-        alloc,
-        b"$(.DEFAULT_GOAL)",
-        &NoAutomatic,
-        None,
-        messages,
-        limit,
-    )
+    macros.expand_pure(b"$(.DEFAULT_GOAL)", &NoAutomatic, None, messages, limit)
 }
 
 // The goal that a text names, or else the first target.

@@ -24,12 +24,14 @@ pub(crate) fn listed<F: Files>(
     name: &Option<Word>,
     files: &mut F,
 ) -> Result<Vec<u8>, Stop>
-    ensures gives { IfSome (F.known files.old) (λ store. Gives (λ v. v.items) result (traced [] (F.names files.new))
-        (listed store name.now (traced [] (F.names files.old)))) }
-    ensures asked { IfSome (F.known files.old)
-        (λ store. IsFront (F.names files.new) (left_of (listed store name.now (traced [] (F.names files.old)))).asked) }
-    ensures keeps { F.known files.new ≡ F.known files.old }
-    ensures blames { Blames result (F.failed files.old) (F.failed files.new) (F.names files.new) }
+    ensures gives { IfSome (F.seen files.old).known
+        (λ store. Gives (λ v. v.items) result (traced [] (F.seen files.new).names)
+        (listed store name.now (traced [] (F.seen files.old).names))) }
+    ensures asked { IfSome (F.seen files.old).known
+        (λ store. IsFront (F.seen files.new).names (left_of (listed store name.now (traced []
+        (F.seen files.old).names))).asked) }
+    ensures keeps { (F.seen files.new).known ≡ (F.seen files.old).known }
+    ensures blames { Blames result (F.seen files.old) (F.seen files.new) }
 {
     match name {
         Some(name) => read_list(alloc, name.as_str(), files),
@@ -38,12 +40,13 @@ pub(crate) fn listed<F: Files>(
 }
 
 fn read_list<F: Files>(alloc: Global, name: &str, files: &mut F) -> Result<Vec<u8>, Stop>
-    ensures gives { IfSome (F.known files.old) (λ store. Gives (λ v. v.items) result (traced [] (F.names files.new))
-        (listed store (Some name.now) (traced [] (F.names files.old)))) }
-    ensures asked { IfSome (F.known files.old) (λ store. IsFront (F.names files.new)
-        (left_of (listed store (Some name.now) (traced [] (F.names files.old)))).asked) }
-    ensures keeps { F.known files.new ≡ F.known files.old }
-    ensures blames { Blames result (F.failed files.old) (F.failed files.new) (F.names files.new) }
+    ensures gives { IfSome (F.seen files.old).known
+        (λ store. Gives (λ v. v.items) result (traced [] (F.seen files.new).names)
+        (listed store (Some name.now) (traced [] (F.seen files.old).names))) }
+    ensures asked { IfSome (F.seen files.old).known (λ store. IsFront (F.seen files.new).names
+        (left_of (listed store (Some name.now) (traced [] (F.seen files.old).names))).asked) }
+    ensures keeps { (F.seen files.new).known ≡ (F.seen files.old).known }
+    ensures blames { Blames result (F.seen files.old) (F.seen files.new) }
 {
     // Copied before the read, so that a failed device always has its name.
     let copy = name.to_string(alloc)?;

@@ -14,12 +14,12 @@ ghost use Rattle.kati.specs.inner.Views.{is_text_trouble};
 use crate::reading::Makefile;
 use crate::statements::{always_built, statement_of};
 use crate::words::stop_on;
-use kt_eval::{Macros, Stop};
+use kt_eval::Stop;
 use kt_graph::{Graph, Node};
 use kt_list::Sequence;
 use kt_ninja::{Plan, Statement, Unwritable, texts_can_be_written};
-use kt_recipe::command;
-use kt_rules::{FaultKind, Name};
+use kt_recipe::Commands;
+use kt_rules::{Book, FaultKind, Name};
 use std::alloc::{AllocError, Global};
 
 /// A statement for each group, in order, and before them that of what is always built.
@@ -39,20 +39,27 @@ pub(crate) fn plan(
         → IfOk result IsWritable }
 {
     let groups = graph.groups()?;
-    let statements = statements(alloc, makefile, limit, groups.as_slice(), messages)?;
+    let commands = Commands::new(alloc, &makefile.macros, limit)?;
+    let statements = statements(
+        alloc,
+        &makefile.book,
+        &commands,
+        groups.as_slice(),
+        messages,
+    )?;
     written(alloc, plan_of(alloc, statements, goals)?)
 }
 
 #[tactic(auto, unfolding(crate::specs::Planned::plan_groups))]
 fn statements(
     alloc: Global,
-    makefile: &Makefile,
-    limit: u64,
+    book: &Book,
+    commands: &Commands<'_>,
     groups: &[Vec<Node>],
     messages: &mut Vec<Sequence<u8>>,
 ) -> Result<Vec<Statement>, Stop>
     ensures gives { Gives (λ v. v.items) result messages.new.items
-        (plan_groups makefile.now.book makefile.now.macros limit (map (λ group. group.items) groups.now) []
+        (plan_groups book.now commands.now.table commands.now.limit (map (λ group. group.items) groups.now) []
         messages.old.items) }
     ensures asks_nothing { AsksNothing result }
 {
@@ -60,8 +67,8 @@ fn statements(
     for group in groups {
         add(
             alloc,
-            makefile,
-            limit,
+            book,
+            commands,
             group.as_slice(),
             &mut statements,
             messages,
@@ -73,36 +80,34 @@ fn statements(
 // Adds the statement of a group.
 fn add(
     alloc: Global,
-    makefile: &Makefile,
-    limit: u64,
+    book: &Book,
+    commands: &Commands<'_>,
     group: &[Node],
     statements: &mut Vec<Statement>,
     messages: &mut Vec<Sequence<u8>>,
 ) -> Result<(), Stop>
     ensures gives { Gives (λ _. statements.new.items) result messages.new.items
-        (then_do (command_for makefile.now.macros limit group.now messages.old.items)
-        (λ command. done (statements.old.items ++ statement_of makefile.now.book group.now command ∷ []))) }
+        (then_do (command_for commands.now.table commands.now.limit group.now messages.old.items)
+        (λ command. done (statements.old.items ++ statement_of book.now group.now command ∷ []))) }
     ensures asks_nothing { AsksNothing result }
 {
-    let command = command_for(alloc, &makefile.macros, limit, group, messages)?;
-    statements.push(statement_of(alloc, &makefile.book, group, command)?)?;
+    let command = command_for(commands, group, messages)?;
+    statements.push(statement_of(alloc, book, group, command)?)?;
     Ok(())
 }
 
 // The command of the least member, which stands first.
 fn command_for(
-    alloc: Global,
-    macros: &Macros,
-    limit: u64,
+    commands: &Commands<'_>,
     group: &[Node],
     messages: &mut Vec<Sequence<u8>>,
 ) -> Result<Option<Vec<u8>>, Stop>
     ensures gives { Gives (option_map (λ text. text.items)) result messages.new.items
-        (command_for macros.now limit group.now messages.old.items) }
+        (command_for commands.now.table commands.now.limit group.now messages.old.items) }
     ensures asks_nothing { AsksNothing result }
 {
     match group {
-        [least, ..] => command(alloc, macros, least, messages, limit),
+        [least, ..] => commands.command(least, messages),
         [] => Ok(None),
     }
 }

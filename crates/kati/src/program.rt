@@ -1,7 +1,10 @@
 //! The program, over any files and outputs.
-ghost use Rattle.std.specs.Prelude.{◌≡◌, ◌≤◌, ◌++◌, codes, IfErr, OnOk, map, string_bytes};
+ghost use Rattle.std.specs.Prelude.{◌≡◌, ◌≤◌, ◌++◌, codes, IfErr, OnErr, OnOk, map, string_bytes};
+ghost use Rattle.kt_list.specs.Counters.{Rises};
+ghost use Rattle.kt_ninja.specs.Written.{GrowsByFront, Takes};
+ghost use Rattle.kati.specs.Devices.{devices};
 ghost use Rattle.kati.specs.Exits.{exit_code};
-ghost use Rattle.kati.specs.Headline.{Exits};
+ghost use Rattle.kati.specs.Headline.{KatiExits};
 ghost use Rattle.kati.specs.Told.{GivesHelp, RefusesBy, Tells, fault_words};
 
 use crate::faults::RunFault;
@@ -17,9 +20,8 @@ pub const USAGE: u8 = 64;
 
 /// Puts the words, the name and a newline, as far as the sink takes them.
 fn put_line<E: Sink>(err: &mut E, words: &[u8], name: &str) -> Result<(), WriteFault>
-    ensures told { Tells (words.now ++ (name.now ++ codes "\n")) (E.failed err.old) (E.failed err.new)
-        (E.written err.old) (E.written err.new) }
-    ensures counts { E.failed err.old ≤ E.failed err.new }
+    ensures told { Tells (words.now ++ (name.now ++ codes "\n")) (E.seen err.old) (E.seen err.new) }
+    ensures counts { (E.seen err.old).failed ≤ (E.seen err.new).failed }
 {
     put(err, words)?;
     put(err, name.as_bytes())?;
@@ -28,26 +30,24 @@ fn put_line<E: Sink>(err: &mut E, words: &[u8], name: &str) -> Result<(), WriteF
 
 /// Puts the text, as far as the sink takes it.
 fn tell_text<E: Sink>(err: &mut E, text: &[u8])
-    ensures told { Tells text.now (E.failed err.old) (E.failed err.new) (E.written err.old) (E.written err.new) }
-    ensures counts { E.failed err.old ≤ E.failed err.new }
+    ensures told { Tells text.now (E.seen err.old) (E.seen err.new) }
+    ensures counts { (E.seen err.old).failed ≤ (E.seen err.new).failed }
 {
     let _ = put(err, text);
 }
 
 /// Puts the line of these words and this name, as far as the sink takes it.
 fn tell_line<E: Sink>(err: &mut E, words: &[u8], name: &str)
-    ensures told { Tells (words.now ++ (name.now ++ codes "\n")) (E.failed err.old) (E.failed err.new)
-        (E.written err.old) (E.written err.new) }
-    ensures counts { E.failed err.old ≤ E.failed err.new }
+    ensures told { Tells (words.now ++ (name.now ++ codes "\n")) (E.seen err.old) (E.seen err.new) }
+    ensures counts { (E.seen err.old).failed ≤ (E.seen err.new).failed }
 {
     let _ = put_line(err, words, name);
 }
 
 /// Tells what kept a run from its end, as far as the sink takes it. Takes no memory.
 fn tell<E: Sink>(err: &mut E, fault: &RunFault)
-    ensures told { Tells (fault_words fault.now) (E.failed err.old) (E.failed err.new) (E.written err.old)
-        (E.written err.new) }
-    ensures counts { E.failed err.old ≤ E.failed err.new }
+    ensures told { Tells (fault_words fault.now) (E.seen err.old) (E.seen err.new) }
+    ensures counts { (E.seen err.old).failed ≤ (E.seen err.new).failed }
 {
     match fault {
         RunFault::Read(name) => tell_line(err, b"kati: cannot read ", name.as_str()),
@@ -60,9 +60,8 @@ fn tell<E: Sink>(err: &mut E, fault: &RunFault)
 pub fn finish<E: Sink>(err: &mut E, ended: Result<Status, RunFault>) -> u8
     ensures code { result ≡ exit_code ended }
     ensures quiet { OnOk ended (err.new ≡ err.old) }
-    ensures told { IfErr ended (λ fault. Tells (fault_words fault) (E.failed err.old) (E.failed err.new)
-        (E.written err.old) (E.written err.new)) }
-    ensures counts { E.failed err.old ≤ E.failed err.new }
+    ensures told { IfErr ended (λ fault. Tells (fault_words fault) (E.seen err.old) (E.seen err.new)) }
+    ensures counts { (E.seen err.old).failed ≤ (E.seen err.new).failed }
 {
     match ended {
         Ok(status) => u8::from(status),
@@ -73,24 +72,34 @@ pub fn finish<E: Sink>(err: &mut E, ended: Result<Status, RunFault>) -> u8
     }
 }
 
-/// Puts out the help, and gives the exit status.
-fn give_help<O: Sink, E: Sink>(out: &mut O, err: &mut E, text: &str) -> u8
-    ensures { GivesHelp text.now result (O.failed out.old) (O.failed out.new) (E.failed err.old) (E.failed err.new)
-        (O.written out.old) (O.written out.new) (E.written err.old) (E.written err.new) }
+/// Puts the help after what stands over it, as far as the sink takes it.
+fn put_help<O: Sink>(out: &mut O, lead: &[u8], text: &str) -> Result<(), WriteFault>
+    ensures ok { OnOk result (Takes (O.seen out.old) (O.seen out.new) (lead.now ++ text.now)) }
+    ensures fault { OnErr result (GrowsByFront (O.seen out.old) (O.seen out.new) (lead.now ++ text.now)) }
+    ensures failed { OnErr result (Rises (O.seen out.old).failed (O.seen out.new).failed) }
 {
-    match put(out, text.as_bytes()) {
+    put(out, lead)?;
+    put(out, text.as_bytes())
+}
+
+/// Puts out the help, and gives the exit status.
+fn give_help<O: Sink, E: Sink>(lead: &[u8], out: &mut O, err: &mut E, text: &str) -> u8
+    ensures { GivesHelp (lead.now ++ text.now) result (O.seen out.old) (O.seen out.new) (E.seen err.old)
+        (E.seen err.new) }
+{
+    match put_help(out, lead, text) {
         Ok(()) => 0,
         Err(_) => finish(err, Err(RunFault::WriteOut)),
     }
 }
 
-/// The exit status of words that ask for no run, after telling why.
-pub fn refuse<O: Sink, E: Sink>(out: &mut O, err: &mut E, fault: &ArgFault) -> u8
-    ensures { RefusesBy fault.now result (O.failed out.old) (O.failed out.new) (E.failed err.old) (E.failed err.new)
-        (O.written out.old) (O.written out.new) (E.written err.old) (E.written err.new) }
+/// The exit status of words that ask for no run, after telling why. Over the help stand the words of `lead`.
+pub fn refuse<O: Sink, E: Sink>(lead: &[u8], out: &mut O, err: &mut E, fault: &ArgFault) -> u8
+    ensures { RefusesBy lead.now fault.now result (O.seen out.old) (O.seen out.new) (E.seen err.old)
+        (E.seen err.new) }
 {
     match fault {
-        ArgFault::Help(text) => give_help(out, err, text.as_str()),
+        ArgFault::Help(text) => give_help(lead, out, err, text.as_str()),
         ArgFault::Usage(text) => {
             tell_text(err, text.as_bytes());
             USAGE
@@ -116,16 +125,15 @@ pub fn whole<F: Files, O: Sink, E: Sink>(
     out: &mut O,
     err: &mut E,
 ) -> u8
-    ensures { Exits (map string_bytes words.now) (F.known files.old) result (F.names files.old) (F.names files.new)
-        (F.failed files.old) (F.failed files.new) (O.failed out.old) (O.failed out.new) (E.failed err.old)
-        (E.failed err.new)
-        (O.written out.old) (O.written out.new) (E.written err.old) (E.written err.new) }
+    ensures { KatiExits (map string_bytes words.now) result
+        (devices (F.seen files.old) (O.seen out.old) (E.seen err.old))
+        (devices (F.seen files.new) (O.seen out.new) (E.seen err.new)) }
 {
     match args_of(alloc, words) {
         Ok(args) => {
             let ended = run(alloc, &args, files, out, err);
             finish(err, ended)
         }
-        Err(fault) => refuse(out, err, &fault),
+        Err(fault) => refuse(b"", out, err, &fault),
     }
 }

@@ -5,7 +5,7 @@ ghost use Rattle.kt_eval.specs.Machines.{ComesBefore, Read, Trace, nothing_read,
 ghost use Rattle.kt_eval.specs.Machines.{traced_by};
 ghost use Rattle.kt_eval.specs.Fronts.{IsFront};
 ghost use Rattle.kt_eval.specs.Outcome.{Gives, IfCut, Outcome, left_of};
-ghost use Rattle.kt_eval.specs.Step.{Blames};
+ghost use Rattle.kt_eval.specs.Step.{Blames, BlamesBy};
 ghost use Rattle.kati.specs.Makefile.{command_line_table, makefile_names, makefile_read, with_macro};
 ghost use Rattle.kati.specs.inner.Views.{read_told};
 
@@ -28,12 +28,13 @@ pub(crate) fn makefile_read<F: Files>(
     args: &Args,
     files: &mut F,
 ) -> (Vec<Sequence<u8>>, Result<Makefile, Stop>)
-    ensures gives { IfSome (F.known files.old) (λ store. Gives read_told result.1
-        (traced result.0.items (F.names files.new)) (makefile_read args.now store (traced [] (F.names files.old)))) }
-    ensures asked { IfSome (F.known files.old) (λ store. IsFront (F.names files.new)
-        (left_of (makefile_read args.now store (traced [] (F.names files.old)))).asked) }
-    ensures keeps { F.known files.new ≡ F.known files.old }
-    ensures blames { Blames result.1 (F.failed files.old) (F.failed files.new) (F.names files.new) }
+    ensures gives { IfSome (F.seen files.old).known (λ store. Gives read_told result.1
+        (traced result.0.items (F.seen files.new).names)
+        (makefile_read args.now store (traced [] (F.seen files.old).names))) }
+    ensures asked { IfSome (F.seen files.old).known (λ store. IsFront (F.seen files.new).names
+        (left_of (makefile_read args.now store (traced [] (F.seen files.old).names))).asked) }
+    ensures keeps { (F.seen files.new).known ≡ (F.seen files.old).known }
+    ensures blames { Blames result.1 (F.seen files.old) (F.seen files.new) }
 {
     match machine_of(alloc, args) {
         Ok(machine) => read(machine, &args.makefile, files),
@@ -78,14 +79,14 @@ fn read<F: Files>(
     name: &Option<Word>,
     files: &mut F,
 ) -> (Vec<Sequence<u8>>, Result<Makefile, Stop>)
-    ensures reads { machine.refusal ≡ None → IfSome (F.known files.old) (λ store. Gives read_told result.1
-        (traced result.0.items (F.names files.new))
-        (reading_by store (makefile_names name.now) machine (F.names files.old))) }
-    ensures asked { machine.refusal ≡ None → IfSome (F.known files.old) (λ store. IsFront (F.names files.new)
-        (left_of (reading_by store (makefile_names name.now) machine (F.names files.old))).asked) }
-    ensures keeps { F.known files.new ≡ F.known files.old }
+    ensures reads { machine.refusal ≡ None → IfSome (F.seen files.old).known (λ store. Gives read_told result.1
+        (traced result.0.items (F.seen files.new).names)
+        (reading_by store (makefile_names name.now) machine (F.seen files.old).names)) }
+    ensures asked { machine.refusal ≡ None → IfSome (F.seen files.old).known (λ store. IsFront (F.seen files.new).names
+        (left_of (reading_by store (makefile_names name.now) machine (F.seen files.old).names)).asked) }
+    ensures keeps { (F.seen files.new).known ≡ (F.seen files.old).known }
     ensures blames { machine.refusal ≡ None
-        → Blames result.1 (F.failed files.old) (F.failed files.new) (F.names files.new) }
+        → Blames result.1 (F.seen files.old) (F.seen files.new) }
 {
     let mut machine = machine;
     let ended = read_by_name(&mut machine, name, files);
@@ -98,15 +99,16 @@ fn read_by_name<F: Files>(
     name: &Option<Word>,
     files: &mut F,
 ) -> Result<(), Stop>
-    ensures reads { machine.old.refusal ≡ None → IfSome (F.known files.old) (λ store. Gives (λ _. read_by machine.new)
-        result (traced_by machine.new (F.names files.new))
-        (reading_by store (makefile_names name.now) machine.old (F.names files.old))) }
-    ensures cut { machine.old.refusal ≡ None → IfSome (F.known files.old) (λ store. IfCut result
-        (ComesBefore (traced_by machine.new (F.names files.new))
-        (left_of (reading_by store (makefile_names name.now) machine.old (F.names files.old))))) }
-    ensures keeps { F.known files.new ≡ F.known files.old }
+    ensures reads { machine.old.refusal ≡ None → IfSome (F.seen files.old).known
+        (λ store. Gives (λ _. read_by machine.new)
+        result (traced_by machine.new (F.seen files.new).names)
+        (reading_by store (makefile_names name.now) machine.old (F.seen files.old).names)) }
+    ensures cut { machine.old.refusal ≡ None → IfSome (F.seen files.old).known (λ store. IfCut result
+        (ComesBefore (traced_by machine.new (F.seen files.new).names)
+        (left_of (reading_by store (makefile_names name.now) machine.old (F.seen files.old).names)))) }
+    ensures keeps { (F.seen files.new).known ≡ (F.seen files.old).known }
     ensures blames { machine.old.refusal ≡ None
-        → Blames result (F.failed files.old) (F.failed files.new) (F.names files.new) }
+        → Blames result (F.seen files.old) (F.seen files.new) }
 {
     match name {
         Some(name) => machine.read_file(files, &[name.as_str()]),
@@ -122,7 +124,8 @@ fn told_and_read(
     ensures gives { (asked : List Text) (end : Outcome Trace Read)
         → Gives (λ _. read_of reading.macros reading.book) ended (traced reading.messages asked) end
         → Gives read_told result.1 (traced result.0.items asked) end }
-    ensures blames { (old new : ℕ) (asked : List Text) → Blames ended old new asked → Blames result.1 old new asked }
+    ensures blames { (old new : ℕ) (asked : List Text) → BlamesBy ended old new asked
+        → BlamesBy result.1 old new asked }
 {
     let Reading {
         macros,
@@ -135,7 +138,7 @@ fn told_and_read(
 fn makefile_if(ended: Result<(), Stop>, macros: Macros, book: Book) -> Result<Makefile, Stop>
     ensures gives { (trace : Trace) (end : Outcome Trace Read) → Gives (λ _. read_of macros book) ended trace end
         → Gives read_told result trace end }
-    ensures blames { (old new : ℕ) (asked : List Text) → Blames ended old new asked → Blames result old new asked }
+    ensures blames { (old new : ℕ) (asked : List Text) → BlamesBy ended old new asked → BlamesBy result old new asked }
 {
     match ended {
         Ok(()) => Ok(Makefile { macros, book }),

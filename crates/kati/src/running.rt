@@ -4,6 +4,7 @@ ghost use Rattle.kt_list.specs.Counters.{Rises};
 ghost use Rattle.kt_eval.specs.Faults.{fault_line};
 ghost use Rattle.kt_ninja.specs.Writable.{IsWritable};
 ghost use Rattle.kati.specs.inner.Delivered.{Delivers, DeliverBlames, Writes};
+ghost use Rattle.kati.specs.Devices.{devices};
 ghost use Rattle.kati.specs.Headline.{Blames, Leaves};
 ghost use Rattle.kati.specs.Messages.{fault_text, messages_text};
 
@@ -66,12 +67,13 @@ pub fn run<F: Files, O: Sink, E: Sink>(
     out: &mut O,
     err: &mut E,
 ) -> Result<Status, RunFault>
-    ensures leaves { IfSome (F.known files.old)
-        (λ store. Leaves args.now store result (F.names files.old) (F.names files.new)
-        (O.written out.old) (O.written out.new) (E.written err.old) (E.written err.new)) }
-    ensures blames { Blames result (F.names files.new) (F.failed files.old) (F.failed files.new)
-        (O.failed out.old) (O.failed out.new) (E.failed err.old) (E.failed err.new) }
-    ensures counts { E.failed err.old ≤ E.failed err.new }
+    ensures leaves { IfSome (F.seen files.old).known (λ store. Leaves args.now store result
+        (devices (F.seen files.old) (O.seen out.old) (E.seen err.old))
+        (devices (F.seen files.new) (O.seen out.new) (E.seen err.new))) }
+    ensures blames { Blames result
+        (devices (F.seen files.old) (O.seen out.old) (E.seen err.old))
+        (devices (F.seen files.new) (O.seen out.new) (E.seen err.new)) }
+    ensures counts { (E.seen err.old).failed ≤ (E.seen err.new).failed }
 {
     let outcome = translate(alloc, args, files)?;
     let text = error_text(alloc, &outcome)?;
@@ -101,10 +103,9 @@ fn deliver<F: Files, O: Sink>(
     out: &mut O,
 ) -> Result<Status, RunFault>
     requires { IsWritable plan.now }
-    ensures delivers { IfSome (F.known files.old) (λ store. Delivers store plan.now checked.now result
-        (F.names files.old) (F.names files.new) (O.written out.old) (O.written out.new)) }
-    ensures blames { DeliverBlames result (F.names files.new) (F.failed files.old) (F.failed files.new)
-        (O.failed out.old) (O.failed out.new) }
+    ensures delivers { IfSome (F.seen files.old).known (λ store. Delivers store plan.now checked.now result
+        (F.seen files.old).names (F.seen files.new).names (O.seen out.old) (O.seen out.new)) }
+    ensures blames { DeliverBlames result (F.seen files.old) (F.seen files.new) (O.seen out.old) (O.seen out.new) }
 {
     match checked {
         Some(name) => check(alloc, plan, name.as_str(), files),
@@ -114,9 +115,9 @@ fn deliver<F: Files, O: Sink>(
 
 fn write<O: Sink>(plan: &Plan, out: &mut O) -> Result<Status, RunFault>
     requires { IsWritable plan.now }
-    ensures writes { Writes plan.now result (O.written out.old) (O.written out.new) }
-    ensures blames { MatchResult result (λ _. O.failed out.new ≡ O.failed out.old)
-        (λ _. Rises (O.failed out.old) (O.failed out.new)) }
+    ensures writes { Writes plan.now result (O.seen out.old) (O.seen out.new) }
+    ensures blames { MatchResult result (λ _. (O.seen out.new).failed ≡ (O.seen out.old).failed)
+        (λ _. Rises (O.seen out.old).failed (O.seen out.new).failed) }
 {
     match write_plan(plan, out) {
         Ok(()) => Ok(Status::Done),

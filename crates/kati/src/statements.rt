@@ -9,14 +9,11 @@ ghost use Rattle.kati.specs.Planned.{always_built, has_phony, implicit_of, joine
 ghost use Rattle.kati.specs.Planned.{outs_of, statement_of};
 
 use indexmap::IndexSet;
-use kt_graph::{Inputs, Node};
+use kt_graph::{ALWAYS_BUILD, Inputs, Node};
 use kt_list::Sequence;
 use kt_ninja::{Made, Statement};
 use kt_rules::{Book, Name};
 use std::alloc::{AllocError, Global};
-
-/// The target that is never there, so that what needs it is always made.
-const ALWAYS_BUILD: &[u8] = b"_kati_always_build_";
 
 /// The statement of a group whose least member has this command.
 #[tactic(auto, unfolding(crate::specs::Planned::statement_of))]

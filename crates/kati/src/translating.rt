@@ -34,14 +34,15 @@ use std::mem;
 /// Its rules, known names and graph are given back only where a check is asked for, which wants their memory: else a
 /// run translates once and ends, and would spend much of its time on giving back a million texts one by one.
 pub fn translate<F: Files>(alloc: Global, args: &Args, files: &mut F) -> Result<Outcome, RunFault>
-    ensures means { IfSome (F.known files.old)
-        (λ store. IfOk result (λ outcome. Translates args.now store outcome (F.names files.old) (F.names files.new))) }
-    ensures asked { IfSome (F.known files.old)
-        (λ store. IsFront (F.names files.new) (names_asked args.now store (F.names files.old))) }
+    ensures means { IfSome (F.seen files.old).known
+        (λ store. IfOk result
+        (λ outcome. Translates args.now store outcome (F.seen files.old).names (F.seen files.new).names)) }
+    ensures asked { IfSome (F.seen files.old).known
+        (λ store. IsFront (F.seen files.new).names (names_asked args.now store (F.seen files.old).names)) }
     ensures writable { IfOk result (λ outcome. IfOk outcome.result IsWritable) }
     ensures sound { IfOk result (λ outcome. IfOk outcome.result IsSoundPlan) }
-    ensures keeps { F.known files.new ≡ F.known files.old }
-    ensures blames { ReadBlames result (F.failed files.old) (F.failed files.new) (F.names files.new) }
+    ensures keeps { (F.seen files.new).known ≡ (F.seen files.old).known }
+    ensures blames { ReadBlames result (F.seen files.old) (F.seen files.new) }
 {
     let mut messages = Vec::new(alloc);
     let ended = planned(alloc, args, files, &mut messages);
@@ -74,12 +75,12 @@ fn planned<F: Files>(
     messages: &mut Vec<Sequence<u8>>,
 ) -> Result<Plan, Stop>
     requires { messages.old.items ≡ [] }
-    ensures means { IfSome (F.known files.old) (λ store. Ends (EndMeans args.now store) (F.names files.old)
-        (λ plan. plan) result (traced messages.new.items (F.names files.new))) }
-    ensures asked { IfSome (F.known files.old)
-        (λ store. IsFront (F.names files.new) (names_asked args.now store (F.names files.old))) }
-    ensures keeps { F.known files.new ≡ F.known files.old }
-    ensures blames { Blames result (F.failed files.old) (F.failed files.new) (F.names files.new) }
+    ensures means { IfSome (F.seen files.old).known (λ store. Ends (EndMeans args.now store) (F.seen files.old).names
+        (λ plan. plan) result (traced messages.new.items (F.seen files.new).names)) }
+    ensures asked { IfSome (F.seen files.old).known
+        (λ store. IsFront (F.seen files.new).names (names_asked args.now store (F.seen files.old).names)) }
+    ensures keeps { (F.seen files.new).known ≡ (F.seen files.old).known }
+    ensures blames { Blames result (F.seen files.old) (F.seen files.new) }
     ensures writable { IfOk result IsWritable }
     ensures sound { IfOk result IsSoundPlan }
 {
@@ -104,12 +105,13 @@ fn prepared<F: Files>(
     messages: &mut Vec<Sequence<u8>>,
 ) -> Result<(Sources, Vec<Name>), Stop>
     requires { messages.old.items ≡ [] }
-    ensures gives { IfSome (F.known files.old) (λ store. Gives (λ found. wanted_told found.0 found.1.items) result
-        (traced messages.new.items (F.names files.new)) (prepared args.now store (traced [] (F.names files.old)))) }
-    ensures asked { IfSome (F.known files.old)
-        (λ store. IsFront (F.names files.new) (names_asked args.now store (F.names files.old))) }
-    ensures keeps { F.known files.new ≡ F.known files.old }
-    ensures blames { Blames result (F.failed files.old) (F.failed files.new) (F.names files.new) }
+    ensures gives { IfSome (F.seen files.old).known (λ store. Gives (λ found. wanted_told found.0 found.1.items) result
+        (traced messages.new.items (F.seen files.new).names)
+        (prepared args.now store (traced [] (F.seen files.old).names))) }
+    ensures asked { IfSome (F.seen files.old).known
+        (λ store. IsFront (F.seen files.new).names (names_asked args.now store (F.seen files.old).names)) }
+    ensures keeps { (F.seen files.new).known ≡ (F.seen files.old).known }
+    ensures blames { Blames result (F.seen files.old) (F.seen files.new) }
 {
     let list = listed(alloc, &args.files, files)?;
     let (told, read) = makefile_read(alloc, args, files);

@@ -12,9 +12,12 @@ them, to a Ninja file, and writes that to the standard output.";
 
 const AFTER: &str = "\
 Examples:
-  kati > build.ninja.new && mv build.ninja.new build.ninja
+  kati --files files.txt > build.ninja.new && mv build.ninja.new build.ninja
                                  translates `makefile`, or else `Makefile`; a fault leaves build.ninja as it is
   kati -f lib.mk CC=clang all    translates lib.mk for the target `all`, where CC is `clang`
+
+Pattern rules are chosen by the files that exist: `git ls-files > files.txt` lists them. kati-build
+lists them itself, translates, and runs Ninja.
 
 Exit status:
   0   the Ninja file is written; with --check: FILE says the same

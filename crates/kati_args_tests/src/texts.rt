@@ -1,6 +1,6 @@
 //! The texts that answer a command line.
 use crate::told::answer;
-use kati_args::ArgFault;
+use kati_args::{ArgFault, Word};
 use std::alloc::Global;
 use std::process::Abort;
 
@@ -14,7 +14,7 @@ const NAMED: [&str; 14] = [
     "--depth <N>",
     "-h, --help",
     "GOAL|NAME=VALUE",
-    "kati > build.ninja",
+    "kati --files files.txt > build.ninja.new",
     "CC=clang",
     "1 to 400",
     "default: 100",
@@ -51,5 +51,18 @@ fn faults_have_their_text(rt: HostRuntime) {
     for (lines, wanted) in TOLD {
         let text = text_of(&rt, rt.alloc(), lines);
         assert!(rt; text.as_str().contains(wanted), "{lines:?} {text}");
+    }
+}
+
+#[test]
+fn words_are_copied(rt: HostRuntime) {
+    for text in [
+        "",
+        "-f",
+        "\u{e4}=1",
+        "a word of more than thirty bytes, all of them",
+    ] {
+        let word = Word::copied(rt.alloc(), text).expect(&rt, "memory");
+        assert_eq!(rt; word.as_str(), text);
     }
 }

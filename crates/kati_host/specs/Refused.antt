@@ -1,5 +1,6 @@
 -- What the error output is told where the host gives no words (kati's own).
-use Rattle.std.specs.Prelude.{◌≡◌, ℕ, List, Option, codes}
+use Rattle.std.specs.Prelude.{◌≡◌, ℕ, codes}
+use Rattle.kt_ninja.specs.Written.{SinkSeen}
 use Rattle.kati.specs.declared.faults.RunFault.TheVariants as faults
 use Rattle.kati.specs.Exits.{fault_code, usage_code}
 use Rattle.kati.specs.Told.{Tells, fault_words}
@@ -7,8 +8,8 @@ use Rattle.kati_host.specs.declared.words.Wordless.{Wordless}
 use Rattle.kati_host.specs.declared.words.Wordless.TheVariants as reasons
 
 -- the line and the exit status of each reason
-abbrev pub Refuses : Wordless → ℕ → ℕ → ℕ → Option (List ℕ) → Option (List ℕ) → Type 0
-Refuses reasons.NotText code errs errs' err err' =
-    (code ≡ usage_code) × Tells (codes "kati: a word is not UTF-8\n") errs errs' err err'
-Refuses reasons.Memory code errs errs' err err' =
-    (code ≡ fault_code faults.Memory) × Tells (fault_words faults.Memory) errs errs' err err'
+abbrev pub Refuses : Wordless → ℕ → SinkSeen → SinkSeen → Type 0
+Refuses reasons.NotText code err err' =
+    (code ≡ usage_code) × Tells (codes "kati: a word is not UTF-8\n") err err'
+Refuses reasons.Memory code err err' =
+    (code ≡ fault_code faults.Memory) × Tells (fault_words faults.Memory) err err'

@@ -75,11 +75,7 @@ fn read_file(rt: &HostRuntime, name: &str) -> Result<Option<Vec<u8>>, FileFault>
 }
 
 impl<'a> Files for HostFiles<'a> {
-    ghost known = { λ _. None };
-
-    ghost names = { λ s. map string_bytes s.asked.items };
-
-    ghost failed = { λ s. s.failures };
+    ghost seen = { λ s. record { known = None; names = map string_bytes s.asked.items; failed = s.failures } };
 
     fn read(&mut self, name: &str) -> Result<Option<Vec<u8>>, FileFault> {
         let copy = match name.to_string(self.rt.alloc()) {

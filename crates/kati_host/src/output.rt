@@ -33,9 +33,7 @@ fn send<W: Write>(output: &mut W, piece: &[u8]) -> Option<usize>
 }
 
 impl<W: Write + Drop> Sink for HostSink<W> {
-    ghost written = { λ _. None };
-
-    ghost failed = { λ s. s.failures };
+    ghost seen = { λ s. record { written = None; failed = s.failures } };
 
     fn write(&mut self, piece: &[u8]) -> Result<usize, SinkFault> {
         if piece.is_empty() {

@@ -31,9 +31,8 @@ impl Wordless {
 
     /// The exit status of a program that got no words, after telling why, as far as the error output takes it.
     pub fn refuse<E: Sink>(self, err: &mut E) -> u8
-        ensures told { Refuses self result (E.failed err.old) (E.failed err.new) (E.written err.old)
-            (E.written err.new) }
-        ensures counts { E.failed err.old ≤ E.failed err.new }
+        ensures told { Refuses self result (E.seen err.old) (E.seen err.new) }
+        ensures counts { (E.seen err.old).failed ≤ (E.seen err.new).failed }
     {
         match self {
             Wordless::NotText => refuse_bytes(err),
@@ -43,9 +42,8 @@ impl Wordless {
 }
 
 fn refuse_bytes<E: Sink>(err: &mut E) -> u8
-    ensures told { Refuses NotText result (E.failed err.old) (E.failed err.new) (E.written err.old)
-        (E.written err.new) }
-    ensures counts { E.failed err.old ≤ E.failed err.new }
+    ensures told { Refuses NotText result (E.seen err.old) (E.seen err.new) }
+    ensures counts { (E.seen err.old).failed ≤ (E.seen err.new).failed }
 {
     let _ = put(err, b"kati: a word is not UTF-8\n");
     USAGE

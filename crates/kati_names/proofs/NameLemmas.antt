@@ -1,37 +1,31 @@
 -- How the program ends after a run.
-use Rattle.std.proofs.Common.{◌≡◌, ◌≤◌, ℕ, List, Option, Result, Ok, Err, sym, subst, ◌∙◌, arith}
-use Rattle.std.specs.Prelude.{OnErr, OnOk}
-use Rattle.kt_text.specs.Words.{Text}
+use Rattle.std.proofs.Common.{Result, Ok, Err, subst, arith, sym}
+use Rattle.kt_ninja.specs.Written.{SinkSeen}
 use Rattle.kati.specs.declared.faults.RunFault.{RunFault}
 use Rattle.kati.specs.declared.faults.RunFault.TheVariants as faults
 use Rattle.kati.specs.declared.status.Status.{Status}
+use Rattle.kati.specs.Devices.{devices}
+use Rattle.kt_eval.specs.Files.{FilesSeen}
 use Rattle.kati.specs.Headline.{Blames}
-use Rattle.kati_names.specs.Names.{NamesAfter}
+use Rattle.kati_names.specs.Names.{NamesAfter, nothing_seen}
 
 -- what is to blame for a fault of the run is to blame for the end, too; its own output doesn't fail
-blames_kept : (fault : RunFault) (names : List Text) (files files' outs outs' errs middle errs' : ℕ) → middle ≤ errs'
-    → Blames (Err fault) names files files' 0 0 errs middle → Blames (Err fault) names files files' outs outs' errs errs'
-blames_kept (faults.Read name) names files files' outs outs' errs middle errs' more blames = blames
-blames_kept faults.WriteOut names files files' outs outs' errs middle errs' more blames = omega (arith, blames)
-blames_kept faults.WriteErr names files files' outs outs' errs middle errs' more blames = omega (arith, more, blames)
-blames_kept faults.Memory names files files' outs outs' errs middle errs' more blames = blames
+blames_kept : (fault : RunFault) (files files' : FilesSeen) (out out' err err' : SinkSeen)
+    → Blames (Err fault) (devices files nothing_seen err) (devices files' nothing_seen err')
+    → Blames (Err fault) (devices files out err) (devices files' out' err')
+blames_kept (faults.Read name) files files' out out' err err' blames = blames
+blames_kept faults.WriteOut files files' out out' err err' blames = omega (arith, blames)
+blames_kept faults.WriteErr files files' out out' err err' blames = blames
+blames_kept faults.Memory files files' out out' err err' blames = blames
 
-pub blames_after : (run ended : Result Status RunFault) (names : List Text) (files files' outs outs' errs middle errs' : ℕ) (out out' : Option Text)
-    → middle ≤ errs' → OnOk ended (errs' ≡ middle) → NamesAfter run ended names outs outs' out out' → Blames run names files files' 0 0 errs middle
-    → Blames ended names files files' outs outs' errs errs'
-blames_after (Ok status) (Ok status') names files files' outs outs' errs middle errs' out out' more still after blames = (blames.0, after.1, still ∙ blames.2)
-blames_after (Ok status) (Err faults.WriteOut) names files files' outs outs' errs middle errs' out out' more still after blames = after.0
-blames_after (Ok status) (Err faults.Memory) names files files' outs outs' errs middle errs' out out' more still after blames = blames.0
-blames_after (Ok status) (Err faults.WriteErr) names files files' outs outs' errs middle errs' out out' more still after blames = absurd after
-blames_after (Ok status) (Err (faults.Read name)) names files files' outs outs' errs middle errs' out out' more still after blames = absurd after
-blames_after (Err fault) ended names files files' outs outs' errs middle errs' out out' more still after blames =
-    subst (λ (e : Result Status RunFault). Blames e names files files' outs outs' errs errs') (sym after.0)
-    (blames_kept fault names files files' outs outs' errs middle errs' more blames)
-
-pub on_err : {A B : Type 0} (r : Result A B) (P : Type 0) → P → OnErr r P
-on_err (Ok x) P h = tt
-on_err (Err e) P h = h
-
-pub on_err_weaker : {A B : Type 0} (r : Result A B) (P Q : Type 0) → (P → Q) → OnErr r P → OnErr r Q
-on_err_weaker (Ok x) P Q more h = tt
-on_err_weaker (Err e) P Q more h = more h
+pub blames_after : (run ended : Result Status RunFault) (files files' : FilesSeen) (out out' err err' : SinkSeen)
+    → NamesAfter run ended files'.names out out' → Blames run (devices files nothing_seen err) (devices files' nothing_seen err')
+    → Blames ended (devices files out err) (devices files' out' err')
+blames_after (Ok status) (Ok status') files files' out out' err err' after blames = (blames.0, after.1, blames.2)
+blames_after (Ok status) (Err faults.WriteOut) files files' out out' err err' after blames = after.0
+blames_after (Ok status) (Err faults.Memory) files files' out out' err err' after blames = blames.0
+blames_after (Ok status) (Err faults.WriteErr) files files' out out' err err' after blames = absurd after
+blames_after (Ok status) (Err (faults.Read name)) files files' out out' err err' after blames = absurd after
+blames_after (Err fault) ended files files' out out' err err' after blames =
+    subst (λ (e : Result Status RunFault). Blames e (devices files out err) (devices files' out' err')) (sym after.0)
+    (blames_kept fault files files' out out' err err' blames)

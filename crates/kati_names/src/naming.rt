@@ -26,8 +26,7 @@ fn put_names<O: Sink>(
     names: &[String],
     out: &mut O,
 ) -> Result<Status, RunFault>
-    ensures { PutsNames status result (map string_bytes names.now) (O.failed out.old) (O.failed out.new)
-        (O.written out.old) (O.written out.new) }
+    ensures { PutsNames status result (map string_bytes names.now) (O.seen out.old) (O.seen out.new) }
 {
     let text = names_text(alloc, names)?;
     match put(out, text.as_slice()) {
@@ -44,8 +43,7 @@ pub(crate) fn with_names<F: Files, O: Sink>(
     files: &F,
     out: &mut O,
 ) -> Result<Status, RunFault>
-    ensures { NamesAfter run result (F.names files.now) (O.failed out.old) (O.failed out.new)
-        (O.written out.old) (O.written out.new) }
+    ensures { NamesAfter run result (F.seen files.now).names (O.seen out.old) (O.seen out.new) }
 {
     match run {
         Ok(status) => put_names(alloc, status, files.asked(), out),

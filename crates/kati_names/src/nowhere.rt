@@ -1,5 +1,5 @@
 //! Where the output of a run goes that nobody reads.
-ghost use Rattle.std.specs.Prelude.{None};
+ghost use Rattle.kati_names.specs.Names.{nothing_seen};
 
 use kt_ninja::{Sink, SinkFault};
 
@@ -8,9 +8,7 @@ use kt_ninja::{Sink, SinkFault};
 pub(crate) struct Nowhere;
 
 impl Sink for Nowhere {
-    ghost written = { λ _. None };
-
-    ghost failed = { λ _. 0 };
+    ghost seen = { λ _. nothing_seen };
 
     fn write(&mut self, piece: &[u8]) -> Result<usize, SinkFault> {
         Ok(piece.len())

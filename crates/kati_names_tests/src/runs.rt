@@ -1,13 +1,16 @@
 //! Runs over memory, whose files and outputs may fail.
+use kati_doubles::{files_of, sink_of, words_of};
 use kati_names::asked_names;
 use kt_eval::MemFiles;
 use kt_ninja::MemSink;
+use kt_testing::put;
 use std::alloc::Global;
 use std::process::Abort;
 
-/// A run whose devices don't fail: the words after the program's name, the files, the names that are written, the exit
-/// status, and the error output.
+/// A run whose devices don't fail: its label, the words after the program's name, the files, the names that are
+/// written, the exit status, and the error output.
 type Row = (
+    &'static str,
     &'static [&'static str],
     &'static [(&'static str, &'static [u8])],
     &'static [&'static str],
@@ -19,15 +22,24 @@ const RULE: &[u8] = b"a.o: a.c\n\tcc -c a.c -o a.o\n";
 
 const ROWS: [Row; 9] = [
     (
+        "Makefile",
         &[],
         &[("Makefile", RULE)],
         &["makefile", "Makefile"],
         0,
         b"",
     ),
-    (&[], &[("makefile", RULE)], &["makefile"], 0, b""),
+    (
+        "makefile",
+        &[],
+        &[("makefile", RULE)],
+        &["makefile"],
+        0,
+        b"",
+    ),
     // Absent names are among them, and one that is asked for twice.
     (
+        "included and absent files",
         &["-f", "m"],
         &[
             ("m", b"include a.mk\n-include b.mk\ninclude a.mk\nt: ; x\n"),
@@ -38,6 +50,7 @@ const ROWS: [Row; 9] = [
         b"",
     ),
     (
+        "list of files",
         &["--files", "l"],
         &[
             ("Makefile", b"%.o: %.c ; cc $<\nall: x.o\n"),
@@ -49,6 +62,7 @@ const ROWS: [Row; 9] = [
     ),
     // The file to be checked is asked for last.
     (
+        "checked file",
         &["--check", "o"],
         &[("Makefile", RULE)],
         &["makefile", "Makefile", "o"],
@@ -56,6 +70,7 @@ const ROWS: [Row; 9] = [
         b"",
     ),
     (
+        "message",
         &[],
         &[("Makefile", b"$(info hi)\nt: ; x\n")],
         &["makefile", "Makefile"],
@@ -64,6 +79,7 @@ const ROWS: [Row; 9] = [
     ),
     // The names up to a fault of the makefile.
     (
+        "fault after an absent file",
         &[],
         &[
             ("Makefile", b"include a.mk\ninclude no.mk\ninclude b.mk\n"),
@@ -74,6 +90,7 @@ const ROWS: [Row; 9] = [
         b"Makefile:2: *** no file no.mk [E04]\n",
     ),
     (
+        "goal without a rule",
         &["z"],
         &[("Makefile", RULE)],
         &["makefile", "Makefile"],
@@ -81,6 +98,7 @@ const ROWS: [Row; 9] = [
         b"kati: *** no rule for z [E27]\n",
     ),
     (
+        "bad macro word",
         &["CC:=x"],
         &[("Makefile", RULE)],
         &[],
@@ -97,10 +115,6 @@ const HELP_LEAD: &[u8] = b"kati-asked writes the names that kati asks for:\n\n";
 type Devices = (u64, (usize, usize), (usize, usize));
 
 const AMPLE: (usize, usize) = (4096, 4096);
-
-fn put(text: &mut Vec<u8>, part: &[u8]) {
-    let _refused = text.extend_from_slice(part);
-}
 
 /// The names, each on a line.
 fn lines(alloc: Global, names: &[&str]) -> Vec<u8> {
@@ -125,35 +139,6 @@ fn outcome(alloc: Global, status: u8, out: &[u8], err: &[&[u8]]) -> Vec<u8> {
     told
 }
 
-fn words_of(rt: &impl Abort, alloc: Global, further: &[&str]) -> Vec<String> {
-    let mut words = Vec::new(alloc);
-    words
-        .push("kati-asked".to_string(alloc).expect(rt, "memory"))
-        .ok()
-        .expect(rt, "memory");
-    for word in further {
-        words
-            .push(word.to_string(alloc).expect(rt, "memory"))
-            .ok()
-            .expect(rt, "memory");
-    }
-    words
-}
-
-fn files_of(rt: &impl Abort, alloc: Global, files: &[(&str, &[u8])], nth: u64) -> MemFiles {
-    let mut pairs = Vec::new(alloc);
-    for (name, text) in files {
-        let name = name.to_string(alloc).expect(rt, "memory");
-        let text = Vec::from_slice(alloc, text).expect(rt, "memory");
-        pairs.push((name, text)).ok().expect(rt, "memory");
-    }
-    MemFiles::new(alloc, pairs, nth)
-}
-
-fn sink(rt: &impl Abort, alloc: Global, (room, step): (usize, usize)) -> MemSink {
-    MemSink::new(alloc, room, step).expect(rt, "memory")
-}
-
 /// Calls. It stands apart so that what the contract says burdens no other proof.
 fn exit(
     alloc: Global,
@@ -167,10 +152,10 @@ fn exit(
 
 /// The outcome of the program on the row's words and files, with these devices.
 fn ended(rt: &impl Abort, alloc: Global, row: &Row, (nth, out, err): Devices) -> Vec<u8> {
-    let words = words_of(rt, alloc, row.0);
-    let mut files = files_of(rt, alloc, row.1, nth);
-    let mut out = sink(rt, alloc, out);
-    let mut err = sink(rt, alloc, err);
+    let words = words_of(alloc, "kati-asked", row.1).expect(rt, "memory");
+    let mut files = files_of(alloc, row.2, nth).expect(rt, "memory");
+    let mut out = sink_of(alloc, out).expect(rt, "memory");
+    let mut err = sink_of(alloc, err).expect(rt, "memory");
     let status = exit(alloc, words.as_slice(), &mut files, &mut out, &mut err);
     outcome(alloc, status, out.as_slice(), &[err.as_slice()])
 }
@@ -186,18 +171,18 @@ fn check(
 ) {
     let wanted = outcome(alloc, status, out, err);
     let told = ended(rt, alloc, row, devices);
-    assert_eq!(rt; told.as_slice(), wanted.as_slice());
+    assert_eq!(rt; told.as_slice(), wanted.as_slice(), "{}", row.0);
 }
 
 #[test]
 fn writes_names_with_ample_room_and_by_a_byte_a_call(rt: HostRuntime) {
     for row in ROWS {
-        let names = lines(rt.alloc(), row.2);
-        let told = [row.4];
+        let names = lines(rt.alloc(), row.3);
+        let told = [row.5];
         let held = (names.as_slice(), told.as_slice());
-        check(&rt, rt.alloc(), &row, (0, AMPLE, AMPLE), row.3, held);
+        check(&rt, rt.alloc(), &row, (0, AMPLE, AMPLE), row.4, held);
         let slow = (4096, 1);
-        check(&rt, rt.alloc(), &row, (0, slow, slow), row.3, held);
+        check(&rt, rt.alloc(), &row, (0, slow, slow), row.4, held);
     }
 }
 
@@ -205,8 +190,8 @@ fn writes_names_with_ample_room_and_by_a_byte_a_call(rt: HostRuntime) {
 #[test]
 fn stops_at_each_read_that_fails(rt: HostRuntime) {
     for row in ROWS {
-        for before in 0..row.2.len() {
-            let name = row.2[before];
+        for before in 0..row.3.len() {
+            let name = row.3[before];
             let devices = (before as u64 + 1, AMPLE, AMPLE);
             let told: [&[u8]; 3] = [b"kati: cannot read ", name.as_bytes(), b"\n"];
             check(&rt, rt.alloc(), &row, devices, 3, (b"", &told));
@@ -218,9 +203,9 @@ fn stops_at_each_read_that_fails(rt: HostRuntime) {
 #[test]
 fn stops_at_each_byte_of_the_output(rt: HostRuntime) {
     for row in ROWS {
-        let names = lines(rt.alloc(), row.2);
+        let names = lines(rt.alloc(), row.3);
         for room in 0..names.len() {
-            let told = [row.4, CANNOT_WRITE];
+            let told = [row.5, CANNOT_WRITE];
             let held = (&names[..room], told.as_slice());
             check(&rt, rt.alloc(), &row, (0, (room, 4096), AMPLE), 3, held);
         }
@@ -231,9 +216,9 @@ fn stops_at_each_byte_of_the_output(rt: HostRuntime) {
 #[test]
 fn stops_at_each_byte_of_the_error_output(rt: HostRuntime) {
     for row in ROWS {
-        if row.3 < 64 {
-            for room in 0..row.4.len() {
-                let told = [&row.4[..room]];
+        if row.4 < 64 {
+            for room in 0..row.5.len() {
+                let told = [&row.5[..room]];
                 let held = (b"".as_slice(), told.as_slice());
                 check(&rt, rt.alloc(), &row, (0, AMPLE, (room, 4096)), 3, held);
             }
@@ -244,7 +229,7 @@ fn stops_at_each_byte_of_the_error_output(rt: HostRuntime) {
 /// The help is kati's, under a line that says whose program it is.
 #[test]
 fn helps_as_kati_does(rt: HostRuntime) {
-    let row: Row = (&["--help"], &[], &[], 0, b"");
+    let row: Row = ("help", &["--help"], &[], &[], 0, b"");
     let told = ended(&rt, rt.alloc(), &row, (0, AMPLE, AMPLE));
     let wanted = outcome(rt.alloc(), 0, HELP_LEAD, &[]);
     let lead = wanted.as_slice().strip_suffix(b"\nerr: ");

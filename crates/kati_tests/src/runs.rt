@@ -1,13 +1,16 @@
 //! Runs over memory, whose files and outputs may fail.
-use kati::whole;
+use kati::{RunFault, finish, whole};
+use kati_doubles::{files_of, sink_of, words_of};
 use kt_eval::{Files, MemFiles};
 use kt_ninja::MemSink;
+use kt_testing::put;
 use std::alloc::Global;
 use std::process::Abort;
 
-/// A run whose devices don't fail: the words after the program's name, the files, the names that it asks for, the exit
-/// status, the output and the error output.
+/// A run whose devices don't fail: its label, the words after the program's name, the files, the names that it asks
+/// for, the exit status, the output and the error output.
 type Row = (
+    &'static str,
     &'static [&'static str],
     &'static [(&'static str, &'static [u8])],
     &'static [&'static str],
@@ -25,8 +28,17 @@ const BOTH: &[&str] = &["makefile", "Makefile"];
 
 /// Runs whose files and outputs fail in turn.
 const ROWS: [Row; 8] = [
-    (&[], &[("Makefile", ONE_RULE)], BOTH, 0, ONE_RULE_TEXT, b""),
     (
+        "one rule",
+        &[],
+        &[("Makefile", ONE_RULE)],
+        BOTH,
+        0,
+        ONE_RULE_TEXT,
+        b"",
+    ),
+    (
+        "macro of the command line",
         &["CC=tcc"],
         &[("Makefile", b"CC = cc\na: ; $(CC) $@\n")],
         BOTH,
@@ -35,6 +47,7 @@ const ROWS: [Row; 8] = [
         b"",
     ),
     (
+        "order-only prerequisites",
         &[],
         &[("Makefile", b"t: x | x y\n\techo $^ - $|\n")],
         BOTH,
@@ -43,6 +56,7 @@ const ROWS: [Row; 8] = [
         b"",
     ),
     (
+        "one file included twice",
         &["-f", "m"],
         &[("m", b"include a.mk\ninclude a.mk\n"), ("a.mk", b"")],
         &["m", "a.mk", "a.mk"],
@@ -51,6 +65,7 @@ const ROWS: [Row; 8] = [
         b"kati: *** no targets [E26]\n",
     ),
     (
+        "check of its own output",
         &["--check", "o"],
         &[
             ("Makefile", b"t: ; echo \"it's $$HOME\"\n"),
@@ -65,6 +80,7 @@ const ROWS: [Row; 8] = [
         b"",
     ),
     (
+        "rules made by eval",
         &["a", "b"],
         &[(
             "Makefile",
@@ -76,6 +92,7 @@ const ROWS: [Row; 8] = [
         b"",
     ),
     (
+        "chain of pattern rules",
         &["--files", "l"],
         &[
             (
@@ -91,6 +108,7 @@ const ROWS: [Row; 8] = [
     ),
     // Both outputs get something.
     (
+        "message in a recipe",
         &[],
         &[("Makefile", b"t: ; echo $(info hi)x\n")],
         BOTH,
@@ -103,6 +121,7 @@ const ROWS: [Row; 8] = [
 /// Further runs.
 const FURTHER: [Row; 12] = [
     (
+        "makefile before Makefile",
         &[],
         &[("makefile", ONE_RULE)],
         &["makefile"],
@@ -111,6 +130,7 @@ const FURTHER: [Row; 12] = [
         b"",
     ),
     (
+        "goal of the command line",
         &["a.o"],
         &[("Makefile", ONE_RULE)],
         BOTH,
@@ -119,6 +139,7 @@ const FURTHER: [Row; 12] = [
         b"",
     ),
     (
+        "GNUmakefile alone",
         &[],
         &[("GNUmakefile", ONE_RULE)],
         BOTH,
@@ -127,6 +148,7 @@ const FURTHER: [Row; 12] = [
         b"kati: *** no makefile [E03]\n",
     ),
     (
+        "empty makefile",
         &[],
         &[("Makefile", b"")],
         BOTH,
@@ -135,6 +157,7 @@ const FURTHER: [Row; 12] = [
         b"kati: *** no targets [E26]\n",
     ),
     (
+        "macro alone",
         &[],
         &[("Makefile", b"A = 1\n")],
         BOTH,
@@ -143,6 +166,7 @@ const FURTHER: [Row; 12] = [
         b"kati: *** no targets [E26]\n",
     ),
     (
+        "NUL on the second line",
         &[],
         &[("Makefile", b"a: b\nc\0")],
         BOTH,
@@ -151,6 +175,7 @@ const FURTHER: [Row; 12] = [
         b"Makefile:2: *** NUL byte [E01]\n",
     ),
     (
+        "NUL after a continuation",
         &[],
         &[("Makefile", b"a \\\nb\0\n")],
         BOTH,
@@ -159,6 +184,7 @@ const FURTHER: [Row; 12] = [
         b"Makefile:2: *** NUL byte [E01]\n",
     ),
     (
+        "two NULs",
         &[],
         &[("Makefile", b"\0\n\0")],
         BOTH,
@@ -167,6 +193,7 @@ const FURTHER: [Row; 12] = [
         b"Makefile:1: *** NUL byte [E01]\n",
     ),
     (
+        "cycle of one",
         &[],
         &[("Makefile", b"a: a\n\tx\n")],
         BOTH,
@@ -175,6 +202,7 @@ const FURTHER: [Row; 12] = [
         b"kati: *** circular: a [E28]\n",
     ),
     (
+        "check of the makefile itself",
         &["--check", "Makefile"],
         &[("Makefile", ONE_RULE)],
         &["makefile", "Makefile", "Makefile"],
@@ -183,6 +211,7 @@ const FURTHER: [Row; 12] = [
         b"",
     ),
     (
+        "check of no file",
         &["--check", "plan"],
         &[("Makefile", ONE_RULE)],
         &["makefile", "Makefile", "plan"],
@@ -191,6 +220,7 @@ const FURTHER: [Row; 12] = [
         b"",
     ),
     (
+        "bad macro word",
         &["CC:=x"],
         &[("Makefile", ONE_RULE)],
         &[],
@@ -206,10 +236,6 @@ const CANNOT_WRITE: &[u8] = b"kati: cannot write\n";
 type Devices = (u64, (usize, usize), (usize, usize));
 
 const AMPLE: (usize, usize) = (4096, 4096);
-
-fn put(text: &mut Vec<u8>, part: &[u8]) {
-    let _refused = text.extend_from_slice(part);
-}
 
 fn put_name(told: &mut Vec<u8>, name: &str) {
     put(told, name.as_bytes());
@@ -237,35 +263,6 @@ fn wanted(alloc: Global, names: &[&str], status: u8, out: &[u8], err: &[&[u8]]) 
     told
 }
 
-fn words_of(rt: &impl Abort, alloc: Global, further: &[&str]) -> Vec<String> {
-    let mut words = Vec::new(alloc);
-    words
-        .push("kati".to_string(alloc).expect(rt, "memory"))
-        .ok()
-        .expect(rt, "memory");
-    for word in further {
-        words
-            .push(word.to_string(alloc).expect(rt, "memory"))
-            .ok()
-            .expect(rt, "memory");
-    }
-    words
-}
-
-fn files_of(rt: &impl Abort, alloc: Global, files: &[(&str, &[u8])], nth: u64) -> MemFiles {
-    let mut pairs = Vec::new(alloc);
-    for (name, text) in files {
-        let name = name.to_string(alloc).expect(rt, "memory");
-        let text = Vec::from_slice(alloc, text).expect(rt, "memory");
-        pairs.push((name, text)).ok().expect(rt, "memory");
-    }
-    MemFiles::new(alloc, pairs, nth)
-}
-
-fn sink(rt: &impl Abort, alloc: Global, (room, step): (usize, usize)) -> MemSink {
-    MemSink::new(alloc, room, step).expect(rt, "memory")
-}
-
 /// Calls. It stands apart so that what the contract says burdens no other proof.
 fn exit(
     alloc: Global,
@@ -286,10 +283,10 @@ fn put_run(
     row: &Row,
     (nth, out, err): Devices,
 ) -> (u64, u64) {
-    let words = words_of(rt, alloc, row.0);
-    let mut files = files_of(rt, alloc, row.1, nth);
-    let mut out = sink(rt, alloc, out);
-    let mut err = sink(rt, alloc, err);
+    let words = words_of(alloc, "kati", row.1).expect(rt, "memory");
+    let mut files = files_of(alloc, row.2, nth).expect(rt, "memory");
+    let mut out = sink_of(alloc, out).expect(rt, "memory");
+    let mut err = sink_of(alloc, err).expect(rt, "memory");
     let status = exit(alloc, words.as_slice(), &mut files, &mut out, &mut err);
     for name in files.asked() {
         put_name(told, name.as_str());
@@ -311,19 +308,21 @@ fn check(
     let wanted = wanted(alloc, names, status, out, err);
     let mut told = Vec::new(alloc);
     let _calls = put_run(&mut told, rt, alloc, row, devices);
-    assert_eq!(rt; told.as_slice(), wanted.as_slice());
+    assert_eq!(rt; told.as_slice(), wanted.as_slice(), "{}", row.0);
 }
 
 /// With ample room each text is written by one call, and by a byte a call it is the same text.
 fn check_ends(rt: &impl Abort, alloc: Global, row: &Row) {
     let mut told = Vec::new(alloc);
     let calls = put_run(&mut told, rt, alloc, row, (0, AMPLE, AMPLE));
-    let wanted = wanted(alloc, row.2, row.3, row.4, &[row.5]);
-    assert_eq!(rt; told.as_slice(), wanted.as_slice());
-    if row.3 < 64 {
+    let wanted = wanted(alloc, row.3, row.4, row.5, &[row.6]);
+    assert_eq!(rt; told.as_slice(), wanted.as_slice(), "{}", row.0);
+    if row.4 < 64 {
         assert_eq!(rt;
             calls,
-            (u64::from(!row.4.is_empty()), u64::from(!row.5.is_empty()))
+            (u64::from(!row.5.is_empty()), u64::from(!row.6.is_empty())),
+            "{}",
+            row.0
         );
     }
     let slow = (4096, 1);
@@ -332,9 +331,9 @@ fn check_ends(rt: &impl Abort, alloc: Global, row: &Row) {
         alloc,
         row,
         (0, slow, slow),
-        row.2,
         row.3,
-        (row.4, &[row.5]),
+        row.4,
+        (row.5, &[row.6]),
     );
 }
 
@@ -352,8 +351,8 @@ fn ends_with_ample_room_and_by_a_byte_a_call(rt: HostRuntime) {
 #[test]
 fn stops_at_each_read_that_fails(rt: HostRuntime) {
     for row in ROWS {
-        for before in 0..row.2.len() {
-            let names = &row.2[..before + 1];
+        for before in 0..row.3.len() {
+            let names = &row.3[..before + 1];
             if let Some(name) = names.last() {
                 let told: [&[u8]; 3] = [b"kati: cannot read ", name.as_bytes(), b"\n"];
                 let devices = (names.len() as u64, AMPLE, AMPLE);
@@ -367,15 +366,15 @@ fn stops_at_each_read_that_fails(rt: HostRuntime) {
 #[test]
 fn stops_at_each_byte_of_the_output(rt: HostRuntime) {
     for row in ROWS {
-        for room in 0..row.4.len() {
-            let told = [row.5, CANNOT_WRITE];
-            let held = (&row.4[..room], told.as_slice());
+        for room in 0..row.5.len() {
+            let told = [row.6, CANNOT_WRITE];
+            let held = (&row.5[..room], told.as_slice());
             check(
                 &rt,
                 rt.alloc(),
                 &row,
                 (0, (room, 4096), AMPLE),
-                row.2,
+                row.3,
                 3,
                 held,
             );
@@ -387,15 +386,15 @@ fn stops_at_each_byte_of_the_output(rt: HostRuntime) {
 #[test]
 fn stops_at_each_byte_of_the_error_output(rt: HostRuntime) {
     for row in ROWS {
-        for room in 0..row.5.len() {
-            let told = [&row.5[..room]];
+        for room in 0..row.6.len() {
+            let told = [&row.6[..room]];
             let held = (b"".as_slice(), told.as_slice());
             check(
                 &rt,
                 rt.alloc(),
                 &row,
                 (0, AMPLE, (room, 4096)),
-                row.2,
+                row.3,
                 3,
                 held,
             );
@@ -407,14 +406,31 @@ fn stops_at_each_byte_of_the_error_output(rt: HostRuntime) {
 #[test]
 fn stops_at_outputs_that_stall(rt: HostRuntime) {
     for row in ROWS {
-        if !row.4.is_empty() {
-            let told = [row.5, CANNOT_WRITE];
-            let held = (b"".as_slice(), told.as_slice());
-            check(&rt, rt.alloc(), &row, (0, (4096, 0), AMPLE), row.2, 3, held);
-        }
         if !row.5.is_empty() {
+            let told = [row.6, CANNOT_WRITE];
+            let held = (b"".as_slice(), told.as_slice());
+            check(&rt, rt.alloc(), &row, (0, (4096, 0), AMPLE), row.3, 3, held);
+        }
+        if !row.6.is_empty() {
             let held = (b"".as_slice(), [].as_slice());
-            check(&rt, rt.alloc(), &row, (0, AMPLE, (4096, 0)), row.2, 3, held);
+            check(&rt, rt.alloc(), &row, (0, AMPLE, (4096, 0)), row.3, 3, held);
         }
     }
+}
+
+/// The line that is told of a fault is what the fault displays; with the exit status.
+fn check_told(rt: &impl Abort, alloc: Global, fault: RunFault, status: u8) {
+    let line = format!(in alloc; "{fault}\n").expect(rt, "memory");
+    let mut err = sink_of(alloc, AMPLE).expect(rt, "memory");
+    assert_eq!(rt; finish(&mut err, Err(fault)), status);
+    assert_eq!(rt; err.as_slice(), line.as_bytes());
+}
+
+#[test]
+fn tells_what_a_fault_displays(rt: HostRuntime) {
+    let name = "a b.mk".to_string(rt.alloc()).expect(&rt, "memory");
+    check_told(&rt, rt.alloc(), RunFault::Read(name), 3);
+    check_told(&rt, rt.alloc(), RunFault::WriteOut, 3);
+    check_told(&rt, rt.alloc(), RunFault::WriteErr, 3);
+    check_told(&rt, rt.alloc(), RunFault::Memory, 4);
 }

@@ -1,5 +1,5 @@
 -- Reading with so many levels left, beside the same with one more, as GrowingLemmas has it of expanding; and one more level.
-use Rattle.std.proofs.Common.{◌≡◌, ℕ, zero, suc, ◌+◌, Bool, true, false, cond, nat_lt, List, [], ◌∷◌, ◌++◌, length, Option, Some, None, Result, Ok, Err, option_map, codes, inl, inr, refl, sym}
+use Rattle.std.proofs.Common.{◌≡◌, ℕ, zero, suc, ◌+◌, Bool, true, false, cond, nat_lt, List, [], ◌∷◌, length, Option, Some, None, Result, Ok, Err, option_map, inl, inr, refl, sym}
 use Rattle.std.specs.Str.{is_utf8}
 use Rattle.kt_text.specs.Words.{Text, words_of}
 use Rattle.kt_text.specs.Lines.{nul_line}

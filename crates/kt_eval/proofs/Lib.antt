@@ -1,5 +1,6 @@
 pub mod TableLemmas
 pub mod LevelLemmas
+pub mod LiteralLemmas
 pub mod PlaceLemmas
 pub mod ArgumentLemmas
 pub mod RowLemmas

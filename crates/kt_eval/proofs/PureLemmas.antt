@@ -10,7 +10,7 @@ use Rattle.kt_eval.specs.Fronts.{IsFront}
 use Rattle.kt_eval.specs.Table.{Table}
 use Rattle.kt_eval.specs.State.{World, frozen_world}
 use Rattle.kt_eval.specs.Outcome.{AsksNothing, Outcome, Gave, Stopped, Gives, IfCut, leaving, left_of}
-use Rattle.kt_eval.specs.Step.{told, GoesOn, Blames}
+use Rattle.kt_eval.specs.Step.{told, GoesOn, BlamesBy}
 use Rattle.kt_eval.specs.Expansion.{expanded}
 use Rattle.kt_eval.specs.Levels.{evaluator}
 use Rattle.kt_eval.specs.Pure.{Says, expanded_pure}
@@ -35,7 +35,7 @@ cut_so (Err (stops.Device name)) w outcome h = in_the_end w outcome h
 cut_so (Err stops.Memory) w outcome h = in_the_end w outcome h
 
 -- no read failed
-none_failed : (result : Result (Vec ℕ Global) Stop) (asked : List Text) → Blames result 0 0 asked → AsksNothing result
+none_failed : (result : Result (Vec ℕ Global) Stop) (asked : List Text) → BlamesBy result 0 0 asked → AsksNothing result
 none_failed (Ok x) asked b = tt
 none_failed (Err (stops.Fault fault)) asked b = tt
 none_failed (Err (stops.Device name)) asked b = absurd (omega (arith, b.0))
@@ -48,7 +48,7 @@ front_by old new old' new' e f h = rw (sym e, sym f) h
 -- what is said of an expansion, by what is held at its end
 pub says_when : (limit : ℕ) (text : Text) (table : Table) (automatic : Store) (place : Option Place) (before : List Text) (frames : List Frame)
     (result : Result (Vec ℕ Global) Stop) (w : World) (failed : ℕ) (before' said' : List Text)
-    → frames ≡ [] → before ≡ before' → w.said ≡ said' → failed ≡ 0 → Blames result 0 failed w.asked
+    → frames ≡ [] → before ≡ before' → w.said ≡ said' → failed ≡ 0 → BlamesBy result 0 failed w.asked
     → GoesOn (record (frozen_world table automatic place before) { frames = frames }) w
     → Gives (λ v. v.items) result w (expanded (evaluator false [] limit) text (record (frozen_world table automatic place before) { frames = frames }))
     → IfCut result (GoesOn w (left_of (expanded (evaluator false [] limit) text (record (frozen_world table automatic place before) { frames = frames }))))

@@ -13,17 +13,24 @@ abbrev pub look : Store → List ℕ → Option (List ℕ)
 look [] name = None
 look (e ∷ es) name = if pointwise nat_eq e.0 name then Some e.1 else look es name
 
+-- what is seen of files: the bytes of the file of each name, where they are known, the names that were asked for, in
+-- order, and how often a read failed; at the greatest `u64` the count stays
+pub record FilesSeen : Type 0 where
+  pub known : Option Store
+  pub names : List (List ℕ)
+  pub failed : ℕ
+
 -- the name is asked for, but by a read that was refused memory
-abbrev pub AskedAfter : {A : Type 0} → Result A FileFault → List (List ℕ) → List (List ℕ) → List ℕ → Type 0
-AskedAfter (Err Memory) old new name = new ≡ old
-AskedAfter (Err Device) old new name = new ≡ old ++ name ∷ []
-AskedAfter (Ok _) old new name = new ≡ old ++ name ∷ []
+abbrev pub AskedAfter : {A : Type 0} → Result A FileFault → FilesSeen → FilesSeen → List ℕ → Type 0
+AskedAfter (Err Memory) old new name = new.names ≡ old.names
+AskedAfter (Err Device) old new name = new.names ≡ old.names ++ name ∷ []
+AskedAfter (Ok _) old new name = new.names ≡ old.names ++ name ∷ []
 
 -- a failed device shows in the count of failures, and nothing else does
-abbrev pub CountedAfter : {A : Type 0} → Result A FileFault → ℕ → ℕ → Type 0
-CountedAfter (Err Memory) old new = new ≡ old
-CountedAfter (Err Device) old new = Rises old new
-CountedAfter (Ok _) old new = new ≡ old
+abbrev pub CountedAfter : {A : Type 0} → Result A FileFault → FilesSeen → FilesSeen → Type 0
+CountedAfter (Err Memory) old new = new.failed ≡ old.failed
+CountedAfter (Err Device) old new = Rises old.failed new.failed
+CountedAfter (Ok _) old new = new.failed ≡ old.failed
 
 abbrev pub IsDevice : FileFault → Type 0
 IsDevice fault = fault ≡ Device

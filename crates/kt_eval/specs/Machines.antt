@@ -11,7 +11,7 @@ use Rattle.kt_eval.specs.Files.{Store}
 use Rattle.kt_eval.specs.Fronts.{IsFront}
 use Rattle.kt_eval.specs.Table.{Table, find, put, set_by_makefile}
 use Rattle.kt_eval.specs.State.{World}
-use Rattle.kt_eval.specs.Outcome.{Outcome, Gave, StepOver, ◌>>=◌, ◌>>◌, leaving}
+use Rattle.kt_eval.specs.Outcome.{Outcome, Gave, StepOver, ◌>>◌, leaving}
 use Rattle.kt_eval.specs.Step.{Step}
 use Rattle.kt_eval.specs.Expansion.{Evaluator}
 use Rattle.kt_eval.specs.Levels.{evaluator}

@@ -1,7 +1,7 @@
 -- Files over memory.
-use Rattle.std.specs.Prelude.{ℕ, List, ◌∷◌, [], ◌++◌, ◌==◌, Bool, if◌then◌else◌}
+use Rattle.std.specs.Prelude.{ℕ, List, ◌∷◌, [], ◌++◌, ◌==◌, Bool, Some, if◌then◌else◌}
 use Rattle.kt_list.specs.Counters.{one_more}
-use Rattle.kt_eval.specs.Files.{Store}
+use Rattle.kt_eval.specs.Files.{FilesSeen, Store}
 
 -- the bytes of the file of each name, what was asked for, which read fails, how many there were, and how many failed
 pub record Memory : Type 0 where
@@ -10,6 +10,10 @@ pub record Memory : Type 0 where
   pub nth : ℕ
   pub reads : ℕ
   pub failures : ℕ
+
+-- what is seen of them as of any files
+abbrev pub seen_of : Memory → FilesSeen
+seen_of m = record { known = Some m.store; names = m.asked; failed = m.failures }
 
 -- whether the next read is the one that fails
 abbrev pub fails_next : Memory → Bool

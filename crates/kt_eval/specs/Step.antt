@@ -9,7 +9,7 @@ use Rattle.kt_rules.specs.FaultKinds.{number_of, words_with}
 use Rattle.kt_eval.specs.declared.fault.Fault.{Fault}
 use Rattle.kt_eval.specs.declared.stop.Stop.{Stop}
 use Rattle.kt_eval.specs.declared.stop.Stop.TheVariants as stops
-use Rattle.kt_eval.specs.Files.{Store}
+use Rattle.kt_eval.specs.Files.{FilesSeen, Store}
 use Rattle.kt_eval.specs.Fronts.{last}
 use Rattle.kt_eval.specs.Outcome.{Gave, Stopped, StepOver}
 use Rattle.kt_eval.specs.State.{World}
@@ -21,6 +21,10 @@ pub record Seen : Type 0 where
   pub known : Option Store
   pub failed : ℕ
   pub lender : ℕ
+
+-- what is seen of its files
+abbrev pub files_of : Seen → FilesSeen
+files_of e = record { known = e.known; names = e.world.asked; failed = e.failed }
 
 -- the lists that reading and expanding only add to: the messages, and the names asked for
 pub data Trail : Type 0 where
@@ -73,8 +77,12 @@ store_of known = unwrap_or known []
 
 -- a failed device is returned where the count of failures rose, by the name that was asked for last; nothing else is
 -- returned where a device failed
-abbrev pub Blames : {A : Type 0} → Result A Stop → ℕ → ℕ → List Text → Type 0
-Blames (Ok x) old new asked = new ≡ old
-Blames (Err (stops.Fault fault)) old new asked = new ≡ old
-Blames (Err (stops.Device name)) old new asked = Rises old new × (last asked ≡ Some (string_bytes name))
-Blames (Err stops.Memory) old new asked = new ≡ old
+abbrev pub BlamesBy : {A : Type 0} → Result A Stop → ℕ → ℕ → List Text → Type 0
+BlamesBy (Ok x) old new asked = new ≡ old
+BlamesBy (Err (stops.Fault fault)) old new asked = new ≡ old
+BlamesBy (Err (stops.Device name)) old new asked = Rises old new × (last asked ≡ Some (string_bytes name))
+BlamesBy (Err stops.Memory) old new asked = new ≡ old
+
+-- the same by what is seen of the files before and after
+abbrev pub Blames : {A : Type 0} → Result A Stop → FilesSeen → FilesSeen → Type 0
+Blames result old new = BlamesBy result old.failed new.failed new.names

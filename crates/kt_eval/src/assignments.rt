@@ -122,11 +122,11 @@ impl<'a, M: Scope, F: Files> Evaluation<'a, M, F> {
         match form {
             Form::Assignment(name, operator, _) => {
                 let name = plain(self.alloc, name)?;
-                self.assign_line(below, &name, operator, body)
+                self.assign_line(below, name.as_slice(), operator, body)
             }
             _ => {
                 let name = plain(self.alloc, rest)?;
-                self.assign_line(below, trimmed(&name), Operator::Deferred, body)
+                self.assign_line(below, trimmed(name.as_slice()), Operator::Deferred, body)
             }
         }
     }

@@ -2,7 +2,7 @@
 ghost use Rattle.std.specs.Prelude.{◌≡◌, IfOk, option_map};
 ghost use Rattle.kt_eval.specs.Files.{Store, look};
 
-use std::alloc::{AllocError, Global};
+use std::alloc::AllocError;
 
 /// The automatic macros of a recipe, each of which is computed when it is asked for.
 pub trait Automatic {
@@ -10,7 +10,7 @@ pub trait Automatic {
     ghost values: { Self → Store };
 
     /// What this name stands for, if it is an automatic macro.
-    fn value(&self, alloc: Global, name: &[u8]) -> Result<Option<Vec<u8>>, AllocError>
+    fn value(&self, name: &[u8]) -> Result<Option<Vec<u8>>, AllocError>
         ensures { IfOk result (λ found. option_map (λ v. v.items) found ≡ look (values self.now) name.now) };
 }
 
@@ -23,7 +23,7 @@ impl Automatic for NoAutomatic {
 
     ghost values = { λ _. [] };
 
-    fn value(&self, _alloc: Global, _name: &[u8]) -> Result<Option<Vec<u8>>, AllocError> {
+    fn value(&self, _name: &[u8]) -> Result<Option<Vec<u8>>, AllocError> {
         Ok(None)
     }
 }

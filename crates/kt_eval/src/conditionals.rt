@@ -7,7 +7,7 @@ ghost use Rattle.kt_eval.specs.Conditionals.{line_holds, text_holds, worded_hold
 ghost use Rattle.kt_eval.specs.State.{lookup, raw_value};
 ghost use Rattle.kt_eval.specs.inner.Doing.{Does};
 ghost use Rattle.kt_eval.specs.Outcome.{Gives, IfCut, left_of};
-ghost use Rattle.kt_eval.specs.Step.{Blames, GoesOn};
+ghost use Rattle.kt_eval.specs.Step.{Blames, GoesOn, files_of};
 ghost use Rattle.kt_eval.specs.inner.Views.{compared_told};
 
 use crate::compared::{Compared, compared_texts, text_after_word, word_before_blank};
@@ -16,14 +16,14 @@ use crate::files::Files;
 use crate::scope::Scope;
 use crate::stop::Stop;
 use kt_rules::FaultKind;
-use kt_syntax::{Directive, Form, classify, plain};
+use kt_syntax::{Directive, Form, classify_text, plain};
 use kt_text::words;
 
 impl<'a, M: Scope, F: Files> Evaluation<'a, M, F> {
     fn bad_conditional(&self) -> Result<bool, Stop>
         ensures gives { Gives (λ b. b) result self.now.world (bad_conditional self.now.world) }
         ensures cut { IfCut result (GoesOn self.now.world (left_of (bad_conditional {A = Bool} self.now.world))) }
-        ensures blames { Blames result self.now.failed self.now.failed self.now.world.asked }
+        ensures blames { Blames result (files_of self.now) (files_of self.now) }
     {
         Err(Stop::Fault(self.fault(FaultKind::BadConditional, b"")?))
     }
@@ -33,7 +33,7 @@ impl<'a, M: Scope, F: Files> Evaluation<'a, M, F> {
     fn is_set(&self, names: &[u8]) -> Result<bool, Stop>
         ensures gives { Gives (λ b. b) result self.now.world (is_set (words_of names.now) self.now.world) }
         ensures cut { IfCut result (GoesOn self.now.world (left_of (is_set (words_of names.now) self.now.world))) }
-        ensures blames { Blames result self.now.failed self.now.failed self.now.world.asked }
+        ensures blames { Blames result (files_of self.now) (files_of self.now) }
     {
         let mut rest = words(names);
         let Some(name) = rest.next() else {
@@ -54,8 +54,8 @@ impl<'a, M: Scope, F: Files> Evaluation<'a, M, F> {
         requires { M.writable ≡ true }
         ensures { Does (λ b. b) M.writable below (λ e. is_defined e text.now) result self.old self.new }
     {
-        let x = self.expand_here(below, text)?;
-        self.is_set(&x)
+        let x = self.expand_text(below, text)?;
+        self.is_set(x.as_slice())
     }
 
     #[cycle(evaluate)]
@@ -72,9 +72,9 @@ impl<'a, M: Scope, F: Files> Evaluation<'a, M, F> {
         let Some(compared) = compared else {
             return self.bad_conditional();
         };
-        let x = self.expand_here(below, compared.first)?;
-        let y = self.expand_here(below, compared.second)?;
-        Ok(x == y)
+        let x = self.expand_text(below, compared.first)?;
+        let y = self.expand_text(below, compared.second)?;
+        Ok(x.as_slice() == y.as_slice())
     }
 
     #[cycle(evaluate)]
@@ -118,7 +118,7 @@ impl<'a, M: Scope, F: Files> Evaluation<'a, M, F> {
     {
         self.worded_holds(
             below,
-            classify(word_before_blank(text), false),
+            classify_text(word_before_blank(text), false),
             text_after_word(text),
         )
     }
@@ -139,7 +139,7 @@ impl<'a, M: Scope, F: Files> Evaluation<'a, M, F> {
             return Ok(true);
         }
         let text = plain(self.alloc, rest)?;
-        self.text_holds(below, &text)
+        self.text_holds(below, text.as_slice())
     }
 
     #[cycle(evaluate)]
@@ -158,7 +158,7 @@ impl<'a, M: Scope, F: Files> Evaluation<'a, M, F> {
             Form::Directive(Directive::Else, rest) => self.else_holds(below, condition, rest),
             Form::Directive(word, rest) => {
                 let text = plain(self.alloc, rest)?;
-                self.holds(below, word, &text)
+                self.holds(below, word, text.as_slice())
             }
             _ => self.bad_conditional(),
         }

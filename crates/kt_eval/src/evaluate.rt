@@ -1,12 +1,13 @@
 //! Texts expanded, each level of nesting by the one below it.
 ghost use Rattle.std.specs.Prelude.{◌≡◌, ◌≤◌, ◌==◌, ◌∷◌, [], map, option_map, true};
+ghost use Rattle.std.specs.Cow.{cow_slice_items};
 ghost use Rattle.std.specs.List.{list_any};
 ghost use Rattle.kt_text.specs.Words.{words_of};
 ghost use Rattle.kt_syntax.specs.Terms.{piece_of, terms_of};
 ghost use Rattle.kt_eval.specs.State.{lookup};
 ghost use Rattle.kt_eval.specs.inner.Doing.{Does};
 ghost use Rattle.kt_eval.specs.Outcome.{Gives, IfCut, left_of};
-ghost use Rattle.kt_eval.specs.Step.{AreKnown, Blames, GoesOn, Keeps, store_of};
+ghost use Rattle.kt_eval.specs.Step.{AreKnown, Blames, GoesOn, Keeps, files_of, store_of};
 ghost use Rattle.kt_eval.specs.Levels.{evaluator};
 ghost use Rattle.kt_eval.specs.Calls.{naming_of};
 ghost use Rattle.kt_eval.specs.inner.Views.{asked_told};
@@ -29,6 +30,7 @@ use kt_rules::FaultKind;
 use kt_syntax::{Term, Unterminated, terms};
 use kt_text::functions::patsubst;
 use kt_text::{TextFault, stripped, words};
+use std::borrow::CowSlice;
 
 fn has_dollar(text: &[u8]) -> bool
     ensures { result ≡ list_any (λ byte. byte == 36) text.now }
@@ -49,7 +51,22 @@ impl<'a, M: Scope, F: Files> Evaluation<'a, M, F> {
         self.expand_here(levels - 1, text)
     }
 
-    // Expands a text at the level where it stands.
+    // Expands a text at the level where it stands; one that refers to nothing stays as it is.
+    #[cycle(evaluate)]
+    #[tactic(auto, using(crate::proofs::LiteralLemmas::stays))]
+    pub(crate) fn expand_text<'t>(
+        &mut self,
+        below: u64,
+        text: &'t [u8],
+    ) -> Result<CowSlice<'t, u8>, Stop>
+        ensures { Does cow_slice_items M.writable below (λ e. expanded e text.now) result self.old self.new }
+    {
+        if !has_dollar(text) {
+            return Ok(CowSlice::Borrowed(text));
+        }
+        Ok(CowSlice::Owned(self.expand_here(below, text)?))
+    }
+
     #[cycle(evaluate)]
     #[tactic(auto, using(crate::proofs::Steps::each_term_goes), unfolding(crate::proofs::Steps::each_term_open))]
     pub(crate) fn expand_here(&mut self, below: u64, text: &[u8]) -> Result<Vec<u8>, Stop>
@@ -158,7 +175,7 @@ impl<'a, M: Scope, F: Files> Evaluation<'a, M, F> {
             (apply (evaluator M.writable (store_of self.old.known) below) function (map (λ a. a.now) arguments.now)
             self.old.world))) }
         ensures kept { Keeps self.old self.new }
-        ensures blames { Blames result self.old.failed self.new.failed self.new.world.asked }
+        ensures blames { Blames result (files_of self.old) (files_of self.new) }
     {
         match function {
             Function::Text(text_function) => self.apply_text(below, text_function, arguments),

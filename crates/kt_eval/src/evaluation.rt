@@ -42,13 +42,13 @@ impl<'a, M: Scope, F: Files> Model for Evaluation<'a, M, F> {
         automatic = M.automatic s.macros;
         frames = s.frames.items;
         said = s.messages.items;
-        asked = F.names s.files.now;
+        asked = (F.seen s.files.now).names;
         place = s.place;
         book = M.book s.macros;
         rule = s.rule;
       };
-      known = F.known s.files.now;
-      failed = F.failed s.files.now;
+      known = (F.seen s.files.now).known;
+      failed = (F.seen s.files.now).failed;
       lender = s.files.ghost_name;
     } };
 }
@@ -59,7 +59,7 @@ impl<'a, M: Scope, F: Files> Evaluation<'a, M, F> {
     ghost use Rattle.kt_text.specs.Functions.{Answers};
     ghost use Rattle.kt_eval.specs.Expansion.{accepted, bad_argument};
     ghost use Rattle.kt_eval.specs.Outcome.{Gives, IfCut, left_of};
-    ghost use Rattle.kt_eval.specs.Step.{Blames, GoesOn};
+    ghost use Rattle.kt_eval.specs.Step.{Blames, GoesOn, files_of};
     ghost use Rattle.kt_eval.specs.State.{bind, unbind, say, warn, message_place};
     ghost use Rattle.kt_eval.specs.Step.{fault_of};
 
@@ -73,7 +73,7 @@ impl<'a, M: Scope, F: Files> Evaluation<'a, M, F> {
                 flavour: Flavour::Immediate,
                 value,
             })),
-            None => self.macros.find(self.alloc, name),
+            None => self.macros.find(name),
         }
     }
 
@@ -138,7 +138,7 @@ impl<'a, M: Scope, F: Files> Evaluation<'a, M, F> {
     pub(crate) fn bad_argument(&self, name: &[u8]) -> Result<Vec<u8>, Stop>
         ensures gives { Gives (λ v. v.items) result self.now.world (bad_argument name.now self.now.world) }
         ensures cut { IfCut result (GoesOn self.now.world (left_of (bad_argument {A = Text} name.now self.now.world))) }
-        ensures blames { Blames result self.now.failed self.now.failed self.now.world.asked }
+        ensures blames { Blames result (files_of self.now) (files_of self.now) }
     {
         Err(Stop::Fault(self.fault(FaultKind::BadArgument, name)?))
     }
@@ -154,7 +154,7 @@ impl<'a, M: Scope, F: Files> Evaluation<'a, M, F> {
             → Gives (λ v. v.items) result self.now.world (accepted name.now expected self.now.world) }
         ensures cut { (expected : Option (List ℕ))
             → IfCut result (GoesOn self.now.world (left_of (accepted name.now expected self.now.world))) }
-        ensures blames { Blames result self.now.failed self.now.failed self.now.world.asked }
+        ensures blames { Blames result (files_of self.now) (files_of self.now) }
     {
         match outcome {
             Ok(text) => Ok(text),
@@ -169,7 +169,7 @@ impl<'a, M: Scope, F: Files> Evaluation<'a, M, F> {
     ghost use Rattle.kt_eval.specs.Rules.{close_rule, enter_rule, open_rule, recipe_line, rule_place};
     ghost use Rattle.kt_eval.specs.State.{move_to, set_macro, set_rule};
     ghost use Rattle.kt_eval.specs.Outcome.{Gives, IfCut, left_of};
-    ghost use Rattle.kt_eval.specs.Step.{AreKnown, Blames, GoesOn, Keeps, store_of};
+    ghost use Rattle.kt_eval.specs.Step.{AreKnown, Blames, GoesOn, Keeps, files_of, store_of};
     ghost use Rattle.kt_eval.specs.Table.{assigning, find, set_by_makefile};
     ghost use Rattle.kt_eval.specs.inner.Views.{assigning_told, front_told, raw_told};
 
@@ -295,7 +295,7 @@ impl<'a, M: Scope, F: Files> Evaluation<'a, M, F> {
         ensures gives { Gives (λ u. u) result self.new.world (close_rule self.old.world) }
         ensures cut { IfCut result (GoesOn self.new.world (left_of (close_rule self.old.world))) }
         ensures kept { Keeps self.old self.new }
-        ensures blames { Blames result self.old.failed self.new.failed self.new.world.asked }
+        ensures blames { Blames result (files_of self.old) (files_of self.new) }
         ensures unfailed { self.new.failed ≡ self.old.failed }
     {
         match self.take_rule() {
@@ -311,7 +311,7 @@ impl<'a, M: Scope, F: Files> Evaluation<'a, M, F> {
         ensures gives { Gives (λ u. u) result self.new.world (enter_rule rule self.old.world) }
         ensures cut { IfCut result (GoesOn self.new.world (left_of (enter_rule rule self.old.world))) }
         ensures kept { Keeps self.old self.new }
-        ensures blames { Blames result self.old.failed self.new.failed self.new.world.asked }
+        ensures blames { Blames result (files_of self.old) (files_of self.new) }
         ensures unfailed { self.new.failed ≡ self.old.failed }
     {
         match self.macros.add(rule).unwrap() {
@@ -333,7 +333,7 @@ impl<'a, M: Scope, F: Files> Evaluation<'a, M, F> {
         ensures gives { Gives (λ u. u) result self.new.world (open_rule recipe head.now self.old.world) }
         ensures cut { IfCut result (GoesOn self.new.world (left_of (open_rule recipe head.now self.old.world))) }
         ensures kept { Keeps self.old self.new }
-        ensures blames { Blames result self.old.failed self.new.failed self.new.world.asked }
+        ensures blames { Blames result (files_of self.old) (files_of self.new) }
         ensures unfailed { self.new.failed ≡ self.old.failed }
     {
         let place = self.rule_place()?;
@@ -352,7 +352,7 @@ impl<'a, M: Scope, F: Files> Evaluation<'a, M, F> {
         ensures gives { Gives (λ u. u) result self.new.world (recipe_line rule text.now self.old.world) }
         ensures cut { IfCut result (GoesOn self.new.world (left_of (recipe_line rule text.now self.old.world))) }
         ensures kept { Keeps self.old self.new }
-        ensures blames { Blames result self.old.failed self.new.failed self.new.world.asked }
+        ensures blames { Blames result (files_of self.old) (files_of self.new) }
         ensures unfailed { self.new.failed ≡ self.old.failed }
     {
         let mut rule = rule;
@@ -372,7 +372,7 @@ impl<'a, M: Scope, F: Files> Evaluation<'a, M, F> {
         ensures cut { AreKnown self.old.known → IfCut result
             (GoesOn self.new.world (left_of (read_bytes (store_of self.old.known) name.now self.old.world))) }
         ensures kept { Keeps self.old self.new }
-        ensures blames { Blames result self.old.failed self.new.failed self.new.world.asked }
+        ensures blames { Blames result (files_of self.old) (files_of self.new) }
     {
         let copy = name.to_string(self.alloc)?;
         match self.files.read(name) {

@@ -1,6 +1,6 @@
 //! Where makefiles are read from.
-ghost use Rattle.std.specs.Prelude.{◌≡◌, ℕ, List, Option, option_map, map, string_bytes, IfOk, IfSome, ◌≤◌};
-ghost use Rattle.kt_eval.specs.Files.{AskedAfter, CountedAfter, Store, look};
+ghost use Rattle.std.specs.Prelude.{◌≡◌, option_map, map, string_bytes, IfOk, IfSome, ◌≤◌};
+ghost use Rattle.kt_eval.specs.Files.{AskedAfter, CountedAfter, FilesSeen, look};
 
 use thiserror::Error;
 
@@ -16,30 +16,24 @@ pub enum FileFault {
 
 /// Files by their names, and a record of what was asked for.
 pub trait Files {
-    /// The bytes of the file of each name, where they are known.
-    ghost known: { Self → Option Store };
-
-    /// The names that were asked for, in order.
-    ghost names: { Self → List (List ℕ) };
-
-    /// How often a read failed; at the greatest `u64` the count stays.
-    ghost failed: { Self → ℕ };
+    /// What is seen of them.
+    ghost seen: { Self → FilesSeen };
 
     /// The bytes of the file, or `None` where there is none of this name. The name counts as asked for, but where
     /// memory was refused. A failure of the device is counted, and nothing else is.
     fn read(&mut self, name: &str) -> Result<Option<Vec<u8>>, FileFault>
-        ensures found { IfSome (known self.old)
+        ensures found { IfSome (seen self.old).known
             (λ store. IfOk result (λ found. option_map (λ v. v.items) found ≡ look store name.now)) }
-        ensures keeps { known self.new ≡ known self.old }
-        ensures asked { AskedAfter result (names self.old) (names self.new) name.now }
-        ensures counts { failed self.old ≤ failed self.new }
-        ensures fails { CountedAfter result (failed self.old) (failed self.new) };
+        ensures keeps { (seen self.new).known ≡ (seen self.old).known }
+        ensures asked { AskedAfter result (seen self.old) (seen self.new) name.now }
+        ensures counts { (seen self.old).failed ≤ (seen self.new).failed }
+        ensures fails { CountedAfter result (seen self.old) (seen self.new) };
 
     /// The names that were asked for, in order.
     fn asked(&self) -> &[String]
-        ensures { map string_bytes result.now ≡ names self.now };
+        ensures { map string_bytes result.now ≡ (seen self.now).names };
 
     /// How often a read failed by its device.
     fn failures(&self) -> u64
-        ensures { result ≡ failed self.now };
+        ensures { result ≡ (seen self.now).failed };
 }

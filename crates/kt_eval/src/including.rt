@@ -8,7 +8,7 @@ ghost use Rattle.kt_eval.specs.Reading.{included, read_file, read_first, read_in
 ghost use Rattle.kt_eval.specs.inner.Doing.{Does};
 ghost use Rattle.kt_eval.specs.Levels.{evaluator};
 ghost use Rattle.kt_eval.specs.Outcome.{Gives, IfCut, left_of};
-ghost use Rattle.kt_eval.specs.Step.{AreKnown, Blames, GoesOn, Keeps, store_of};
+ghost use Rattle.kt_eval.specs.Step.{AreKnown, Blames, GoesOn, Keeps, files_of, store_of};
 
 use crate::evaluation::Evaluation;
 use crate::files::Files;
@@ -65,8 +65,8 @@ impl<'a, M: Scope, F: Files> Evaluation<'a, M, F> {
         requires { M.writable ≡ true }
         ensures { Does (λ u. u) M.writable below (λ e. include_line e optional text.now) result self.old self.new }
     {
-        let x = self.expand_here(below, text)?;
-        self.each_include(below, optional, &x)
+        let x = self.expand_text(below, text)?;
+        self.each_include(below, optional, x.as_slice())
     }
 
     #[cycle(evaluate)]
@@ -186,7 +186,7 @@ impl<'a, M: Scope, F: Files> Evaluation<'a, M, F> {
             (read_first (store_of self.old.known) (evaluator M.writable (store_of self.old.known) limit)
             (map (λ name. name.now) names.now) self.old.world))) }
         ensures kept { Keeps self.old self.new }
-        ensures blames { Blames result self.old.failed self.new.failed self.new.world.asked }
+        ensures blames { Blames result (files_of self.old) (files_of self.new) }
     {
         for name in names {
             if let Some(text) = self.read_bytes(name)? {

@@ -80,23 +80,23 @@ impl Machine {
     /// device fails, a prefix of them, and a prefix of the names is asked for. A failed device
     /// is told by the name asked for last; nothing else is returned where one failed.
     pub fn read_file<F: Files>(&mut self, files: &mut F, names: &[&str]) -> Result<(), Stop>
-        ensures reads { self.old.refusal ≡ None → IfSome (F.known files.old) (λ store. Gives (λ _. read_by self.new)
-            result (traced_by self.new (F.names files.new))
-            (reading_by store (map (λ name. name.now) names.now) self.old (F.names files.old))) }
-        ensures cut { self.old.refusal ≡ None → IfSome (F.known files.old)
-            (λ store. IfCut result (ComesBefore (traced_by self.new (F.names files.new))
-            (left_of (reading_by store (map (λ name. name.now) names.now) self.old (F.names files.old))))) }
+        ensures reads { self.old.refusal ≡ None → IfSome (F.seen files.old).known (λ store. Gives
+            (λ _. read_by self.new) result (traced_by self.new (F.seen files.new).names)
+            (reading_by store (map (λ name. name.now) names.now) self.old (F.seen files.old).names)) }
+        ensures cut { self.old.refusal ≡ None → IfSome (F.seen files.old).known
+            (λ store. IfCut result (ComesBefore (traced_by self.new (F.seen files.new).names)
+            (left_of (reading_by store (map (λ name. name.now) names.now) self.old (F.seen files.old).names)))) }
         ensures repeats { (stop : StopType) → self.old.refusal ≡ Some stop → Repeats result stop }
         ensures untouched { (stop : StopType) → self.old.refusal ≡ Some stop → (files.new ≡ files.old)
             × (self.new ≡ self.old) }
         ensures remembers { self.old.refusal ≡ None → Remembers result self.new.refusal }
         ensures limited { self.new.limit ≡ self.old.limit }
         ensures said { IsFront self.old.said self.new.said }
-        ensures asked { IsFront (F.names files.old) (F.names files.new) }
-        ensures keeps { F.known files.new ≡ F.known files.old }
-        ensures counts { F.failed files.old ≤ F.failed files.new }
+        ensures asked { IsFront (F.seen files.old).names (F.seen files.new).names }
+        ensures keeps { (F.seen files.new).known ≡ (F.seen files.old).known }
+        ensures counts { (F.seen files.old).failed ≤ (F.seen files.new).failed }
         ensures blames { self.old.refusal ≡ None
-            → Blames result (F.failed files.old) (F.failed files.new) (F.names files.new) }
+            → Blames result (F.seen files.old) (F.seen files.new) }
     {
         if let Some(refusal) = &self.refusal {
             return Err(copy_or_memory(self.alloc, refusal));
@@ -110,19 +110,19 @@ impl Machine {
 
     // Reads once.
     fn read<F: Files>(&mut self, files: &mut F, names: &[&str]) -> Result<(), Stop>
-        ensures reads { IfSome (F.known files.old) (λ store. Gives (λ _. read_by self.new)
-            result (traced_by self.new (F.names files.new))
-            (reading_by store (map (λ name. name.now) names.now) self.old (F.names files.old))) }
-        ensures cut { IfSome (F.known files.old)
-            (λ store. IfCut result (ComesBefore (traced_by self.new (F.names files.new))
-            (left_of (reading_by store (map (λ name. name.now) names.now) self.old (F.names files.old))))) }
+        ensures reads { IfSome (F.seen files.old).known (λ store. Gives (λ _. read_by self.new)
+            result (traced_by self.new (F.seen files.new).names)
+            (reading_by store (map (λ name. name.now) names.now) self.old (F.seen files.old).names)) }
+        ensures cut { IfSome (F.seen files.old).known
+            (λ store. IfCut result (ComesBefore (traced_by self.new (F.seen files.new).names)
+            (left_of (reading_by store (map (λ name. name.now) names.now) self.old (F.seen files.old).names)))) }
         ensures limited { self.new.limit ≡ self.old.limit }
         ensures refusal { self.new.refusal ≡ self.old.refusal }
         ensures said { IsFront self.old.said self.new.said }
-        ensures asked { IsFront (F.names files.old) (F.names files.new) }
-        ensures keeps { F.known files.new ≡ F.known files.old }
-        ensures counts { F.failed files.old ≤ F.failed files.new }
-        ensures blames { Blames result (F.failed files.old) (F.failed files.new) (F.names files.new) }
+        ensures asked { IsFront (F.seen files.old).names (F.seen files.new).names }
+        ensures keeps { (F.seen files.new).known ≡ (F.seen files.old).known }
+        ensures counts { (F.seen files.old).failed ≤ (F.seen files.new).failed }
+        ensures blames { Blames result (F.seen files.old) (F.seen files.new) }
     {
         let empty = Book::new(self.alloc)?;
         self.read_beside(empty, files, names)
@@ -135,19 +135,19 @@ impl Machine {
         files: &mut F,
         names: &[&str],
     ) -> Result<(), Stop>
-        ensures reads { IfSome (F.known files.old) (λ store. Gives (λ _. read_by self.new)
-            result (traced_by self.new (F.names files.new))
-            (reading_by store (map (λ name. name.now) names.now) self.old (F.names files.old))) }
-        ensures cut { IfSome (F.known files.old)
-            (λ store. IfCut result (ComesBefore (traced_by self.new (F.names files.new))
-            (left_of (reading_by store (map (λ name. name.now) names.now) self.old (F.names files.old))))) }
+        ensures reads { IfSome (F.seen files.old).known (λ store. Gives (λ _. read_by self.new)
+            result (traced_by self.new (F.seen files.new).names)
+            (reading_by store (map (λ name. name.now) names.now) self.old (F.seen files.old).names)) }
+        ensures cut { IfSome (F.seen files.old).known
+            (λ store. IfCut result (ComesBefore (traced_by self.new (F.seen files.new).names)
+            (left_of (reading_by store (map (λ name. name.now) names.now) self.old (F.seen files.old).names)))) }
         ensures limited { self.new.limit ≡ self.old.limit }
         ensures refusal { self.new.refusal ≡ self.old.refusal }
         ensures said { IsFront self.old.said self.new.said }
-        ensures asked { IsFront (F.names files.old) (F.names files.new) }
-        ensures keeps { F.known files.new ≡ F.known files.old }
-        ensures counts { F.failed files.old ≤ F.failed files.new }
-        ensures blames { Blames result (F.failed files.old) (F.failed files.new) (F.names files.new) }
+        ensures asked { IsFront (F.seen files.old).names (F.seen files.new).names }
+        ensures keeps { (F.seen files.new).known ≡ (F.seen files.old).known }
+        ensures counts { (F.seen files.old).failed ≤ (F.seen files.new).failed }
+        ensures blames { Blames result (F.seen files.old) (F.seen files.new) }
     {
         let book = mem::replace(&mut self.book, empty);
         let macros = mem::replace(&mut self.macros, Macros::new(self.alloc));
@@ -193,19 +193,19 @@ fn read_once<F: Files>(
     files: &mut F,
     names: &[&str],
 ) -> (Makefile, Vec<Sequence<u8>>, Result<(), Stop>)
-    ensures reads { IfSome (F.known files.old) (λ store. Gives (λ _. read_of result.0.macros result.0.book)
-        result.2 (traced result.1.items (F.names files.new))
+    ensures reads { IfSome (F.seen files.old).known (λ store. Gives (λ _. read_of result.0.macros result.0.book)
+        result.2 (traced result.1.items (F.seen files.new).names)
         (reading store (map (λ name. name.now) names.now) limit (read_of makefile.macros makefile.book)
-        (traced messages.items (F.names files.old)))) }
-    ensures cut { IfSome (F.known files.old)
-        (λ store. IfCut result.2 (ComesBefore (traced result.1.items (F.names files.new))
+        (traced messages.items (F.seen files.old).names))) }
+    ensures cut { IfSome (F.seen files.old).known
+        (λ store. IfCut result.2 (ComesBefore (traced result.1.items (F.seen files.new).names)
         (left_of (reading store (map (λ name. name.now) names.now) limit (read_of makefile.macros makefile.book)
-        (traced messages.items (F.names files.old)))))) }
+        (traced messages.items (F.seen files.old).names))))) }
     ensures said { IsFront messages.items result.1.items }
-    ensures asked { IsFront (F.names files.old) (F.names files.new) }
-    ensures keeps { F.known files.new ≡ F.known files.old }
-    ensures counts { F.failed files.old ≤ F.failed files.new }
-    ensures blames { Blames result.2 (F.failed files.old) (F.failed files.new) (F.names files.new) }
+    ensures asked { IsFront (F.seen files.old).names (F.seen files.new).names }
+    ensures keeps { (F.seen files.new).known ≡ (F.seen files.old).known }
+    ensures counts { (F.seen files.old).failed ≤ (F.seen files.new).failed }
+    ensures blames { Blames result.2 (F.seen files.old) (F.seen files.new) }
 {
     let mut evaluation = Evaluation {
         alloc,

@@ -72,6 +72,7 @@ impl Macro {
 /// The macros by name, in the order in which they were first set.
 #[derive(Drop)]
 pub struct Macros {
+    pub(crate) alloc: Global,
     entries: IndexMap<Vec<u8>, Macro>,
 }
 
@@ -93,6 +94,7 @@ impl Macros {
         ensures { result ≡ [] }
     {
         Macros {
+            alloc,
             entries: IndexMap::new(alloc),
         }
     }

@@ -77,20 +77,16 @@ fn find(
 impl Files for MemFiles {
     ghost use Rattle.std.specs.Prelude.{◌≡◌, ◌≤◌, Some, option_map, true, false, IfOk, IfErr, OnOk};
     ghost use Rattle.kt_eval.specs.Files.{AskedAfter, CountedAfter, IsDevice, IsMemory, look};
-    ghost use Rattle.kt_eval.specs.Memory.{after_read, fails_next};
+    ghost use Rattle.kt_eval.specs.Memory.{after_read, fails_next, seen_of};
 
-    ghost known = { λ s. Some s.store };
-
-    ghost names = { λ s. s.asked };
-
-    ghost failed = { λ s. s.failures };
+    ghost seen = { seen_of };
 
     fn read(&mut self, name: &str) -> Result<Option<Vec<u8>>, FileFault>
         ensures found { IfOk result (λ found. option_map (λ v. v.items) found ≡ look self.old.store name.now) }
-        ensures keeps { Some self.new.store ≡ Some self.old.store }
-        ensures asked { AskedAfter result self.old.asked self.new.asked name.now }
-        ensures counts { self.old.failures ≤ self.new.failures }
-        ensures fails { CountedAfter result self.old.failures self.new.failures }
+        ensures keeps { (seen_of self.new).known ≡ (seen_of self.old).known }
+        ensures asked { AskedAfter result (seen_of self.old) (seen_of self.new) name.now }
+        ensures counts { (seen_of self.old).failed ≤ (seen_of self.new).failed }
+        ensures fails { CountedAfter result (seen_of self.old) (seen_of self.new) }
 
         // The device fails at the nth read and at no other.
         ensures device { IfErr result (λ e. IsDevice e → fails_next self.old ≡ true) }

@@ -11,8 +11,8 @@ ghost use Rattle.kt_eval.specs.Reading.{line_at, sheet_of};
 ghost use Rattle.kt_eval.specs.inner.Views.{raw_told};
 
 use kt_list::Shared;
-use kt_syntax::{Blocks, Missing, Step, blocks};
-use kt_text::{Line, condensed};
+use kt_syntax::{Blocks, Missing, Step, marked_blocks};
+use kt_text::{Line, Mark, condensed};
 use std::alloc::{AllocError, Global};
 use std::marker::Model;
 
@@ -38,7 +38,7 @@ pub(crate) struct RawLine<'a> {
 pub(crate) struct Page<'a> {
     source: &'a Source,
     text: &'a [u8],
-    lines: Vec<Line>,
+    lines: Vec<Mark>,
     blocks: Blocks,
 }
 
@@ -66,13 +66,13 @@ impl<'a> Page<'a> {
         alloc: Global,
         source: &'a Source,
         text: &'a [u8],
-        lines: Vec<Line>,
+        lines: Vec<Mark>,
     ) -> Result<Page<'a>, AllocError>
         requires lines { lines.items ≡ logical_lines_of text.now }
         requires order { AreInOrder (length text.now) lines.items }
         ensures { IfOk result (λ page. page ≡ sheet_of source.now text.now) }
     {
-        let blocks = blocks(alloc, text, &lines)?;
+        let blocks = marked_blocks(alloc, text, &lines)?;
         Ok(Page {
             source,
             text,
@@ -158,7 +158,7 @@ impl<'a> Page<'a> {
         ensures { raw_told result ≡ line_at self.now.lines place }
     {
         match self.lines.get(place) {
-            Some(line) => raw_line(self.text, line),
+            Some(mark) => raw_line(self.text, &mark.line()),
             None => RawLine {
                 number: 0,
                 tab: false,
@@ -213,14 +213,14 @@ fn line_text<'a>(text: &'a [u8], line: &Line) -> &'a [u8]
 
 // Lines joined by newlines, each without its continuations.
 #[tactic(auto, using(crate::proofs::BodyLemmas::whole_body), unfolding(crate::proofs::BodyLemmas::left_of_body))]
-fn body_text(alloc: Global, text: &[u8], lines: &[Line]) -> Result<Vec<u8>, AllocError>
+fn body_text(alloc: Global, text: &[u8], lines: &[Mark]) -> Result<Vec<u8>, AllocError>
     ensures { IfOk result (λ body. body.items ≡ body_text (map (line_text text.now) lines.now)) }
 {
     let mut body = Vec::new(alloc);
     let mut separator: &[u8] = b"";
     for line in lines {
         body.extend_from_slice(separator)?;
-        body.extend_from_slice(&condensed(alloc, line_text(text, line))?)?;
+        body.extend_from_slice(&condensed(alloc, line_text(text, &line.line()))?)?;
         separator = b"\n";
     }
     Ok(body)

@@ -20,7 +20,6 @@ impl Macros {
     /// Recipes". Messages are appended in order; where memory is refused, a prefix of them.
     pub fn expand_pure<A: Automatic>(
         &self,
-        alloc: Global,
         text: &[u8],
         automatic: &A,
         place: Option<Place>,
@@ -30,6 +29,7 @@ impl Macros {
         ensures { Says (λ v. v.items) (expanded_pure self.now (A.values automatic.now) place limit text.now) result
             messages.old.items messages.new.items }
     {
+        let alloc = self.alloc;
         let before = std::mem::replace(messages, Vec::new(alloc));
         let mut files = NoFiles {
             alloc,
@@ -73,11 +73,7 @@ struct NoFiles {
 impl Files for NoFiles {
     ghost use Rattle.std.specs.Prelude.{[], Some, map, string_bytes};
 
-    ghost known = { λ _. Some [] };
-
-    ghost names = { λ s. map string_bytes s.asked.items };
-
-    ghost failed = { λ _. 0 };
+    ghost seen = { λ s. record { known = Some []; names = map string_bytes s.asked.items; failed = 0 } };
 
     fn read(&mut self, name: &str) -> Result<Option<Vec<u8>>, FileFault> {
         match self.note(name) {

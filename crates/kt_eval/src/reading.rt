@@ -1,7 +1,6 @@
 //! Makefiles read, line by line.
 ghost use Rattle.std.specs.Prelude.{◌≡◌, ◌<◌, ◌≤◌, ◌+◌, length, option_map, IfErr, IfOk, Some, false, true};
 ghost use Rattle.std.specs.List.{slice_get, slice_range};
-ghost use Rattle.kt_text.specs.Lines.{condensed_of};
 ghost use Rattle.kt_syntax.specs.Kinds.{kind_of, kind_told, line_kind};
 ghost use Rattle.kt_syntax.specs.Blocks.{tree_of};
 ghost use Rattle.kt_syntax.specs.Reading.{IsAhead, IsConditional, ReadsOn, left_at};
@@ -16,7 +15,7 @@ ghost use Rattle.kt_syntax.specs.Comments.{plain_of};
 ghost use Rattle.kt_syntax.specs.Recipes.{recipe_of};
 ghost use Rattle.kt_eval.specs.inner.Doing.{Does, reading_from};
 ghost use Rattle.kt_eval.specs.Outcome.{Fails, Gives, IfCut, Stopped, left_of};
-ghost use Rattle.kt_eval.specs.Step.{AreKnown, Blames, GoesOn, Keeps, store_of};
+ghost use Rattle.kt_eval.specs.Step.{AreKnown, Blames, GoesOn, Keeps, files_of, store_of};
 ghost use Rattle.kt_eval.specs.inner.Views.{raw_told};
 
 use crate::evaluation::Evaluation;
@@ -28,10 +27,10 @@ use crate::stop::Stop;
 use kt_list::Sequence;
 use kt_rules::FaultKind;
 use kt_syntax::{
-    Directive, Form, Missing, Operator, Step, Stray, TargetSpecific, classify, plain, recipe_text,
-    rule_parts,
+    Directive, Form, LineText, Missing, Operator, Step, Stray, TargetSpecific, classify,
+    classify_text, plain, recipe_text, rule_parts,
 };
-use kt_text::{LineFault, joined, logical_lines};
+use kt_text::{LineFault, line_marks};
 use std::alloc::{AllocError, Global};
 
 impl<'a, M: Scope, F: Files> Evaluation<'a, M, F> {
@@ -41,7 +40,7 @@ impl<'a, M: Scope, F: Files> Evaluation<'a, M, F> {
         ensures gives { Gives (λ u. u) result self.new.world (read_end source.now missing self.old.world) }
         ensures cut { IfCut result (GoesOn self.new.world (left_of (read_end source.now missing self.old.world))) }
         ensures kept { Keeps self.old self.new }
-        ensures blames { Blames result self.old.failed self.new.failed self.new.world.asked }
+        ensures blames { Blames result (files_of self.old) (files_of self.new) }
         ensures unfailed { self.new.failed ≡ self.old.failed }
     {
         match missing {
@@ -88,7 +87,7 @@ impl<'a, M: Scope, F: Files> Evaluation<'a, M, F> {
         requires { M.writable ≡ true }
         ensures { Does (λ u. u) M.writable below (λ e. read_text e source.now text.now) result self.old self.new }
     {
-        match logical_lines(self.alloc, text) {
+        match line_marks(self.alloc, text) {
             Ok(lines) => {
                 let page = Page::new(self.alloc, source, text, lines)?;
                 self.read_page(below, &page)
@@ -150,7 +149,7 @@ impl<'a, M: Scope, F: Files> Evaluation<'a, M, F> {
         ensures cut { AreKnown self.old.known → IfCut result (GoesOn self.new.world
             (left_of (reading_from M.writable self.old.known below page.now place self.old.world))) }
         ensures kept { Keeps self.old self.new }
-        ensures blames { Blames result self.old.failed self.new.failed self.new.world.asked }
+        ensures blames { Blames result (files_of self.old) (files_of self.new) }
     {
         match step {
             Step::Line => {
@@ -199,7 +198,7 @@ impl<'a, M: Scope, F: Files> Evaluation<'a, M, F> {
         ensures cut { AreKnown self.old.known → IfCut result (GoesOn self.new.world
             (left_of (reading_from M.writable self.old.known below page.now place self.old.world))) }
         ensures kept { Keeps self.old self.new }
-        ensures blames { Blames result self.old.failed self.new.failed self.new.world.asked }
+        ensures blames { Blames result (files_of self.old) (files_of self.new) }
     {
         if self.branch_holds(below, page, place, true)? {
             return Ok(page.behind(place));
@@ -228,8 +227,8 @@ impl<'a, M: Scope, F: Files> Evaluation<'a, M, F> {
             (λ e. branch_holds e page.now place condition) result self.old self.new }
     {
         let line = self.at_line(page, place)?;
-        let text = joined(self.alloc, line.text)?;
-        self.line_holds(below, condition, classify(text.as_slice(), false))
+        let line = LineText::new(self.alloc, line.text)?;
+        self.line_holds(below, condition, classify(&line, false))
     }
 
     #[cycle(evaluate)]
@@ -241,13 +240,8 @@ impl<'a, M: Scope, F: Files> Evaluation<'a, M, F> {
         if line.tab {
             return self.read_tab(below, line.text);
         }
-        let text = joined(self.alloc, line.text)?;
-        self.read_kind(
-            below,
-            line.text,
-            text.as_slice(),
-            classify(text.as_slice(), false),
-        )
+        let line = LineText::new(self.alloc, line.text)?;
+        self.read_kind(below, &line, classify(&line, false))
     }
 
     // A line that begins with a tab is one of the open rule's recipe, if there is one.
@@ -271,8 +265,8 @@ impl<'a, M: Scope, F: Files> Evaluation<'a, M, F> {
         ensures { Does (λ u. u) M.writable below
             (λ e. read_bare_tab e (line_kind line.now true)) result self.old self.new }
     {
-        let text = joined(self.alloc, line)?;
-        self.read_bare_form(below, classify(text.as_slice(), true))
+        let line = LineText::new(self.alloc, line)?;
+        self.read_bare_form(below, classify(&line, true))
     }
 
     #[cycle(evaluate)]
@@ -306,7 +300,7 @@ impl<'a, M: Scope, F: Files> Evaluation<'a, M, F> {
     {
         let name = plain(self.alloc, name)?;
         let value = plain(self.alloc, value)?;
-        self.assign_line(below, &name, operator, &value)
+        self.assign_line(below, name.as_slice(), operator, value.as_slice())
     }
 
     // A line by its kind; an assignment, an include and a rule line close the rule that is open.
@@ -315,12 +309,10 @@ impl<'a, M: Scope, F: Files> Evaluation<'a, M, F> {
     pub(crate) fn read_kind(
         &mut self,
         below: u64,
-        line: &[u8],
-        text: &[u8],
+        line: &LineText<'_>,
         form: Form<'_>,
     ) -> Result<(), Stop>
-        requires writable { M.writable ≡ true }
-        requires text { text.now ≡ condensed_of line.now }
+        requires { M.writable ≡ true }
         ensures { Does (λ u. u) M.writable below
             (λ e. read_kind e line.now (kind_told form.entry)) result self.old self.new }
     {
@@ -338,7 +330,7 @@ impl<'a, M: Scope, F: Files> Evaluation<'a, M, F> {
             Form::Refused(word) => Err(Stop::Fault(self.fault(FaultKind::RefusedForm, word)?)),
             Form::Rule => {
                 self.close_rule()?;
-                self.rule_line(below, line, text)
+                self.rule_line(below, line)
             }
         }
     }
@@ -356,7 +348,7 @@ impl<'a, M: Scope, F: Files> Evaluation<'a, M, F> {
     {
         self.close_rule()?;
         let text = plain(self.alloc, rest)?;
-        self.include_line(below, optional, &text)
+        self.include_line(below, optional, text.as_slice())
     }
 
     // The first line of a define, and its body.
@@ -367,8 +359,8 @@ impl<'a, M: Scope, F: Files> Evaluation<'a, M, F> {
         ensures { Does (λ u. u) M.writable below
             (λ e. read_define e (line_kind line.now false) body.now) result self.old self.new }
     {
-        let text = joined(self.alloc, line)?;
-        self.read_define_form(below, classify(text.as_slice(), false), body)
+        let line = LineText::new(self.alloc, line)?;
+        self.read_define_form(below, classify(&line, false), body)
     }
 
     #[cycle(evaluate)]
@@ -386,7 +378,7 @@ impl<'a, M: Scope, F: Files> Evaluation<'a, M, F> {
         match form {
             Form::Directive(Directive::Define, rest) => {
                 self.close_rule()?;
-                self.define(below, rest, classify(rest, true), body)
+                self.define(below, rest, classify_text(rest, true), body)
             }
             _ => Ok(()),
         }
@@ -394,12 +386,11 @@ impl<'a, M: Scope, F: Files> Evaluation<'a, M, F> {
 
     #[cycle(evaluate)]
     #[tactic(auto, unfolding(crate::specs::Rules::rule_line, crate::specs::Rules::rule_of_parts))]
-    pub(crate) fn rule_line(&mut self, below: u64, line: &[u8], text: &[u8]) -> Result<(), Stop>
-        requires writable { M.writable ≡ true }
-        requires text { text.now ≡ condensed_of line.now }
+    pub(crate) fn rule_line(&mut self, below: u64, line: &LineText<'_>) -> Result<(), Stop>
+        requires { M.writable ≡ true }
         ensures { Does (λ u. u) M.writable below (λ e. rule_line e line.now) result self.old self.new }
     {
-        match rule_parts(line, text) {
+        match rule_parts(line) {
             Err(TargetSpecific) => Err(Stop::Fault(self.fault(
                 FaultKind::TargetSpecificMacro,
                 b"",
@@ -426,8 +417,8 @@ impl<'a, M: Scope, F: Files> Evaluation<'a, M, F> {
     {
         let recipe = recipe_of(self.alloc, recipe)?;
         let head = plain(self.alloc, head)?;
-        let head = self.expand_here(below, &head)?;
-        self.open_rule(recipe, &head)
+        let head = self.expand_text(below, head.as_slice())?;
+        self.open_rule(recipe, head.as_slice())
     }
 }
 

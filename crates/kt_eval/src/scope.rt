@@ -14,7 +14,7 @@ use crate::macros::{Flavour, Macro, Macros};
 use crate::state::Found;
 use kt_list::Shared;
 use kt_rules::{Book, Entry, RuleFault, Warnings};
-use std::alloc::{AllocError, Global};
+use std::alloc::AllocError;
 
 /// Macros, automatic ones before them, and rules.
 pub(crate) trait Scope {
@@ -33,7 +33,7 @@ pub(crate) trait Scope {
     fn is_writable(&self) -> bool
         ensures { result ≡ writable };
 
-    fn find(&self, alloc: Global, name: &[u8]) -> Result<Option<Found>, AllocError>
+    fn find(&self, name: &[u8]) -> Result<Option<Found>, AllocError>
         ensures { IfOk result (λ found. found ≡ unbound name.now (automatic self.now) (table self.now)) };
 
     fn get(&self, name: &[u8]) -> Option<&Macro>
@@ -91,7 +91,7 @@ impl Scope for Makefile {
         true
     }
 
-    fn find(&self, _alloc: Global, name: &[u8]) -> Result<Option<Found>, AllocError> {
+    fn find(&self, name: &[u8]) -> Result<Option<Found>, AllocError> {
         self.macros.found(name)
     }
 
@@ -140,8 +140,8 @@ impl<'a, A: Automatic> Scope for Frozen<'a, A> {
         false
     }
 
-    fn find(&self, alloc: Global, name: &[u8]) -> Result<Option<Found>, AllocError> {
-        match self.automatic.value(alloc, name)? {
+    fn find(&self, name: &[u8]) -> Result<Option<Found>, AllocError> {
+        match self.automatic.value(name)? {
             Some(value) => Ok(Some(Found {
                 flavour: Flavour::Immediate,
                 value: Shared::from_vec(value)?,

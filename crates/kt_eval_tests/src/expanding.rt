@@ -1,7 +1,8 @@
 //! What texts are expanded to.
-use crate::texts::{put, put_messages};
+use kati_doubles::{put_messages, put_stop};
 use kt_eval::{Flavour, Macro, Macros, NoAutomatic, Origin, Stop};
 use kt_list::{Sequence, Shared};
+use kt_testing::{Random, put};
 use std::alloc::{AllocError, Global};
 use std::test::Fail;
 
@@ -22,33 +23,29 @@ fn table(alloc: Global, rows: &[(&str, Flavour, &str)]) -> Result<Macros, AllocE
     Ok(macros)
 }
 
-/// A text, or the line of the fault.
+/// A text, or what stopped its expansion.
 fn put_end(out: &mut Vec<u8>, outcome: &Result<Vec<u8>, Stop>) {
     match outcome {
         Ok(text) => put(out, text.as_slice()),
-        Err(Stop::Fault(fault)) => {
-            let _refused = fault.append_to(out);
-        }
-        Err(Stop::Device(_) | Stop::Memory) => put(out, b"no answer"),
+        Err(stop) => put_stop(out, stop),
     }
 }
 
 /// Expands. It stands apart so that what the contract says of it burdens no other proof.
 fn expanded(
-    alloc: Global,
     macros: &Macros,
-    text: &str,
+    text: &[u8],
     messages: &mut Vec<Sequence<u8>>,
     limit: u64,
 ) -> Result<Vec<u8>, Stop> {
-    macros.expand_pure(alloc, text.as_bytes(), &NoAutomatic, None, messages, limit)
+    macros.expand_pure(text, &NoAutomatic, None, messages, limit)
 }
 
 /// The messages of expanding a text, and then the expanded text or the fault.
-fn told(alloc: Global, macros: &Macros, text: &str, limit: u64) -> Vec<u8> {
+fn told(alloc: Global, macros: &Macros, text: &[u8], limit: u64) -> Vec<u8> {
     let mut messages = Vec::new(alloc);
     let mut out = Vec::new(alloc);
-    let outcome = expanded(alloc, macros, text, &mut messages, limit);
+    let outcome = expanded(macros, text, &mut messages, limit);
     put_messages(&mut out, messages.as_slice());
     put_end(&mut out, &outcome);
     out
@@ -101,8 +98,56 @@ fn expands(rt: HostRuntime) -> Result<(), Fail> {
         ("a$\\\nb", "a\\\nb"),
         ("[$ \\\nb]", "[\\\nb]"),
     ] {
-        let found = told(alloc, &macros, text, 100);
-        assert_eq!(rt; found.as_slice(), expected.as_bytes());
+        let found = told(alloc, &macros, text.as_bytes(), 100);
+        assert_eq!(rt; found.as_slice(), expected.as_bytes(), "of {text}");
+    }
+    Ok(())
+}
+
+/// A piece of a text, and what it is expanded to.
+const PIECES: [(&[u8], &[u8]); 16] = [
+    (b"a", b"a"),
+    (b" long text without a mark ", b" long text without a mark "),
+    (b"$$", b"$"),
+    (b"$$$$", b"$$"),
+    (b"$(x)", b"1  2"),
+    (b"${x}", b"1  2"),
+    (b"$x", b"1  2"),
+    (b"$i", b"$(x)"),
+    (b"$d", b"1  2"),
+    (b"$(none)", b""),
+    (b"$(x:2=3)", b"1 3"),
+    (b"$(subst 1,$i,$x)", b"$(x)  2"),
+    (b"$(words $(x) $d)", b"4"),
+    (b"$(if $(none),$(error no),)", b""),
+    (b")", b")"),
+    (b"\\\n", b"\\\n"),
+];
+
+/// Texts of pieces that look random are expanded to what their pieces are, one after the other.
+#[test]
+fn expands_piece_by_piece(rt: HostRuntime) -> Result<(), Fail> {
+    let alloc = rt.alloc();
+    let mut random = Random::new(1);
+    let macros = table(
+        alloc,
+        &[
+            ("x", Flavour::Deferred, "1  2"),
+            ("i", Flavour::Immediate, "$(x)"),
+            ("d", Flavour::Deferred, "$x"),
+        ],
+    )?;
+    for _ in 0..4000 {
+        let mut text = Vec::new(alloc);
+        let mut wanted = Vec::new(alloc);
+        for _ in 0..random.below(10) {
+            if let Some((piece, value)) = PIECES.get(random.below(PIECES.len())) {
+                put(&mut text, piece);
+                put(&mut wanted, value);
+            }
+        }
+        let found = told(alloc, &macros, text.as_slice(), 100);
+        assert_eq!(rt; found.as_slice(), wanted.as_slice(), "of {text:?}");
     }
     Ok(())
 }

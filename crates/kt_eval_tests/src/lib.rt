@@ -5,8 +5,8 @@
 #[cfg(test)]
 mod expanding;
 #[cfg(test)]
+mod faults;
+#[cfg(test)]
 mod files;
 #[cfg(test)]
 mod reading;
-#[cfg(test)]
-mod texts;

@@ -1,8 +1,9 @@
 //! What makefiles say when they are read, by the rows that kati is to read.
-use crate::texts::{put, put_messages};
+use kati_doubles::{files_of, put_messages, put_stop};
 use kt_eval::{Files, Flavour, Machine, Macro, Macros, MemFiles, Origin, Reading, Stop};
 use kt_list::Shared;
 use kt_rules::{Book, Name, RecipeLine};
+use kt_testing::put;
 use std::alloc::{AllocError, Global};
 use std::process::Abort;
 use std::test::Fail;
@@ -19,7 +20,7 @@ mod refusals;
 struct Start<'a> {
     /// Macros of the command line.
     arguments: &'a [(&'a str, &'a str)],
-    files: &'a [(&'a str, &'a str)],
+    files: &'a [(&'a str, &'a [u8])],
     limit: u64,
 }
 
@@ -28,17 +29,6 @@ const ALONE: Start<'static> = Start {
     files: &[],
     limit: 100,
 };
-
-fn files_of(alloc: Global, named: &[(&str, &str)]) -> Result<Vec<(String, Vec<u8>)>, AllocError> {
-    let mut pairs = Vec::new(alloc);
-    for (name, text) in named {
-        pairs.push((
-            name.to_string(alloc)?,
-            Vec::from_slice(alloc, text.as_bytes())?,
-        ))?;
-    }
-    Ok(pairs)
-}
 
 fn arguments_of(alloc: Global, named: &[(&str, &str)]) -> Result<Macros, AllocError> {
     let mut macros = Macros::new(alloc);
@@ -93,19 +83,6 @@ fn put_rules(out: &mut Vec<u8>, book: &Book, goal: &[u8]) {
     }
 }
 
-fn put_stop(out: &mut Vec<u8>, stop: &Stop) {
-    match stop {
-        Stop::Fault(fault) => {
-            let _refused = fault.append_to(out);
-        }
-        Stop::Device(name) => {
-            put(out, b"cannot read ");
-            put(out, name.as_bytes());
-        }
-        Stop::Memory => put(out, b"no memory"),
-    }
-}
-
 /// The rules of the first goal, or what stopped the reading.
 fn put_end(out: &mut Vec<u8>, book: &Book, outcome: &Result<(), Stop>) {
     match outcome {
@@ -120,10 +97,9 @@ fn read(machine: &mut Machine, files: &mut MemFiles, names: &[&str]) -> Result<(
 }
 
 fn files_with(alloc: Global, start: Start<'_>, makefile: &[u8]) -> Result<MemFiles, AllocError> {
-    let mut pairs = files_of(alloc, start.files)?;
-    let makefile = Vec::from_slice(alloc, makefile)?;
-    pairs.push(("Makefile".to_string(alloc)?, makefile))?;
-    Ok(MemFiles::new(alloc, pairs, 0))
+    let mut named = Vec::from_slice(alloc, start.files)?;
+    named.push(("Makefile", makefile))?;
+    files_of(alloc, named.as_slice(), 0)
 }
 
 fn machine_of(alloc: Global, start: Start<'_>) -> Result<Machine, AllocError> {
@@ -423,9 +399,9 @@ fn includes(rt: HostRuntime) -> Result<(), Fail> {
     let start = Start {
         arguments: &[],
         files: &[
-            ("i", "$(warning in)\nA = 1\n"),
-            ("b.mk", "$(info b)"),
-            ("e.mk", ""),
+            ("i", b"$(warning in)\nA = 1\n"),
+            ("b.mk", b"$(info b)"),
+            ("e.mk", b""),
         ],
         limit: 100,
     };

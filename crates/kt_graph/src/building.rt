@@ -1,12 +1,13 @@
 //! The nodes of names by their explicit rules.
-ghost use Rattle.std.specs.Prelude.{◌≡◌, ◌++◌, ◌∷◌, None, Some, List, MatchOption, find, map, nat_eq, option_map, IfOk};
+ghost use Rattle.std.specs.Prelude.{◌≡◌, ◌++◌, ◌∷◌, None, Some, List, MatchOption, map, option_map, IfOk};
 ghost use Rattle.std.specs.Prelude.{OnOk};
-ghost use Rattle.std.specs.List.{ends_with, list_any};
+ghost use Rattle.std.specs.List.{list_any};
 ghost use Rattle.kt_text.specs.Words.{Text};
 ghost use Rattle.kt_rules.specs.Book.{is_double};
 ghost use Rattle.kt_rules.specs.Entry.{Rule};
 ghost use Rattle.kt_rules.specs.declared.entry.Target.{Target as HeldTarget};
 ghost use Rattle.kt_rules.specs.Slots.{rule_told};
+ghost use Rattle.kt_rules.specs.Suffixes.{suffixes_of};
 ghost use Rattle.kt_graph.specs.inner.Building.{IsCut};
 ghost use Rattle.kt_graph.specs.Node.{double_node, explicit_node, first_name, group_of, kind_without, part_of};
 ghost use Rattle.kt_graph.specs.Node.{plain_node, stem_for, suffix_stem, used_rule};
@@ -15,7 +16,7 @@ ghost use Rattle.kt_graph.specs.Views.{instance_told};
 
 use crate::named::{Named, NamedPart};
 use crate::node::{Instance, NodeKind};
-use kt_rules::{Entry, Kind, Name, Needs, Target, TargetRule};
+use kt_rules::{Book, Entry, Kind, Needs, Target, TargetRule};
 use std::alloc::{AllocError, Global};
 
 /// The rule whose recipe is used, and the rules before it and after it.
@@ -49,16 +50,16 @@ pub(crate) fn used_rule<'a, 'r>(rules: &'r [TargetRule<'a>]) -> Option<Used<'a, 
 /// Each rule is a part.
 pub(crate) fn double_node<'a>(
     alloc: Global,
-    suffixes: &[Name],
+    book: &Book,
     rules: &[TargetRule<'a>],
 ) -> Result<Named<'a, 'a>, AllocError>
     ensures { IfOk result (λ named. (name : Text)
-        → named_told name named ≡ double_node suffixes.now name (map rule_told rules.now)) }
+        → named_told name named ≡ double_node (suffixes_of book.now) name (map rule_told rules.now)) }
 {
     let mut parts = Vec::with_capacity(alloc, rules.len())?;
     for rule in rules {
         let needs = Vec::from_array(alloc, [rule.entry.needs(rule.target)])?;
-        parts.push(rule_part(alloc, suffixes, *rule, needs)?)?;
+        parts.push(rule_part(alloc, book, *rule, needs)?)?;
     }
     Ok(Named {
         kind: NodeKind::DoubleColon,
@@ -70,17 +71,17 @@ pub(crate) fn double_node<'a>(
 /// The rule whose recipe is used comes first with what it needs.
 pub(crate) fn explicit_node<'a>(
     alloc: Global,
-    suffixes: &[Name],
+    book: &Book,
     used: Used<'a, '_>,
 ) -> Result<Named<'a, 'a>, AllocError>
     ensures { IfOk result (λ named. (name : Text) (rules : List (Rule × HeldTarget)) → IsCut rules used.entry
-        → named_told name named ≡ explicit_node suffixes.now name rules (rule_told used.entry.rule)) }
+        → named_told name named ≡ explicit_node (suffixes_of book.now) name rules (rule_told used.entry.rule)) }
 {
     let rule = used.rule;
     let mut needs = Vec::from_array(alloc, [rule.entry.needs(rule.target)])?;
     add_needs(&mut needs, used.earlier)?;
     add_needs(&mut needs, used.later)?;
-    let part = rule_part(alloc, suffixes, rule, needs)?;
+    let part = rule_part(alloc, book, rule, needs)?;
     let parts = Vec::from_array(alloc, [part])?;
     Ok(Named {
         kind: NodeKind::Explicit,
@@ -92,19 +93,19 @@ pub(crate) fn explicit_node<'a>(
 /// Where no recipe makes the name.
 pub(crate) fn plain_node<'a>(
     alloc: Global,
-    suffixes: &[Name],
+    book: &Book,
     name: &[u8],
     rules: &[TargetRule<'a>],
     is_phony: bool,
 ) -> Result<Named<'a, 'a>, AllocError>
     ensures { IfOk result (λ named. named_told name.now named
-        ≡ plain_node suffixes.now name.now (map rule_told rules.now) is_phony) }
+        ≡ plain_node (suffixes_of book.now) name.now (map rule_told rules.now) is_phony) }
 {
     let mut needs = Vec::new(alloc);
     add_needs(&mut needs, rules)?;
     let part = NamedPart {
         recipe: None,
-        stem: Vec::from_slice(alloc, suffix_stem(suffixes, name))?,
+        stem: Vec::from_slice(alloc, suffix_stem(book, name))?,
         needs,
     };
     Ok(Named {
@@ -137,6 +138,7 @@ fn add_needs<'a: 'n, 'n>(
     ensures { OnOk result (map (λ some. some.now) needs.new.items ≡ map (λ some. some.now) needs.old.items
         ++ needs_of_each (map rule_told rules.now)) }
 {
+    needs.reserve_exact(rules.len())?;
     for rule in rules {
         needs.push(rule.entry.needs(rule.target))?;
     }
@@ -164,17 +166,17 @@ fn is_double(rule: TargetRule) -> bool
 // A rule of its target with what it needs.
 fn rule_part<'a>(
     alloc: Global,
-    suffixes: &[Name],
+    book: &Book,
     rule: TargetRule<'a>,
     needs: Vec<&'a Needs>,
 ) -> Result<NamedPart<'a, 'a>, AllocError>
     ensures { IfOk result (λ part. part_named part
-        ≡ part_of suffixes.now (rule_told rule.entry) (put_together (map
+        ≡ part_of (suffixes_of book.now) (rule_told rule.entry) (put_together (map
         (λ some. some.now) needs.entry.items))) }
 {
     Ok(NamedPart {
         recipe: rule.entry.recipe(),
-        stem: Vec::from_slice(alloc, stem_for(suffixes, rule))?,
+        stem: Vec::from_slice(alloc, stem_for(book, rule))?,
         needs,
     })
 }
@@ -213,35 +215,22 @@ fn kind_without(rules: &[TargetRule], is_phony: bool) -> NodeKind
 }
 
 // The stem in an explicit rule: that of its static pattern, if it has one.
-fn stem_for<'r>(suffixes: &[Name], rule: TargetRule<'r>) -> &'r [u8]
-    ensures { result.now ≡ stem_for suffixes.now (rule_told rule.entry) }
+fn stem_for<'r>(book: &Book, rule: TargetRule<'r>) -> &'r [u8]
+    ensures { result.now ≡ stem_for (suffixes_of book.now) (rule_told rule.entry) }
 {
     match &rule.target.stemmed {
         Some(stemmed) => stemmed.stem.as_slice(),
-        None => suffix_stem(suffixes, rule.target.name.as_slice()),
+        None => suffix_stem(book, rule.target.name.as_slice()),
     }
 }
 
 // The name without the first of the suffixes that it ends with; without one there is no stem.
 #[tactic(auto, unfolding(crate::specs::Node::suffix_stem))]
-fn suffix_stem<'n>(suffixes: &[Name], name: &'n [u8]) -> &'n [u8]
-    ensures { result.now ≡ suffix_stem suffixes.now name.now }
+fn suffix_stem<'n>(book: &Book, name: &'n [u8]) -> &'n [u8]
+    ensures { result.now ≡ suffix_stem (suffixes_of book.now) name.now }
 {
-    match suffix_of(suffixes, name) {
+    match book.suffix_of(name) {
         Some(suffix) => &name[..name.len().saturating_sub(suffix.len())],
         None => b"",
     }
-}
-
-// The first of the suffixes that the name ends with.
-fn suffix_of<'s>(suffixes: &'s [Name], name: &[u8]) -> Option<&'s [u8]>
-    ensures { option_map (λ suffix. suffix.now) result ≡ find
-        (λ suffix. ends_with nat_eq name.now suffix) suffixes.now }
-{
-    for suffix in suffixes {
-        if name.ends_with(suffix.as_slice()) {
-            return Some(suffix.as_slice());
-        }
-    }
-    None
 }

@@ -39,6 +39,7 @@ pub use goals::{default_goal, named_goals};
 pub use known::Known;
 pub use node::{Inputs, Instance, Node, NodeKind};
 pub use nodes::{Graph, Nodes};
+pub use paths::ALWAYS_BUILD;
 pub use question::{Question, Used};
 pub use reaching::graph;
 pub use search::Search;

@@ -161,6 +161,7 @@ impl Numbers {
             → StandFor self.new (earlier ++ names.now) numbers.new.items) }
         ensures reached { OnOk result (self.new ≡ fold with_name self.old names.now) }
     {
+        numbers.reserve(names.len())?;
         for name in names {
             numbers.push(self.number(name.as_slice())?)?;
         }

@@ -7,8 +7,8 @@ ghost use Rattle.kt_graph.specs.Paths.{above_name, always_name, canon_of, ends_i
 use crate::spelling::is_canonical;
 use std::alloc::{AllocError, Global};
 
-/// The name that phony statements with a command need.
-const ALWAYS: &[u8] = b"_kati_always_build_";
+/// The name that phony statements with a command need: kati's own, and never there, so that they are always made.
+pub const ALWAYS_BUILD: &[u8] = b"_kati_always_build_";
 
 /// The one spelling of a name's file: without empty components and `.`, each `..` with the component
 /// before it taken away. No file is looked at.
@@ -47,7 +47,7 @@ fn pieces(alloc: Global, name: &[u8]) -> Result<Vec<&[u8]>, AllocError>
 pub(crate) fn is_always(canon: &[u8]) -> bool
     ensures { result ≡ bytes_eq canon.now always_name }
 {
-    canon == ALWAYS
+    canon == ALWAYS_BUILD
 }
 
 pub(crate) fn is_rooted(name: &[u8]) -> bool

@@ -138,7 +138,7 @@ impl<'a> Settling<'a> {
             → Grows self.old (needed_by (double_node (suffixes_of self.old.book.now) name (map rule_told rules.now)))
             self.new) }
     {
-        let named = double_node(self.alloc, self.book.suffixes(), rules)?;
+        let named = double_node(self.alloc, self.book, rules)?;
         self.hold(named)
     }
 
@@ -150,7 +150,7 @@ impl<'a> Settling<'a> {
             → Grows self.old (needed_by (explicit_node (suffixes_of self.old.book.now) name rules
             (rule_told used.entry.rule))) self.new) }
     {
-        let named = explicit_node(self.alloc, self.book.suffixes(), used)?;
+        let named = explicit_node(self.alloc, self.book, used)?;
         self.hold(named)
     }
 
@@ -198,7 +198,7 @@ impl<'a> Settling<'a> {
             (is_phony self.old.book.now name.now))) self.new) }
     {
         let is_phony = self.book.is_phony(name);
-        let named = plain_node(self.alloc, self.book.suffixes(), name, rules, is_phony)?;
+        let named = plain_node(self.alloc, self.book, name, rules, is_phony)?;
         self.hold(named)
     }
 

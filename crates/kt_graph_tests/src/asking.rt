@@ -1,8 +1,9 @@
 //! Graphs of rules, a line each with a recipe after the first `;`, and what is told of them.
 use crate::reading::{names, takes_all};
-use crate::telling::{put, put_fault, put_graph, put_inputs, put_kind, put_number};
+use crate::telling::{put_fault, put_graph, put_inputs, put_kind, put_number};
 use kt_graph::{Graph, GraphFault, Instance, Known, Node, graph};
 use kt_rules::{Book, Name};
+use kt_testing::put;
 use std::alloc::{AllocError, Global};
 
 /// What is asked of a graph.

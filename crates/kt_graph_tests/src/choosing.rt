@@ -1,8 +1,9 @@
 //! The search by itself.
 use crate::reading::takes_all;
-use crate::telling::{put, put_digit};
+use crate::telling::put_digit;
 use kt_graph::{Choice, Known, Search};
 use kt_rules::Book;
+use kt_testing::put;
 use std::alloc::{AllocError, Global};
 use std::process::Abort;
 use std::test::Fail;
@@ -101,7 +102,7 @@ fn tells(
     for row in rows {
         told.clear();
         put_told(&mut told, alloc, *row, tells_tried)?;
-        assert_eq!(rt; told.as_slice(), row.3);
+        assert_eq!(rt; told.as_slice(), row.3, "of {:?}", row.0);
     }
     Ok(())
 }
@@ -210,7 +211,7 @@ fn long_names(rt: HostRuntime) -> Result<(), Fail> {
     for row in ROWS {
         told.clear();
         put_with(&mut told, rt.alloc(), row.0, row.1)?;
-        assert_eq!(rt; told.as_slice(), row.2);
+        assert_eq!(rt; told.as_slice(), row.2, "of {} bytes", row.1);
     }
     Ok(())
 }

@@ -1,9 +1,9 @@
 //! What is to be made.
 use crate::asking::{Asked, Question, put_told};
 use crate::reading::{names, takes_all};
-use crate::telling::put;
 use kt_graph::{default_goal, named_goals};
 use kt_rules::{Book, Name};
+use kt_testing::put;
 use std::alloc::{AllocError, Global};
 use std::process::Abort;
 use std::test::Fail;

@@ -16,7 +16,7 @@ pub(crate) fn tells(rt: &impl Abort, alloc: Global, rows: &[Row]) -> Result<(), 
             question: Question::Statements,
         };
         let told = told(alloc, asked, row.2)?;
-        assert_eq!(rt; told.as_slice(), row.3);
+        assert_eq!(rt; told.as_slice(), row.3, "of {:?}", row.0);
     }
     Ok(())
 }

@@ -15,6 +15,8 @@ mod graphs;
 #[cfg(test)]
 mod nodes;
 #[cfg(test)]
+mod numbering;
+#[cfg(test)]
 mod reading;
 #[cfg(test)]
 mod sizes;

@@ -15,7 +15,7 @@ fn tells(rt: &impl Abort, alloc: Global, rows: &[Row]) -> Result<(), AllocError>
             question: Question::Node(row.3),
         };
         let told = told(alloc, asked, row.2)?;
-        assert_eq!(rt; told.as_slice(), row.4);
+        assert_eq!(rt; told.as_slice(), row.4, "of {:?}", row.0);
     }
     Ok(())
 }

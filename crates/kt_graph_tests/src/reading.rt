@@ -1,33 +1,10 @@
 //! Books from lines of text.
-use kt_list::{Sequence, Shared};
-use kt_rules::{Book, Entry, Name, Place, RuleFault, Warnings, read_rule};
-use memchr::memchr;
+use kt_rules::{Book, Name, RuleFault, Warnings};
+use kt_rules_doubles::entry_of;
 use std::alloc::{AllocError, Global};
 
-/// A line of the makefile `m`.
-fn place(alloc: Global, line: u64) -> Result<Place, AllocError> {
-    let file = Shared::from_vec(Vec::from_slice(alloc, b"m")?)?;
-    Ok(Place { file, line })
-}
-
-pub(crate) fn text(alloc: Global, bytes: &[u8]) -> Result<Sequence<u8>, AllocError> {
-    Ok(Sequence::from(Vec::from_slice(alloc, bytes)?))
-}
-
-/// The entry of a line: the head, and a recipe after the first `;`.
-fn entry(alloc: Global, line: &[u8], number: u64) -> Result<Entry, RuleFault> {
-    let place = place(alloc, number)?;
-    match memchr(b';', line) {
-        Some(end) => {
-            let recipe = text(alloc, &line[end + 1..])?;
-            read_rule(alloc, &line[..end], Some(recipe), place)
-        }
-        None => read_rule(alloc, line, None, place),
-    }
-}
-
 fn add(alloc: Global, book: &mut Book, line: &[u8], number: u64) -> Result<Warnings, RuleFault> {
-    let entry = entry(alloc, line, number)?;
+    let entry = entry_of(alloc, line, number)?;
     book.add(entry)
 }
 

@@ -1,6 +1,7 @@
 //! Large graphs, in little stack and in time that grows with their size.
 use crate::asking::{Asked, Question, told};
-use crate::telling::{put, put_number};
+use crate::telling::put_number;
+use kt_testing::put;
 use std::alloc::{AllocError, Global};
 use std::process::Abort;
 use std::test::Fail;

@@ -1,10 +1,6 @@
 //! What the tests compare: answers as texts.
 use kt_graph::{Graph, GraphFault, Inputs, Node, NodeKind};
-
-/// Appends to what a test compares. Where memory is refused the text comes out short, and the test fails.
-pub(crate) fn put(told: &mut Vec<u8>, text: &[u8]) {
-    let _refused = told.extend_from_slice(text);
-}
+use kt_testing::put;
 
 /// A number of one digit, the last.
 pub(crate) fn put_digit(told: &mut Vec<u8>, number: usize) {

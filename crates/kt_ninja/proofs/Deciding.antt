@@ -13,7 +13,8 @@ use Rattle.kt_ninja.specs.declared.plan.Plan.{Plan}
 use Rattle.kt_ninja.specs.declared.plan.Statement.{Statement}
 use Rattle.kt_ninja.specs.declared.checking.Unwritable.{Unwritable}
 use Rattle.kt_ninja.specs.Plan.{names_of, outputs}
-use Rattle.kt_ninja.specs.Writable.{HasWritableTexts, IsWritable, Trouble, no_output, bad_name, bad_command, repeated, not_an_output, first_trouble, is_among, is_empty, is_made, is_name, not_made, repeated_after, trouble_in, trouble_of_statement, trouble_of_statements}
+use Rattle.kt_list.specs.Names.{is_among}
+use Rattle.kt_ninja.specs.Writable.{HasWritableTexts, IsWritable, Trouble, no_output, bad_name, bad_command, repeated, not_an_output, first_trouble, is_empty, is_made, is_name, not_made, repeated_after, trouble_in, trouble_of_statement, trouble_of_statements}
 
 -- ---- a list all of whose elements pass has no first that fails
 

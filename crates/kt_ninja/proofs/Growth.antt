@@ -3,7 +3,7 @@ use Rattle.std.proofs.Common.{◌≡◌, ℕ, ◌+◌, List, [], ◌++◌, take,
 use Rattle.std.specs.Prelude.{Option, Some, None}
 use Rattle.std.proofs.lemmas.List.{take-append-drop}
 use Rattle.std.proofs.Math.Seq.{take-add}
-use Rattle.kt_ninja.specs.Written.{appended, GrowsByFront}
+use Rattle.kt_ninja.specs.Written.{GrowsByFront, SinkSeen, Takes, appended}
 
 pub appended-append : (taken : Option (List ℕ)) (a b : List ℕ) → appended (appended taken a) b ≡ appended taken (a ++ b)
 appended-append None a b = refl
@@ -14,22 +14,21 @@ appended-nil None = refl
 appended-nil (Some bytes) = ap Some (append-nil bytes)
 
 -- two texts taken one after the other
-pub appended_twice : (first second third : Option (List ℕ)) (a b : List ℕ)
-    → second ≡ appended first a → third ≡ appended second b → third ≡ appended first (a ++ b)
-appended_twice first second third a b one two = two ∙ ap (λ t. appended t b) one ∙ appended-append first a b
+pub takes_twice : (first second third : SinkSeen) (a b : List ℕ) → Takes first second a → Takes second third b → Takes first third (a ++ b)
+takes_twice first second third a b one two = two ∙ ap (λ t. appended t b) one ∙ appended-append first.written a b
 
 -- after a text that was taken, the next one is cut
-pub front_after : (first second third : Option (List ℕ)) (a b : List ℕ)
-    → second ≡ appended first a → GrowsByFront second third b → GrowsByFront first third (a ++ b)
+pub front_after : (first second third : SinkSeen) (a b : List ℕ)
+    → Takes first second a → GrowsByFront second third b → GrowsByFront first third (a ++ b)
 front_after first second third a b one grows = record {
   front = a ++ grows.front;
   rest = grows.rest;
   cut = ap (λ t. a ++ t) grows.cut ∙ sym (append_assoc a grows.front grows.rest);
-  taken = appended_twice first second third a grows.front one grows.taken;
+  taken = takes_twice first second third a grows.front one grows.taken;
 }
 
 -- a text that is cut is a longer text that is cut
-pub front_of_more : (old new : Option (List ℕ)) (a b : List ℕ) → GrowsByFront old new a → GrowsByFront old new (a ++ b)
+pub front_of_more : (old new : SinkSeen) (a b : List ℕ) → GrowsByFront old new a → GrowsByFront old new (a ++ b)
 front_of_more old new a b grows = record {
   front = grows.front;
   rest = grows.rest ++ b;
@@ -38,21 +37,20 @@ front_of_more old new a b grows = record {
 }
 
 -- what is taken of a piece in two calls
-pub taken_twice : (first second third : Option (List ℕ)) (n k : ℕ) (piece : List ℕ)
-    → second ≡ appended first (take n piece) → third ≡ appended second (take k (drop n piece))
-    → third ≡ appended first (take (n + k) piece)
+pub taken_twice : (first second third : SinkSeen) (n k : ℕ) (piece : List ℕ)
+    → Takes first second (take n piece) → Takes second third (take k (drop n piece)) → Takes first third (take (n + k) piece)
 taken_twice first second third n k piece one two =
-    appended_twice first second third (take n piece) (take k (drop n piece)) one two ∙ ap (λ t. appended first t) (sym (take-add n k piece))
+    takes_twice first second third (take n piece) (take k (drop n piece)) one two ∙ ap (λ t. appended first.written t) (sym (take-add n k piece))
 
 -- a prefix of what is left of a piece makes a prefix of the piece
-pub front_of_rest : (first second third : Option (List ℕ)) (n : ℕ) (piece : List ℕ)
-    → second ≡ appended first (take n piece) → GrowsByFront second third (drop n piece) → GrowsByFront first third piece
+pub front_of_rest : (first second third : SinkSeen) (n : ℕ) (piece : List ℕ)
+    → Takes first second (take n piece) → GrowsByFront second third (drop n piece) → GrowsByFront first third piece
 front_of_rest first second third n piece one grows =
     let P : List ℕ → Type 0 = λ t. GrowsByFront first third t in
     subst P (take-append-drop n piece) (front_after first second third (take n piece) (drop n piece) one grows)
 
 -- the first n bytes of a piece are a prefix of it
-pub front_taken : (old new : Option (List ℕ)) (n : ℕ) (piece : List ℕ) → new ≡ appended old (take n piece) → GrowsByFront old new piece
+pub front_taken : (old new : SinkSeen) (n : ℕ) (piece : List ℕ) → Takes old new (take n piece) → GrowsByFront old new piece
 front_taken old new n piece taken = record {
   front = take n piece;
   rest = drop n piece;

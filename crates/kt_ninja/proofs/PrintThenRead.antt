@@ -17,7 +17,8 @@ use Rattle.kt_ninja.specs.Scopes.{Table, command_value, find_in, put_in}
 use Rattle.kt_ninja.specs.NinjaRead.{Making, Part, Stated, all_parts, and_then_parts, are_new, block_from, by_nothing, by_rule, cut_lines, cut_with, made_of, making_of, nothing_read, ninja_read, outs_of, plan_in, plan_of, read_part, read_parts, statement_of}
 use Rattle.kt_ninja.specs.Plan.{names_of, outputs}
 use Rattle.kt_ninja.specs.Text.{defaults_text, number_text, plan_text, rule_count, rule_name_text, statements_text}
-use Rattle.kt_ninja.specs.Writable.{IsWritable, is_among, is_empty, is_made, is_name, repeated_after}
+use Rattle.kt_list.specs.Names.{is_among}
+use Rattle.kt_ninja.specs.Writable.{IsWritable, is_empty, is_made, is_name, repeated_after}
 use Rattle.kt_ninja.proofs.PrintedPieces.{all_both, all_implies, either_case}
 use Rattle.kt_ninja.proofs.PrintedNames.{command_expanded, command_pieces, number_once}
 use Rattle.kt_ninja.proofs.PrintedLines.{Named, build_line, default_parts, from_parts, line_behind, lines_at, named_from, part, plan_cut, plan_parts, statement_parts}

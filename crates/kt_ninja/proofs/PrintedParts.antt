@@ -14,7 +14,8 @@ use Rattle.kt_ninja.specs.Forms.{Binding, Build, Form, Pieces, binding_of, build
 use Rattle.kt_ninja.specs.Scopes.{Table, find_in, put_in, value_in, value_within}
 use Rattle.kt_ninja.specs.NinjaRead.{Making, State, Stated, add_defaults, add_statement, are_new, block_from, block_of, block_scope, is_file_byte, is_sound, making_of, outs_of, paths_in, read_build, read_default, read_form, read_head, read_part, read_rule, rule_command, stated_with}
 use Rattle.kt_ninja.specs.Text.{is_special_in_name, rule_name_text}
-use Rattle.kt_ninja.specs.Writable.{is_among, is_command, is_command_byte, is_empty, is_name}
+use Rattle.kt_list.specs.Names.{is_among}
+use Rattle.kt_ninja.specs.Writable.{is_command, is_command_byte, is_empty, is_name}
 use Rattle.kt_ninja.proofs.PrintedPieces.{all_implies, command_bytes, expanded_by, is_printed, neither, pieces_from_written, written}
 use Rattle.kt_ninja.proofs.PrintedNames.{command_alone, command_pieces, is_word, name_bytes_plain, name_pieces, names_are_words, plain_pieces, rule_name_bytes}
 use Rattle.kt_ninja.proofs.PrintedForms.{behind_build, behind_colon, binding_printed, build_printed, built, defaults_printed, inputs_are, rule_printed, spaced}

@@ -3,11 +3,11 @@ use Rattle.std.proofs.Common.{◌≡◌, ℕ, ◌+◌, List, [], ◌++◌, refl,
 use Rattle.std.proofs.lemmas.List.{length-append}
 use Rattle.kt_list.specs.Counters.{Rises}
 use Rattle.std.proofs.Math.Seq.{drop-cons}
-use Rattle.std.specs.Prelude.{Option, Bool, true, false}
+use Rattle.std.specs.Prelude.{Bool, true, false}
 use Rattle.kt_ninja.specs.declared.block.Block.{Block}
-use Rattle.kt_ninja.specs.Written.{appended, GrowsByFront}
+use Rattle.kt_ninja.specs.Written.{GrowsByFront, SinkSeen, appended}
 use Rattle.kt_ninja.specs.Blocks.{Moves, PutsBy, Counts, Passes, HandsOver, Puts, PrintsBy, Prints}
-use Rattle.kt_ninja.proofs.Growth.{appended-nil, appended_twice, front_after, front_of_more}
+use Rattle.kt_ninja.proofs.Growth.{appended-nil, front_after, front_of_more, takes_twice}
 
 -- what waited and the first text, cut where the block stood in between, goes on with the second text
 moved_on : (waiting first second front middle : List ℕ) → waiting ++ first ≡ front ++ middle
@@ -15,28 +15,27 @@ moved_on : (waiting first second front middle : List ℕ) → waiting ++ first �
 moved_on waiting first second front middle cut =
     sym (append_assoc waiting first second) ∙ ap (λ t. t ++ second) cut ∙ append_assoc front middle second
 
-moves_then : (a b c : Option (List ℕ)) (v w x : List ℕ) (first second : List ℕ)
+moves_then : (a b c : SinkSeen) (v w x : List ℕ) (first second : List ℕ)
     → Moves a v b w first → Moves b w c x second → Moves a v c x (first ++ second)
 moves_then a b c v w x first second one two = record {
   front = one.front ++ two.front;
   cut = moved_on v first second one.front w one.cut ∙ ap (λ t. one.front ++ t) two.cut ∙ sym (append_assoc one.front two.front x);
-  grown = appended_twice a b c one.front two.front one.grown two.grown;
+  grown = takes_twice a b c one.front two.front one.grown two.grown;
 }
 
-cut_then : (a b c : Option (List ℕ)) (v w : List ℕ) (first second : List ℕ)
+cut_then : (a b c : SinkSeen) (v w : List ℕ) (first second : List ℕ)
     → Moves a v b w first → GrowsByFront b c (w ++ second) → GrowsByFront a c (v ++ (first ++ second))
 cut_then a b c v w first second one two =
     let P : List ℕ → Type 0 = λ t. GrowsByFront a c t in
     subst P (sym (moved_on v first second one.front w one.cut)) (front_after a b c one.front (w ++ second) one.grown two)
 
-cut_before : (a b c : Option (List ℕ)) (v first second : List ℕ)
-    → GrowsByFront a b (v ++ first) → c ≡ b → GrowsByFront a c (v ++ (first ++ second))
+cut_before : (a b c : SinkSeen) (v first second : List ℕ)
+    → GrowsByFront a b (v ++ first) → c.written ≡ b.written → GrowsByFront a c (v ++ (first ++ second))
 cut_before a b c v first second one two =
-    let P : List ℕ → Type 0 = λ t. GrowsByFront a c t in
-    let Q : Option (List ℕ) → Type 0 = λ o. GrowsByFront a o ((v ++ first) ++ second) in
-    subst P (append_assoc v first second) (subst Q (sym two) (front_of_more a b (v ++ first) second one))
+    let grows = front_of_more a b (v ++ first) second one in
+    record { front = grows.front; rest = grows.rest; cut = sym (append_assoc v first second) ∙ grows.cut; taken = two ∙ grows.taken }
 
-by_then : (f g h : Bool) (a b c : Option (List ℕ)) (v w x : List ℕ) (first second : List ℕ)
+by_then : (f g h : Bool) (a b c : SinkSeen) (v w x : List ℕ) (first second : List ℕ)
     → PutsBy f g a v b w first → PutsBy g h b w c x second → PutsBy f h a v c x (first ++ second)
 by_then false false false a b c v w x first second one two = moves_then a b c v w x first second one two
 by_then false false true a b c v w x first second one two = cut_then a b c v w first second one two
@@ -46,22 +45,23 @@ by_then true false h a b c v w x first second one two = absurd one
 by_then true true false a b c v w x first second one two = absurd two
 by_then true true true a b c v w x first second one two = two ∙ one
 
-counts_then : (f g h : Bool) (a b c : ℕ) → Counts f g a b → Counts g h b c → Counts f h a c
+counts_then : (f g h : Bool) (a b c : SinkSeen) → Counts f g a b → Counts g h b c → Counts f h a c
 counts_then false false false a b c one two = two ∙ one
-counts_then false false true a b c one two = let P : ℕ → Type 0 = λ n. (n ≤ c) × Rises n c in subst P one two
+counts_then false false true a b c one two = let P : ℕ → Type 0 = λ n. (n ≤ c.failed) × Rises n c.failed in subst P one two
 counts_then false true false a b c one two = absurd two
-counts_then false true true a b c one two = let P : ℕ → Type 0 = λ n. (a ≤ n) × Rises a n in subst P (sym two) one
+counts_then false true true a b c one two =
+    let P : ℕ → Type 0 = λ n. (a.failed ≤ n) × Rises a.failed n in subst P (sym two) one
 counts_then true false h a b c one two = absurd one
 counts_then true true false a b c one two = absurd two
 counts_then true true true a b c one two = two ∙ one
 
-pub passes_then : {S : Type 0} {written : S → Option (List ℕ)} {failures : S → ℕ} {old middle new : Block S} (first second : List ℕ)
-    → Passes written failures old middle first → Passes written failures middle new second → Passes written failures old new (first ++ second)
-passes_then {S} {written} {failures} {old} {middle} {new} first second one two = record {
+pub passes_then : {S : Type 0} {seen : S → SinkSeen} {old middle new : Block S} (first second : List ℕ)
+    → Passes seen old middle first → Passes seen middle new second → Passes seen old new (first ++ second)
+passes_then {S} {seen} {old} {middle} {new} first second one two = record {
   same = two.same ∙ one.same;
-  puts = by_then old.failed middle.failed new.failed (written old.sink.now) (written middle.sink.now) (written new.sink.now)
+  puts = by_then old.failed middle.failed new.failed (seen old.sink.now) (seen middle.sink.now) (seen new.sink.now)
       old.waiting.items middle.waiting.items new.waiting.items first second one.puts two.puts;
-  counts = counts_then old.failed middle.failed new.failed (failures old.sink.now) (failures middle.sink.now) (failures new.sink.now) one.counts two.counts;
+  counts = counts_then old.failed middle.failed new.failed (seen old.sink.now) (seen middle.sink.now) (seen new.sink.now) one.counts two.counts;
 }
 
 rest_then : (v w x first second m n : ℕ) → v + first ≡ m * 4096 + w → w + second ≡ n * 4096 + x → v + (first + second) ≡ (m + n) * 4096 + x
@@ -86,42 +86,42 @@ hands_then {S} {old} {middle} {new} first second one two =
     }
 
 -- one text after the other
-pub puts_then : {S : Type 0} {written : S → Option (List ℕ)} {failures : S → ℕ} {old middle new : Block S} (first second : List ℕ)
-    → Puts written failures old middle first → Puts written failures middle new second → Puts written failures old new (first ++ second)
+pub puts_then : {S : Type 0} {seen : S → SinkSeen} {old middle new : Block S} (first second : List ℕ)
+    → Puts seen old middle first → Puts seen middle new second → Puts seen old new (first ++ second)
 puts_then first second one two = record {
   passes = passes_then first second one.passes two.passes;
   hands = hands_then first second one.hands two.hands;
 }
 
-by_none : (f : Bool) (a : Option (List ℕ)) (v : List ℕ) → PutsBy f f a v a v []
-by_none false a v = record { front = []; cut = append-nil v; grown = sym (appended-nil a) }
+by_none : (f : Bool) (a : SinkSeen) (v : List ℕ) → PutsBy f f a v a v []
+by_none false a v = record { front = []; cut = append-nil v; grown = sym (appended-nil a.written) }
 by_none true a v = refl
 
-counts_none : (f : Bool) (a : ℕ) → Counts f f a a
+counts_none : (f : Bool) (a : SinkSeen) → Counts f f a a
 counts_none false a = refl
 counts_none true a = refl
 
 -- no text
-pub puts_none : {S : Type 0} {written : S → Option (List ℕ)} {failures : S → ℕ} (way : Block S) → Puts written failures way way []
-puts_none {S} {written} {failures} way = record {
+pub puts_none : {S : Type 0} {seen : S → SinkSeen} (way : Block S) → Puts seen way way []
+puts_none {S} {seen} way = record {
   passes = record {
     same = refl;
-    puts = by_none way.failed (written way.sink.now) way.waiting.items;
-    counts = counts_none way.failed (failures way.sink.now);
+    puts = by_none way.failed (seen way.sink.now) way.waiting.items;
+    counts = counts_none way.failed (seen way.sink.now);
   };
   hands = record { times = 0; rest = omega arith; more = inl refl; none = λ _. refl };
 }
 
 -- of this whole text all is put but this
-pub record PutsUpTo {S : Type 0} (written : S → Option (List ℕ)) (failures : S → ℕ) (old new : Block S) (whole left : List ℕ) : Type 0 where
+pub record PutsUpTo {S : Type 0} (seen : S → SinkSeen) (old new : Block S) (whole left : List ℕ) : Type 0 where
   pub done : List ℕ
   pub cut : whole ≡ done ++ left
-  pub puts : Puts written failures old new done
+  pub puts : Puts seen old new done
 
 -- the next text of those that are left is put
-pub up_to_more : {S : Type 0} {written : S → Option (List ℕ)} {failures : S → ℕ} {old middle new : Block S} {whole : List ℕ} (left next rest : List ℕ)
-    → left ≡ next ++ rest → PutsUpTo written failures old middle whole left → Puts written failures middle new next
-    → PutsUpTo written failures old new whole rest
+pub up_to_more : {S : Type 0} {seen : S → SinkSeen} {old middle new : Block S} {whole : List ℕ} (left next rest : List ℕ)
+    → left ≡ next ++ rest → PutsUpTo seen old middle whole left → Puts seen middle new next
+    → PutsUpTo seen old new whole rest
 up_to_more left next rest is so puts = record {
   done = so.done ++ next;
   cut = so.cut ∙ ap (λ t. so.done ++ t) is ∙ sym (append_assoc so.done next rest);
@@ -129,45 +129,44 @@ up_to_more left next rest is so puts = record {
 }
 
 -- what is left is put
-pub up_to_all : {S : Type 0} {written : S → Option (List ℕ)} {failures : S → ℕ} {old middle new : Block S} {whole : List ℕ} (left : List ℕ)
-    → PutsUpTo written failures old middle whole left → Puts written failures middle new left → Puts written failures old new whole
-up_to_all {S} {written} {failures} {old} {middle} {new} {whole} left so puts =
-    let P : List ℕ → Type 0 = λ t. Puts written failures old new t in subst P (sym so.cut) (puts_then so.done left so.puts puts)
+pub up_to_all : {S : Type 0} {seen : S → SinkSeen} {old middle new : Block S} {whole : List ℕ} (left : List ℕ)
+    → PutsUpTo seen old middle whole left → Puts seen middle new left → Puts seen old new whole
+up_to_all {S} {seen} {old} {middle} {new} {whole} left so puts =
+    let P : List ℕ → Type 0 = λ t. Puts seen old new t in subst P (sym so.cut) (puts_then so.done left so.puts puts)
 
 -- nothing is left
-pub up_to_end : {S : Type 0} {written : S → Option (List ℕ)} {failures : S → ℕ} {old new : Block S} {whole : List ℕ} (left : List ℕ)
-    → left ≡ [] → PutsUpTo written failures old new whole left → Puts written failures old new whole
-up_to_end {S} {written} {failures} {old} {new} {whole} left none so =
-    let P : List ℕ → Type 0 = λ t. Puts written failures old new t in
+pub up_to_end : {S : Type 0} {seen : S → SinkSeen} {old new : Block S} {whole : List ℕ} (left : List ℕ)
+    → left ≡ [] → PutsUpTo seen old new whole left → Puts seen old new whole
+up_to_end {S} {seen} {old} {new} {whole} left none so =
+    let P : List ℕ → Type 0 = λ t. Puts seen old new t in
     subst P (sym (so.cut ∙ ap (λ t. so.done ++ t) none ∙ append-nil so.done)) so.puts
 
 -- the list from i on is the item at i, and the list from the next on
 pub drop_next : {A : Type 0} (xs : List A) (i : ℕ) (d : A) → i < length xs → drop i xs ≡ get_or xs i d ∷ drop (i + 1) xs
 drop_next xs i d below = drop-cons xs i d below ∙ rw add-one refl
 
-by_end : (failed : Bool) (taken taken' : Option (List ℕ)) (text : List ℕ) → PutsBy false failed taken [] taken' [] text → PrintsBy failed taken taken' text
-by_end false taken taken' text moves =
-    moves.grown ∙ ap (λ t. appended taken t) (sym (moves.cut ∙ append-nil moves.front))
-by_end true taken taken' text grows = grows
+by_end : (failed : Bool) (old new : SinkSeen) (text : List ℕ) → PutsBy false failed old [] new [] text → PrintsBy failed old new text
+by_end false old new text moves = moves.grown ∙ ap (λ t. appended old.written t) (sym (moves.cut ∙ append-nil moves.front))
+by_end true old new text grows = grows
 
 -- a text that was put into an empty block, and what waits of it handed over
-pub printed : {S : Type 0} {written : S → Option (List ℕ)} {failures : S → ℕ} {text : List ℕ} (old middle new : Block S) (a b : S)
-    → Puts written failures old middle text → Passes written failures middle new [] → new.waiting.items ≡ []
+pub printed : {S : Type 0} {seen : S → SinkSeen} {text : List ℕ} (old middle new : Block S) (a b : S)
+    → Puts seen old middle text → Passes seen middle new [] → new.waiting.items ≡ []
     → old.waiting.items ≡ [] → old.failed ≡ false → old.sink.now ≡ a → new.sink.now ≡ b
-    → Prints written failures a b new.failed text
-printed {S} {written} {failures} {text} old middle new a b one flush flushed empty fresh first last =
-    let T : List ℕ → Type 0 = λ t. Passes written failures old new t in
+    → Prints seen a b new.failed text
+printed {S} {seen} {text} old middle new a b one flush flushed empty fresh first last =
+    let T : List ℕ → Type 0 = λ t. Passes seen old new t in
     let puts = subst T (append-nil text) (passes_then text [] one.passes flush) in
-    let P : Bool → List ℕ → List ℕ → Type 0 = λ f v w. PutsBy f new.failed (written old.sink.now) v (written new.sink.now) w text in
-    let C : Bool → Type 0 = λ f. Counts f new.failed (failures old.sink.now) (failures new.sink.now) in
+    let P : Bool → List ℕ → List ℕ → Type 0 = λ f v w. PutsBy f new.failed (seen old.sink.now) v (seen new.sink.now) w text in
+    let C : Bool → Type 0 = λ f. Counts f new.failed (seen old.sink.now) (seen new.sink.now) in
     let now = subst (λ (f : Bool). P f [] []) fresh
     (subst (λ (v : List ℕ). P old.failed v []) empty (subst (λ (w : List ℕ). P old.failed old.waiting.items w) flushed puts.puts)) in
-    let here : PrintsBy new.failed (written old.sink.now) (written new.sink.now) text =
-    by_end new.failed (written old.sink.now) (written new.sink.now) text now in
-    let counts : Counts false new.failed (failures old.sink.now) (failures new.sink.now) = subst C fresh puts.counts in
+    let here : PrintsBy new.failed (seen old.sink.now) (seen new.sink.now) text =
+    by_end new.failed (seen old.sink.now) (seen new.sink.now) text now in
+    let counts : Counts false new.failed (seen old.sink.now) (seen new.sink.now) = subst C fresh puts.counts in
     record {
-      prints = subst (λ (s : S). PrintsBy new.failed (written a) (written s) text) last
-          (subst (λ (s : S). PrintsBy new.failed (written s) (written new.sink.now) text) first here);
-      counts = subst (λ (s : S). Counts false new.failed (failures a) (failures s)) last
-          (subst (λ (s : S). Counts false new.failed (failures s) (failures new.sink.now)) first counts);
+      prints = subst (λ (s : S). PrintsBy new.failed (seen a) (seen s) text) last
+          (subst (λ (s : S). PrintsBy new.failed (seen s) (seen new.sink.now) text) first here);
+      counts = subst (λ (s : S). Counts false new.failed (seen a) (seen s)) last
+          (subst (λ (s : S). Counts false new.failed (seen s) (seen new.sink.now)) first counts);
     }

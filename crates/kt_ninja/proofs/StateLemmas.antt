@@ -10,7 +10,8 @@ use Rattle.kt_ninja.specs.JoinedLines.{Text}
 use Rattle.kt_ninja.specs.Forms.{Binding, Build, Pieces}
 use Rattle.kt_ninja.specs.Scopes.{Scope, expanded, find_in, put_in, refers_to, value_in, value_within}
 use Rattle.kt_ninja.specs.NinjaRead.{Making, State, Stated, add_defaults, are_new, block_scope, made_of, outs_of, paths_in, stated_with, statement_of}
-use Rattle.kt_ninja.specs.Writable.{is_among, is_empty}
+use Rattle.kt_list.specs.Names.{is_among, with_name}
+use Rattle.kt_ninja.specs.Writable.{is_empty}
 use Rattle.kt_ninja.specs.inner.Refusals.{Refuses}
 use Rattle.kt_ninja.specs.inner.Holding.{block_with, made_as, making_as, path_in}
 
@@ -78,18 +79,16 @@ unfolding paths_in
 paths_end value_of front = ap Some (append-nil front)
 
 -- outputs, one after another
-pub new_taken : (names next : List Text) (out : Text) (outs : List Text) (added : Bool) → added ≡ not (is_among names out) → added ≡ true
-    → next ≡ (if added then names ++ out ∷ [] else names)
+pub new_taken : (names next : List Text) (out : Text) (outs : List Text) → is_among names out ≡ false → next ≡ with_name names out
     → (are_new names (out ∷ outs) ≡ are_new next outs) × (next ++ outs ≡ names ++ out ∷ outs)
 unfolding are_new
-new_taken names next out outs added is new_one longer =
-    let grown : next ≡ names ++ out ∷ [] = longer ∙ ap (λ b. if b then names ++ out ∷ [] else names) new_one in
-    (ap (λ b. b && are_new (names ++ out ∷ []) outs) (sym is ∙ new_one) ∙ ap (λ l. are_new l outs) (sym grown), ap (λ l. l ++ outs) grown ∙ append_assoc names (out ∷ []) outs)
+new_taken names next out outs new_one longer =
+    let grown : next ≡ names ++ out ∷ [] = longer ∙ ap (λ b. if b then names else names ++ out ∷ []) new_one in
+    (ap (λ b. not b && are_new (names ++ out ∷ []) outs) new_one ∙ ap (λ l. are_new l outs) (sym grown), ap (λ l. l ++ outs) grown ∙ append_assoc names (out ∷ []) outs)
 
-pub new_refused : (names : List Text) (out : Text) (outs : List Text) (added : Bool) → added ≡ not (is_among names out) → added ≡ false
-    → are_new names (out ∷ outs) ≡ false
+pub new_refused : (names : List Text) (out : Text) (outs : List Text) → is_among names out ≡ true → are_new names (out ∷ outs) ≡ false
 unfolding are_new
-new_refused names out outs added is old_one = ap (λ b. b && are_new (names ++ out ∷ []) outs) (sym is ∙ old_one)
+new_refused names out outs old_one = ap (λ b. not b && are_new (names ++ out ∷ []) outs) old_one
 
 pub new_end : (names : List Text) → are_new names [] ≡ true
 unfolding are_new

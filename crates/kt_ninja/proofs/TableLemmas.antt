@@ -1,15 +1,13 @@
--- Maps and sets of names, as lists.
-use Rattle.std.proofs.Common.{◌≡◌, ℕ, List, [], ◌∷◌, ◌++◌, refl, ap, map, ⊎_elim}
+-- Maps from names, as lists.
+use Rattle.std.proofs.Common.{◌≡◌, ℕ, List, [], ◌∷◌, refl, ap, map, ⊎_elim}
 use Rattle.std.proofs.lemmas.Bool.{cases_Bool}
 use Rattle.std.specs.Borrow.{Bor}
-use Rattle.std.specs.List.{list_any}
 use Rattle.std.specs.Str.{bytes_eq}
 use Rattle.std.specs.Map.{lookup}
 use Rattle.std.specs.declared.vec.Vec.{Vec}
 use Rattle.std.specs.declared.alloc.Global.{Global}
 use Rattle.indexmap.specs.IndexMap.{insert_entry}
 use Rattle.kt_ninja.specs.Scopes.{find_in, put_in}
-use Rattle.kt_ninja.specs.Writable.{is_among}
 
 -- bytes that a vector holds
 abbrev pub Bytes : Type 0
@@ -41,11 +39,3 @@ unfolding put_in
 put_in_borrowed [] name value = refl
 put_in_borrowed (e ∷ es) name value =
     ⊎_elim (λ h. rw h refl) (λ h. rw h (ap (λ later. (e.0.now, e.1) ∷ later) (put_in_borrowed es name value))) (cases_Bool (bytes_eq name.now e.0.now))
-
-pub among_keys : (keys : List Bytes) (name : List ℕ) → is_among (map (λ key. key.items) keys) name ≡ list_any (λ key. bytes_eq name key.items) keys
-among_keys [] name = refl
-among_keys (k ∷ ks) name = ⊎_elim (λ h. rw h refl) (λ h. rw h (among_keys ks name)) (cases_Bool (bytes_eq name k.items))
-
-pub insert_keys : (keys : List Bytes) (name : Bytes) → map (λ key. key.items) (keys ++ name ∷ []) ≡ map (λ key. key.items) keys ++ name.items ∷ []
-insert_keys [] name = refl
-insert_keys (k ∷ ks) name = ap (λ later. k.items ∷ later) (insert_keys ks name)

@@ -9,7 +9,8 @@ use Rattle.std.proofs.lemmas.List.Concat.{flat_map-append}
 use Rattle.std.proofs.lemmas.List.Folds.{find-append, list_any-append}
 use Rattle.kt_ninja.specs.declared.plan.Statement.{Statement}
 use Rattle.kt_ninja.specs.Plan.{names_of, outputs}
-use Rattle.kt_ninja.specs.Writable.{is_among, is_name, repeated_after}
+use Rattle.kt_list.specs.Names.{is_among}
+use Rattle.kt_ninja.specs.Writable.{is_name, repeated_after}
 use Rattle.kt_ninja.proofs.Putting.{drop_next}
 
 pub is_among-outputs : (ss : List Statement) (name : List ℕ) → is_among (outputs ss) name ≡ list_any (λ s. is_among s.outs name) ss

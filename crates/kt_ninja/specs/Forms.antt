@@ -6,7 +6,8 @@ use Rattle.std.specs.Option.{option_and_then}
 use Rattle.std.specs.List.{list_any, slice_split, prefix_len, before_first, after_first, starts_with}
 use Rattle.kt_ninja.specs.JoinedLines.{Text}
 use Rattle.kt_ninja.specs.Pieces.{Piece, Plain, Escaped, Variable, is_long_name_byte, pieces}
-use Rattle.kt_ninja.specs.Writable.{is_among, is_empty}
+use Rattle.kt_list.specs.Names.{is_among}
+use Rattle.kt_ninja.specs.Writable.{is_empty}
 
 -- a path or a value
 abbrev pub Pieces : Type 0

@@ -1,6 +1,7 @@
 -- A sink over memory.
-use Rattle.std.specs.Prelude.{ℕ, ◌-◌, min, List, ◌++◌, length}
+use Rattle.std.specs.Prelude.{ℕ, ◌-◌, min, List, ◌++◌, length, Some}
 use Rattle.kt_list.specs.Counters.{one_more}
+use Rattle.kt_ninja.specs.Written.{SinkSeen}
 
 -- what it holds, how much it can hold, how much it takes in a call, how often it failed, and how often it was called
 pub record Memory : Type 0 where
@@ -9,6 +10,10 @@ pub record Memory : Type 0 where
   pub step : ℕ
   pub failures : ℕ
   pub calls : ℕ
+
+-- what is seen of it as of any sink
+abbrev pub seen_of : Memory → SinkSeen
+seen_of m = record { written = Some m.bytes; failed = m.failures }
 
 -- how many bytes of a piece it takes: what the piece, the step and the room allow
 abbrev pub taken_of : Memory → List ℕ → ℕ

@@ -15,7 +15,8 @@ use Rattle.kt_ninja.specs.Forms.{Binding, Build, Form, Pieces, binding_of, rule_
 use Rattle.kt_ninja.specs.Forms.{binding_form, form_of}
 use Rattle.kt_ninja.specs.Scopes.{Scope, Table, command_value, expanded, find_in, put_in, refers_to, value_in}
 use Rattle.kt_ninja.specs.Scopes.{value_within}
-use Rattle.kt_ninja.specs.Writable.{is_among, is_empty}
+use Rattle.kt_list.specs.Names.{is_among}
+use Rattle.kt_ninja.specs.Writable.{is_empty}
 
 -- a part of the file: a line at the margin, if it has one, with the lines up to the next such line
 pub record Part : Type 0 where

@@ -1,11 +1,11 @@
 -- Which plans can be written (Ninja manual, "Lexical syntax", and for defaults "Default target statements"; which bytes
 -- are refused, and that no output stands twice, is kati's own).
-use Rattle.std.specs.Prelude.{◌≡◌, ◌≢◌, ℕ, ◌+◌, Bool, true, false, not, ◌==◌, ◌&&◌, ◌||◌, nat_eq, List, [], ◌∷◌, ◌++◌}
+use Rattle.std.specs.Prelude.{◌≡◌, ◌≢◌, ℕ, ◌+◌, Bool, true, false, not, ◌==◌, ◌&&◌, ◌||◌, List, [], ◌∷◌, ◌++◌}
 use Rattle.std.specs.Prelude.{All, AllPairs, Contains, Option, Some, None, option_map, Result, Ok, Err, find}
 use Rattle.std.specs.Prelude.{if◌then◌else◌}
-use Rattle.std.specs.List.{list_all, list_any, position_from}
+use Rattle.std.specs.List.{list_all, position_from}
 use Rattle.std.specs.Option.{option_or}
-use Rattle.std.specs.Cmp.Lexicographic.{pointwise}
+use Rattle.kt_list.specs.Names.{is_among}
 use Rattle.kt_ninja.specs.declared.plan.Made.{Made}
 use Rattle.kt_ninja.specs.declared.plan.Made.TheVariants.{Command, Phony}
 use Rattle.kt_ninja.specs.declared.plan.Statement.{Statement}
@@ -35,10 +35,6 @@ is_command command = not (is_empty command) && list_all is_command_byte command
 abbrev pub is_made : Made → Bool
 is_made (Command c) = is_command c
 is_made Phony = true
-
--- whether the list holds this name
-abbrev pub is_among : List (List ℕ) → List ℕ → Bool
-is_among names name = list_any (λ n. pointwise nat_eq name n) names
 
 -- each name can be written, and each command
 abbrev pub HasWritableTexts : Plan → Type 0

@@ -31,7 +31,7 @@ impl<'a, W: Sink> Block<'a, W> {
 
     /// Hands over what waits.
     pub fn flush(&mut self)
-        ensures passes { Passes W.written W.failed self.old self.new [] }
+        ensures passes { Passes W.seen self.old self.new [] }
         ensures empty { self.new.waiting.items ≡ [] }
     {
         if !self.failed && put(self.sink, self.waiting.as_slice()).is_err() {
@@ -42,7 +42,7 @@ impl<'a, W: Sink> Block<'a, W> {
 
     /// Puts the piece after what waits.
     pub fn put(&mut self, piece: &[u8])
-        ensures { Puts W.written W.failed self.old self.new piece.now }
+        ensures { Puts W.seen self.old self.new piece.now }
     {
         let mut done = 0;
         while done < piece.len() {
@@ -55,7 +55,7 @@ impl<'a, W: Sink> Block<'a, W> {
         requires { 0 < length piece.now }
         ensures some { 0 < result }
         ensures within { result ≤ length piece.now }
-        ensures passes { Passes W.written W.failed self.old self.new (take result piece.now) }
+        ensures passes { Passes W.seen self.old self.new (take result piece.now) }
         ensures hands { HandsOver self.old self.new (take result piece.now) }
     {
         if self.waiting.is_full() {
@@ -68,7 +68,7 @@ impl<'a, W: Sink> Block<'a, W> {
 
     /// Puts the text, each special byte after a dollar.
     pub fn put_escaped(&mut self, text: &[u8], escapes: Escapes)
-        ensures { Puts W.written W.failed self.old self.new (escaped (is_special escapes) text.now) }
+        ensures { Puts W.seen self.old self.new (escaped (is_special escapes) text.now) }
     {
         let mut rest = text;
         while let Some(at) = escapes.first_in(rest) {

@@ -3,7 +3,8 @@ ghost use Rattle.std.specs.Prelude.{◌≡◌, ◌↔◌, [], not, find, IsOk};
 ghost use Rattle.std.specs.List.{list_all, list_any, position_from};
 ghost use Rattle.std.specs.Option.{option_copied};
 ghost use Rattle.kt_ninja.specs.Plan.{names_of, outputs};
-ghost use Rattle.kt_ninja.specs.Writable.{HasWritableTexts, IsWritable, first_trouble, is_among, is_command_byte};
+ghost use Rattle.kt_list.specs.Names.{is_among};
+ghost use Rattle.kt_ninja.specs.Writable.{HasWritableTexts, IsWritable, first_trouble, is_command_byte};
 ghost use Rattle.kt_ninja.specs.Writable.{is_empty, is_made, is_name, is_name_byte, not_made, repeated_after};
 ghost use Rattle.kt_ninja.specs.Writable.{trouble_in, trouble_of_statement, trouble_of_statements};
 

@@ -66,19 +66,17 @@ impl MemSink {
 }
 
 impl Sink for MemSink {
-    ghost use Rattle.std.specs.Prelude.{◌≡◌, ◌≤◌, ◌<◌, Some, Ok, [], IfOk, OnErr, IsErr, length, take};
+    ghost use Rattle.std.specs.Prelude.{◌≡◌, ◌≤◌, ◌<◌, Ok, [], IfOk, OnErr, IsErr, length, take};
     ghost use Rattle.kt_list.specs.Counters.{one_more, Rises};
-    ghost use Rattle.kt_ninja.specs.Written.{appended, GrowsByFront};
-    ghost use Rattle.kt_ninja.specs.Memory.{called, taken_of};
+    ghost use Rattle.kt_ninja.specs.Written.{GrowsByFront, Takes};
+    ghost use Rattle.kt_ninja.specs.Memory.{called, seen_of, taken_of};
 
-    ghost written = { λ s. Some s.bytes };
-
-    ghost failed = { λ s. s.failures };
+    ghost seen = { seen_of };
 
     fn write(&mut self, piece: &[u8]) -> Result<usize, SinkFault>
         ensures within { IfOk result (λ n. n ≤ length piece.now) }
-        ensures takes { IfOk result (λ n. Some self.new.bytes ≡ appended (Some self.old.bytes) (take n piece.now)) }
-        ensures front { OnErr result (GrowsByFront (Some self.old.bytes) (Some self.new.bytes) piece.now) }
+        ensures takes { IfOk result (λ n. Takes (seen_of self.old) (seen_of self.new) (take n piece.now)) }
+        ensures front { OnErr result (GrowsByFront (seen_of self.old) (seen_of self.new) piece.now) }
         ensures counts { self.old.failures ≤ self.new.failures }
         ensures fails { OnErr result (Rises self.old.failures self.new.failures) }
         ensures stalls { IfOk result (λ n. n ≡ 0 → 0 < length piece.now → Rises self.old.failures self.new.failures) }

@@ -6,7 +6,7 @@ ghost use Rattle.kt_ninja.specs.Text.{build_text, command_text, defaults_text, l
 ghost use Rattle.kt_ninja.specs.Text.{number_text, plan_text, rule_count, rule_name_text, rule_text, statement_text};
 ghost use Rattle.kt_ninja.specs.Text.{statements_text};
 ghost use Rattle.kt_ninja.specs.Writable.{IsWritable};
-ghost use Rattle.kt_ninja.specs.Written.{appended, GrowsByFront};
+ghost use Rattle.kt_ninja.specs.Written.{GrowsByFront, Takes};
 
 use crate::block::Block;
 use crate::escapes::Escapes;
@@ -28,7 +28,7 @@ fn rules_of(made: &Made) -> usize
 
 impl<'a, W: Sink> Block<'a, W> {
     fn put_names(&mut self, names: &[Name])
-        ensures { Puts W.written W.failed self.old self.new (names_text names.now) }
+        ensures { Puts W.seen self.old self.new (names_text names.now) }
     {
         for name in names {
             self.put(b" ");
@@ -37,7 +37,7 @@ impl<'a, W: Sink> Block<'a, W> {
     }
 
     fn put_marked(&mut self, mark: &[u8], names: &[Name])
-        ensures { Puts W.written W.failed self.old self.new (marked_text mark.now names.now) }
+        ensures { Puts W.seen self.old self.new (marked_text mark.now names.now) }
     {
         if !names.is_empty() {
             self.put(mark);
@@ -46,7 +46,7 @@ impl<'a, W: Sink> Block<'a, W> {
     }
 
     fn put_number(&mut self, number: usize)
-        ensures { Puts W.written W.failed self.old self.new (number_text number) }
+        ensures { Puts W.seen self.old self.new (number_text number) }
     {
         let mut buffer = Buffer::new();
         self.put(buffer.format(number).as_bytes());
@@ -54,7 +54,7 @@ impl<'a, W: Sink> Block<'a, W> {
 
     /// A leading space would be lost after the `=` of its line, so that it stands after a dollar.
     fn put_lead(&mut self, command: &[u8])
-        ensures { Puts W.written W.failed self.old self.new (lead_text command.now) }
+        ensures { Puts W.seen self.old self.new (lead_text command.now) }
     {
         if let [b' ', ..] = command {
             self.put(b"$");
@@ -62,14 +62,14 @@ impl<'a, W: Sink> Block<'a, W> {
     }
 
     fn put_command(&mut self, command: &[u8])
-        ensures { Puts W.written W.failed self.old self.new (command_text command.now) }
+        ensures { Puts W.seen self.old self.new (command_text command.now) }
     {
         self.put_lead(command);
         self.put_escaped(command, Escapes::InCommand);
     }
 
     fn put_rule(&mut self, number: usize, made: &Made)
-        ensures { Puts W.written W.failed self.old self.new (rule_text number made.now) }
+        ensures { Puts W.seen self.old self.new (rule_text number made.now) }
     {
         if let Made::Command(command) = made {
             self.put(b"rule r");
@@ -81,7 +81,7 @@ impl<'a, W: Sink> Block<'a, W> {
     }
 
     fn put_rule_name(&mut self, number: usize, made: &Made)
-        ensures { Puts W.written W.failed self.old self.new (rule_name_text number made.now) }
+        ensures { Puts W.seen self.old self.new (rule_name_text number made.now) }
     {
         match made {
             Made::Command(_) => {
@@ -93,7 +93,7 @@ impl<'a, W: Sink> Block<'a, W> {
     }
 
     fn put_build(&mut self, number: usize, statement: &Statement)
-        ensures { Puts W.written W.failed self.old self.new (build_text number statement.now) }
+        ensures { Puts W.seen self.old self.new (build_text number statement.now) }
     {
         self.put(b"build");
         self.put_names(statement.outs.as_slice());
@@ -106,14 +106,14 @@ impl<'a, W: Sink> Block<'a, W> {
     }
 
     fn put_statement(&mut self, number: usize, statement: &Statement)
-        ensures { Puts W.written W.failed self.old self.new (statement_text number statement.now) }
+        ensures { Puts W.seen self.old self.new (statement_text number statement.now) }
     {
         self.put_rule(number, &statement.made);
         self.put_build(number, statement);
     }
 
     fn put_statements(&mut self, statements: &[Statement])
-        ensures { Puts W.written W.failed self.old self.new (statements_text 0 statements.now) }
+        ensures { Puts W.seen self.old self.new (statements_text 0 statements.now) }
     {
         let mut number = 0;
         for statement in statements {
@@ -123,7 +123,7 @@ impl<'a, W: Sink> Block<'a, W> {
     }
 
     fn put_defaults(&mut self, names: &[Name])
-        ensures { Puts W.written W.failed self.old self.new (defaults_text names.now) }
+        ensures { Puts W.seen self.old self.new (defaults_text names.now) }
     {
         if !names.is_empty() {
             self.put(b"default");
@@ -133,7 +133,7 @@ impl<'a, W: Sink> Block<'a, W> {
     }
 
     fn put_plan(&mut self, plan: &Plan)
-        ensures { Puts W.written W.failed self.old self.new (plan_text plan.now) }
+        ensures { Puts W.seen self.old self.new (plan_text plan.now) }
     {
         self.put(b"# kati\n");
         self.put_statements(plan.statements.as_slice());
@@ -143,7 +143,7 @@ impl<'a, W: Sink> Block<'a, W> {
 
 /// Prints the plan, and returns whether a write failed.
 fn print<W: Sink>(plan: &Plan, sink: &mut W) -> bool
-    ensures { Prints W.written W.failed sink.old sink.new result (plan_text plan.now) }
+    ensures { Prints W.seen sink.old sink.new result (plan_text plan.now) }
 {
     let mut block = Block {
         sink,
@@ -168,11 +168,11 @@ fn print<W: Sink>(plan: &Plan, sink: &mut W) -> bool
 /// After a fault the sink has taken a prefix of the text.
 pub fn write_plan<W: Sink>(plan: &Plan, sink: &mut W) -> Result<(), WriteFault>
     requires { IsWritable plan.now }
-    ensures ok { OnOk result (W.written sink.new ≡ appended (W.written sink.old) (plan_text plan.now)) }
-    ensures fault { OnErr result (GrowsByFront (W.written sink.old) (W.written sink.new) (plan_text plan.now)) }
-    ensures counts { W.failed sink.old ≤ W.failed sink.new }
-    ensures failed { OnErr result (Rises (W.failed sink.old) (W.failed sink.new)) }
-    ensures steady { OnOk result (W.failed sink.new ≡ W.failed sink.old) }
+    ensures ok { OnOk result (Takes (W.seen sink.old) (W.seen sink.new) (plan_text plan.now)) }
+    ensures fault { OnErr result (GrowsByFront (W.seen sink.old) (W.seen sink.new) (plan_text plan.now)) }
+    ensures counts { (W.seen sink.old).failed ≤ (W.seen sink.new).failed }
+    ensures failed { OnErr result (Rises (W.seen sink.old).failed (W.seen sink.new).failed) }
+    ensures steady { OnOk result ((W.seen sink.new).failed ≡ (W.seen sink.old).failed) }
 {
     if print(plan, sink) {
         Err(WriteFault)

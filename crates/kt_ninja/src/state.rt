@@ -9,7 +9,7 @@ ghost use Rattle.kt_ninja.specs.Scopes.{expanded, find_in, refers_to, value_in, 
 ghost use Rattle.kt_ninja.specs.inner.Holding.{Fails, block_with, making_as};
 ghost use Rattle.kt_ninja.specs.inner.Wording.{binding_told, build_told};
 ghost use Rattle.kt_ninja.specs.inner.Refusals.{Reads, ReadsAs};
-ghost use Rattle.kt_ninja.specs.Writable.{is_among};
+ghost use Rattle.kt_list.specs.Names.{is_among};
 
 use crate::forms::{Binding, Build};
 use crate::paths::paths_of_file;
@@ -18,8 +18,8 @@ use crate::read_fault::Fault;
 use crate::scopes::{BlockScope, Scope, Scopes, expanded};
 use crate::spelling::Spelling;
 use crate::stated::{Making, Stated, StatedList};
-use crate::table::{Names, Rules, Table};
-use kt_list::Sequence;
+use crate::table::{Rules, Table};
+use kt_list::{Names, Sequence};
 use std::alloc::{AllocError, Global};
 use std::boxed::Box;
 use std::marker::Model;
@@ -138,15 +138,16 @@ fn block_scope(alloc: Global, file: &Scope, bindings: &[Binding]) -> Result<Bloc
 }
 
 // Adds outputs, each of which is new.
-fn add_outs(alloc: Global, names: &mut Names, outs: &[Name]) -> Result<(), Fault>
+fn add_outs(names: &mut Names, outs: &[Name]) -> Result<(), Fault>
     ensures { MatchResult result (λ _. (are_new names.old outs.now ≡ true)
         × (names.new ≡ names.old ++ outs.now)) (Fails (are_new names.old outs.now)) }
 {
     for out in outs {
-        let name = Vec::from_slice(alloc, out.as_slice())?;
-        if !names.add(name)? {
+        let name = out.as_slice();
+        if names.contains(name) {
             return Err(Fault::NoReading);
         }
+        names.add(name)?;
     }
     Ok(())
 }
@@ -154,7 +155,9 @@ fn add_outs(alloc: Global, names: &mut Names, outs: &[Name]) -> Result<(), Fault
 fn all_among(names: &Names, targets: &[Name]) -> bool
     ensures { result ≡ list_all (is_among names.now) targets.now }
 {
-    targets.iter().all(|target| names.has(target.as_slice()))
+    targets
+        .iter()
+        .all(|target| names.contains(target.as_slice()))
 }
 
 fn is_phony(name: &[u8]) -> bool
@@ -268,7 +271,7 @@ impl<'t> State<'t> {
             mut outs,
             defaults,
         } = self;
-        add_outs(alloc, &mut outs, statement.outs())?;
+        add_outs(&mut outs, statement.outs())?;
         stated.push(alloc, statement)?;
         Ok(State {
             alloc,

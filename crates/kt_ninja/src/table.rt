@@ -1,11 +1,10 @@
-//! Finite maps from names, and sets of names.
-ghost use Rattle.std.specs.Prelude.{◌≡◌, ℕ, ◌∷◌, ◌++◌, [], List, map, is_some, not, IfOk, OnOk, if◌then◌else◌};
+//! Finite maps from names.
+ghost use Rattle.std.specs.Prelude.{◌≡◌, ℕ, [], List, map, is_some, OnOk};
 ghost use Rattle.std.specs.Option.{option_copied};
 ghost use Rattle.kt_ninja.specs.Scopes.{find_in, put_in};
-ghost use Rattle.kt_ninja.specs.Writable.{is_among};
 
 use crate::spelling::Spelling;
-use indexmap::{IndexMap, IndexSet};
+use indexmap::IndexMap;
 use std::alloc::{AllocError, Global};
 use std::marker::Model;
 
@@ -98,43 +97,5 @@ impl<'t> Rules<'t> {
     {
         self.commands.insert(name, command)?;
         Ok(())
-    }
-}
-
-// Names, each once.
-#[derive(Drop)]
-pub(crate) struct Names {
-    names: IndexSet<Vec<u8>>,
-}
-
-impl Model for Names {
-    ghost Value = { List (List ℕ) };
-
-    ghost view = { λ n. map (λ name. name.items) n.names.keys };
-}
-
-impl Names {
-    pub(crate) fn new(alloc: Global) -> Names
-        ensures { result ≡ [] }
-    {
-        Names {
-            names: IndexSet::new(alloc),
-        }
-    }
-
-    #[tactic(auto, using(crate::proofs::TableLemmas::among_keys))]
-    pub(crate) fn has(&self, name: &[u8]) -> bool
-        ensures { result ≡ is_among self.now name.now }
-    {
-        self.names.contains(name)
-    }
-
-    // Adds the name, and returns whether it is new.
-    #[tactic(auto, using(crate::proofs::TableLemmas::among_keys, crate::proofs::TableLemmas::insert_keys))]
-    pub(crate) fn add(&mut self, name: Vec<u8>) -> Result<bool, AllocError>
-        ensures added { IfOk result (λ added. added ≡ not (is_among self.old name.items)) }
-        ensures names { IfOk result (λ added. self.new ≡ (if added then self.old ++ name.items ∷ [] else self.old)) }
-    {
-        Ok(self.names.insert(name)?)
     }
 }

@@ -1,5 +1,5 @@
 //! Which plans are equal.
-use crate::plans::plan_of;
+use kt_ninja_doubles::plan_of;
 
 /// Two plans, and whether they are the same.
 const PAIRS: [(&[u8], &[u8], bool); 12] = [
@@ -26,8 +26,8 @@ const PAIRS: [(&[u8], &[u8], bool); 12] = [
 #[test]
 fn plans_are_equal_where_they_are_the_same(rt: HostRuntime) {
     for (first, second, wanted) in PAIRS {
-        let one = plan_of(&rt, rt.alloc(), first);
-        let two = plan_of(&rt, rt.alloc(), second);
+        let one = plan_of(rt.alloc(), first);
+        let two = plan_of(rt.alloc(), second);
         assert_eq!(rt; one == two, wanted, "{first:?} {second:?}");
     }
 }

@@ -5,10 +5,10 @@
 #[cfg(test)]
 mod comparing;
 #[cfg(test)]
-mod plans;
-#[cfg(test)]
 mod reading;
 #[cfg(test)]
 mod refusing;
+#[cfg(test)]
+mod spelling;
 #[cfg(test)]
 mod writing;

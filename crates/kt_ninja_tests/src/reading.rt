@@ -1,6 +1,6 @@
 //! Texts that are read and texts that aren't, by the Ninja manual and by kati's own rules.
-use crate::plans::shown;
 use kt_ninja::{ReadFault, read_plan};
+use kt_ninja_doubles::shown;
 use std::alloc::{AllocError, Global};
 
 /// Texts, and the plans that they say.
@@ -178,10 +178,10 @@ const FAULTS: [(u64, &[u8]); 73] = [
 ];
 
 /// What is read, shown as a text; nothing where there is no plan.
-fn told(alloc: Global, text: &[u8]) -> Result<Vec<u8>, AllocError> {
+fn told(alloc: Global, text: &[u8]) -> Vec<u8> {
     match read_plan(alloc, text) {
         Ok(plan) => shown(alloc, &plan),
-        Err(_) => Ok(Vec::new(alloc)),
+        Err(_) => Vec::new(alloc),
     }
 }
 
@@ -196,8 +196,8 @@ fn fault(alloc: Global, text: &[u8]) -> u64 {
 #[test]
 fn texts_say_their_plan(rt: HostRuntime) {
     for (text, plan) in PLANS {
-        let told = told(rt.alloc(), text).expect(&rt, "memory");
-        assert_eq!(rt; told.as_slice(), plan);
+        let told = told(rt.alloc(), text);
+        assert_eq!(rt; told.as_slice(), plan, "{text:?}");
     }
 }
 
@@ -208,19 +208,26 @@ fn texts_have_their_fault(rt: HostRuntime) {
     }
 }
 
+/// What kati prints for `a.o: a.c`.
+const OUTPUT: &[u8] =
+    b"# kati\nrule r0\n command = /bin/sh -c 'cc -c a.c -o a.o'\nbuild a.o: r0 a.c\ndefault a.o\n";
+
+/// A beginning of it is a plan, or has its fault; after line 2 that is the rule without its command.
 #[test]
-fn each_beginning_is_read_or_has_its_line(rt: HostRuntime) {
-    let text: &[u8] = b"# kati\nrule r0\n command = x\nbuild a: r0 b\ndefault a\n";
-    for (length, _) in text.iter().enumerate() {
-        // Beginnings that are whole are read; a rule without its command isn't.
-        let line = match length {
-            0 | 7 | 28 | 42 => 0,
-            1..=6 => 1,
-            8..=27 => 2,
-            29..=41 => 4,
-            _ => 5,
+fn each_beginning_of_an_output_is_read_or_has_its_line(rt: HostRuntime) {
+    for (length, _) in OUTPUT.iter().enumerate() {
+        let (line, plan): (u64, &[u8]) = match length {
+            0 | 7 | 56 => (0, b">\n"),
+            74 => (0, b"a.o,;=/bin/sh -c 'cc -c a.c -o a.o';a.c,;;#>\n"),
+            1..=6 => (1, b""),
+            8..=55 => (2, b""),
+            57..=73 => (4, b""),
+            _ => (5, b""),
         };
-        assert_eq!(rt; fault(rt.alloc(), &text[..length]), line);
+        let beginning = &OUTPUT[..length];
+        assert_eq!(rt; fault(rt.alloc(), beginning), line, "of {length} bytes");
+        let told = told(rt.alloc(), beginning);
+        assert_eq!(rt; told.as_slice(), plan, "of {length} bytes");
     }
 }
 
@@ -274,7 +281,7 @@ fn long_texts_are_read(rt: HostRuntime) {
             .expect(&rt, "memory");
         whole.extend_from_slice(back).expect(&rt, "memory");
         let wanted = with_middle(rt.alloc(), plan, middle.as_slice()).expect(&rt, "memory");
-        let told = told(rt.alloc(), whole.as_slice()).expect(&rt, "memory");
+        let told = told(rt.alloc(), whole.as_slice());
         assert!(rt;
             told.as_slice() == wanted.as_slice(),
             "{count} times {text:?}"

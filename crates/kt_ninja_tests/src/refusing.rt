@@ -1,6 +1,6 @@
 //! Plans that can't be written, and what keeps them from it first.
-use crate::plans::plan_of;
 use kt_ninja::{Unwritable, texts_can_be_written, writable};
+use kt_ninja_doubles::plan_of;
 
 /// Plans, and what their trouble is.
 const REFUSED: [(&[u8], Unwritable<'static>); 35] = [
@@ -51,7 +51,7 @@ const REFUSED: [(&[u8], Unwritable<'static>); 35] = [
 #[test]
 fn refusals_come_in_order(rt: HostRuntime) {
     for (text, trouble) in REFUSED {
-        let plan = plan_of(&rt, rt.alloc(), text);
+        let plan = plan_of(rt.alloc(), text);
         assert_eq!(rt; writable(&plan).err(), Some(trouble), "{text:?}");
     }
 }
@@ -76,7 +76,7 @@ const TEXTS: [(&[u8], Option<Unwritable<'static>>); 6] = [
 #[test]
 fn texts_are_told_alone(rt: HostRuntime) {
     for (text, trouble) in TEXTS {
-        let plan = plan_of(&rt, rt.alloc(), text);
+        let plan = plan_of(rt.alloc(), text);
         assert_eq!(rt; texts_can_be_written(&plan).err(), trouble, "{text:?}");
     }
 }

@@ -1,6 +1,6 @@
 //! The texts of plans, and sinks that take them.
-use crate::plans::plan_of;
 use kt_ninja::{MemSink, Plan, Sink, put, writable, write_plan};
+use kt_ninja_doubles::plan_of;
 use std::alloc::{AllocError, Global};
 use std::process::Abort;
 
@@ -58,7 +58,7 @@ const TEXTS: [(&[u8], &[u8]); 11] = [
 ];
 
 /// Writes the plan to a sink of so much room and step: whether that went well, and the sink.
-fn written(
+pub(crate) fn written(
     rt: &impl Abort,
     alloc: Global,
     plan: &Plan,
@@ -74,10 +74,11 @@ fn written(
 #[test]
 fn plans_have_their_text(rt: HostRuntime) {
     for (plan, text) in TEXTS {
-        let plan = plan_of(&rt, rt.alloc(), plan);
+        let plan = plan_of(rt.alloc(), plan);
         let (is_ok, sink) = written(&rt, rt.alloc(), &plan, 1000, 1000);
-        assert_eq!(rt; sink.as_slice(), text);
-        assert_eq!(rt; (is_ok, sink.calls(), sink.failures()), (true, 1, 0));
+        assert_eq!(rt; sink.as_slice(), text, "of {text:?}");
+        let ended = (is_ok, sink.calls(), sink.failures());
+        assert_eq!(rt; ended, (true, 1, 0), "of {text:?}");
     }
 }
 
@@ -89,25 +90,26 @@ const COMPILED_TEXT: &[u8] =
 /// The sink has a prefix of the text, got in at most two calls and none after the fault.
 #[test]
 fn sinks_fail(rt: HostRuntime) {
-    let plan = plan_of(&rt, rt.alloc(), COMPILED);
+    let plan = plan_of(rt.alloc(), COMPILED);
     for room in 0..COMPILED_TEXT.len() {
         let (is_ok, sink) = written(&rt, rt.alloc(), &plan, room, 1000);
         let calls = if room == 0 { 1 } else { 2 };
-        assert_eq!(rt; sink.as_slice(), &COMPILED_TEXT[..room]);
-        assert_eq!(rt; (is_ok, sink.calls(), sink.failures()), (false, calls, 1));
+        assert_eq!(rt; sink.as_slice(), &COMPILED_TEXT[..room], "with room {room}");
+        let ended = (is_ok, sink.calls(), sink.failures());
+        assert_eq!(rt; ended, (false, calls, 1), "with room {room}");
     }
 }
 
 /// A byte a call, and none.
 #[test]
 fn sinks_dawdle(rt: HostRuntime) {
-    let plan = plan_of(&rt, rt.alloc(), COMPILED);
+    let plan = plan_of(rt.alloc(), COMPILED);
     let length = COMPILED_TEXT.len();
     let rows: [(usize, &[u8], u64); 2] = [(1, COMPILED_TEXT, length as u64), (0, b"", 1)];
     for (step, held, calls) in rows {
         let (is_ok, sink) = written(&rt, rt.alloc(), &plan, length, step);
-        assert_eq!(rt; sink.as_slice(), held);
-        assert_eq!(rt; (is_ok, sink.calls()), (step == 1, calls));
+        assert_eq!(rt; sink.as_slice(), held, "by {step}");
+        assert_eq!(rt; (is_ok, sink.calls()), (step == 1, calls), "by {step}");
     }
 }
 
@@ -143,11 +145,12 @@ fn blocks_are_handed_over_when_full(rt: HostRuntime) {
         let text = around(rt.alloc(), front, shown, count, b"\nbuild a: r0\n").expect(
             &rt, "memory",
         );
-        let plan = plan_of(&rt, rt.alloc(), plan.as_slice());
+        let plan = plan_of(rt.alloc(), plan.as_slice());
         let (is_ok, sink) = written(&rt, rt.alloc(), &plan, 300_000, 4096);
-        assert_eq!(rt; text.len(), length);
+        assert_eq!(rt; text.len(), length, "of {length} bytes");
         assert!(rt; sink.as_slice() == text.as_slice(), "of {length} bytes");
-        assert_eq!(rt; (is_ok, sink.calls(), sink.failures()), (true, calls, 0));
+        let ended = (is_ok, sink.calls(), sink.failures());
+        assert_eq!(rt; ended, (true, calls, 0), "of {length} bytes");
     }
 }
 
@@ -164,8 +167,12 @@ fn pieces_are_put(rt: HostRuntime) {
     for (piece, wanted, held, calls, failures) in PIECES {
         let mut sink = MemSink::new(rt.alloc(), 7, 2).expect(&rt, "memory");
         assert_eq!(rt; sink.write(b"abc"), Ok(2));
-        assert_eq!(rt; put(&mut sink, piece).is_ok(), wanted);
-        assert_eq!(rt; sink.as_slice(), held);
-        assert_eq!(rt; (sink.calls(), sink.failures()), (calls, failures));
+        assert_eq!(rt; put(&mut sink, piece).is_ok(), wanted, "of {piece:?}");
+        assert_eq!(rt; sink.as_slice(), held, "of {piece:?}");
+        assert_eq!(rt;
+            (sink.calls(), sink.failures()),
+            (calls, failures),
+            "of {piece:?}"
+        );
     }
 }

@@ -1,6 +1,5 @@
 -- What isn't too deep is the same with one more level, step by step.
-use Rattle.std.proofs.Common.{◌≡◌, ℕ, suc, Bool, true, false, List, [], ◌∷◌, length, Option, None, ◌||◌, if◌then◌else◌, unwrap_or, slice_get, refl, ap, ◌∙◌}
-use Rattle.std.specs.Prelude.{Some}
+use Rattle.std.proofs.Common.{◌≡◌, ℕ, suc, Bool, true, false, List, [], ◌∷◌, length, Option, None, if◌then◌else◌, unwrap_or, slice_get, refl, ap, ◌∙◌}
 use Rattle.std.specs.List.{range_with_len}
 use Rattle.kt_text.specs.Words.{Text, is_nonempty}
 use Rattle.kt_rules.specs.declared.entry.RecipeLine.{RecipeLine}
@@ -16,7 +15,7 @@ use Rattle.kt_graph.specs.Node.{Node}
 use Rattle.kt_graph.specs.Views.{part_lines}
 use Rattle.kt_recipe.specs.Auto.{automatic_in}
 use Rattle.kt_recipe.specs.Lines.{after_run, is_marked, pieces_of}
-use Rattle.kt_recipe.specs.Shell.{joined, wrapped, Setting, setting_of, shell_text, expansion, put_piece, put_pieces, put_line, put_lines, put_part, put_parts, shell_of}
+use Rattle.kt_recipe.specs.Shell.{Setting, setting_of, shell_text, expansion, put_piece, put_pieces, put_line, put_lines, put_part, put_parts, shell_of}
 
 -- the second is the first, unless that is too deep
 abbrev pub Stays : {L A : Type 0} → Outcome L A → Outcome L A → Type 0

@@ -1,13 +1,11 @@
 -- A shell whose values stand for themselves is expanded to these values.
-use Rattle.std.proofs.Common.{◌≡◌, ℕ, zero, suc, Bool, true, false, not, ◌==◌, ◌&&◌, ◌||◌, ⊎_elim, List, [], ◌∷◌, ◌++◌, Option, Some, None, refl, sym, ap, ◌∙◌, append-nil, arith, true≢false}
+use Rattle.std.proofs.Common.{◌≡◌, ℕ, zero, suc, Bool, true, false, not, ◌==◌, ◌&&◌, ⊎_elim, List, [], ◌++◌, Option, Some, None, refl, sym, ap, ◌∙◌, arith, true≢false}
 use Rattle.std.proofs.lemmas.Bool.{cases_Bool, eqb-true}
 use Rattle.std.specs.Prelude.{codes, is_some, option_map, unwrap_or}
 use Rattle.std.specs.List.{list_any}
 use Rattle.kt_text.specs.Words.{Text, is_separator, is_blank, list_text}
 use Rattle.kt_rules.specs.declared.place.Place.{Place}
 use Rattle.kt_rules.specs.Names.{without_repeats}
-use Rattle.kt_syntax.specs.Terms.{dropped, literal, count_of, terms_of}
-use Rattle.kt_syntax.proofs.Splitting.{terms_of-nil, term_first}
 use Rattle.kt_eval.specs.declared.macros.Flavour.{Flavour}
 use Rattle.kt_eval.specs.declared.macros.Flavour.TheVariants.{Deferred, Immediate}
 use Rattle.kt_eval.specs.declared.macros.Macro.{Macro}
@@ -19,6 +17,7 @@ use Rattle.kt_eval.specs.Levels.{above, evaluator}
 use Rattle.kt_eval.specs.State.{World, found_of, seen, innermost, lookup, frozen_world}
 use Rattle.kt_eval.specs.Outcome.{Gave, leaving}
 use Rattle.kt_eval.specs.Table.{Table, find}
+use Rattle.kt_eval.proofs.LiteralLemmas.{stays}
 use Rattle.kt_graph.specs.Node.{Node}
 use Rattle.kt_recipe.specs.Auto.{names_of, automatic_in}
 use Rattle.kt_recipe.specs.Forms.{text_of}
@@ -31,27 +30,10 @@ no_text text is = true≢false (sym (ap is_some is))
 
 -- ---- a value
 
-neither : (a b : Bool) → (a || b) ≡ false → (a ≡ false) × (b ≡ false)
-neither false b is = (refl, is)
-neither true b is = absurd (true≢false is)
-
-uncounted : (text : Text) → list_any (λ byte. byte == 36) text ≡ false → count_of 36 text ≡ 0
-unfolding count_of
-uncounted [] free = refl
-uncounted (byte ∷ text) free =
-    let parts = neither (byte == 36) (list_any (λ byte. byte == 36) text) free in
-    rw (parts.0, uncounted text parts.1) refl
-
-text_is : (e : Evaluator) (text : Text) (w : World) → list_any (λ byte. byte == 36) text ≡ false → expanded e text w ≡ Gave w text
-unfolding expanded terms_of each_term term_of
-text_is e [] w free = rw (terms_of-nil dropped) refl
-text_is e (byte ∷ text) w free =
-    rw (term_first dropped (literal (byte ∷ text)) (byte ∷ text) (byte ∷ text) [] (sym (append-nil (byte ∷ text))) (refl, uncounted (byte ∷ text) free, tt), terms_of-nil dropped) refl
-
 free_is : (e : Evaluator) (value text : Text) (w : World) (b : Bool) → list_any (λ byte. byte == 36) value ≡ b → if_plain (not b) value ≡ Some text
     → expanded e value w ≡ Gave w text
 free_is e value text w true is found = absurd (no_text text found)
-free_is e value text w false is found = text_is e value w is ∙ ap (λ t. Gave w (unwrap_or t [])) found
+free_is e value text w false is found = stays e value w is ∙ ap (λ t. Gave w (unwrap_or t [])) found
 
 not_zero : (limit : ℕ) → (suc limit == 0) ≡ false
 not_zero limit = ⊎_elim (λ h. let e = eqb-true _ _ h in absurd (omega arith)) (λ h. h) (cases_Bool (suc limit == 0))

@@ -20,6 +20,7 @@ use std::marker::Model;
 /// manual, "Automatic Variables").
 #[derive(Drop)]
 pub struct PartMacros<'n, 'g> {
+    alloc: Global,
     node: &'n Node<'g>,
     part: usize,
 }
@@ -33,10 +34,10 @@ impl<'n, 'g> Model for PartMacros<'n, 'g> {
 }
 
 /// The automatic macros of a part of a node; its parts are numbered from 0.
-pub fn auto_of<'n, 'g>(node: &'n Node<'g>, part: usize) -> PartMacros<'n, 'g>
+pub fn auto_of<'n, 'g>(alloc: Global, node: &'n Node<'g>, part: usize) -> PartMacros<'n, 'g>
     ensures { result ≡ record { node = node.now; part = part } }
 {
-    PartMacros { node, part }
+    PartMacros { alloc, node, part }
 }
 
 impl<'n, 'g> Automatic for PartMacros<'n, 'g> {
@@ -44,8 +45,8 @@ impl<'n, 'g> Automatic for PartMacros<'n, 'g> {
 
     ghost values = { λ macros. automatic_in macros.node macros.part };
 
-    fn value(&self, alloc: Global, name: &[u8]) -> Result<Option<Vec<u8>>, AllocError> {
-        macro_in(alloc, self.node, self.part, name)
+    fn value(&self, name: &[u8]) -> Result<Option<Vec<u8>>, AllocError> {
+        macro_in(self.alloc, self.node, self.part, name)
     }
 }
 

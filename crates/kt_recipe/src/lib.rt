@@ -3,6 +3,7 @@
 
 mod automatic;
 mod calls;
+mod commands;
 mod forms;
 pub mod laws;
 mod lines;
@@ -12,4 +13,5 @@ mod shell;
 mod subjects;
 
 pub use automatic::{PartMacros, auto_of};
+pub use commands::Commands;
 pub use shell::command;

@@ -1,5 +1,6 @@
 //! The commands of nodes.
 ghost use Rattle.std.specs.Prelude.{◌≡◌, None, length, map, option_map, unwrap_or, slice_get};
+ghost use Rattle.std.specs.Cow.{cow_slice_items};
 ghost use Rattle.std.specs.List.{range_with_len};
 ghost use Rattle.kt_eval.specs.Pure.{Says};
 ghost use Rattle.kt_graph.specs.Views.{part_lines};
@@ -11,19 +12,37 @@ ghost use Rattle.kt_recipe.specs.Views.{command_in, setting_at};
 
 use crate::automatic::auto_of;
 use crate::calls::put_call;
+use crate::commands::Commands;
 use crate::lines::{after_run, is_marked, pieces};
-use crate::plain::plain_shell;
 use kt_eval::{Macros, Stop};
 use kt_graph::Node;
 use kt_list::Sequence;
 use kt_rules::{Place, RecipeLine};
 use std::alloc::Global;
+use std::borrow::CowSlice;
 
-/// The command of a node: the pieces of its recipes, each for a shell of its own, joined by `&&`
-/// (GNU make manual, "Recipe Execution"). None where no recipe has a piece.
-///
-/// Messages are appended in order; where memory is refused, a prefix of them.
-#[tactic(auto, unfolding(crate::specs::Shell::shell_of))]
+impl<'m> Commands<'m> {
+    /// The command of a node: the pieces of its recipes, each for a shell of its own, joined by `&&`
+    /// (GNU make manual, "Recipe Execution"). None where no recipe has a piece.
+    ///
+    /// Messages are appended in order; where memory is refused, a prefix of them.
+    #[tactic(auto, unfolding(crate::specs::Shell::shell_of))]
+    pub fn command(
+        &self,
+        node: &Node,
+        messages: &mut Vec<Sequence<u8>>,
+    ) -> Result<Option<Vec<u8>>, Stop>
+        ensures { Says (option_map (λ text. text.items))
+            (shell_of self.now.table self.now.limit node.now)
+            result messages.old.items messages.new.items }
+    {
+        let mut command = Vec::new(self.alloc());
+        put_parts(self, node, &mut command, messages)?;
+        Ok(some_text(command))
+    }
+}
+
+/// The command of a node by these macros and this limit of levels, as `Commands` makes it.
 pub fn command(
     alloc: Global,
     macros: &Macros,
@@ -35,9 +54,7 @@ pub fn command(
         (shell_of macros.now limit node.now)
         result messages.old.items messages.new.items }
 {
-    let mut command = Vec::new(alloc);
-    put_parts(alloc, macros, node, limit, &mut command, messages)?;
-    Ok(some_text(command))
+    Commands::new(alloc, macros, limit)?.command(node, messages)
 }
 
 fn some_text(command: Vec<u8>) -> Option<Vec<u8>>
@@ -53,24 +70,21 @@ fn some_text(command: Vec<u8>) -> Option<Vec<u8>>
 // Appends the commands of a node's parts.
 #[tactic(auto, unfolding(crate::specs::Shell::put_parts))]
 fn put_parts(
-    alloc: Global,
-    macros: &Macros,
+    commands: &Commands<'_>,
     node: &Node,
-    limit: u64,
     command: &mut Vec<u8>,
     messages: &mut Vec<Sequence<u8>>,
 ) -> Result<(), Stop>
     ensures { Says (λ _. command_in command.new.items)
-        (put_parts macros.now limit node.now (range_with_len 0 (length node.now.parts)) (command_in command.old.items))
+        (put_parts commands.now.table commands.now.limit node.now (range_with_len 0 (length node.now.parts))
+        (command_in command.old.items))
         result messages.old.items messages.new.items }
 {
     for part in 0..node.parts() {
         let shell = Shell {
-            alloc,
-            macros,
+            commands,
             node,
             part,
-            limit,
         };
         shell.put_part(command, messages)?;
     }
@@ -79,20 +93,19 @@ fn put_parts(
 
 // What the lines of a part's recipe are expanded with.
 #[derive(Clone, Copy)]
-struct Shell<'a, 'g> {
-    alloc: Global,
-    macros: &'a Macros,
+struct Shell<'a, 'm, 'g> {
+    commands: &'a Commands<'m>,
     node: &'a Node<'g>,
     part: usize,
-    limit: u64,
 }
 
-impl<'a, 'g> Shell<'a, 'g> {
+impl<'a, 'm, 'g> Shell<'a, 'm, 'g> {
     // Appends the command of the part.
     #[tactic(auto, unfolding(crate::specs::Shell::put_part))]
     fn put_part(&self, command: &mut Vec<u8>, messages: &mut Vec<Sequence<u8>>) -> Result<(), Stop>
         ensures { Says (λ _. command_in command.new.items)
-            (put_part self.now.macros.now self.now.limit self.now.node.now self.now.part (command_in command.old.items))
+            (put_part self.now.commands.now.table self.now.commands.now.limit self.now.node.now self.now.part
+            (command_in command.old.items))
             result messages.old.items messages.new.items }
     {
         match self.node.recipe(self.part) {
@@ -109,8 +122,8 @@ impl<'a, 'g> Shell<'a, 'g> {
         messages: &mut Vec<Sequence<u8>>,
     ) -> Result<(), Stop>
         ensures { Says (λ _. command_in command.new.items)
-            (put_lines self.now.macros.now (automatic_in self.now.node.now self.now.part) self.now.limit lines.now
-            (command_in command.old.items))
+            (put_lines self.now.commands.now.table (automatic_in self.now.node.now self.now.part)
+            self.now.commands.now.limit lines.now (command_in command.old.items))
             result messages.old.items messages.new.items }
     {
         for line in lines {
@@ -150,7 +163,7 @@ impl<'a, 'g> Shell<'a, 'g> {
             (put_pieces (setting_at self.now place.now) marked (pieces_of text.now) (command_in command.old.items))
             result messages.old.items messages.new.items }
     {
-        let pieces = pieces(self.alloc, text)?;
+        let pieces = pieces(self.commands.alloc(), text)?;
         self.put_pieces(place, marked, pieces.as_slice(), command, messages)
     }
 
@@ -199,14 +212,21 @@ impl<'a, 'g> Shell<'a, 'g> {
 
     // The shell that a piece is for; it is expanded only where one of its values has to be.
     #[tactic(auto, using(crate::proofs::PlainLemmas::shell_is))]
-    fn shell(&self, place: &Place, messages: &mut Vec<Sequence<u8>>) -> Result<Vec<u8>, Stop>
-        ensures { Says (λ v. v.items)
+    fn shell(
+        &self,
+        place: &Place,
+        messages: &mut Vec<Sequence<u8>>,
+    ) -> Result<CowSlice<'_, u8>, Stop>
+        ensures { Says cow_slice_items
             (expansion (setting_at self.now place.now) shell_text)
             result messages.old.items messages.new.items }
     {
-        match plain_shell(self.alloc, self.macros, self.limit)? {
-            Some(shell) => Ok(shell),
-            None => self.expand(place, b"$(SHELL) $(.SHELLFLAGS)", messages),
+        match self.commands.plain_shell() {
+            Some(shell) => Ok(CowSlice::Borrowed(shell)),
+            None => {
+                let shell = self.expand(place, b"$(SHELL) $(.SHELLFLAGS)", messages)?;
+                Ok(CowSlice::Owned(shell))
+            }
         }
     }
 
@@ -221,10 +241,8 @@ impl<'a, 'g> Shell<'a, 'g> {
             (expansion (setting_at self.now place.now) text.now)
             result messages.old.items messages.new.items }
     {
-        let automatic = auto_of(self.node, self.part);
-        let place = Some(place.share()?);
-        let limit = self.limit;
-        self.macros
-            .expand_pure(self.alloc, text, &automatic, place, messages, limit)
+        let automatic = auto_of(self.commands.alloc(), self.node, self.part);
+        let place = place.share()?;
+        self.commands.expand(text, &automatic, place, messages)
     }
 }

@@ -1,5 +1,5 @@
 //! Automatic macros.
-use crate::told::{Row, tells};
+use crate::told::{Asked, Question, Row, tells, told};
 
 #[test]
 fn lists_prerequisites(rt: HostRuntime) {
@@ -123,4 +123,72 @@ fn hides_the_table(rt: HostRuntime) {
         "/bin/sh -c 'a b t t'\n",
     )];
     tells(&rt, rt.alloc(), 100, ROWS);
+}
+
+/// Names of automatic macros, and after them those of none.
+const NAMES: &[&[u8]] = &[
+    b"@", b"<", b"^", b"+", b"?", b"|", b"*", b"%", b"@D", b"@F", b"<D", b"^F", b"*F", b"|D",
+    b"%D", b"@@", b"A", b"",
+];
+
+const NONE: &str = "|D is none\n%D is none\n@@ is none\nA is none\n is none\n";
+
+/// A makefile, a goal, a part of its node, and the values of the automatic macros.
+const VALUES: [(&str, &str, usize, &str); 6] = [
+    (
+        "d/t.c: e/a f e/a | g f g ; x\n",
+        "d/t.c",
+        0,
+        "@=d/t.c\n<=e/a\n^=e/a f\n+=e/a f e/a\n?=e/a f\n|=g\n*=d/t\n%=\n@D=d\n@F=t.c\n<D=e\n^F=a f\n*F=t\n",
+    ),
+    // Each rule of two colons has its own.
+    (
+        "a:: x | y ; one\na:: y z | x ; two\n",
+        "a",
+        0,
+        "@=a\n<=x\n^=x\n+=x\n?=x\n|=y\n*=\n%=\n@D=.\n@F=a\n<D=.\n^F=x\n*F=\n",
+    ),
+    (
+        "a:: x | y ; one\na:: y z | x ; two\n",
+        "a",
+        1,
+        "@=a\n<=y\n^=y z\n+=y z\n?=y z\n|=x\n*=\n%=\n@D=.\n@F=a\n<D=.\n^F=y z\n*F=\n",
+    ),
+    (
+        "x.o y.o: %.o: d/%.c ; x\n",
+        "y.o",
+        0,
+        "@=y.o\n<=d/y.c\n^=d/y.c\n+=d/y.c\n?=d/y.c\n|=\n*=y\n%=\n@D=.\n@F=y.o\n<D=d\n^F=y.c\n*F=y\n",
+    ),
+    (
+        "t: ; x\n",
+        "t",
+        0,
+        "@=t\n<=\n^=\n+=\n?=\n|=\n*=\n%=\n@D=.\n@F=t\n<D=\n^F=\n*F=\n",
+    ),
+    // A part that the node doesn't have tells its target.
+    (
+        "t: a | b ; x\n",
+        "t",
+        1,
+        "@=t\n<=\n^=\n+=\n?=\n|=\n*=\n%=\n@D=.\n@F=t\n<D=\n^F=\n*F=\n",
+    ),
+];
+
+#[test]
+fn gives_values(rt: HostRuntime) {
+    for (makefile, goal, part, values) in VALUES {
+        let asked = Asked {
+            list: b"",
+            goals: goal.as_bytes(),
+            question: Question::Values(part, NAMES),
+        };
+        let told = told(&rt, rt.alloc(), makefile.as_bytes(), asked);
+        let found = told.as_slice().strip_suffix(NONE.as_bytes()).unwrap_or(b"");
+        assert_eq!(rt;
+            found,
+            values.as_bytes(),
+            "of part {part} of {goal} in {makefile}"
+        );
+    }
 }

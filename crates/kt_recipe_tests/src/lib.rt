@@ -7,4 +7,6 @@ mod automatic;
 #[cfg(test)]
 mod commands;
 #[cfg(test)]
+mod quoting;
+#[cfg(test)]
 mod told;

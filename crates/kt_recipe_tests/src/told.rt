@@ -1,9 +1,11 @@
-//! What is told of the commands of a makefile: messages, a command a line, or the fault.
-use kt_eval::{Fault, Files, Machine, Macros, MemFiles, Reading, Stop};
+//! What is told of a makefile: the messages and commands of its goals, or the automatic macros of one.
+use kati_doubles::{files_of, put_messages, put_stop};
+use kt_eval::{Automatic, Machine, Macros, MemFiles, Reading, Stop};
 use kt_graph::{Graph, Known, Node, graph};
 use kt_list::Sequence;
-use kt_recipe::command;
+use kt_recipe::{Commands, auto_of, command};
 use kt_rules::Name;
+use kt_testing::put;
 use std::alloc::Global;
 use std::process::Abort;
 
@@ -12,24 +14,55 @@ pub(crate) type Row<'a> = (&'a str, &'a str, &'a str, &'a str);
 
 pub(crate) fn tells(rt: &impl Abort, alloc: Global, limit: u64, rows: &[Row]) {
     for row in rows {
-        let mut told = Vec::new(alloc);
-        put_row(&mut told, rt, alloc, limit, row);
-        assert_eq!(rt; told.as_slice(), row.3.as_bytes());
+        let asked = Asked {
+            list: row.1.as_bytes(),
+            goals: row.2.as_bytes(),
+            question: Question::Commands(limit),
+        };
+        let told = told(rt, alloc, row.0.as_bytes(), asked);
+        assert_eq!(rt; told.as_slice(), row.3.as_bytes(), "of {}", row.0);
     }
 }
 
-fn put_row(told: &mut Vec<u8>, rt: &impl Abort, alloc: Global, limit: u64, row: &Row) {
-    let goals = names(rt, alloc, row.2.as_bytes());
-    let mut files = files_with(rt, alloc, row.0.as_bytes());
-    let machine = Machine::new(alloc, Macros::new(alloc), limit).expect(rt, "memory");
-    put_run(
-        told,
-        rt,
-        alloc,
-        (limit, row.1, goals.as_slice()),
-        machine,
-        &mut files,
-    );
+/// What is asked of the graph of goals.
+#[derive(Clone, Copy)]
+pub(crate) enum Question<'a> {
+    /// The commands, by a limit of levels.
+    Commands(u64),
+    /// What names stand for in a part of the node of the goal.
+    Values(usize, &'a [&'a [u8]]),
+}
+
+/// A list of files, goals on lines, and what is asked of their graph.
+#[derive(Clone, Copy)]
+pub(crate) struct Asked<'a> {
+    pub(crate) list: &'a [u8],
+    pub(crate) goals: &'a [u8],
+    pub(crate) question: Question<'a>,
+}
+
+/// What is told of a makefile.
+pub(crate) fn told(rt: &impl Abort, alloc: Global, makefile: &[u8], asked: Asked) -> Vec<u8> {
+    let mut files = files_of(alloc, &[("Makefile", makefile)], 0).expect(rt, "memory");
+    let mut machine = Machine::new(alloc, Macros::new(alloc), limit(asked)).expect(rt, "memory");
+    let mut told = Vec::new(alloc);
+    match read(&mut machine, &mut files) {
+        Ok(()) => put_reading(&mut told, rt, alloc, asked, &machine.finish()),
+        Err(stop) => put_stop(&mut told, &stop),
+    }
+    told
+}
+
+fn limit(asked: Asked) -> u64 {
+    match asked.question {
+        Question::Commands(limit) => limit,
+        Question::Values(_, _) => 100,
+    }
+}
+
+/// Reads. It stands apart so that what the contract says of a reading burdens no other proof.
+fn read(machine: &mut Machine, files: &mut MemFiles) -> Result<(), Stop> {
+    machine.read_file(files, &["Makefile"])
 }
 
 /// The lines of a text as names.
@@ -42,113 +75,113 @@ fn names(rt: &impl Abort, alloc: Global, words: &[u8]) -> Vec<Name> {
     names
 }
 
-fn files_with(rt: &impl Abort, alloc: Global, makefile: &[u8]) -> MemFiles {
-    let name = "Makefile".to_string(alloc).expect(rt, "memory");
-    let text = Vec::from_slice(alloc, makefile).expect(rt, "memory");
-    let mut pairs = Vec::new(alloc);
-    pairs.push((name, text)).ok().expect(rt, "memory");
-    MemFiles::new(alloc, pairs, 0)
-}
-
-/// What is asked of a reading: the commands by this limit, list of files and goals.
-type Asked<'a> = (u64, &'a str, &'a [Name]);
-
-fn put_run(
-    told: &mut Vec<u8>,
-    rt: &impl Abort,
-    alloc: Global,
-    asked: Asked,
-    mut machine: Machine,
-    files: &mut MemFiles,
-) {
-    match read(&mut machine, files) {
-        Ok(()) => put_reading(told, rt, alloc, asked, &machine.finish()),
-        Err(stop) => put_stop(told, &stop),
-    }
-}
-
-/// Reads. It stands apart so that what the contract says of a reading burdens no other proof.
-fn read(machine: &mut Machine, files: &mut MemFiles) -> Result<(), Stop> {
-    machine.read_file(files, &["Makefile"])
-}
-
 fn put_reading(
     told: &mut Vec<u8>,
     rt: &impl Abort,
     alloc: Global,
-    (limit, list, goals): Asked,
+    asked: Asked,
     reading: &Reading,
 ) {
-    let known = Known::of(alloc, &reading.book, list.as_bytes()).expect(rt, "memory");
-    match graph(alloc, &reading.book, &known, goals) {
-        Ok(graph) => put_commands(told, alloc, &reading.macros, &graph, limit),
+    let goals = names(rt, alloc, asked.goals);
+    let known = Known::of(alloc, &reading.book, asked.list).expect(rt, "memory");
+    match graph(alloc, &reading.book, &known, goals.as_slice()) {
+        Ok(graph) => put_graph(told, rt, alloc, asked, &reading.macros, &graph),
         Err(_) => put(told, b"no graph"),
     }
 }
 
-/// The messages and commands of the made nodes, in byte order.
-fn put_commands(told: &mut Vec<u8>, alloc: Global, macros: &Macros, graph: &Graph, limit: u64) {
-    let mut messages = Vec::new(alloc);
-    for node in graph.nodes() {
-        if node.is_made() {
-            put_command(told, alloc, macros, &node, &mut messages, limit);
-        }
-    }
-    for message in messages.as_slice() {
-        put(told, message.as_slice());
-        put(told, b"\n");
+fn put_graph(
+    told: &mut Vec<u8>,
+    rt: &impl Abort,
+    alloc: Global,
+    asked: Asked,
+    macros: &Macros,
+    graph: &Graph,
+) {
+    match asked.question {
+        Question::Commands(limit) => put_commands(told, rt, alloc, macros, graph, limit),
+        Question::Values(part, names) => match graph.node(asked.goals) {
+            Some(node) => put_values(told, alloc, &node, part, names),
+            None => put(told, b"no node"),
+        },
     }
 }
 
-fn put_command(
+/// The messages and commands of the made nodes, in byte order.
+fn put_commands(
     told: &mut Vec<u8>,
+    rt: &impl Abort,
     alloc: Global,
     macros: &Macros,
-    node: &Node,
-    messages: &mut Vec<Sequence<u8>>,
+    graph: &Graph,
     limit: u64,
 ) {
-    match made(alloc, macros, node, messages, limit) {
+    let commands = Commands::new(alloc, macros, limit).expect(rt, "memory");
+    let mut messages = Vec::new(alloc);
+    for node in graph.nodes() {
+        if node.is_made() {
+            let answer = made(&commands, &node, &mut messages);
+            if !is_same(&answer, &made_alone(alloc, macros, &node, limit)) {
+                put(told, b"alone otherwise: ");
+            }
+            put_command(told, &answer);
+        }
+    }
+    put_messages(told, messages.as_slice());
+}
+
+fn put_command(told: &mut Vec<u8>, answer: &Result<Option<Vec<u8>>, Stop>) {
+    match answer {
         Ok(Some(text)) => put(told, text.as_slice()),
         Ok(None) => put(told, b"phony"),
-        Err(stop) => put_stop(told, &stop),
+        Err(stop) => put_stop(told, stop),
     }
     put(told, b"\n");
 }
 
 /// Calls. It stands apart so that what the contract says burdens no other proof.
 fn made(
+    commands: &Commands<'_>,
+    node: &Node,
+    messages: &mut Vec<Sequence<u8>>,
+) -> Result<Option<Vec<u8>>, Stop> {
+    commands.command(node, messages)
+}
+
+/// The command of one node alone.
+fn made_alone(
     alloc: Global,
     macros: &Macros,
     node: &Node,
-    messages: &mut Vec<Sequence<u8>>,
     limit: u64,
 ) -> Result<Option<Vec<u8>>, Stop> {
-    command(alloc, macros, node, messages, limit)
+    command(alloc, macros, node, &mut Vec::new(alloc), limit)
 }
 
-fn put_stop(told: &mut Vec<u8>, stop: &Stop) {
-    match stop {
-        Stop::Fault(fault) => put_fault(told, fault),
-        Stop::Device(_) => put(told, b"device"),
-        Stop::Memory => put(told, b"no memory"),
+fn is_same(one: &Result<Option<Vec<u8>>, Stop>, other: &Result<Option<Vec<u8>>, Stop>) -> bool {
+    match (one, other) {
+        (Ok(one), Ok(other)) => one == other,
+        (Err(_), Err(_)) => true,
+        _ => false,
     }
 }
 
-fn put_fault(told: &mut Vec<u8>, fault: &Fault) {
-    if let Some(place) = &fault.place {
-        let _refused = place.append_to(told);
+/// What names stand for in a part of a node, a line each.
+fn put_values(told: &mut Vec<u8>, alloc: Global, node: &Node, part: usize, names: &[&[u8]]) {
+    for name in names {
+        put(told, name);
+        put_value(told, alloc, node, part, name);
+        put(told, b"\n");
     }
-    put(told, b": *** ");
-    put(told, fault.words.as_slice());
-    put(told, b" [E");
-    put(
-        told,
-        &[b'0' + fault.number / 10 % 10, b'0' + fault.number % 10],
-    );
-    put(told, b"]");
 }
 
-fn put(told: &mut Vec<u8>, text: &[u8]) {
-    let _refused = told.extend_from_slice(text);
+fn put_value(told: &mut Vec<u8>, alloc: Global, node: &Node, part: usize, name: &[u8]) {
+    match auto_of(alloc, node, part).value(name) {
+        Ok(Some(value)) => {
+            put(told, b"=");
+            put(told, value.as_slice());
+        }
+        Ok(None) => put(told, b" is none"),
+        Err(_refused) => put(told, b" has no memory"),
+    }
 }

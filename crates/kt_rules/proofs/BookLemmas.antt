@@ -12,14 +12,13 @@ use Rattle.std.proofs.lemmas.Slice.Eq.{bytes_eq-Decides}
 use Rattle.kt_text.specs.Words.{Text}
 use Rattle.kt_rules.specs.declared.entry.Target.{Target}
 use Rattle.kt_rules.specs.declared.book.spot.Spot.{Spot}
-use Rattle.kt_rules.specs.declared.index.Index.{Index}
+use Rattle.kt_rules.specs.inner.Lists.{Notes}
 use Rattle.kt_rules.specs.Entry.{Rule}
 use Rattle.kt_rules.specs.Refusals.{bad_group, both_colons, two_recipes}
 use Rattle.kt_rules.specs.Names.{is_among, with_name}
-use Rattle.kt_rules.specs.Indexes.{noted_at}
 use Rattle.kt_rules.specs.Suffixes.{suffixes_of, suffixes_after, start_suffixes}
 use Rattle.kt_rules.specs.Book.{AreApart, GroupsStandAlone, is_made, made_targets, target_rules, rules_of, recipes_of, has_recipe, is_double, is_group, phony_of, is_phony, xor, differ_in_colons, is_beside_group, both_colons_in, beside_group_in, two_recipes_in, refusal_of}
-use Rattle.kt_rules.specs.Slots.{rules_in, target_rule, spot_rule, found, first_of, spot_at, target_spots, spots_from, spots_for, AreBefore, AreIn, GrewIn, GotSpots, GotRecipes, AreAlike, Tells, IsKept}
+use Rattle.kt_rules.specs.Slots.{spots_at, rules_in, target_rule, spot_rule, found, first_of, spot_at, target_spots, spots_from, spots_for, AreBefore, AreIn, GrewIn, GotSpots, GotRecipes, AreAlike, Tells, IsKept}
 use Rattle.kt_rules.proofs.FindLemmas.{find_none, or_split, some_none}
 use Rattle.kt_rules.proofs.GroupLemmas.{apart_last}
 use Rattle.kt_rules.proofs.SlotLemmas.{rules_in-none, rules_in-some, found-before, found-in_none, found-append, before_more, before_in, before_append, in_spots_from, first_target, slot_last}
@@ -108,20 +107,20 @@ before_new slots slot spots more h k =
     rw (longer slots slot) (before_append (length slots + 1) spots more (before_more (length slots) spots h) (before_in (length slots) more k))
 
 -- an entry that stays out leaves an index as it was, whatever was noted
-pub tells_none : (slots : List (Option Rule)) (old new : Index Spot) (rules : Text → List (Rule × Target))
+pub tells_none : (slots : List (Option Rule)) (old new : Notes) (rules : Text → List (Rule × Target))
     → Tells slots old rules → GrewIn (length slots) old new → Tells (slots ++ None ∷ []) new rules
 tells_none slots old new rules told grew = record {
   all = λ name.
       let more = grew name in
       ap (found (slots ++ None ∷ [])) more.1
-      ∙ found-append (slots ++ None ∷ []) (noted_at old name) more.0
-      ∙ ap (λ xs. xs ++ found (slots ++ None ∷ []) more.0) (found-before slots None (noted_at old name) (told.before name))
-      ∙ ap (λ xs. found slots (noted_at old name) ++ xs) (found-in_none slots more.0 more.2)
-      ∙ append-nil (found slots (noted_at old name))
+      ∙ found-append (slots ++ None ∷ []) (spots_at old name) more.0
+      ∙ ap (λ xs. xs ++ found (slots ++ None ∷ []) more.0) (found-before slots None (spots_at old name) (told.before name))
+      ∙ ap (λ xs. found slots (spots_at old name) ++ xs) (found-in_none slots more.0 more.2)
+      ∙ append-nil (found slots (spots_at old name))
       ∙ told.all name;
   before = λ name.
       let more = grew name in
-      subst (AreBefore (length (slots ++ None ∷ []))) (sym more.1) (before_new slots None (noted_at old name) more.0 (told.before name) more.2);
+      subst (AreBefore (length (slots ++ None ∷ []))) (sym more.1) (before_new slots None (spots_at old name) more.0 (told.before name) more.2);
 }
 
 in_if_spots : (rule : Rule) (place : ℕ) (name : Text) (b : Bool) → AreIn place (if b then spots_for rule place name else [])
@@ -129,21 +128,21 @@ in_if_spots rule place name true = in_spots_from rule place 0 rule.targets name
 in_if_spots rule place name false = tt
 
 -- one more rule is told
-pub tells_more : (slots : List (Option Rule)) (rule : Rule) (old new : Index Spot) (first later : Text → List (Rule × Target)) (b : Bool)
+pub tells_more : (slots : List (Option Rule)) (rule : Rule) (old new : Notes) (first later : Text → List (Rule × Target)) (b : Bool)
     → Tells slots old first
-    → ((name : Text) → noted_at new name ≡ noted_at old name ++ (if b then spots_for rule (length slots) name else []))
+    → ((name : Text) → spots_at new name ≡ spots_at old name ++ (if b then spots_for rule (length slots) name else []))
     → ((name : Text) → later name ≡ first name ++ (if b then of_name rule name else []))
     → Tells (slots ++ Some rule ∷ []) new later
 tells_more slots rule old new first later b told got is = record {
   all = λ name.
       ap (found (slots ++ Some rule ∷ [])) (got name)
-      ∙ found-append (slots ++ Some rule ∷ []) (noted_at old name) (if b then spots_for rule (length slots) name else [])
-      ∙ ap (λ xs. xs ++ found (slots ++ Some rule ∷ []) (if b then spots_for rule (length slots) name else [])) (found-before slots (Some rule) (noted_at old name) (told.before name) ∙ told.all name)
+      ∙ found-append (slots ++ Some rule ∷ []) (spots_at old name) (if b then spots_for rule (length slots) name else [])
+      ∙ ap (λ xs. xs ++ found (slots ++ Some rule ∷ []) (if b then spots_for rule (length slots) name else [])) (found-before slots (Some rule) (spots_at old name) (told.before name) ∙ told.all name)
       ∙ ap (λ xs. first name ++ xs) (found-for slots rule name b)
       ∙ sym (is name);
   before = λ name.
       subst (AreBefore (length (slots ++ Some rule ∷ []))) (sym (got name))
-      (before_new slots (Some rule) (noted_at old name) _ (told.before name) (in_if_spots rule (length slots) name b));
+      (before_new slots (Some rule) (spots_at old name) _ (told.before name) (in_if_spots rule (length slots) name b));
 }
 
 -- ---- rules that are alike
@@ -307,7 +306,7 @@ phony_more rules rule name =
 -- ---- a book
 
 -- without rules
-pub kept_new : (targets recipes : Index Spot) → ((name : Text) → noted_at targets name ≡ []) → ((name : Text) → noted_at recipes name ≡ [])
+pub kept_new : (targets recipes : Notes) → ((name : Text) → spots_at targets name ≡ []) → ((name : Text) → spots_at recipes name ≡ [])
     → IsKept [] targets recipes [] start_suffixes
 unfolding rules_of recipes_of found is_phony
 kept_new targets recipes t r = record {
@@ -327,8 +326,8 @@ kept_new targets recipes t r = record {
 }
 
 -- without rules, as the parts are made
-pub kept_made : (slots : List (Option Rule)) (targets recipes : Index Spot) (phony suffixes : List Text)
-    → slots ≡ [] → ((name : Text) → noted_at targets name ≡ []) → ((name : Text) → noted_at recipes name ≡ []) → phony ≡ [] → suffixes ≡ start_suffixes
+pub kept_made : (slots : List (Option Rule)) (targets recipes : Notes) (phony suffixes : List Text)
+    → slots ≡ [] → ((name : Text) → spots_at targets name ≡ []) → ((name : Text) → spots_at recipes name ≡ []) → phony ≡ [] → suffixes ≡ start_suffixes
     → IsKept slots targets recipes phony suffixes
 kept_made slots targets recipes phony suffixes s t r p f =
     subst (λ xs. IsKept xs targets recipes phony suffixes) (sym s)
@@ -336,7 +335,7 @@ kept_made slots targets recipes phony suffixes s t r p f =
     (subst (λ xs. IsKept [] targets recipes [] xs) (sym f) (kept_new targets recipes t r)))
 
 -- an entry that stays out
-pub kept_none : (slots : List (Option Rule)) (targets targets' recipes recipes' : Index Spot) (phony phony' suffixes suffixes' : List Text)
+pub kept_none : (slots : List (Option Rule)) (targets targets' recipes recipes' : Notes) (phony phony' suffixes suffixes' : List Text)
     → IsKept slots targets recipes phony suffixes
     → GrewIn (length slots) targets targets' → GrewIn (length slots) recipes recipes' → phony' ≡ phony → suffixes' ≡ suffixes
     → IsKept (slots ++ None ∷ []) targets' recipes' phony' suffixes'
@@ -353,7 +352,7 @@ kept_none slots targets targets' recipes recipes' phony phony' suffixes suffixes
     }
 
 -- one more rule
-pub kept_some : (slots : List (Option Rule)) (rule : Rule) (targets targets' recipes recipes' : Index Spot) (phony phony' suffixes suffixes' : List Text)
+pub kept_some : (slots : List (Option Rule)) (rule : Rule) (targets targets' recipes recipes' : Notes) (phony phony' suffixes suffixes' : List Text)
     → IsKept slots targets recipes phony suffixes → refusal_of (rules_in slots) rule ≡ None
     → GotSpots rule (length slots) targets targets' → GotRecipes rule (length slots) recipes recipes'
     → phony' ≡ fold with_name phony (phony_of rule) → suffixes' ≡ suffixes_after suffixes rule

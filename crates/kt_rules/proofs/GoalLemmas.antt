@@ -7,13 +7,12 @@ use Rattle.std.proofs.lemmas.List.{drop_more, drop_all}
 use Rattle.kt_text.specs.Words.{Text}
 use Rattle.kt_rules.specs.declared.entry.Target.{Target}
 use Rattle.kt_rules.specs.declared.book.spot.Spot.{Spot}
-use Rattle.kt_rules.specs.declared.index.Index.{Index}
+use Rattle.kt_rules.specs.inner.Lists.{Notes}
 use Rattle.kt_rules.specs.Entry.{Rule}
-use Rattle.kt_rules.specs.Indexes.{noted_at}
 use Rattle.kt_rules.specs.inner.SuffixCuts.{is_bare_at}
 use Rattle.kt_rules.specs.Suffixes.{is_bare, suffix_patterns, suffixes_of}
 use Rattle.kt_rules.specs.Book.{is_goal, first_goal_by, target_rules, explicit_rules, rules_of, recipes_of, is_double, is_group, xor, differ_in_colons, is_beside_group}
-use Rattle.kt_rules.specs.Slots.{rules_in, slot_goal, found, first_of, first_found, spot_rule, unless, explicit_left, IsKept}
+use Rattle.kt_rules.specs.Slots.{spots_at, rules_in, slot_goal, found, first_of, first_found, spot_rule, unless, explicit_left, IsKept}
 use Rattle.kt_rules.proofs.FindLemmas.{or_split}
 use Rattle.kt_rules.proofs.BookLemmas.{alike_first}
 
@@ -68,10 +67,10 @@ pub explicit_found : (skips : Bool) (slots : List (Option Rule)) (spots : List S
 unfolding explicit_left found
 explicit_found skips slots spots = filter_unless (λ made. is_bare made && skips) (spot_rule slots) spots
 
-module _ (slots : List (Option Rule)) (targets recipes : Index Spot) (phony suffixes : List Text) (kept : IsKept slots targets recipes phony suffixes)
+module _ (slots : List (Option Rule)) (targets recipes : Notes) (phony suffixes : List Text) (kept : IsKept slots targets recipes phony suffixes)
     (rules : List Rule) (view : rules_in slots ≡ rules) (rule : Rule) (name : Text) (first : Option (Rule × Target)) where
   -- the first rule of a target tells of its colons
-  pub colons_by_first : first ≡ first_found slots (noted_at targets name)
+  pub colons_by_first : first ≡ first_found slots (spots_at targets name)
       → option_map_or (λ (made : Rule × Target). xor (is_double made.0.kind) (is_double rule.kind)) first false ≡ list_any (differ_in_colons rule) (rules_of rules name)
   colons_by_first at =
       ap (λ o. option_map_or (λ (made : Rule × Target). xor (is_double made.0.kind) (is_double rule.kind)) o false) (at ∙ ap first_of (kept.targets_told.all name))
@@ -79,7 +78,7 @@ module _ (slots : List (Option Rule)) (targets recipes : Index Spot) (phony suff
       ∙ ap (λ rs. list_any (differ_in_colons rule) (rules_of rs name)) view
 
   -- the first rule with a recipe tells of groups
-  pub group_by_first : first ≡ first_found slots (noted_at recipes name)
+  pub group_by_first : first ≡ first_found slots (spots_at recipes name)
       → option_map_or (λ (made : Rule × Target). is_group rule.kind || is_group made.0.kind) first false ≡ list_any (is_beside_group rule) (recipes_of rules name)
   group_by_first at =
       ap (λ o. option_map_or (λ (made : Rule × Target). is_group rule.kind || is_group made.0.kind) o false) (at ∙ ap first_of (kept.recipes_told.all name))
@@ -115,11 +114,11 @@ guarded : (skips any : Bool) (rules : List (Rule × Target)) → list_any is_bar
 guarded skips true rules h = refl
 guarded skips false rules h = none_bare skips rules h
 
-module _ (slots : List (Option Rule)) (targets recipes : Index Spot) (phony suffixes : List Text) (kept : IsKept slots targets recipes phony suffixes)
+module _ (slots : List (Option Rule)) (targets recipes : Notes) (phony suffixes : List Text) (kept : IsKept slots targets recipes phony suffixes)
     (rules : List Rule) (view : rules_in slots ≡ rules) (name : Text) where
   -- the explicit rules of a target
   pub explicit_by_spots : (skips : Bool) (all : List (Option Rule)) (spots : List Spot) → skips ≡ (list_any (is_bare_at all) spots && is_some (suffix_patterns suffixes name))
-      → all ≡ slots → spots ≡ noted_at targets name → explicit_left skips all spots ≡ explicit_rules rules name
+      → all ≡ slots → spots ≡ spots_at targets name → explicit_left skips all spots ≡ explicit_rules rules name
   unfolding explicit_rules
   explicit_by_spots skips all spots skip one two =
       explicit_found skips all spots

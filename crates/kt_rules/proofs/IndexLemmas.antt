@@ -1,5 +1,5 @@
 -- As of names, through changes of the map that holds them.
-use Rattle.std.proofs.Common.{◌≡◌, ℕ, Bool, true, false, if◌then◌else◌, List, [], ◌++◌, Option, Some, Vec, Global, refl, sym, ap, ◌∙◌, subst}
+use Rattle.std.proofs.Common.{◌≡◌, ℕ, Bool, true, false, if◌then◌else◌, List, [], ◌++◌, Option, Some, None, Vec, Global, refl, sym, ap, ◌∙◌, subst}
 use Rattle.std.specs.Str.{bytes_eq}
 use Rattle.std.specs.Option.{unwrap_or, option_map}
 use Rattle.std.specs.Map.{lookup, KeepsOthers}
@@ -57,3 +57,18 @@ kept {A} old new name items others found same other =
     none : (b : Bool) (xs : List A) → xs ++ (if b then [] else []) ≡ xs
     none true xs = append-nil xs
     none false xs = append-nil xs
+
+-- the same where the key is the name
+pub noted_by : {A : Type 0} (old new : Entries A) (key name : Text) (items : Vec A Global) (more : List A) → key ≡ name
+    → KeepsOthers (λ (x y : Text). bytes_eq x y) (λ (k : Text). bytes_eq key k) old new
+    → lookup (λ (k : Text). bytes_eq key k) new ≡ Some items
+    → items.items ≡ noted_in old key ++ more
+    → (other : Text) → noted_in new other ≡ noted_in old other ++ (if bytes_eq other name then more else [])
+noted_by old new key name items more is others found grown other =
+    subst (λ n. noted_in new other ≡ noted_in old other ++ (if bytes_eq other n then more else [])) is
+    (noted old new key items more others found grown other)
+
+-- what a look-up found, or an empty list
+pub found_or_none : {A : Type 0} (found : Option (Vec A Global)) (none : Vec A Global) → none.items ≡ [] → (unwrap_or found none).items ≡ items_of found
+found_or_none (Some items) none h = refl
+found_or_none None none h = h

@@ -10,13 +10,14 @@ mod SpecialLemmas
 pub mod RefusedLemmas
 pub mod SlotLemmas
 pub mod FindLemmas
+pub mod NoteLemmas
 pub mod StartLemmas
 pub mod GroupLemmas
 pub mod BookLemmas
 pub mod GoalLemmas
 pub mod NumberLemmas
 pub mod AddLemmas
-pub mod CutBehindLemmas
+pub mod SuffixLemmas
 pub mod PatternLemmas
 pub mod CutLemmas
 pub mod PartLemmas

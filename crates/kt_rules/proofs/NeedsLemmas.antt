@@ -1,16 +1,11 @@
--- Prerequisites before and after the bar, and targets without repeats.
-use Rattle.std.proofs.Common.{◌≡◌, ℕ, Bool, true, false, List, [], ◌∷◌, ◌++◌, map, refl, sym, ◌∙◌, ap, arith, ⊎_elim, append_assoc, append-nil}
-use Rattle.std.specs.Prelude.{nat_eq, if◌then◌else◌, ◌||◌}
-use Rattle.std.specs.List.{after_first, before_first, list_any}
-use Rattle.std.specs.Cmp.Lexicographic.{pointwise}
-use Rattle.std.specs.declared.vec.Vec.{Vec}
-use Rattle.std.specs.declared.alloc.Global.{Global}
+-- Prerequisites before and after the bar.
+use Rattle.std.proofs.Common.{◌≡◌, Bool, true, false, List, [], ◌∷◌, ◌++◌, map, sym, ◌∙◌, ap, arith, ⊎_elim, append_assoc, append-nil}
+use Rattle.std.specs.Prelude.{if◌then◌else◌}
+use Rattle.std.specs.List.{after_first, before_first}
 use Rattle.std.proofs.lemmas.Bool.{cases_Bool}
-use Rattle.std.proofs.lemmas.List.{map-append}
-use Rattle.indexmap.specs.IndexSet.{insert_key}
 use Rattle.kt_text.specs.Words.{Text}
 use Rattle.kt_rules.specs.declared.entry.Needs.{Needs}
-use Rattle.kt_rules.specs.Names.{name_of, with_name}
+use Rattle.kt_rules.specs.Names.{name_of}
 use Rattle.kt_rules.specs.RuleLine.{is_bar, needs_of}
 
 -- what words are needs after some that were read: the bar was met or not
@@ -50,18 +45,3 @@ before_all before (word ∷ words) =
 pub needs_from_start : (words : List Text) → needs_from false [] [] words ≡ needs_of words
 unfolding needs_of
 needs_from_start words = before_all [] words
-
--- a search of vectors, by what they hold
-any_items : (keys : List (Vec ℕ Global)) (name : Vec ℕ Global)
-    → list_any (λ v. pointwise nat_eq name.items v.items) keys ≡ list_any (pointwise nat_eq name.items) (map (λ v. v.items) keys)
-any_items [] name = refl
-any_items (key ∷ keys) name = ap (λ b. pointwise nat_eq name.items key.items || b) (any_items keys name)
-
--- a name that is inserted into a set of vectors is one more name after the others, if it isn't among them
-pub insert_key_items : (keys : List (Vec ℕ Global)) (name : Vec ℕ Global)
-    → map (λ v. v.items) (insert_key (λ x y. pointwise nat_eq x.items y.items) keys name) ≡ with_name (map (λ v. v.items) keys) name.items
-insert_key_items keys name = rw (any_items keys name) (by (list_any (pointwise nat_eq name.items) (map (λ v. v.items) keys)))
-  where
-    by : (b : Bool) → map (λ v. v.items) (if b then keys else keys ++ name ∷ []) ≡ (if b then map (λ v. v.items) keys else map (λ v. v.items) keys ++ name.items ∷ [])
-    by true = refl
-    by false = map-append (λ v. v.items) keys (name ∷ [])

@@ -9,7 +9,7 @@ use Rattle.std.proofs.Math.Seq.{set-append_seam}
 use Rattle.kt_text.specs.Words.{Text}
 use Rattle.kt_rules.specs.declared.entry.Target.{Target}
 use Rattle.kt_rules.specs.declared.book.spot.Spot.{Spot}
-use Rattle.kt_rules.specs.declared.index.Index.{Index}
+use Rattle.kt_rules.specs.inner.Lists.{Notes}
 use Rattle.kt_rules.specs.Entry.{Rule}
 use Rattle.kt_rules.specs.Book.{is_made}
 use Rattle.kt_rules.specs.Slots.{rules_in, target_rule, slot_rule, spot_rule, found, spot_at, target_spots, spots_from, spots_for, AreBefore, AreIn, GrewIn, GotSpots, GotRecipes}
@@ -125,14 +125,14 @@ put_last slots items place rule e at =
     ap (λ xs. set xs place (Some rule)) e ∙ ap (λ n. set (slots ++ None ∷ []) n (Some rule)) at ∙ set-append_seam slots None [] (Some rule)
 
 -- spots that a rule got are in its slot
-pub grew_spots : (rule : Rule) (place : ℕ) (old new : Index Spot) → GotSpots rule place old new → GrewIn place old new
+pub grew_spots : (rule : Rule) (place : ℕ) (old new : Notes) → GotSpots rule place old new → GrewIn place old new
 grew_spots rule place old new got = λ name. (spots_for rule place name, got name, in_spots_from rule place 0 rule.targets name)
 
 in_spots_if : (rule : Rule) (place : ℕ) (name : Text) (b : Bool) → AreIn place (if b then spots_for rule place name else [])
 in_spots_if rule place name true = in_spots_from rule place 0 rule.targets name
 in_spots_if rule place name false = tt
 
-pub grew_recipes : (rule : Rule) (place : ℕ) (old new : Index Spot) → GotRecipes rule place old new → GrewIn place old new
+pub grew_recipes : (rule : Rule) (place : ℕ) (old new : Notes) → GotRecipes rule place old new → GrewIn place old new
 grew_recipes rule place old new got = λ name.
     ((if is_some rule.recipe then spots_for rule place name else []), got name, in_spots_if rule place name (is_some rule.recipe))
 

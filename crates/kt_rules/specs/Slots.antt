@@ -2,13 +2,13 @@
 use Rattle.std.specs.Prelude.{◌≡◌, ℕ, ◌+◌, ◌<◌, Bool, false, ◌&&◌, List, [], ◌∷◌, ◌++◌, filter_map, bytes_eq, length}
 use Rattle.std.specs.Prelude.{Option, Some, None, option_map, option_and_then, slice_get, is_some, if◌then◌else◌}
 use Rattle.std.specs.List.{list_any}
+use Rattle.kt_list.specs.Names.{place_of}
 use Rattle.kt_text.specs.Words.{Text}
 use Rattle.kt_rules.specs.declared.entry.Target.{Target}
 use Rattle.kt_rules.specs.declared.book.spot.Spot.{Spot}
-use Rattle.kt_rules.specs.declared.index.Index.{Index}
+use Rattle.kt_rules.specs.inner.Lists.{Notes, list_at}
 use Rattle.kt_rules.specs.declared.book.target_rule.TargetRule.{TargetRule}
 use Rattle.kt_rules.specs.Entry.{Rule}
-use Rattle.kt_rules.specs.Indexes.{noted_at}
 use Rattle.kt_rules.specs.Book.{GroupsStandAlone, is_made, goal_in, is_double, is_group, is_phony, rules_of, recipes_of}
 use Rattle.kt_rules.specs.Book.{xor}
 use Rattle.kt_rules.specs.Names.{is_among}
@@ -63,6 +63,15 @@ abbrev pub slot_goal : List Text → Option Rule → Option Text
 slot_goal suffixes None = None
 slot_goal suffixes (Some rule) = goal_in suffixes rule
 
+-- the spots at a place, if there is one
+abbrev pub list_of : Option ℕ → List (List Spot) → List Spot
+list_of None lists = []
+list_of (Some number) lists = list_at lists number
+
+-- the spots of a name
+abbrev pub spots_at : Notes → Text → List Spot
+spots_at notes name = list_of (place_of notes.0 name) notes.1
+
 -- ---- one more rule
 
 abbrev pub spot_at : ℕ → ℕ → Spot
@@ -94,18 +103,18 @@ AreIn place [] = Unit {0}
 AreIn place (spot ∷ spots) = (spot.entry ≡ place) × AreIn place spots
 
 -- each name may have got spots in the slot of the place
-abbrev pub GrewIn : ℕ → Index Spot → Index Spot → Type 0
+abbrev pub GrewIn : ℕ → Notes → Notes → Type 0
 GrewIn place old new =
-    (name : Text) → (more : List Spot) × (noted_at new name ≡ noted_at old name ++ more) × AreIn place more
+    (name : Text) → (more : List Spot) × (spots_at new name ≡ spots_at old name ++ more) × AreIn place more
 
 -- each name has got the spots of a rule at the place
-abbrev pub GotSpots : Rule → ℕ → Index Spot → Index Spot → Type 0
-GotSpots rule place old new = (name : Text) → noted_at new name ≡ noted_at old name ++ spots_for rule place name
+abbrev pub GotSpots : Rule → ℕ → Notes → Notes → Type 0
+GotSpots rule place old new = (name : Text) → spots_at new name ≡ spots_at old name ++ spots_for rule place name
 
 -- the same of an index of those rules that have a recipe
-abbrev pub GotRecipes : Rule → ℕ → Index Spot → Index Spot → Type 0
+abbrev pub GotRecipes : Rule → ℕ → Notes → Notes → Type 0
 GotRecipes rule place old new =
-    (name : Text) → noted_at new name ≡ noted_at old name ++ (if is_some rule.recipe
+    (name : Text) → spots_at new name ≡ spots_at old name ++ (if is_some rule.recipe
     then spots_for rule place name else [])
 
 -- the test gives the same at each of them
@@ -113,12 +122,12 @@ abbrev pub AreAlike : {A : Type 0} → (A → Bool) → List A → Type 0
 AreAlike test xs = (b : Bool) × (list_any (λ x. xor (test x) b) xs ≡ false)
 
 -- an index has the rules of each name
-pub record Tells (slots : List (Option Rule)) (index : Index Spot) (rules : Text → List (Rule × Target)) : Type 0 where
-  pub all : (name : Text) → found slots (noted_at index name) ≡ rules name
-  pub before : (name : Text) → AreBefore (length slots) (noted_at index name)
+pub record Tells (slots : List (Option Rule)) (index : Notes) (rules : Text → List (Rule × Target)) : Type 0 where
+  pub all : (name : Text) → found slots (spots_at index name) ≡ rules name
+  pub before : (name : Text) → AreBefore (length slots) (spots_at index name)
 
 -- what a book keeps beside its rules is what they say
-pub record IsKept (slots : List (Option Rule)) (targets recipes : Index Spot) (phony suffixes : List Text)
+pub record IsKept (slots : List (Option Rule)) (targets recipes : Notes) (phony suffixes : List Text)
     : Type 0 where
   pub targets_told : Tells slots targets (rules_of (rules_in slots))
   pub recipes_told : Tells slots recipes (recipes_of (rules_in slots))

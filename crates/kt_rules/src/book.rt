@@ -1,5 +1,6 @@
 //! The rules of a makefile, as a list of entries.
-ghost use Rattle.std.specs.Prelude.{◌≡◌, ◌++◌, ◌∷◌, [], IfOk, OnErr, OnOk, None, option_map};
+ghost use Rattle.std.specs.Prelude.{◌≡◌, ◌++◌, ◌∷◌, [], IfOk, OnErr, OnOk, None, find, nat_eq, option_map};
+ghost use Rattle.std.specs.List.{ends_with};
 ghost use Rattle.kt_rules.specs.Book.{GroupsStandAlone, added, explicit_rules, first_goal_of, is_explicit, is_phony};
 ghost use Rattle.kt_rules.specs.Book.{override_messages, patterns_of, refusal_of};
 ghost use Rattle.kt_rules.specs.Refusals.{Answers};
@@ -8,7 +9,9 @@ ghost use Rattle.kt_rules.specs.Suffixes.{suffixes_of};
 
 mod entries;
 mod explicit;
+mod few;
 mod goal;
+mod lists;
 mod matching;
 mod noting;
 mod numbers;
@@ -18,12 +21,13 @@ mod pattern_set;
 mod refusing;
 mod special;
 mod spot;
+mod spots;
 mod suffix;
+mod suffixes;
 mod target_rule;
 
 use crate::entry::{Entry, Name};
 use crate::fault::RuleFault;
-use crate::index::Index;
 pub use entries::Entries;
 pub use explicit::Explicit;
 use explicit::skips_bare;
@@ -32,11 +36,11 @@ use matching::{candidates, unrepeated};
 use noting::learn;
 pub use pattern::Pattern;
 use refusing::fault_of;
-use special::start_suffixes;
-use spot::Spot;
+use spots::Spots;
 use std::alloc::{AllocError, Global};
 use std::marker::Model;
 use suffix::is_suffix_name;
+use suffixes::Suffixes;
 pub use target_rule::TargetRule;
 use target_rule::{is_bare, is_made};
 
@@ -51,11 +55,10 @@ pub struct Book {
     alloc: Global,
     // A slot stays empty where its entry couldn't be noted where memory was refused.
     slots: Vec<Option<Entry>>,
-    // The targets that are made by their names, and those of them whose rule has a recipe.
-    targets: Index<Spot>,
-    recipes: Index<Spot>,
+    // Where targets are made by their names.
+    spots: Spots,
     phony: Names,
-    suffixes: Names,
+    suffixes: Suffixes,
 }
 
 impl Model for Book {
@@ -68,7 +71,7 @@ impl Model for Book {
 
     ghost view = { λ book. rules_in book.slots.items };
 
-    ghost invariant = { λ book. IsKept book.slots.items book.targets book.recipes book.phony book.suffixes };
+    ghost invariant = { λ book. IsKept book.slots.items book.spots.0 book.spots.1 book.phony book.suffixes };
 }
 
 impl Book {
@@ -76,16 +79,14 @@ impl Book {
     pub fn new(alloc: Global) -> Result<Book, AllocError>
         ensures { IfOk result (λ book. book ≡ []) }
     {
-        let suffixes = start_suffixes(alloc)?;
+        let suffixes = Suffixes::start(alloc)?;
         let slots = Vec::new(alloc);
-        let targets = Index::new(alloc);
-        let recipes = Index::new(alloc);
+        let spots = Spots::new(alloc);
         let phony = Names::new(alloc);
         Ok(Book {
             alloc,
             slots,
-            targets,
-            recipes,
+            spots,
             phony,
             suffixes,
         })
@@ -139,7 +140,7 @@ impl Book {
         ensures { result ≡ explicit_rules self.now name.now }
     {
         let slots = self.slots.as_slice();
-        let spots = self.targets.noted(name);
+        let spots = self.spots.targets(name);
         Explicit::new(slots, spots, skips_bare(&self.suffixes, slots, spots, name))
     }
 
@@ -155,6 +156,14 @@ impl Book {
         ensures { result.now ≡ suffixes_of self.now }
     {
         self.suffixes.as_slice()
+    }
+
+    /// The first of the suffixes that the name ends with. Takes no memory.
+    pub fn suffix_of(&self, name: &[u8]) -> Option<&[u8]>
+        ensures { option_map (λ suffix. suffix.now) result ≡ find
+            (λ suffix. ends_with nat_eq name.now suffix) (suffixes_of self.now) }
+    {
+        self.suffixes.end_of(name)
     }
 
     /// The first target of an explicit rule that doesn't begin with a dot or that holds a slash (GNU
@@ -205,8 +214,7 @@ impl Book {
         let place = self.slots.as_slice().len();
         self.slots.push(None)?;
         learn(
-            &mut self.targets,
-            &mut self.recipes,
+            &mut self.spots,
             &mut self.phony,
             &mut self.suffixes,
             &entry,

@@ -41,17 +41,20 @@ impl<T: Copy> Index<T> {
             ++ (if bytes_eq other name.now then item ∷ [] else [])) }
         ensures refused { OnErr result ((other : Text) → noted_at self.new other ≡ noted_at self.old other) }
     {
-        match self.lists.get_mut(name) {
-            Some(noted) => {
-                noted.push(item)?;
-            }
-            None => {
-                let key = Name::copied(self.alloc, name)?;
-                let mut first = Vec::with_capacity(self.alloc, 1)?;
-                first.push(item)?;
-                self.lists.insert(key, first)?;
-            }
-        }
-        Ok(())
+        let key = Name::copied(self.alloc, name)?;
+        let noted = self.lists.entry(key)?.or_insert(Vec::new(self.alloc));
+        add(noted, item)
     }
+}
+
+// Adds an item. Most lists have one: the first takes no more room than that.
+fn add<T: Copy>(items: &mut Vec<T>, item: T) -> Result<(), AllocError>
+    ensures added { OnOk result (items.new.items ≡ items.old.items ++ item ∷ []) }
+    ensures refused { OnErr result (items.new.items ≡ items.old.items) }
+{
+    if items.is_empty() {
+        items.reserve_exact(1)?;
+    }
+    items.push(item)?;
+    Ok(())
 }

@@ -6,7 +6,7 @@ ghost use Rattle.kt_rules.specs.RuleLine.{head_told, is_bar, line_of, needs_of};
 
 use crate::entry::{Name, Needs};
 use crate::head::{Head, Separator};
-use crate::name::{name_of, named};
+use crate::name::named;
 use crate::refused::are_same;
 use crate::written::first_word;
 use indexmap::IndexSet;
@@ -81,23 +81,17 @@ fn one_target(alloc: Global, word: &[u8]) -> Result<Sequence<Name>, AllocError>
     Ok(Sequence::from(names))
 }
 
-#[tactic(auto, using(crate::proofs::NeedsLemmas::insert_key_items), unfolding(crate::specs::Names::without_repeats))]
+#[tactic(auto, unfolding(crate::specs::Names::without_repeats))]
 fn several_targets(alloc: Global, text: &[u8]) -> Result<Sequence<Name>, AllocError>
     ensures { IfOk result (λ names. names ≡ without_repeats (map name_of (written_words text.now))) }
 {
-    let mut names = IndexSet::new(alloc);
+    let mut names: IndexSet<Name> = IndexSet::new(alloc);
     let mut rest = text;
     while let Some((word, after)) = first_word(rest) {
-        names.insert(name_of(alloc, word)?)?;
+        names.insert(named(alloc, word)?)?;
         rest = after;
     }
-    listed(alloc, names)
-}
-
-fn listed(alloc: Global, names: IndexSet<Vec<u8>>) -> Result<Sequence<Name>, AllocError>
-    ensures { IfOk result (λ list. list ≡ map (λ name. name.items) names.keys) }
-{
-    let list: Vec<Name> = names.into_iter().map(Name::from).collect(alloc)?;
+    let list: Vec<Name> = names.into_iter().collect(alloc)?;
     Ok(Sequence::from(list))
 }
 

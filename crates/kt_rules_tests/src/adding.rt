@@ -116,7 +116,7 @@ fn tells_of_any_line(rt: HostRuntime) -> Result<(), Fail> {
     ];
     for row in rows {
         let told = told_of_lines(rt.alloc(), row.0, row.1)?;
-        assert_eq!(rt; told.as_slice(), row.2);
+        assert_eq!(rt; told.as_slice(), row.2, "of {:?} and {:?}", row.0, row.1);
     }
     Ok(())
 }
@@ -228,7 +228,7 @@ fn numbers_entries(rt: HostRuntime) -> Result<(), Fail> {
         (b"b", &[]),
     ];
     for (name, expected) in rows {
-        assert_eq!(rt; numbers.noted(name), expected);
+        assert_eq!(rt; numbers.noted(name), expected, "of {name:?}");
     }
     Ok(())
 }

@@ -1,17 +1,10 @@
 //! What books answer, as texts: their rules are a line each, the head, and a recipe after the first `;`.
-use crate::telling::{put, put_fault, put_needs, put_place, read};
+use crate::telling::{put_fault, put_needs, put_place};
 use kt_rules::{Book, Entry, Explicit, Name, Pattern, RuleFault, TargetRule, Warnings};
-use memchr::memchr;
+use kt_rules_doubles::entry_of;
+use kt_testing::put;
 use std::alloc::{AllocError, Global};
 use std::process::Abort;
-
-/// The entry of a line.
-fn entry(alloc: Global, line: &[u8], number: u64) -> Result<Entry, RuleFault> {
-    match memchr(b';', line) {
-        Some(end) => read(alloc, &line[..end], Some(&line[end + 1..]), number),
-        None => read(alloc, line, None, number),
-    }
-}
 
 /// Adds the entry of a line.
 pub(crate) fn add(
@@ -20,7 +13,7 @@ pub(crate) fn add(
     line: &[u8],
     number: u64,
 ) -> Result<Warnings, RuleFault> {
-    let entry = entry(alloc, line, number)?;
+    let entry = entry_of(alloc, line, number)?;
     book.add(entry)
 }
 
@@ -119,6 +112,7 @@ pub(crate) enum Question<'a> {
     Explicit(&'a [u8]),
     IsPhony(&'a [u8]),
     Suffixes,
+    SuffixOf(&'a [u8]),
     Goal,
     Patterns,
 }
@@ -130,13 +124,18 @@ pub(crate) fn put_answer_to(told: &mut Vec<u8>, book: &Book, question: Question)
         Question::Explicit(name) => put_explicit(told, book.explicit(name)),
         Question::IsPhony(name) => put(told, if book.is_phony(name) { b"yes" } else { b"no" }),
         Question::Suffixes => put_suffixes(told, book.suffixes()),
+        Question::SuffixOf(name) => put(told, book.suffix_of(name).unwrap_or(b"none")),
         Question::Goal => put(told, book.first_goal().unwrap_or(b"none")),
         Question::Patterns => put_patterns(told, book),
     }
 }
 
 /// What a book answers after the lines of a text.
-fn answer(alloc: Global, text: &[u8], question: Question) -> Result<Vec<u8>, AllocError> {
+pub(crate) fn answer(
+    alloc: Global,
+    text: &[u8],
+    question: Question,
+) -> Result<Vec<u8>, AllocError> {
     let mut told = Vec::new(alloc);
     let mut book = Book::new(alloc)?;
     add_lines(alloc, &mut book, text, &mut told);
@@ -155,7 +154,7 @@ pub(crate) fn answers(
 ) -> Result<(), AllocError> {
     for row in rows {
         let told = answer(alloc, row.0, row.1)?;
-        assert_eq!(rt; told.as_slice(), row.2);
+        assert_eq!(rt; told.as_slice(), row.2, "of {:?}", row.0);
     }
     Ok(())
 }

@@ -66,8 +66,8 @@ fn joins_words_and_names(rt: HostRuntime) -> Result<(), Fail> {
     ];
     for row in rows {
         let words = row.0.words_with(rt.alloc(), row.1)?;
-        assert_eq!(rt; row.0.words(), row.2);
-        assert_eq!(rt; words.as_slice(), row.3);
+        assert_eq!(rt; row.0.words(), row.2, "of {:?}", row.0);
+        assert_eq!(rt; words.as_slice(), row.3, "of {:?}", row.0);
     }
     Ok(())
 }

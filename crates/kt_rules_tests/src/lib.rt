@@ -11,6 +11,12 @@ mod fault_kinds;
 #[cfg(test)]
 mod noting;
 #[cfg(test)]
+mod plain_way;
+#[cfg(test)]
 mod reading;
+#[cfg(test)]
+mod scans;
+#[cfg(test)]
+mod suffixes;
 #[cfg(test)]
 mod telling;

@@ -1,6 +1,8 @@
 //! Rule lines by the GNU make manual and by the rows that kati is to read.
-use crate::telling::{place, put, put_fault, put_needs, put_place, read, text};
+use crate::telling::{put_fault, put_needs, put_place};
 use kt_rules::{Entry, Kind, Target, dotless, without_dots};
+use kt_rules_doubles::{place_of, rule_of, text_of};
+use kt_testing::put;
 use std::alloc::{AllocError, Global};
 use std::process::Abort;
 use std::test::Fail;
@@ -38,9 +40,9 @@ fn put_entry(told: &mut Vec<u8>, entry: &Entry) {
 }
 
 /// What `read_rule` tells of a head: the entry, or the fault as a line.
-fn told(alloc: Global, head: &[u8]) -> Vec<u8> {
+pub(crate) fn told(alloc: Global, head: &[u8]) -> Vec<u8> {
     let mut told = Vec::new(alloc);
-    match read(alloc, head, None, 7) {
+    match rule_of(alloc, head, None, 7) {
         Ok(entry) => put_entry(&mut told, &entry),
         Err(fault) => put_fault(&mut told, &fault),
     }
@@ -50,7 +52,7 @@ fn told(alloc: Global, head: &[u8]) -> Vec<u8> {
 fn tells(rt: &impl Abort, alloc: Global, rows: &[(&[u8], &[u8])]) {
     for row in rows {
         let told = told(alloc, row.0);
-        assert_eq!(rt; told.as_slice(), row.1);
+        assert_eq!(rt; told.as_slice(), row.1, "of {:?}", row.0);
     }
 }
 
@@ -223,7 +225,7 @@ fn reads_long_words(rt: HostRuntime) {
     for row in rows {
         let told = told(alloc, lengthened(alloc, row.0).as_slice());
         let expected = lengthened(alloc, row.1);
-        assert_eq!(rt; told.as_slice(), expected.as_slice());
+        assert_eq!(rt; told.as_slice(), expected.as_slice(), "of {:?}", row.0);
     }
 }
 
@@ -237,15 +239,15 @@ fn put_recipe(told: &mut Vec<u8>, entry: &Entry) {
 
 /// Adds a line to a recipe.
 fn push(alloc: Global, entry: &mut Entry, line: &[u8], number: u64) -> Result<(), AllocError> {
-    let place = place(alloc, number)?;
-    entry.push(text(alloc, line)?, place)
+    let place = place_of(alloc, number)?;
+    entry.push(text_of(alloc, line)?, place)
 }
 
 #[test]
 fn keeps_recipes(rt: HostRuntime) -> Result<(), Fail> {
     let alloc = rt.alloc();
     let mut told = Vec::new(alloc);
-    let mut entry = read(alloc, b"a: b", Some(b"one,"), 7)?;
+    let mut entry = rule_of(alloc, b"a: b", Some(b"one,"), 7)?;
     push(alloc, &mut entry, b"two", 9)?;
     put_recipe(&mut told, &entry);
     assert_eq!(rt; told.as_slice(), b"m:7 one,m:9 two".as_slice());
@@ -256,7 +258,7 @@ fn keeps_recipes(rt: HostRuntime) -> Result<(), Fail> {
 fn begins_recipes(rt: HostRuntime) -> Result<(), Fail> {
     let alloc = rt.alloc();
     let mut told = Vec::new(alloc);
-    let mut entry = read(alloc, b"", None, 7)?;
+    let mut entry = rule_of(alloc, b"", None, 7)?;
     assert!(rt; entry.recipe().is_none());
     push(alloc, &mut entry, b"", 8)?;
     put_recipe(&mut told, &entry);
@@ -268,10 +270,10 @@ fn begins_recipes(rt: HostRuntime) -> Result<(), Fail> {
 /// What a rule and a fault tell of a line.
 fn told_of_line(alloc: Global, line: u64) -> Result<Vec<u8>, AllocError> {
     let mut told = Vec::new(alloc);
-    if let Ok(entry) = read(alloc, b"a:", None, line) {
+    if let Ok(entry) = rule_of(alloc, b"a:", None, line) {
         put_place(&mut told, &entry.place().share()?);
     }
-    if let Err(fault) = read(alloc, b"a", None, line) {
+    if let Err(fault) = rule_of(alloc, b"a", None, line) {
         put_fault(&mut told, &fault);
     }
     Ok(told)
@@ -292,14 +294,14 @@ fn tells_file_and_line(rt: HostRuntime) -> Result<(), Fail> {
     ];
     for row in rows {
         let told = told_of_line(rt.alloc(), row.0)?;
-        assert_eq!(rt; told.as_slice(), row.1);
+        assert_eq!(rt; told.as_slice(), row.1, "of {:?}", row.0);
     }
     Ok(())
 }
 
 /// What is printed of the fault of a line.
 fn printed(alloc: Global, head: &[u8]) -> Result<String, AllocError> {
-    match read(alloc, head, None, 7) {
+    match rule_of(alloc, head, None, 7) {
         Ok(_entry) => Ok(String::new(alloc)),
         Err(fault) => format!(in alloc; "{fault}"),
     }
@@ -313,7 +315,7 @@ fn prints_faults(rt: HostRuntime) -> Result<(), Fail> {
     ];
     for row in rows {
         let printed = printed(rt.alloc(), row.0)?;
-        assert_eq!(rt; printed.as_str(), row.1);
+        assert_eq!(rt; printed.as_str(), row.1, "of {:?}", row.0);
     }
     Ok(())
 }
@@ -330,9 +332,9 @@ fn removes_leading_dots(rt: HostRuntime) -> Result<(), Fail> {
         (b"/./x", b"/./x"),
         (b".", b"."),
     ] {
-        assert_eq!(rt; without_dots(name), left);
+        assert_eq!(rt; without_dots(name), left, "of {name:?}");
         let owned = dotless(rt.alloc(), Vec::from_slice(rt.alloc(), name)?)?;
-        assert_eq!(rt; owned.as_slice(), left);
+        assert_eq!(rt; owned.as_slice(), left, "of {name:?}");
     }
     Ok(())
 }

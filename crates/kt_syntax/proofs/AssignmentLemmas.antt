@@ -177,7 +177,7 @@ past_end [] n h = refl
 past_end (symbol ∷ mask) zero h = absurd (omega arith)
 past_end (symbol ∷ mask) (suc n) h = past_end mask n (omega arith)
 
-blanks_are : (mask : List ℕ) (begin : ℕ) → AreBlanks mask begin (past_blanks begin mask)
+pub blanks_are : (mask : List ℕ) (begin : ℕ) → AreBlanks mask begin (past_blanks begin mask)
 blanks_are mask begin =
     let n = prefix_len is_blank (drop begin mask) in
     record {
@@ -195,7 +195,7 @@ blanks_are mask begin =
     rest : (n : ℕ) → length (drop begin mask) ≤ n → is_blank (slice_index (drop begin mask) n) ≡ false
     rest n h = ap is_blank (past_end (drop begin mask) n h) ∙ blank_end
 
-blanks_only : (mask : List ℕ) (begin end : ℕ) → AreBlanks mask begin end → end ≡ past_blanks begin mask
+pub blanks_only : (mask : List ℕ) (begin end : ℕ) → AreBlanks mask begin end → end ≡ past_blanks begin mask
 blanks_only mask begin end are =
     ⊎_elim (λ same. same)
     (λ h. ⊎_elim

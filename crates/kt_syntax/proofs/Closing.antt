@@ -79,7 +79,7 @@ differ opener closer byte ne h =
     step (byte == closer) refl
 
 -- a byte before a text that closes, and back
-closes-open : (opener closer depth byte : ℕ) (text : Text) → (byte == opener) ≡ true → (byte == closer) ≡ false
+pub closes-open : (opener closer depth byte : ℕ) (text : Text) → (byte == opener) ≡ true → (byte == closer) ≡ false
     → Closes opener closer (depth + 1) text → Closes opener closer depth (byte ∷ text)
 closes-open opener closer depth byte text h k c = record {
   fronts = λ n. front n;
@@ -91,7 +91,7 @@ closes-open opener closer depth byte text h k c = record {
     front (suc n) =
         let a = count_yes opener byte (take n text) h in let b = count_no closer byte (take n text) k in let f = c.fronts n in omega arith
 
-closes-close : (opener closer depth byte : ℕ) (text : Text) → (byte == opener) ≡ false → (byte == closer) ≡ true → 0 < depth
+pub closes-close : (opener closer depth byte : ℕ) (text : Text) → (byte == opener) ≡ false → (byte == closer) ≡ true → 0 < depth
     → Closes opener closer (depth - 1) text → Closes opener closer depth (byte ∷ text)
 closes-close opener closer depth byte text h k some c = record {
   fronts = λ n. front n;
@@ -103,7 +103,7 @@ closes-close opener closer depth byte text h k some c = record {
     front (suc n) =
         let a = count_no opener byte (take n text) h in let b = count_yes closer byte (take n text) k in let f = c.fronts n in omega arith
 
-closes-other : (opener closer depth byte : ℕ) (text : Text) → (byte == opener) ≡ false → (byte == closer) ≡ false
+pub closes-other : (opener closer depth byte : ℕ) (text : Text) → (byte == opener) ≡ false → (byte == closer) ≡ false
     → Closes opener closer depth text → Closes opener closer depth (byte ∷ text)
 closes-other opener closer depth byte text h k c = record {
   fronts = λ n. front n;
@@ -115,7 +115,7 @@ closes-other opener closer depth byte text h k c = record {
     front (suc n) =
         let a = count_no opener byte (take n text) h in let b = count_no closer byte (take n text) k in let f = c.fronts n in omega arith
 
-after-open : (opener closer depth byte : ℕ) (text : Text) → (byte == opener) ≡ true → (byte == closer) ≡ false
+pub after-open : (opener closer depth byte : ℕ) (text : Text) → (byte == opener) ≡ true → (byte == closer) ≡ false
     → Closes opener closer depth (byte ∷ text) → Closes opener closer (depth + 1) text
 after-open opener closer depth byte text h k c = record {
   fronts = λ n.
@@ -123,7 +123,7 @@ after-open opener closer depth byte text h k c = record {
   even = let a = count_yes opener byte text h in let b = count_no closer byte text k in let e = c.even in omega arith;
 }
 
-after-close : (opener closer depth byte : ℕ) (text : Text) → (byte == opener) ≡ false → (byte == closer) ≡ true
+pub after-close : (opener closer depth byte : ℕ) (text : Text) → (byte == opener) ≡ false → (byte == closer) ≡ true
     → Closes opener closer depth (byte ∷ text) → (0 < depth) × Closes opener closer (depth - 1) text
 after-close opener closer depth byte text h k c =
     let some : 0 < depth =
@@ -136,7 +136,7 @@ after-close opener closer depth byte text h k c =
       },
     )
 
-after-other : (opener closer depth byte : ℕ) (text : Text) → (byte == opener) ≡ false → (byte == closer) ≡ false
+pub after-other : (opener closer depth byte : ℕ) (text : Text) → (byte == opener) ≡ false → (byte == closer) ≡ false
     → Closes opener closer depth (byte ∷ text) → Closes opener closer depth text
 after-other opener closer depth byte text h k c = record {
   fronts = λ n.

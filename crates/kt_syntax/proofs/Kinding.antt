@@ -5,9 +5,8 @@ use Rattle.std.proofs.lemmas.List.{take_rest}
 use Rattle.std.specs.List.{slice_range}
 use Rattle.kt_text.specs.Words.{Text}
 use Rattle.kt_syntax.specs.declared.form.Operator.{Operator}
-use Rattle.kt_syntax.specs.declared.form.Directive.{Directive}
 use Rattle.kt_syntax.specs.Mask.{mask_of}
-use Rattle.kt_syntax.specs.Kinds.{Parts, blank, directive, comment_place, past_blanks, past_word, operator_of, name_end, parts_at, parts_after, assignment_parts, directive_of, kind_by_word, kind_by_parts, worded, kind_within, kind_of}
+use Rattle.kt_syntax.specs.Kinds.{Parts, blank, comment_place, past_blanks, past_word, operator_of, name_end, parts_at, parts_after, assignment_parts, directive_of, kind_by_word, kind_by_parts, worded, kind_within, kind_of}
 use Rattle.kt_syntax.proofs.Masking.{length-front}
 
 pub parts_found : (text mask : Text) (begin name place : ℕ) (found : Operator × ℕ) (value : ℕ) → Some name ≡ name_end begin (drop begin mask) (drop begin text)
@@ -20,13 +19,11 @@ parts_found text mask begin name place found value n p o v =
     ∙ ap (λ (x : ℕ). parts_at text name x (operator_of (drop x text))) p
     ∙ ap (parts_after text mask) n
 
-pub worded_directive : (tab : Bool) (text mask : Text) (begin after rest : ℕ) (found : Directive) → after ≡ past_word begin mask
-    → Some found ≡ directive_of tab (slice_range text begin after) → rest ≡ past_blanks after (mask_of text)
-    → directive found (take (length text - rest) (drop rest text)) ≡ worded tab text mask begin
+pub worded_by : (tab : Bool) (text mask : Text) (begin after rest : ℕ) → after ≡ past_word begin mask → rest ≡ past_blanks after (mask_of text)
+    → kind_by_word (directive_of tab (slice_range text begin after)) (slice_range text begin after) (take (length text - rest) (drop rest text)) ≡ worded tab text mask begin
 unfolding worded
-worded_directive tab text mask begin after rest found a d r =
-    ap (directive found) (take_rest text rest) ∙ ap (λ (x : ℕ). directive found (drop x text)) r
-    ∙ ap (λ (x : Option Directive). kind_by_word x (slice_range text begin after) (drop (past_blanks after (mask_of text)) text)) d
+worded_by tab text mask begin after rest a r =
+    ap (kind_by_word (directive_of tab (slice_range text begin after)) (slice_range text begin after)) (take_rest text rest ∙ ap (λ (x : ℕ). drop x text) r)
     ∙ ap (λ (x : ℕ). kind_by_word (directive_of tab (slice_range text begin x)) (slice_range text begin x) (drop (past_blanks x (mask_of text)) text)) a
 
 -- the front of a line before its comment

@@ -33,7 +33,7 @@ zero_or_more (suc n) = inr (omega arith)
 abbrev pub odd_at : Text → ℕ → Bool
 odd_at line place = is_continued_text (take place line)
 
-one_more_odd : (n : ℕ) → ((1 + n) % 2 == 1) ≡ not (n % 2 == 1)
+pub one_more_odd : (n : ℕ) → ((1 + n) % 2 == 1) ≡ not (n % 2 == 1)
 one_more_odd n =
     ⊎_elim (λ h. let e = eqb-true (n % 2) 1 h in rw h (false_from_ne_true ((1 + n) % 2 == 1) (λ k. let o = eqb-true ((1 + n) % 2) 1 k in omega arith)))
     (λ h. rw h (eq-eqb ((1 + n) % 2) 1 (let z : (n % 2 ≡ 1 → ⊥) = (λ e. false≢true (sym h ∙ eq-eqb (n % 2) 1 e)) in omega arith)))

@@ -82,7 +82,7 @@ word_run (suc count) symbol (byte ∷ text) h =
     (cases_Bool (is_blank byte)))
     (cases_Bool (is_mark byte))
 
-no_operator : (byte : ℕ) (text : Text) → begins_operator byte ≡ false → operator_of (byte ∷ text) ≡ None
+pub no_operator : (byte : ℕ) (text : Text) → begins_operator byte ≡ false → operator_of (byte ∷ text) ≡ None
 unfolding operator_of
 no_operator byte text h =
     let four = or_parts (byte == 61 || byte == 58 || byte == 63 || byte == 43) (byte == 33) h in
@@ -98,7 +98,7 @@ no_operator byte text h =
     ) refl
 
 -- such a byte doesn't end a name
-name_goes_on : (place byte : ℕ) (mask : List ℕ) (text : Text) → ends_own_name byte ≡ false
+pub name_goes_on : (place byte : ℕ) (mask : List ℕ) (text : Text) → ends_own_name byte ≡ false
     → name_end place (byte ∷ mask) (byte ∷ text) ≡ name_end (place + 1) mask text
 unfolding name_end
 name_goes_on place byte mask text h =

@@ -9,7 +9,7 @@ use Rattle.kt_syntax.specs.Mask.{mask_from, mask_of, more_masked, goes_odd}
 use Rattle.kt_syntax.specs.inner.OwnRuns.{is_mark}
 
 -- before a text that nothing reaches into, the last symbol counts for nothing
-same_symbol : (symbol other : ℕ) (text : Text) → mask_from 0 symbol false text ≡ mask_from 0 other false text
+pub same_symbol : (symbol other : ℕ) (text : Text) → mask_from 0 symbol false text ≡ mask_from 0 other false text
 unfolding mask_from
 same_symbol symbol other [] = refl
 same_symbol symbol other (byte ∷ text) = refl

@@ -50,7 +50,7 @@ uncut (byte ∷ text) whole =
     (λ h. let e = run-no byte text h in pieces-no byte text h ∙ ap (onto_first byte) (uncut text (omega arith)))
     (cases_Bool (byte == 10))
 
-record HasPiece (found : List Text) : Type 0 where
+pub record HasPiece (found : List Text) : Type 0 where
   pub piece : Text
   pub pieces : List Text
   pub are : found ≡ piece ∷ pieces
@@ -59,14 +59,14 @@ onto_piece : (byte : ℕ) (found : List Text) → HasPiece (onto_first byte foun
 onto_piece byte [] = record { piece = _; pieces = _; are = refl }
 onto_piece byte (piece ∷ pieces) = record { piece = _; pieces = _; are = refl }
 
-pieces-some : (text : Text) → HasPiece (pieces_of text)
+pub pieces-some : (text : Text) → HasPiece (pieces_of text)
 unfolding pieces_of
 pieces-some [] = record { piece = _; pieces = _; are = refl }
 pieces-some (byte ∷ text) =
     ⊎_elim (λ h. rw h (record { piece = _; pieces = _; are = refl })) (λ h. rw h (onto_piece byte (pieces_of text))) (cases_Bool (byte == 10))
 
 -- a line before others
-followed : (before : Joint) (mask : List ℕ) (line : Text) (found : List Text) → HasPiece found
+pub followed : (before : Joint) (mask : List ℕ) (line : Text) (found : List Text) → HasPiece found
     → recipe_lines before mask (line ∷ found)
     ≡ recipe_line before (joint_of (slice_index mask (length line - 1)) line) line
     ++ recipe_lines (joint_of (slice_index mask (length line - 1)) line) (drop (length line) mask) found

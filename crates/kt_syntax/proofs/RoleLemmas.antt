@@ -9,7 +9,7 @@ use Rattle.kt_text.specs.Lines.{condensed_of}
 use Rattle.kt_syntax.specs.declared.role.Role.TheVariants.{Ordinary}
 use Rattle.kt_syntax.specs.Mask.{mask_byte, mask_from, mask_of, more_masked}
 use Rattle.kt_syntax.specs.Kinds.{Parts, before_comment, block_word, comment_place, directive_of, include_word, is_refused_word, kind_by_parts, kind_by_word, kind_of, kind_within, assignment_parts, line_kind, past_blanks, past_word, worded}
-use Rattle.kt_syntax.specs.Roles.{line_word, may_open, role_by_word, role_of}
+use Rattle.kt_syntax.specs.Roles.{may_open, role_by_word, role_of}
 
 refused_or_rule : (first rest : Text) → role_of (kind_by_word None first rest) ≡ Ordinary
 unfolding role_of
@@ -47,8 +47,14 @@ tab_role line =
     let begin = past_blanks 0 mask in
     sym (within_role true text mask begin (included (slice_range text begin (past_word begin mask)) (drop (past_blanks (past_word begin mask) (mask_of text)) text)))
 
+-- the first word of a line, before its comment
+unfoldable line_word : Text → Text
+line_word text =
+    let mask = take (comment_place text) (mask_of text)
+    in slice_range text (past_blanks 0 mask) (past_word (past_blanks 0 mask) mask)
+
 -- nor does one whose first word is none of those
-pub word_role : (text : Text) → None ≡ block_word (line_word text) → Ordinary ≡ role_of (kind_of text false)
+word_role : (text : Text) → None ≡ block_word (line_word text) → Ordinary ≡ role_of (kind_of text false)
 unfolding kind_of worded directive_of line_word
 word_role text none =
     let mask = take (comment_place text) (mask_of text) in
@@ -56,15 +62,6 @@ word_role text none =
     let none_there : block_word (slice_range text begin (past_word begin mask)) ≡ None = sym none in
     sym (within_role false text mask begin (rw none_there
     (included (slice_range text begin (past_word begin mask)) (drop (past_blanks (past_word begin mask) (mask_of text)) text))))
-
-pub word_found : (text : Text) (end begin after : ℕ) → end ≡ comment_place text → begin ≡ past_blanks 0 (take end (mask_of text)) → after ≡ past_word begin (take end (mask_of text))
-    → slice_range text begin after ≡ line_word text
-unfolding line_word
-word_found text end begin after e b a =
-    let front : ℕ → Text = λ x. take x (mask_of text) in
-    ap (λ x. slice_range text begin x) a
-    ∙ ap (λ x. slice_range text x (past_word x (front end))) b
-    ∙ ap (λ x. slice_range text (past_blanks 0 (front x)) (past_word (past_blanks 0 (front x)) (front x))) e
 
 -- ---- the first byte of a line
 

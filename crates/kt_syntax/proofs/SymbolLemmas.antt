@@ -1,8 +1,8 @@
 -- A byte that doesn't stand in a line doesn't stand in its mask either, unless as what stands for others.
 use Rattle.std.proofs.Common.{◌≡◌, ◌==◌, ◌≤◌, ◌<◌, ◌+◌, ℕ, zero, suc, Bool, true, false, List, [], ◌∷◌, ◌++◌, None, length, take, refl, sym, ap, ◌∙◌, arith, ⊎_elim, ◌⊎◌, inl, inr, append_assoc}
-use Rattle.std.proofs.lemmas.Bool.{cases_Bool, eqb-true, false_from_ne_true}
+use Rattle.std.proofs.lemmas.Bool.{cases_Bool, eqb-true, false_from_ne_true, or_parts}
 use Rattle.std.proofs.lemmas.List.{append-nil, replicate-append-replicate}
-use Rattle.std.specs.List.{position_or_len}
+use Rattle.std.specs.List.{list_any, position_or_len}
 use Rattle.memchr.specs.Find.{IsFirstByte}
 use Rattle.kt_text.specs.Words.{Text}
 use Rattle.kt_syntax.specs.Mask.{inside, goes_odd, mask_byte, more_masked, mask_from, mask_of}
@@ -60,6 +60,13 @@ IsAbsent sought text = position_or_len (λ b. b == sought) text ≡ length text
 
 pub not_found : (sought : ℕ) (text : Text) → IsFirstByte (λ b. b == sought) text None → IsAbsent sought text
 not_found sought text h = sym (first_byte_place (λ b. b == sought) text None h)
+
+pub not_there : (sought : ℕ) (text : Text) → list_any (λ b. b == sought) text ≡ false → IsAbsent sought text
+not_there sought [] h = refl
+not_there sought (byte ∷ text) h =
+    let both = or_parts (byte == sought) (list_any (λ b. b == sought) text) h in
+    let later = not_there sought text both.1 in
+    rw both.0 (omega arith)
 
 absent_first : (sought byte : ℕ) (text : Text) → IsAbsent sought (byte ∷ text) → (byte == sought) ≡ false
 absent_first sought byte text absent =

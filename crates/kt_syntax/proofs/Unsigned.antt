@@ -1,12 +1,9 @@
 -- Texts without an equals sign, which each operator ends in: they hold no assignment.
-use Rattle.std.proofs.Common.{◌≡◌, ◌==◌, ℕ, zero, suc, Bool, true, false, List, [], ◌∷◌, Option, Some, None, length, drop, refl, sym, ap, ◌∙◌, ⊎_elim, true≢false, arith}
-use Rattle.std.proofs.lemmas.Bool.{and_right, cases_Bool, eqb-true, false_from_ne_true, le-ltb, or_parts}
+use Rattle.std.proofs.Common.{◌≡◌, ◌==◌, ℕ, zero, suc, Bool, true, false, List, [], ◌∷◌, Option, Some, None, drop, refl, sym, ap, ◌∙◌, ⊎_elim, true≢false}
+use Rattle.std.proofs.lemmas.Bool.{and_right, cases_Bool, eqb-true, false_from_ne_true, or_parts}
 use Rattle.std.specs.Prelude.{codes, is_some, nat_eq}
-use Rattle.std.specs.List.{list_any, position_or_len, starts_with}
-use Rattle.memchr.specs.Find.{IsFirstByte}
+use Rattle.std.specs.List.{list_any, starts_with}
 use Rattle.kt_text.specs.Words.{Text}
-use Rattle.kt_text.proofs.MatchLemmas.{list_any-place}
-use Rattle.kt_syntax.proofs.SymbolLemmas.{not_found as absent_at}
 use Rattle.kt_syntax.specs.Heads.{assigns_after, colon_place, is_target_specific}
 use Rattle.kt_syntax.specs.Kinds.{assignment_parts, name_end, operator_of, parts_after, past_blanks}
 
@@ -56,19 +53,10 @@ pub no_assignment : (text : Text) (mask : List ℕ) (begin : ℕ) → list_any i
 unfolding assignment_parts
 no_assignment text mask begin none = sym (no_parts text mask (name_end begin (drop begin mask) (drop begin text)) none)
 
-not_found : (text : Text) → IsFirstByte is_sign text None → list_any is_sign text ≡ false
-not_found text found =
-    let same : length text ≡ position_or_len is_sign text = sym (absent_at 61 text found) in
-    list_any-place is_sign text ∙ le-ltb _ _ (omega arith)
-
--- a text in which no sign is found
-pub unsigned_assigns_nothing : (text : Text) (mask : List ℕ) (begin : ℕ) → IsFirstByte is_sign text None → None ≡ assignment_parts text mask begin
-unsigned_assigns_nothing text mask begin found = no_assignment text mask begin (not_found text found)
-
 none_after : (text : Text) (mask : List ℕ) (colon : Option ℕ) → list_any is_sign text ≡ false → false ≡ assigns_after text mask colon
 none_after text mask None none = refl
 none_after text mask (Some colon) none = ap is_some (no_assignment text mask _ none)
 
-pub unsigned_is_unspecific : (text : Text) (mask : List ℕ) → IsFirstByte is_sign text None → false ≡ is_target_specific text mask
+pub unsigned_is_unspecific : (text : Text) (mask : List ℕ) → list_any is_sign text ≡ false → false ≡ is_target_specific text mask
 unfolding is_target_specific
-unsigned_is_unspecific text mask found = none_after text mask (colon_place 0 0 mask) (not_found text found)
+unsigned_is_unspecific text mask none = none_after text mask (colon_place 0 0 mask) none

@@ -12,19 +12,13 @@ use Rattle.kt_syntax.specs.declared.role.Role.TheVariants.{Ordinary, Conditional
 use Rattle.kt_text.specs.Words.{Text}
 use Rattle.kt_syntax.specs.Mask.{mask_of}
 use Rattle.kt_syntax.specs.Kinds.{Kind, blank, assignment, directive, refused, rule, block_word, comment_place}
-use Rattle.kt_syntax.specs.Kinds.{line_kind, past_blanks, past_word}
+use Rattle.kt_syntax.specs.Kinds.{line_kind, past_word}
 
 -- whether a line begins with a blank, with a backslash, which may be that of a continuation, or with a letter that
 -- words of blocks begin with
 abbrev pub may_open : Text → Bool
 may_open [] = false
 may_open (byte ∷ text) = byte == 32 || byte == 9 || byte == 92 || byte == 100 || byte == 101 || byte == 105
-
--- the first word of a line, before its comment
-unfoldable pub line_word : Text → Text
-line_word text =
-    let mask = take (comment_place text) (mask_of text)
-    in slice_range text (past_blanks 0 mask) (past_word (past_blanks 0 mask) mask)
 
 -- the first word of a text that begins with no blank, before its comment
 unfoldable pub first_word : Text → Text

@@ -59,9 +59,12 @@ pub record RowsOfRules : Type 0 where
 -- plain texts and recipe lines
 pub record RowsOfTexts : Type 0 where
   pub runs : plain_of (codes "a" ++ quoted (codes "#b" ++ quoted (quoted (codes "# c")))) ≡ codes "a#b" ++ quoted []
+  pub three : plain_of (codes "a" ++ quoted (quoted (quoted (codes "#b")))) ≡ codes "a" ++ quoted (codes "#b")
   pub in_reference : plain_of (codes "[$(x # y)]") ≡ codes "[$(x # y)]"
   pub condensed : plain_of (codes "x " ++ continued (continued (codes "y"))) ≡ codes "x y"
   pub last : plain_of (codes "x" ++ continued []) ≡ codes "x "
   pub recipe : recipe_of (codes "a " ++ continued (9 ∷ codes "b # c")) ≡ codes "a b # c"
+  pub two_tabs : recipe_of (codes "a" ++ continued (9 ∷ 9 ∷ codes "b")) ≡ codes "a" ++ (9 ∷ codes "b")
+  pub blanks_stay : recipe_of (codes "a " ++ continued (codes "  b")) ≡ codes "a   b"
   pub reference : recipe_of (codes "[$(f x " ++ continued (continued (codes "y)]"))) ≡ codes "[$(f x y)]"
   pub dollar : recipe_of (codes "[$" ++ continued (codes "  " ++ continued (9 ∷ codes "A]"))) ≡ codes "[$ A]"

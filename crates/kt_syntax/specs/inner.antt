@@ -1,3 +1,6 @@
 -- What only contracts of private functions and proofs cite: nothing here has to be read to know what is promised.
+pub mod Leading
+pub mod LineTexts
 pub mod OwnRuns
 pub mod Places
+pub mod ShortSteps

@@ -1,32 +1,46 @@
 //! Texts without their comments.
 ghost use Rattle.std.specs.Prelude.{◌≡◌, ◌++◌, IfOk, replicate};
+ghost use Rattle.std.specs.Cow.{cow_slice_items};
 ghost use Rattle.kt_syntax.specs.Comments.{backslashes, plain_of, uncommented_of};
 
 use crate::mask::Mask;
-use kt_text::joined;
+use kt_text::{has_byte, joined};
 use memchr::memchr;
 use std::alloc::{AllocError, Global};
+use std::borrow::CowSlice;
 
 /// The text of a part of a line, as the part stands in the file: without its comment, and with each
 /// continuation as one space.
 ///
 /// A number sign after an odd run of backslashes is itself, and so is one inside a reference; of the
 /// run half stay. Carriage returns before newlines are dropped. GNU make manual, "What Makefiles
-/// Contain" and "Splitting Long Lines".
-pub fn plain(alloc: Global, part: &[u8]) -> Result<Vec<u8>, AllocError>
-    ensures { IfOk result (λ plain. plain.items ≡ plain_of part.now) }
+/// Contain" and "Splitting Long Lines". A part that stays as it is is borrowed.
+pub fn plain<'a>(alloc: Global, part: &'a [u8]) -> Result<CowSlice<'a, u8>, AllocError>
+    ensures { IfOk result (λ plain. cow_slice_items plain ≡ plain_of part.now) }
 {
-    let text = joined(alloc, part)?;
-    uncommented(alloc, text.as_slice())
+    match joined(alloc, part)? {
+        CowSlice::Borrowed(text) => uncommented(alloc, text),
+        CowSlice::Owned(text) => Ok(CowSlice::Owned(without_its_comment(alloc, text)?)),
+    }
 }
 
 // A text without continuations, without its comment.
-fn uncommented(alloc: Global, text: &[u8]) -> Result<Vec<u8>, AllocError>
-    ensures { IfOk result (λ plain. plain.items ≡ uncommented_of text.now) }
+fn uncommented<'a>(alloc: Global, text: &'a [u8]) -> Result<CowSlice<'a, u8>, AllocError>
+    ensures { IfOk result (λ plain. cow_slice_items plain ≡ uncommented_of text.now) }
 {
-    match memchr(b'#', text) {
-        None => Vec::from_slice(alloc, text),
-        Some(_) => without_comment(alloc, text),
+    if has_byte(text, b'#') {
+        return Ok(CowSlice::Owned(without_comment(alloc, text)?));
+    }
+    Ok(CowSlice::Borrowed(text))
+}
+
+// The same for a text that is owned.
+fn without_its_comment(alloc: Global, text: Vec<u8>) -> Result<Vec<u8>, AllocError>
+    ensures { IfOk result (λ plain. plain.items ≡ uncommented_of text.items) }
+{
+    match memchr(b'#', text.as_slice()) {
+        None => Ok(text),
+        Some(_) => without_comment(alloc, text.as_slice()),
     }
 }
 

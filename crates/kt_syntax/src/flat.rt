@@ -3,6 +3,7 @@ ghost use Rattle.std.specs.Prelude.{◌≡◌, length, slice_get, IfSome};
 ghost use Rattle.kt_syntax.specs.Reading.{AreReadable, IsAhead, ReadsOn};
 
 use crate::part::Missing;
+use crate::short_step::ShortStep;
 use crate::step::Step;
 use std::collections::VecDeque;
 use std::marker::Model;
@@ -13,7 +14,7 @@ use std::marker::Model;
 /// the steps stand for by `tree_of`.
 #[derive(Debug, Drop)]
 pub struct Blocks {
-    steps: VecDeque<Step>,
+    steps: VecDeque<ShortStep>,
     missing: Option<Missing>,
 }
 
@@ -30,7 +31,7 @@ impl Model for Blocks {
 }
 
 impl Blocks {
-    pub(crate) fn new(steps: VecDeque<Step>, missing: Option<Missing>) -> Blocks
+    pub(crate) fn new(steps: VecDeque<ShortStep>, missing: Option<Missing>) -> Blocks
         requires { AreReadable steps.items }
         ensures { result ≡ record { steps = steps.items; missing = missing } }
     {
@@ -43,7 +44,10 @@ impl Blocks {
         ensures reads { IfSome result (ReadsOn self.now.steps line) }
         ensures ahead { IfSome result (IsAhead line (length self.now.steps)) }
     {
-        self.steps.get(line).copied()
+        match self.steps.get(line) {
+            Some(short) => Some(short.step()),
+            None => None,
+        }
     }
 
     /// The end that is missing, which is met at the end of the text, once an open rule is closed.

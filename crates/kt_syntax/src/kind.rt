@@ -1,25 +1,58 @@
 //! Lines told apart.
-ghost use Rattle.std.specs.Prelude.{◌≡◌, ◌≤◌, ◌+◌, drop, length, take, true, is_some, IfSome, option_map, MatchOption};
+ghost use Rattle.std.specs.Prelude.{◌≡◌, ◌≤◌, ◌+◌, drop, false, length, take, true, is_some, IfSome, option_map};
+ghost use Rattle.std.specs.Prelude.{MatchOption};
 ghost use Rattle.std.specs.Str.{bytes_eq};
 ghost use Rattle.kt_syntax.specs.Kinds.{assignment_parts, block_word, directive_of, ends_name, include_word};
-ghost use Rattle.kt_syntax.specs.Kinds.{is_refused_word, kind_of, kind_told, name_end, operator_of, worded};
+ghost use Rattle.kt_syntax.specs.Kinds.{is_refused_word, kind_by_word, kind_of, kind_told, name_end, operator_of};
+ghost use Rattle.kt_syntax.specs.Kinds.{line_kind, worded};
+ghost use Rattle.kt_syntax.specs.inner.Leading.{may_be_word};
 ghost use Rattle.kt_syntax.specs.Mask.{mask_of};
 ghost use Rattle.kt_syntax.specs.inner.Places.{ArePartsAt, IsBetween, StandsWithin, first_symbols};
 
 use crate::form::{Directive, Form, Operator};
+use crate::front::leading_form;
+use crate::leading::leading_directive;
+use crate::line_text::LineText;
 use crate::mask::Mask;
 use crate::own::past_own_name;
 use crate::places::{comment_place, is_blank, past_blanks, past_line_blanks, past_word};
 use crate::symbol::Symbol;
-use memchr::memchr;
+use kt_text::has_byte;
 
-/// The kind of a line whose continuations are condensed, as `joined` gives it; `tab` says whether
-/// the line begins with a tab.
+/// The kind of a line as it stands in its file: that of its text, in which a continuation counts as a blank. `tab` says
+/// whether the line begins with a tab.
 ///
 /// Takes no memory. POSIX.1-2024 make, "Makefile Syntax"; GNU make manual, "What Makefiles Contain"
 /// and "Splitting Long Lines".
+pub fn classify<'t>(line: &'t LineText<'_>, tab: bool) -> Form<'t>
+    ensures { kind_told result ≡ line_kind line.now tab }
+{
+    classify_text(line.text(), tab)
+}
+
+/// The kind of a text whose continuations are condensed, as that of a line is.
+pub fn classify_text(text: &[u8], tab: bool) -> Form<'_>
+    ensures { kind_told result ≡ kind_of text.now tab }
+{
+    match leading_directive(text) {
+        Some((word, rest)) if !tab => Form::Directive(word, rest),
+        _ => other_kind(text, tab),
+    }
+}
+
+// The same, where the line's begin doesn't tell that it is a directive of blocks.
+fn other_kind(text: &[u8], tab: bool) -> Form<'_>
+    ensures { kind_told result ≡ kind_of text.now tab }
+{
+    match leading_form(text, tab) {
+        Some(form) => form,
+        None => walked_kind(text, tab),
+    }
+}
+
+// The same by a look at the whole line.
 #[tactic(auto, unfolding(crate::specs::Kinds::kind_of, crate::specs::Kinds::kind_within))]
-pub fn classify(text: &[u8], tab: bool) -> Form<'_>
+fn walked_kind(text: &[u8], tab: bool) -> Form<'_>
     ensures { kind_told result ≡ kind_of text.now tab }
 {
     let end = comment_place(text);
@@ -52,10 +85,10 @@ pub(crate) fn assignment(text: &[u8], begin: usize, end: usize) -> Option<Parts>
     ensures value { ArePartsAt begin end text.now result }
     ensures bounds { IfSome result (StandsWithin begin text.now) }
 {
-    match memchr(b'=', text) {
-        None => None,
-        Some(_) => signed_assignment(text, begin, end),
+    if has_byte(text, b'=') {
+        return signed_assignment(text, begin, end);
     }
+    None
 }
 
 // The same for a line with an equals sign.
@@ -125,7 +158,7 @@ fn may_begin_operator(text: &[u8]) -> bool
 
 // The operator that a text begins with, and its length.
 #[tactic(auto, unfolding(crate::specs::Kinds::operator_of))]
-fn operator_of(text: &[u8]) -> Option<(Operator, usize)>
+pub(crate) fn operator_of(text: &[u8]) -> Option<(Operator, usize)>
     ensures value { result ≡ operator_of text.now }
     ensures bounds { IfSome result (λ found. found.1 ≤ length text.now) }
 {
@@ -149,12 +182,35 @@ fn worded(text: &[u8], begin: usize, end: usize, tab: bool) -> Form<'_>
     ensures { kind_told result ≡ worded tab text.now (first_symbols end text.now) begin }
 {
     let after = past_word(text, begin, end);
-    let word = &text[begin..after];
     let rest = past_line_blanks(text, after);
+    form_by_word(tab, &text[begin..after], &text[rest..])
+}
+
+// The same by that word and the text after it.
+#[tactic(auto, using(crate::proofs::LeadingForms::no_word))]
+pub(crate) fn form_by_word<'a>(tab: bool, word: &'a [u8], rest: &'a [u8]) -> Form<'a>
+    ensures { kind_told result ≡ kind_by_word (directive_of tab word.now) word.now rest.now }
+{
+    if !may_be_word(word) {
+        return Form::Rule;
+    }
     match directive_of(tab, word) {
-        Some(directive) => Form::Directive(directive, &text[rest..]),
+        Some(directive) => Form::Directive(directive, rest),
         None if is_refused_word(word) => Form::Refused(word),
         None => Form::Rule,
+    }
+}
+
+// Whether a word begins as one of those does that count: few do, and the test is a quick one.
+fn may_be_word(word: &[u8]) -> bool
+    ensures { result ≡ may_be_word word.now }
+{
+    match word {
+        [first, ..] => matches!(
+            *first,
+            b'-' | b'd' | b'e' | b'i' | b'l' | b'o' | b'p' | b's' | b'u' | b'v'
+        ),
+        [] => false,
     }
 }
 

@@ -5,11 +5,15 @@ ghost use Rattle.kt_syntax.specs.declared.role.Head.{Head};
 ghost use Rattle.kt_syntax.specs.Assignments.{AssignmentLaw};
 ghost use Rattle.kt_syntax.specs.BlockRows.{RowsOfBlocks};
 ghost use Rattle.kt_syntax.specs.Blocks.{Items, blocks_of, tree_of};
+ghost use Rattle.kt_syntax.specs.CommentTexts.{CommentLaw};
 ghost use Rattle.kt_syntax.specs.Condensed.{LineLaw};
 ghost use Rattle.kt_syntax.specs.Grammar.{IsTreeOf};
 ghost use Rattle.kt_syntax.specs.Masked.{MaskLaw};
+ghost use Rattle.kt_syntax.specs.Modifiers.{ModifierLaw};
+ghost use Rattle.kt_syntax.specs.RecipeCuts.{SplicingLaw};
 ghost use Rattle.kt_syntax.specs.RecipeTexts.{RecipeLaw};
 ghost use Rattle.kt_syntax.specs.Rows.{RowsOfKinds, RowsOfRules, RowsOfTerms, RowsOfTexts};
+ghost use Rattle.kt_syntax.specs.Semicolons.{SemicolonLaw};
 ghost use Rattle.kt_syntax.specs.Signs.{SignLaw};
 
 /// By the grammar of blocks lines have exactly one tree and one missing end or none: the tree that
@@ -63,6 +67,18 @@ pub fn law_of_signs()
     ensures { SignLaw }
 {}
 
+/// Of the backslashes before a number sign half stay; the first one after an even number of them,
+/// outside references, is where the comment begins, which goes, and `comment_place` finds that one.
+pub fn law_of_comments()
+    ensures { CommentLaw }
+{}
+
+/// The words before a target-specific macro are passed one by one, each between blanks, as long as
+/// one comes; there is one place at which that ends.
+pub fn law_of_modifiers()
+    ensures { ModifierLaw }
+{}
+
 /// What a line says is what its condensed text says: its kind with each part, whether it assigns a
 /// target-specific macro, and the head of a rule line.
 pub fn law_of_lines()
@@ -73,4 +89,17 @@ pub fn law_of_lines()
 /// continued; but for blanks, backslashes and carriage returns it has the bytes of the line, in order.
 pub fn law_of_recipe_texts()
     ensures { RecipeLaw }
+{}
+
+/// What a recipe line is at its first newline, and so at each: a newline that isn't continued stays; outside references
+/// a continuation goes, and one tab after it; inside, continuations with the blanks round them are one space. Only one
+/// text is so.
+pub fn law_of_splicing()
+    ensures { SplicingLaw }
+{}
+
+/// The first semicolon of a line is that of its condensed text, or neither has one: so `rule_parts` cuts head and
+/// recipe at the same one.
+pub fn law_of_semicolons()
+    ensures { SemicolonLaw }
 {}

@@ -11,8 +11,9 @@ ghost use Rattle.kt_syntax.specs.Steps.{steps_from};
 use crate::flat::Blocks;
 use crate::part::{Missing, Part, Scan};
 use crate::role::head_of;
-use crate::step::{Places, Step};
-use kt_text::Line;
+use crate::short_step::ShortStep;
+use crate::step::Places;
+use kt_text::{Line, Mark};
 use std::alloc::{AllocError, Global};
 use std::collections::VecDeque;
 
@@ -20,6 +21,29 @@ use std::collections::VecDeque;
 ///
 /// GNU make manual, "Syntax of Conditionals" and "Defining Multi-Line Variables".
 pub fn blocks(alloc: Global, text: &[u8], lines: &[Line]) -> Result<Blocks, AllocError>
+    requires { AreInOrder (length text.now) lines.now }
+    ensures flat { IfOk result (λ blocks. blocks ≡ blocks_of (heads_of text.now lines.now)) }
+    ensures tree { IfOk result (λ blocks. IsTreeOf (tree_of blocks.steps) blocks.missing
+        (heads_of text.now lines.now)) }
+    ensures lines { IfOk result (λ blocks. length blocks.steps ≡ length lines.now) }
+    ensures whole { IfOk result (λ blocks. left_at blocks.steps 0 ≡ tree_of blocks.steps) }
+{
+    let marks = marks_of(alloc, lines)?;
+    marked_blocks(alloc, text, &marks)
+}
+
+fn marks_of(alloc: Global, lines: &[Line]) -> Result<Vec<Mark>, AllocError>
+    ensures { IfOk result (λ marks. marks.items ≡ lines.now) }
+{
+    let mut marks = Vec::new(alloc);
+    for line in lines {
+        marks.push(Mark::of(line)?)?;
+    }
+    Ok(marks)
+}
+
+/// The same by the marks of these lines, as `line_marks` gives them.
+pub fn marked_blocks(alloc: Global, text: &[u8], lines: &[Mark]) -> Result<Blocks, AllocError>
     requires { AreInOrder (length text.now) lines.now }
     ensures flat { IfOk result (λ blocks. blocks ≡ blocks_of (heads_of text.now lines.now)) }
     ensures tree { IfOk result (λ blocks. IsTreeOf (tree_of blocks.steps) blocks.missing
@@ -36,7 +60,7 @@ pub fn blocks(alloc: Global, text: &[u8], lines: &[Line]) -> Result<Blocks, Allo
 fn parts(
     alloc: Global,
     text: &[u8],
-    lines: &[Line],
+    lines: &[Mark],
 ) -> Result<(Vec<Part>, Option<Missing>), AllocError>
     requires { AreInOrder (length text.now) lines.now }
     ensures parts { IfOk result (λ found. found.0.items ≡ parts_of (heads_of text.now lines.now)) }
@@ -45,20 +69,22 @@ fn parts(
     let mut parts = Vec::new(alloc);
     let mut scan = Scan::new(alloc);
     for line in lines {
-        parts.push(scan.advance(head_of(alloc, text, line)?)?)?;
+        let head = head_of(alloc, text, &line.line())?;
+        parts.push(scan.advance(head)?)?;
     }
     let missing = scan.missing();
     Ok((parts, missing))
 }
 
 // The steps of lines with these parts.
-fn steps(alloc: Global, mut parts: Vec<Part>) -> Result<VecDeque<Step>, AllocError>
+fn steps(alloc: Global, mut parts: Vec<Part>) -> Result<VecDeque<ShortStep>, AllocError>
     ensures { IfOk result (λ steps. steps.items ≡ steps_from 0 parts.items) }
 {
     let mut steps = VecDeque::new(alloc);
     let mut places = Places::at_end(alloc, parts.len());
     while let Some(part) = parts.pop() {
-        steps.push_front(places.step(part, parts.len())?)?;
+        let step = places.step(part, parts.len())?;
+        steps.push_front(ShortStep::of(step)?)?;
     }
     Ok(steps)
 }

@@ -9,17 +9,17 @@ ghost use Rattle.kt_syntax.specs.inner.Places.{IsBetween, first_symbols};
 use crate::mask::Mask;
 use crate::own::{past_own_blanks, past_own_word};
 use crate::symbol::Symbol;
-use memchr::memchr;
+use kt_text::has_byte;
 
 // Where the comment of a line begins, or the line's end.
 pub(crate) fn comment_place(text: &[u8]) -> usize
     ensures value { result ≡ comment_place text.now }
     ensures bound { result ≤ length text.now }
 {
-    match memchr(b'#', text) {
-        None => text.len(),
-        Some(_) => sign_place(text),
+    if has_byte(text, b'#') {
+        return sign_place(text);
     }
+    text.len()
 }
 
 // The same for a line with a number sign, which may be quoted or stand in a reference.

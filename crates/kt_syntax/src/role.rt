@@ -2,12 +2,13 @@
 ghost use Rattle.std.specs.Prelude.{◌≡◌, ◌≤◌, false, length, IfOk};
 ghost use Rattle.std.specs.List.{slice_range};
 ghost use Rattle.kt_syntax.specs.Kinds.{block_word, kind_of, line_kind};
-ghost use Rattle.kt_syntax.specs.Roles.{first_word, head_of, line_text, line_word, may_open, opens_conditional};
+ghost use Rattle.kt_syntax.specs.Roles.{first_word, head_of, line_text, may_open, opens_conditional};
 ghost use Rattle.kt_syntax.specs.Roles.{role_by_word, role_of, starts_condition};
 
 use crate::form::{Directive, Form};
-use crate::kind::{block_word, classify};
-use crate::places::{comment_place, past_blanks, past_word};
+use crate::kind::{block_word, classify_text};
+use crate::leading::leading_block_word;
+use crate::places::{comment_place, past_word};
 use kt_text::{Line, joined};
 use std::alloc::{AllocError, Global};
 
@@ -72,10 +73,7 @@ fn role_of(text: &[u8]) -> Role
     if !may_open(text) {
         return Role::Ordinary;
     }
-    match block_word(line_word(text)) {
-        None => Role::Ordinary,
-        Some(_) => classified_role(text),
-    }
+    classified_role(text)
 }
 
 // Whether a line begins with a blank, with what may stand for one, or as the words of conditionals
@@ -93,19 +91,10 @@ fn may_open(text: &[u8]) -> bool
 fn classified_role(text: &[u8]) -> Role
     ensures { result ≡ role_of (kind_of text.now false) }
 {
-    match classify(text, false) {
+    match classify_text(text, false) {
         Form::Directive(word, rest) => role_by_word(word, rest),
         _ => Role::Ordinary,
     }
-}
-
-// The first word of a line, before its comment.
-fn line_word(text: &[u8]) -> &[u8]
-    ensures { result.now ≡ line_word text.now }
-{
-    let end = comment_place(text);
-    let begin = past_blanks(text, 0, end);
-    &text[begin..past_word(text, begin, end)]
 }
 
 #[tactic(auto, unfolding(crate::specs::Roles::role_by_word))]
@@ -125,11 +114,17 @@ fn role_by_word(word: Directive, rest: &[u8]) -> Role
 }
 
 // Whether the text after an `else` is that of a condition, by its first word alone.
-#[tactic(auto, unfolding(crate::specs::Roles::starts_condition))]
+#[tactic(auto, using(crate::proofs::LeadingWords::nothing_starts), unfolding(crate::specs::Roles::starts_condition))]
 fn starts_condition(rest: &[u8]) -> bool
     ensures { result ≡ starts_condition rest.now }
 {
-    opens_conditional(block_word(first_word(rest)))
+    if rest.is_empty() {
+        return false;
+    }
+    match leading_block_word(rest) {
+        Some(word) => opens_conditional(Some(word)),
+        None => opens_conditional(block_word(first_word(rest))),
+    }
 }
 
 #[tactic(auto, unfolding(crate::specs::Roles::first_word))]

@@ -4,15 +4,16 @@ ghost use Rattle.std.specs.Prelude.{MatchOption};
 ghost use Rattle.std.specs.List.{position_or_len};
 ghost use Rattle.kt_syntax.specs.Kinds.{comment_place};
 ghost use Rattle.kt_syntax.specs.Heads.{after_colon, after_modifiers, colon_place, first_recipe, head_end, head_text};
-ghost use Rattle.kt_syntax.specs.Heads.{is_modifier, is_target_specific, rule_texts, texts_told};
+ghost use Rattle.kt_syntax.specs.Heads.{is_modifier, is_target_specific, line_parts, texts_told};
 ghost use Rattle.kt_syntax.specs.Mask.{mask_of};
 ghost use Rattle.kt_syntax.specs.inner.Places.{first_symbols};
 
 use crate::kind::{assignment, is_word};
+use crate::line_text::LineText;
 use crate::mask::Mask;
 use crate::places::{comment_place, is_blank, past_blanks, past_line_blanks};
 use crate::symbol::Symbol;
-use memchr::memchr;
+use kt_text::has_byte;
 use thiserror::Error;
 
 /// The parts of a rule line.
@@ -30,15 +31,15 @@ pub struct RuleParts<'a> {
 #[error("target-specific macro")]
 pub struct TargetSpecific;
 
-/// The head and the recipe of a rule line, by the line as it stands in the file and by its text with
-/// condensed continuations, as `joined` gives it.
+/// The head and the recipe of a rule line as it stands in its file.
 ///
 /// Takes no memory. POSIX.1-2024 make, "Target Rules"; GNU make manual, "Target-specific Variable
 /// Values".
 #[tactic(auto, unfolding(crate::specs::Heads::rule_texts))]
-pub fn rule_parts<'a>(line: &'a [u8], text: &'a [u8]) -> Result<RuleParts<'a>, TargetSpecific>
-    ensures { texts_told result ≡ rule_texts line.now text.now }
+pub fn rule_parts<'t>(line: &'t LineText<'_>) -> Result<RuleParts<'t>, TargetSpecific>
+    ensures { texts_told result ≡ line_parts line.now }
 {
+    let text = line.text();
     let comment = comment_place(text);
     let end = head_end(text, comment);
     if is_target_specific(text, end) {
@@ -46,7 +47,7 @@ pub fn rule_parts<'a>(line: &'a [u8], text: &'a [u8]) -> Result<RuleParts<'a>, T
     }
     Ok(RuleParts {
         head: head_text(text, comment, end),
-        recipe: first_recipe(line),
+        recipe: first_recipe(line.line()),
     })
 }
 
@@ -85,10 +86,10 @@ fn head_end(text: &[u8], comment: usize) -> usize
     ensures value { result ≡ head_end text.now }
     ensures bound { result ≤ comment }
 {
-    match memchr(b';', text) {
-        None => comment,
-        Some(_) => semicolon_place(text, comment),
+    if has_byte(text, b';') {
+        return semicolon_place(text, comment);
     }
+    comment
 }
 
 // The same for a line with a semicolon, which may stand in a reference or in the comment.
@@ -114,10 +115,10 @@ fn is_target_specific(text: &[u8], end: usize) -> bool
     requires { end ≤ length text.now }
     ensures { result ≡ is_target_specific text.now (first_symbols end text.now) }
 {
-    match memchr(b'=', text) {
-        None => false,
-        Some(_) => assigns_after_colon(text, end),
+    if has_byte(text, b'=') {
+        return assigns_after_colon(text, end);
     }
+    false
 }
 
 // The same for a line with an equals sign.

@@ -6,3 +6,9 @@
 mod lines;
 #[cfg(test)]
 mod nesting;
+#[cfg(test)]
+mod plain_way;
+#[cfg(test)]
+mod random_lines;
+#[cfg(test)]
+mod scans;

@@ -1,12 +1,12 @@
 //! Terms, kinds of lines and texts of parts, from the manuals and kati's own rules.
 use kt_syntax::{
-    Directive, Form, Mark, Operator, Term, classify, plain, recipe_text, rule_parts, terms,
+    Directive, Form, LineText, Mark, Operator, Term, classify, classify_text, plain, recipe_text,
+    rule_parts, terms,
 };
-use kt_text::joined;
 use std::test::Fail;
 
 /// Each term in brackets, with a letter for its mark.
-fn told(text: &[u8], rt: &HostRuntime) -> Result<Vec<u8>, Fail> {
+pub(crate) fn told(text: &[u8], rt: &HostRuntime) -> Result<Vec<u8>, Fail> {
     let mut told = Vec::new(rt.alloc());
     for term in terms(text) {
         let (kind, body) = match term {
@@ -44,15 +44,15 @@ fn cuts_texts(rt: HostRuntime) -> Result<(), Fail> {
     ];
     for (text, expected) in rows {
         let found = told(text, &rt)?;
-        assert_eq!(rt; found.as_slice(), expected);
+        assert_eq!(rt; found.as_slice(), expected, "of {text:?}");
     }
     Ok(())
 }
 
-/// The kind of a condensed line in one letter, and its parts, each in brackets.
-fn kind_told(text: &[u8], tab: bool, rt: &HostRuntime) -> Result<Vec<u8>, Fail> {
+/// The kind of a line in one letter, and its parts, each in brackets.
+pub(crate) fn kind_told(line: &LineText<'_>, tab: bool, rt: &HostRuntime) -> Result<Vec<u8>, Fail> {
     let mut told = Vec::new(rt.alloc());
-    let (kind, first, second) = match classify(text, tab) {
+    let (kind, first, second) = match classify(line, tab) {
         Form::Blank => (b'b', b"".as_slice(), b"".as_slice()),
         Form::Assignment(name, Operator::Deferred, value) => (b'=', name, value),
         Form::Assignment(name, Operator::Immediate, value) => (b':', name, value),
@@ -136,17 +136,17 @@ fn tells_kinds(rt: HostRuntime) -> Result<(), Fail> {
         (b"= b", false, b"=[][b]"),
     ];
     for (text, tab, expected) in rows {
-        let line = joined(rt.alloc(), text)?;
-        let found = kind_told(line.as_slice(), tab, &rt)?;
-        assert_eq!(rt; found.as_slice(), expected);
+        let line = LineText::new(rt.alloc(), text)?;
+        let found = kind_told(&line, tab, &rt)?;
+        assert_eq!(rt; found.as_slice(), expected, "of {text:?}");
     }
     Ok(())
 }
 
 /// Head and recipe, each in brackets, or a star for a target-specific macro.
-fn parts_told(line: &[u8], text: &[u8], rt: &HostRuntime) -> Result<Vec<u8>, Fail> {
+fn parts_told(line: &LineText<'_>, rt: &HostRuntime) -> Result<Vec<u8>, Fail> {
     let mut told = Vec::new(rt.alloc());
-    match rule_parts(line, text) {
+    match rule_parts(line) {
         Err(_) => told.push(b'*')?,
         Ok(parts) => {
             told.push(b'[')?;
@@ -201,9 +201,9 @@ fn cuts_rule_lines(rt: HostRuntime) -> Result<(), Fail> {
         (b"a", b"[a]"),
     ];
     for (text, expected) in rows {
-        let line = joined(rt.alloc(), text)?;
-        let found = parts_told(text, line.as_slice(), &rt)?;
-        assert_eq!(rt; found.as_slice(), expected);
+        let line = LineText::new(rt.alloc(), text)?;
+        let found = parts_told(&line, &rt)?;
+        assert_eq!(rt; found.as_slice(), expected, "of {text:?}");
     }
     Ok(())
 }
@@ -229,7 +229,7 @@ fn drops_comments(rt: HostRuntime) -> Result<(), Fail> {
     ];
     for (text, expected) in rows {
         let found = plain(rt.alloc(), text)?;
-        assert_eq!(rt; found.as_slice(), expected);
+        assert_eq!(rt; found.as_slice(), expected, "of {text:?}");
     }
     Ok(())
 }
@@ -250,7 +250,7 @@ fn condenses_parts(rt: HostRuntime) -> Result<(), Fail> {
     ];
     for (text, expected) in rows {
         let found = plain(rt.alloc(), text)?;
-        assert_eq!(rt; found.as_slice(), expected);
+        assert_eq!(rt; found.as_slice(), expected, "of {text:?}");
     }
     Ok(())
 }
@@ -273,7 +273,7 @@ fn joins_recipe_lines(rt: HostRuntime) -> Result<(), Fail> {
     ];
     for (text, expected) in rows {
         let found = recipe_text(rt.alloc(), text)?;
-        assert_eq!(rt; found.as_slice(), expected);
+        assert_eq!(rt; found.as_slice(), expected, "of {text:?}");
     }
     Ok(())
 }
@@ -294,7 +294,7 @@ fn joins_references_of_recipe_lines(rt: HostRuntime) -> Result<(), Fail> {
     ];
     for (text, expected) in rows {
         let found = recipe_text(rt.alloc(), text)?;
-        assert_eq!(rt; found.as_slice(), expected);
+        assert_eq!(rt; found.as_slice(), expected, "of {text:?}");
     }
     Ok(())
 }
@@ -335,7 +335,7 @@ fn halves_long_runs(rt: HostRuntime) -> Result<(), Fail> {
 fn tells_long_assignments(rt: HostRuntime) -> Result<(), Fail> {
     let mut line = repeated(b'y', 5_000, &rt)?;
     line.extend_from_slice(b" = z")?;
-    match classify(&line, false) {
+    match classify_text(&line, false) {
         Form::Assignment(name, _, value) => {
             assert_eq!(rt; name.len(), 5_000);
             assert_eq!(rt; value, b"z".as_slice());

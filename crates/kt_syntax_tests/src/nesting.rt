@@ -1,6 +1,6 @@
 //! Blocks of texts, from the manual and kati's own rules.
-use kt_syntax::{Missing, Step, Stray, blocks};
-use kt_text::logical_lines;
+use kt_syntax::{Missing, Step, Stray, blocks, marked_blocks};
+use kt_text::{line_marks, logical_lines};
 use std::test::Fail;
 
 /// A letter for a step, and the last digit of each place that it names.
@@ -57,7 +57,7 @@ fn told(text: &[u8], rt: &HostRuntime) -> Result<Vec<u8>, Fail> {
 
 #[test]
 fn finds_blocks(rt: HostRuntime) -> Result<(), Fail> {
-    let rows: [(&[u8], &[u8]); 27] = [
+    let rows: [(&[u8], &[u8]); 30] = [
         (b"", b""),
         (b"ifdef X\na\nelse\nb\nendif\nc\n", b"c24lp44lCl"),
         (
@@ -97,10 +97,22 @@ fn finds_blocks(rt: HostRuntime) -> Result<(), Fail> {
         (b"define $\\\n A :=\nx\nendef\n", b"d2bD"),
         (b"ifdef Q\nelse$\\\n ifdef X\nendif\n", b"c22lC"),
         (b"ifdef Q\nelse \\\n \\\n ifdef$\\\n X\nendif\n", b"c12p22C"),
+        (
+            b"ifdef Q\nendif = 3\n\tendif\na \\\nendif\nendif # c\n",
+            b"c44lllC",
+        ),
+        (
+            b"ifdef Q\nendif\\\n= 3\nendif:\nendifs\nendif\n",
+            b"c44lllC",
+        ),
+        (
+            b"ifdef Q\n\\\nendif\nifdef Q\n \\\n else \\\n ifdef Q # c\nendif\n",
+            b"c11Cc34e44C",
+        ),
     ];
     for (text, expected) in rows {
         let found = told(text, &rt)?;
-        assert_eq!(rt; found.as_slice(), expected);
+        assert_eq!(rt; found.as_slice(), expected, "of {text:?}");
     }
     Ok(())
 }
@@ -123,8 +135,8 @@ fn finds_deep_blocks(rt: HostRuntime) -> Result<(), Fail> {
     for _ in 0..100_000 {
         text.extend_from_slice(b"endif\n")?;
     }
-    let lines = logical_lines(rt.alloc(), &text)?;
-    let found = blocks(rt.alloc(), &text, &lines)?;
+    let lines = line_marks(rt.alloc(), &text)?;
+    let found = marked_blocks(rt.alloc(), &text, &lines)?;
     assert_eq!(rt; found.missing(), None);
     let outermost = Step::Conditional {
         next: 199_999,

@@ -1,10 +1,9 @@
 -- A text condensed physical line by physical line.
-use Rattle.std.proofs.Common.{◌≡◌, ℕ, Bool, true, false, List, [], ◌∷◌, ◌++◌, ◌&&◌, ◌==◌, refl, sym, ◌∙◌, ap, append_assoc, append-nil, length, if◌then◌else◌, ⊎_elim, arith, suc, ◌<◌, ◌-◌, None}
-use Rattle.std.proofs.lemmas.Bool.{cases_Bool, eqb-true, eq-eqb, false_from_ne_true, lt-ltb}
+use Rattle.std.proofs.Common.{◌≡◌, ℕ, Bool, true, false, List, [], ◌∷◌, ◌++◌, ◌&&◌, ◌==◌, refl, sym, ◌∙◌, ap, append_assoc, append-nil, length, if◌then◌else◌, ⊎_elim, arith, zero, suc, ◌<◌, ◌-◌, true≢false}
+use Rattle.std.proofs.lemmas.Bool.{cases_Bool, eqb-true, eq-eqb, false_from_ne_true, lt-ltb, or_parts}
 use Rattle.std.proofs.lemmas.List.{nil_from_length}
 use Rattle.std.specs.Prelude.{slice_index}
-use Rattle.std.specs.List.{onto_first, flat_map}
-use Rattle.memchr.specs.Find.{IsFirstByte, is_byte}
+use Rattle.std.specs.List.{flat_map, list_any, onto_first}
 use Rattle.kt_text.specs.Words.{Text}
 use Rattle.kt_text.specs.Lines.{is_continued, is_ended, groups, pieces_of, condensed_line, condensed_rest, condensed_group, condensed_of}
 use Rattle.kt_text.proofs.GroupLemmas.{groups-ended, groups-continued, groups-begins}
@@ -24,10 +23,10 @@ unfolding left_text
 left_text-false [] = refl
 left_text-false (group ∷ later) = refl
 
-alone : (continued : Bool) (line : Text) (later : List (List Text)) → left_text continued ((line ∷ []) ∷ later) ≡ condensed_line continued false line ++ flat_map condensed_group later
+pub left_text-alone : (continued : Bool) (line : Text) (later : List (List Text)) → left_text continued ((line ∷ []) ∷ later) ≡ condensed_line continued false line ++ flat_map condensed_group later
 unfolding left_text condensed_group condensed_rest
-alone true line later = refl
-alone false line later = refl
+left_text-alone true line later = refl
+left_text-alone false line later = refl
 
 followed : (continued : Bool) (line next : Text) (others : List Text) (later : List (List Text))
     → left_text continued ((line ∷ next ∷ others) ∷ later) ≡ condensed_line continued true line ++ left_text true ((next ∷ others) ∷ later)
@@ -38,12 +37,12 @@ followed false line next others later = append_assoc (condensed_line false true 
 step_ended : (continued : Bool) (line : Text) (lines : List Text) → is_continued line ≡ false
     → left_text continued (groups (line ∷ lines)) ≡ condensed_line continued false line ++ left_text false (groups lines)
 step_ended continued line lines h =
-    ap (left_text continued) (groups-ended line lines h) ∙ alone continued line (groups lines) ∙ ap (λ t. condensed_line continued false line ++ t) (sym (left_text-false (groups lines)))
+    ap (left_text continued) (groups-ended line lines h) ∙ left_text-alone continued line (groups lines) ∙ ap (λ t. condensed_line continued false line ++ t) (sym (left_text-false (groups lines)))
 
 step_last : (continued : Bool) (line : Text) → is_continued line ≡ true
     → left_text continued (groups (line ∷ [])) ≡ condensed_line continued false line ++ left_text false (groups [])
 unfolding groups
-step_last continued line h = ap (left_text continued) (groups-continued line [] h) ∙ alone continued line [] ∙ ap (λ t. condensed_line continued false line ++ t) (sym (left_text-false []))
+step_last continued line h = ap (left_text continued) (groups-continued line [] h) ∙ left_text-alone continued line [] ∙ ap (λ t. condensed_line continued false line ++ t) (sym (left_text-false []))
 
 step_next : (continued : Bool) (line next : Text) (lines : List Text) → is_continued line ≡ true
     → left_text continued (groups (line ∷ next ∷ lines)) ≡ condensed_line continued true line ++ left_text true (groups (next ∷ lines))
@@ -152,5 +151,12 @@ condensed_alone text free =
     ap (flat_map condensed_group) (ap groups (one_piece text free) ∙ one_group (is_continued text) text refl)
     ∙ append-nil (condensed_line false false text) ∙ alone_itself text free
 
-pub without_newline : (text : Text) → IsFirstByte (is_byte 10) text None → condensed_of text ≡ text
-without_newline text found = condensed_alone text (λ k l e. found k (omega arith) l (eq-eqb _ _ e))
+-- a byte that no look finds stands nowhere
+pub nowhere : (sought : ℕ) (text : Text) → list_any (λ byte. byte == sought) text ≡ false → (k : ℕ) → k < length text → slice_index text k ≡ sought → ⊥
+nowhere sought [] h k l e = absurd (omega arith)
+nowhere sought (byte ∷ text) h zero l e =
+    true≢false (sym (eq-eqb byte sought e) ∙ (or_parts (byte == sought) (list_any (λ b. b == sought) text) h).0)
+nowhere sought (byte ∷ text) h (suc k) l e = nowhere sought text (or_parts (byte == sought) (list_any (λ b. b == sought) text) h).1 k (omega arith) e
+
+pub without_newline : (text : Text) → list_any (λ byte. byte == 10) text ≡ false → condensed_of text ≡ text
+without_newline text h = condensed_alone text (nowhere 10 text h)

@@ -5,10 +5,10 @@ use Rattle.std.specs.List.{onto_first, flat_map}
 use Rattle.bstr.specs.Text.{no_cr, without_terminator}
 use Rattle.kt_text.specs.Words.{Text, trimmed_start, trimmed_end}
 use Rattle.kt_text.specs.Lines.{is_continued, is_ended, groups, pieces_of, before_backslash, trimmed_line, space_before, condensed_line, condensed_rest, condensed_group, condensed_of}
-use Rattle.kt_text.specs.Condensing.{IsLine, CondensingLaw}
+use Rattle.kt_text.specs.Condensing.{IsLine}
 use Rattle.kt_text.proofs.CondensedLemmas.{condensed_alone, one_group}
 use Rattle.kt_text.proofs.NewlineLemmas.{IsFree, free_append, free_take, free_drop, free_space, free_nil, free_at}
-use Rattle.kt_text.proofs.LineTextLemmas.{content_ended, lines_are}
+use Rattle.kt_text.proofs.LineTextLemmas.{content_ended}
 use Rattle.kt_text.proofs.GroupLemmas.{groups-ended, groups-continued, groups-begins, length-onto}
 
 -- ---- the pieces of a text
@@ -79,7 +79,7 @@ free_last : (continued : Bool) (line : Text) → IsFree line → IsFree (trimmed
 free_last false line a = free_content line a
 free_last true line a = free_start _ (free_content line a)
 
-no_end : (line : Text) → IsFree line → is_ended line ≡ false
+pub no_end : (line : Text) → IsFree line → is_ended line ≡ false
 unfolding is_ended
 no_end [] a = refl
 no_end (byte ∷ line) a = false_from_ne_true _ (λ h. free_at (byte ∷ line) a (length (byte ∷ line) - 1) (omega arith) (eqb-true _ 10 h))
@@ -138,7 +138,7 @@ whole_group [] e = absurd (omega arith)
 whole_group (line ∷ []) e = one_group (is_continued line) line refl
 whole_group (line ∷ next ∷ lines) e = more_group (is_continued line) line next lines refl (whole_group (next ∷ lines)) e
 
-line_is_free : (line : Text) → IsLine line → IsFree (condensed_of line)
+pub line_is_free : (line : Text) → IsLine line → IsFree (condensed_of line)
 unfolding condensed_of
 line_is_free line h =
     let one = whole_group (pieces_of line) h in
@@ -148,11 +148,3 @@ line_is_free line h =
 
 pub condensed_once : (line : Text) → IsLine line → condensed_of (condensed_of line) ≡ condensed_of line
 condensed_once line h = condensed_alone (condensed_of line) (free_at (condensed_of line) (line_is_free line h))
-
-pub condensing_law : CondensingLaw
-condensing_law = record {
-  stays = condensed_alone;
-  no_newline = λ line h. free_at (condensed_of line) (line_is_free line h);
-  once = condensed_once;
-  lines = lines_are;
-}

@@ -1,5 +1,7 @@
 pub mod CondensedLemmas
 pub mod CondensingLemmas
+pub mod CuttingLemmas
+pub mod GapLemmas
 pub mod GroupLemmas
 pub mod LineTextLemmas
 pub mod ListLemmas
@@ -7,9 +9,11 @@ pub mod LogicalLemmas
 pub mod MatchLemmas
 pub mod NameLemmas
 pub mod NewlineLemmas
+pub mod OneCondensing
 pub mod OrderLemmas
 pub mod PatternLemmas
 pub mod PhysicalLemmas
 pub mod PlaceLemmas
 pub mod SortLemmas
+pub mod TrimLemmas
 pub mod WordLemmas

@@ -176,7 +176,7 @@ kept_is (line ∷ next ∷ lines) after =
     ∙ take-append-add line (concat group ++ after) (kept_length group) ∙ ap (λ t. line ++ t) (kept_is (next ∷ lines) after)
 
 -- an ended line is the first piece of a text that begins with it
-pieces_after : (front after : Text) → IsFree front → pieces_of ((front ++ 10 ∷ []) ++ after) ≡ (front ++ 10 ∷ []) ∷ pieces_of after
+pub pieces_after : (front after : Text) → IsFree front → pieces_of ((front ++ 10 ∷ []) ++ after) ≡ (front ++ 10 ∷ []) ∷ pieces_of after
 unfolding pieces_of IsFree
 pieces_after [] after a = refl
 pieces_after (byte ∷ front) after a = rw a.0 (ap (onto_first byte) (pieces_after front after a.1))

@@ -13,6 +13,11 @@ unfolding IsFree
 free_append [] second a b = b
 free_append (byte ∷ first) second a b = (a.0, free_append first second a.1 b)
 
+pub free_front : (first second : Text) → IsFree (first ++ second) → IsFree first
+unfolding IsFree
+free_front [] second a = tt
+free_front (byte ∷ first) second a = (a.0, free_front first second a.1)
+
 pub free_take : (n : ℕ) (text : Text) → IsFree text → IsFree (take n text)
 unfolding IsFree
 free_take zero text a = tt

@@ -4,8 +4,8 @@ ghost use Rattle.std.specs.Cow.{cow_slice_items};
 ghost use Rattle.kt_text.specs.Lines.{condensed_line, condensed_of, newline_after, space_before, trimmed_line};
 
 use crate::blanks::{trim_end, trim_start};
+use crate::byte::has_byte;
 use crate::physical::{first_line, joins_next, line_content};
-use memchr::memchr;
 use std::alloc::{AllocError, Global};
 use std::borrow::CowSlice;
 
@@ -13,10 +13,10 @@ use std::borrow::CowSlice;
 pub fn joined<'a>(alloc: Global, text: &'a [u8]) -> Result<CowSlice<'a, u8>, AllocError>
     ensures { IfOk result (λ joined. cow_slice_items joined ≡ condensed_of text.now) }
 {
-    match memchr(b'\n', text) {
-        None => Ok(CowSlice::Borrowed(text)),
-        Some(_) => Ok(CowSlice::Owned(condensed(alloc, text)?)),
+    if has_byte(text, b'\n') {
+        return Ok(CowSlice::Owned(condensed(alloc, text)?));
     }
+    Ok(CowSlice::Borrowed(text))
 }
 
 /// `text` with each continuation, with the blanks on both sides, as one space.

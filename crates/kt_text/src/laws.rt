@@ -18,8 +18,9 @@ pub fn law_of_sort()
     ensures { SortLaw }
 {}
 
-/// A text without newline stays as it is when it is condensed. The condensed text of a line, each
-/// newline of which is continued, is such a text. The text of each logical line is such a line.
+/// At each cut of a text, a maximal run of blanks and continuations with a continuation in it is one
+/// space, and all else stays: so there is one way to condense. The condensed text of a line, each
+/// newline of which is continued, has no newline; the text of each logical line is such a line.
 pub fn law_of_condensing()
     ensures { CondensingLaw }
 {}

@@ -2,6 +2,7 @@
 #![tactic(auto)]
 
 mod blanks;
+mod byte;
 mod condense;
 mod cut;
 mod fault;
@@ -9,6 +10,7 @@ pub mod functions;
 pub mod laws;
 mod line;
 mod logical;
+mod mark;
 mod output;
 mod pattern;
 mod physical;
@@ -17,11 +19,13 @@ mod sort_key;
 mod word_runs;
 
 pub use blanks::{is_blank, trim_end, trim_start};
+pub use byte::has_byte;
 pub use condense::{condensed, joined};
 pub use cut::words;
 pub use fault::TextFault;
 pub use line::{Line, LineFault};
-pub use logical::{logical_lines, nul_line};
+pub use logical::{line_marks, logical_lines, nul_line};
+pub use mark::Mark;
 pub use pattern::{has_percent, match_pattern, push_with_stem};
 pub use physical::{is_continued, line_content};
 pub use separators::{is_separator, stripped, stripped_start, trailing_separators};

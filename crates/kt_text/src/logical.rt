@@ -1,10 +1,11 @@
 //! A text cut into logical lines.
 ghost use Rattle.std.specs.Prelude.{◌≡◌, ◌+◌, ◌==◌, None, Some, MatchResult, IfOk, count_by, if◌then◌else◌, ◌≤◌};
 ghost use Rattle.std.specs.Prelude.{length};
-ghost use Rattle.kt_text.specs.Lines.{AreInOrder, NulFault, kept_of_last, logical_lines_of, nul_line};
+ghost use Rattle.kt_text.specs.Lines.{AreInOrder, NulFault, logical_lines_of, nul_line};
 
 use crate::line::{Line, LineFault};
-use crate::physical::{first_line, goes_on, is_continued, line_content};
+use crate::mark::Mark;
+use crate::physical::{LineEnd, first_line};
 use memchr::memchr;
 use std::alloc::{AllocError, Global};
 
@@ -14,6 +15,27 @@ use std::alloc::{AllocError, Global};
 /// it. Of the last line the last backslash of an odd number is no part. POSIX.1-2024 make,
 /// "Makefile Syntax"; GNU make manual, "Splitting Long Lines".
 pub fn logical_lines(alloc: Global, text: &[u8]) -> Result<Vec<Line>, LineFault>
+    ensures ok { IfOk result (λ lines. lines.items ≡ logical_lines_of text.now) }
+    ensures order { IfOk result (λ lines. AreInOrder (length text.now) lines.items) }
+    ensures nul { MatchResult result (λ _. nul_line text.now ≡ None) (NulFault (nul_line text.now)) }
+{
+    let marks = line_marks(alloc, text)?;
+    Ok(lines_of(alloc, &marks)?)
+}
+
+// The lines of marks.
+fn lines_of(alloc: Global, marks: &[Mark]) -> Result<Vec<Line>, AllocError>
+    ensures { IfOk result (λ lines. lines.items ≡ marks.now) }
+{
+    let mut lines = Vec::new(alloc);
+    for mark in marks {
+        lines.push(mark.line())?;
+    }
+    Ok(lines)
+}
+
+/// The same in half the room.
+pub fn line_marks(alloc: Global, text: &[u8]) -> Result<Vec<Mark>, LineFault>
     ensures ok { IfOk result (λ lines. lines.items ≡ logical_lines_of text.now) }
     ensures order { IfOk result (λ lines. AreInOrder (length text.now) lines.items) }
     ensures nul { MatchResult result (λ _. nul_line text.now ≡ None) (NulFault (nul_line text.now)) }
@@ -43,7 +65,7 @@ fn count_newlines(text: &[u8]) -> usize
 }
 
 // The logical lines of a text without NUL.
-fn cut_lines(alloc: Global, text: &[u8]) -> Result<Vec<Line>, AllocError>
+fn cut_lines(alloc: Global, text: &[u8]) -> Result<Vec<Mark>, AllocError>
     ensures { IfOk result (λ lines. lines.items ≡ logical_lines_of text.now) }
 {
     let mut lines = Vec::new(alloc);
@@ -66,24 +88,16 @@ fn cut_lines(alloc: Global, text: &[u8]) -> Result<Vec<Line>, AllocError>
                 tab: line[0] == b'\t',
             },
         );
-        continued = goes_on(line, after);
+        let end = LineEnd::of(line);
+        continued = end.goes_on(after);
         if !continued {
-            lines.push(begin.ended(at + kept_length(line)))?;
+            lines.push(Mark::of(&begin.ended(at + end.kept))?)?;
         }
         at += line.len();
         number += 1;
         rest = after;
     }
     Ok(lines)
-}
-
-// How much of a text the last physical line of a logical one keeps.
-#[tactic(auto, unfolding(crate::specs::Lines::kept_of_last))]
-fn kept_length(line: &[u8]) -> usize
-    ensures value { result ≡ kept_of_last line.now }
-    ensures bound { result ≤ length line.now }
-{
-    line_content(line).len() - usize::from(is_continued(line))
 }
 
 // The begin of a logical line.

@@ -3,7 +3,7 @@ ghost use Rattle.std.specs.Prelude.{◌≡◌, ◌<◌, ◌≤◌, ◌∷◌, �
 ghost use Rattle.std.specs.List.{suffix_len};
 ghost use Rattle.bstr.specs.Text.{line_len, lines_of, without_terminator};
 ghost use Rattle.kt_text.specs.Words.{is_nonempty};
-ghost use Rattle.kt_text.specs.Lines.{is_continued, is_continued_text, is_ended, pieces_of};
+ghost use Rattle.kt_text.specs.Lines.{is_continued, is_continued_text, is_ended, kept_of_last, pieces_of};
 
 use memchr::memchr;
 
@@ -56,11 +56,35 @@ pub fn is_continued(line: &[u8]) -> bool
     has_odd_backslashes(line_content(line))
 }
 
-// Whether the line is continued and text follows it.
-pub(crate) fn goes_on(line: &[u8], after: &[u8]) -> bool
-    ensures { result ≡ is_continued line.now && is_nonempty after.now }
-{
-    is_continued(line) && !after.is_empty()
+// How a physical line ends.
+#[derive(Clone, Copy)]
+pub(crate) struct LineEnd {
+    // How much of it a logical line keeps of which it is the last.
+    pub kept: usize,
+    pub continued: bool,
+}
+
+impl LineEnd {
+    #[tactic(auto, unfolding(crate::specs::Lines::is_continued, crate::specs::Lines::kept_of_last))]
+    pub(crate) fn of(line: &[u8]) -> LineEnd
+        ensures kept { result.kept ≡ kept_of_last line.now }
+        ensures bound { result.kept ≤ length line.now }
+        ensures continued { result.continued ≡ is_continued line.now }
+    {
+        let content = line_content(line);
+        let continued = has_odd_backslashes(content);
+        LineEnd {
+            kept: content.len() - usize::from(continued),
+            continued,
+        }
+    }
+
+    // Whether the line is continued and text follows it.
+    pub(crate) fn goes_on(self, after: &[u8]) -> bool
+        ensures { result ≡ self.continued && is_nonempty after.now }
+    {
+        self.continued && !after.is_empty()
+    }
 }
 
 // Whether the line has a newline that is continued, perhaps by nothing.

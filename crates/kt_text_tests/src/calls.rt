@@ -1,8 +1,8 @@
 //! Worked values of each call, by the manuals and by GNU make.
 use kt_text::{
-    LineFault, TextFault, condensed, functions, has_percent, is_blank, is_continued, is_separator,
-    joined, line_content, logical_lines, match_pattern, push_with_stem, stripped, stripped_start,
-    trailing_separators, trim_end, trim_start, words,
+    Line, LineFault, Mark, TextFault, condensed, functions, has_percent, is_blank, is_continued,
+    is_separator, joined, line_content, line_marks, logical_lines, match_pattern, push_with_stem,
+    stripped, stripped_start, trailing_separators, trim_end, trim_start, words,
 };
 use std::process::Abort;
 use std::test::Fail;
@@ -30,7 +30,7 @@ fn patterns_match(rt: HostRuntime) {
     ];
     for (pattern, word, wanted) in rows {
         let stem = match_pattern(pattern, word).map(|stem| (stem.start, stem.end));
-        assert_eq!(rt; stem, wanted);
+        assert_eq!(rt; stem, wanted, "of {pattern:?} and {word:?}");
     }
 }
 
@@ -45,8 +45,8 @@ fn stems_are_put_in(rt: HostRuntime) -> Result<(), Fail> {
     for (pattern, is_pattern, wanted) in rows {
         let mut text = Vec::from_slice(rt.alloc(), b"d/")?;
         push_with_stem(&mut text, pattern, b"x")?;
-        assert_eq!(rt; text.as_slice(), wanted);
-        assert_eq!(rt; has_percent(pattern), is_pattern);
+        assert_eq!(rt; text.as_slice(), wanted, "of {pattern:?}");
+        assert_eq!(rt; has_percent(pattern), is_pattern, "of {pattern:?}");
     }
     Ok(())
 }
@@ -96,12 +96,34 @@ fn lines_are_joined(rt: HostRuntime) -> Result<(), Fail> {
     for (text, wanted) in rows {
         let lines = logical_lines(rt.alloc(), text)?;
         assert_eq!(rt; lines.len(), wanted.len(), "of {text:?}");
-        for (line, (start, end, number, tab)) in lines.iter().zip(wanted) {
+        let marks = line_marks(rt.alloc(), text)?;
+        assert_eq!(rt; marks.len(), wanted.len(), "marks of {text:?}");
+        for ((line, mark), (start, end, number, tab)) in lines.iter().zip(&marks).zip(wanted) {
             assert_eq!(rt; line.span.start, *start, "start in {text:?}");
             assert_eq!(rt; line.span.end, *end, "end in {text:?}");
-            assert_eq!(rt; line.number, *number);
-            assert_eq!(rt; line.tab, *tab);
+            assert_eq!(rt; line.number, *number, "number in {text:?}");
+            assert_eq!(rt; line.tab, *tab, "tab in {text:?}");
+            assert!(rt; mark.line() == *line, "mark in {text:?}");
         }
+    }
+    Ok(())
+}
+
+#[test]
+fn marks_hold_lines(rt: HostRuntime) -> Result<(), Fail> {
+    let last = Line {
+        span: 4_294_967_290..4_294_967_295,
+        number: 4_294_967_295,
+        tab: true,
+    };
+    assert!(rt; Mark::of(&last)?.line() == last);
+    for (end, number) in [(4_294_967_296, 1), (1, 4_294_967_296)] {
+        let beyond = Line {
+            span: 0..end,
+            number,
+            tab: false,
+        };
+        assert!(rt; Mark::of(&beyond).is_err(), "line {number} to byte {end}");
     }
     Ok(())
 }
@@ -111,7 +133,7 @@ fn a_nul_has_its_line(rt: HostRuntime) {
     let rows: [(&[u8], u64); 3] = [(b"\0", 1), (b"a\n\0", 2), (b"a \\\nb\0\n\0", 2)];
     for (text, wanted) in rows {
         match logical_lines(rt.alloc(), text) {
-            Err(LineFault::Nul(number)) => assert_eq!(rt; number, wanted),
+            Err(LineFault::Nul(number)) => assert_eq!(rt; number, wanted, "of {text:?}"),
             _ => assert!(rt; false, "{text:?} has lines"),
         }
     }
@@ -190,7 +212,7 @@ fn late_lines_have_great_numbers(rt: HostRuntime) -> Result<(), Fail> {
 
 fn assert_text(rt: &impl Abort, answer: Result<Vec<u8>, TextFault>, wanted: &[u8]) {
     match answer {
-        Ok(text) => assert_eq!(rt; text.as_slice(), wanted),
+        Ok(text) => assert_eq!(rt; text.as_slice(), wanted, "in place of {wanted:?}"),
         Err(_) => assert!(rt; false, "refused"),
     }
 }

@@ -4,3 +4,7 @@
 
 #[cfg(test)]
 mod calls;
+#[cfg(test)]
+mod plain_way;
+#[cfg(test)]
+mod scans;

@@ -3,7 +3,7 @@ use Rattle.std.specs.Prelude.{ℕ, Bool, Option, Result}
 use Rattle.kt_syntax.specs.Reading.{left_at}
 use Rattle.kt_eval.specs.declared.stop.Stop.{Stop}
 use Rattle.kt_eval.specs.Outcome.{Gives, IfCut, left_of}
-use Rattle.kt_eval.specs.Step.{AreKnown, Blames, GoesOn, Keeps, Seen, Step, store_of}
+use Rattle.kt_eval.specs.Step.{AreKnown, Blames, GoesOn, Keeps, Seen, Step, files_of, store_of}
 use Rattle.kt_eval.specs.Expansion.{Evaluator}
 use Rattle.kt_eval.specs.Files.{Store}
 use Rattle.kt_eval.specs.Levels.{evaluator}
@@ -21,7 +21,7 @@ pub record Does {A B : Type 0} (see : A → B) (writable : Bool) (levels : ℕ) 
   -- files, messages and names asked for are kept
   pub kept : Keeps old new
   -- a device's failure is told as one, and nothing else is
-  pub blames : Blames result old.failed new.failed new.world.asked
+  pub blames : Blames result (files_of old) (files_of new)
 
 -- what is left of a page from the line of a place on
 abbrev pub reading_from : Bool → Option Store → ℕ → Sheet → ℕ → Step (Unit {0})

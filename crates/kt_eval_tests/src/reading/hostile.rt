@@ -1,7 +1,7 @@
 //! Long and deep makefiles.
 use super::{ALONE, machine_of, told, told_by, with_limit};
-use crate::texts::put;
 use kt_eval::MemFiles;
+use kt_testing::put;
 use std::alloc::{AllocError, Global};
 use std::test::Fail;
 

@@ -1,7 +1,8 @@
 //! Reads that fail, and readings after a refusal.
-use super::{files_of, put_asked, put_stop, read};
-use crate::texts::{put, put_messages};
+use super::{put_asked, read};
+use kati_doubles::{files_of, put_messages, put_stop};
 use kt_eval::{Files, Machine, Macros, MemFiles, Stop};
+use kt_testing::put;
 use std::alloc::{AllocError, Global};
 use std::process::Abort;
 use std::test::Fail;
@@ -22,8 +23,8 @@ fn put_outcome(out: &mut Vec<u8>, outcome: &Result<(), Stop>) {
 }
 
 /// How two readings end of which the nth read fails, the names asked for until then, and then the messages.
-fn told_twice(alloc: Global, named: &[(&str, &str)], nth: u64) -> Result<Vec<u8>, AllocError> {
-    let files = MemFiles::new(alloc, files_of(alloc, named)?, nth);
+fn told_twice(alloc: Global, named: &[(&str, &[u8])], nth: u64) -> Result<Vec<u8>, AllocError> {
+    let files = files_of(alloc, named, nth)?;
     let machine = Machine::new(alloc, Macros::new(alloc), 100)?;
     Ok(told_of_two(alloc, machine, files))
 }
@@ -41,12 +42,16 @@ fn told_of_two(alloc: Global, machine: Machine, files: MemFiles) -> Vec<u8> {
 fn fails(
     rt: &impl Abort,
     alloc: Global,
-    named: &[(&str, &str)],
+    named: &[(&str, &[u8])],
     rows: &[(u64, &str)],
 ) -> Result<(), AllocError> {
     for (nth, expected) in rows {
         let found = told_twice(alloc, named, *nth)?;
-        assert_eq!(rt; found.as_slice(), expected.as_bytes());
+        assert_eq!(rt;
+            found.as_slice(),
+            expected.as_bytes(),
+            "with read {nth} failing"
+        );
     }
     Ok(())
 }
@@ -60,9 +65,9 @@ fn repeats_the_refusal_of_a_read(rt: HostRuntime) -> Result<(), Fail> {
         &[
             (
                 "m",
-                "$(info one)\ninclude a.mk\n$(info two)\ninclude a.mk\n",
+                b"$(info one)\ninclude a.mk\n$(info two)\ninclude a.mk\n",
             ),
-            ("a.mk", ""),
+            ("a.mk", b""),
         ],
         &[
             (1, "cannot read m\n< m\ncannot read m\n< m\n"),
@@ -79,7 +84,7 @@ fn repeats_the_refusal_of_a_read(rt: HostRuntime) -> Result<(), Fail> {
     fails(
         &rt,
         alloc,
-        &[("m", "-include a.mk\n$(info x)\n")],
+        &[("m", b"-include a.mk\n$(info x)\n")],
         &[(
             2,
             "cannot read a.mk\n< m\n< a.mk\ncannot read a.mk\n< m\n< a.mk\n",
@@ -88,7 +93,7 @@ fn repeats_the_refusal_of_a_read(rt: HostRuntime) -> Result<(), Fail> {
     fails(
         &rt,
         alloc,
-        &[("m", "$(info x)\nifdef X\n")],
+        &[("m", b"$(info x)\nifdef X\n")],
         &[(
             0,
             "m:2: *** missing endif [E12]\n< m\nm:2: *** missing endif [E12]\n< m\nx\n",

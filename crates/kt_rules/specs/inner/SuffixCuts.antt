@@ -1,41 +1,73 @@
--- How the program finds names of suffix rules without looking at each beginning of a name (kati's own).
-use Rattle.std.specs.Prelude.{ℕ, min, nat_eq, nat_lt, Bool, false, ◌&&◌, List, length, take, drop, find, Option, Some}
-use Rattle.std.specs.Prelude.{None}
-use Rattle.std.specs.Cmp.Lexicographic.{pointwise}
-use Rattle.std.specs.List.{range_with_len}
+-- How the program finds suffixes in a name by their lengths alone (kati's own).
+use Rattle.std.specs.Prelude.{◌≡◌, ℕ, min, nat_eq, nat_lt, Bool, true, false, ◌&&◌, List, [], ◌∷◌, ◌++◌, length, find}
+use Rattle.std.specs.Prelude.{Option, Some, None, if◌then◌else◌}
+use Rattle.std.specs.List.{ends_with, list_any, position_from, range_with_len}
 use Rattle.std.specs.Option.{option_map_or}
 use Rattle.kt_text.specs.Words.{Text}
 use Rattle.kt_rules.specs.declared.book.spot.Spot.{Spot}
 use Rattle.kt_rules.specs.Entry.{Rule}
 use Rattle.kt_rules.specs.Names.{is_among}
 use Rattle.kt_rules.specs.Slots.{spot_rule}
-use Rattle.kt_rules.specs.Suffixes.{is_bare}
+use Rattle.kt_rules.specs.Suffixes.{is_bare, is_cut_at}
 
--- whether a name that is cut at a place is this beginning and a suffix
-abbrev pub is_cut_behind : List Text → Text → Text → ℕ → Bool
-is_cut_behind suffixes name front place = pointwise nat_eq (take place name) front
-    && is_among suffixes (drop place name)
+-- ---- lengths
 
--- the place at which it is so cut
-unfoldable pub cut_behind : List Text → Text → Text → Option ℕ
-cut_behind suffixes name front = find (is_cut_behind suffixes name front) (range_with_len 0 (length name))
+-- whether a number is among others
+abbrev pub is_number : List ℕ → ℕ → Bool
+is_number numbers number = list_any (nat_eq number) numbers
 
--- whether a name begins with this beginning, and goes on with a suffix
-abbrev pub goes_on : List Text → Text → Text → Bool
-goes_on suffixes name front =
-    nat_lt (length front) (length name) && is_cut_behind suffixes name front (length front)
+-- a number after others, if it isn't among them
+abbrev pub with_number : List ℕ → ℕ → List ℕ
+with_number numbers number = if is_number numbers number then numbers else numbers ++ number ∷ []
 
--- the first place at which a name is cut into one of some beginnings and a suffix
-unfoldable pub first_cut : List Text → List Text → Text → Option ℕ
-first_cut suffixes fronts name =
-    find (λ place. is_among fronts (take place name)
-    && is_among suffixes (drop place name)) (range_with_len 0 (length name))
+-- numbers with the lengths of names after them, as far as they aren't there
+unfoldable pub lengths_with : List ℕ → List Text → List ℕ
+lengths_with lengths [] = lengths
+lengths_with lengths (name ∷ names) = lengths_with (with_number lengths (length name)) names
 
--- the less of two places, of which either may be absent
+-- the length of each name is among the lengths
+abbrev pub HaveLengths : List Text → List ℕ → Type 0
+HaveLengths names lengths = (name : Text) → is_among names name ≡ true → is_number lengths (length name) ≡ true
+
+-- the lengths of all names are among others, too
+abbrev pub KeepLengths : List ℕ → List ℕ → Type 0
+KeepLengths old new = (names : List Text) → HaveLengths names old → HaveLengths names new
+
+-- ---- names cut into two suffixes
+
+-- the first place of one of the lengths at which a name is cut into two suffixes
+unfoldable pub first_cut : List Text → List ℕ → Text → Option ℕ
+first_cut suffixes lengths name =
+    find (λ place. is_number lengths place && is_cut_at suffixes name place) (range_with_len 0 (length name))
+
+-- the place of one length, if the name is so cut there
+unfoldable pub cut_after : List Text → Text → ℕ → Option ℕ
+cut_after suffixes name front =
+    find (λ place. nat_eq place front && is_cut_at suffixes name place) (range_with_len 0 (length name))
+
+-- whether it is
+abbrev pub goes_on : List Text → Text → ℕ → Bool
+goes_on suffixes name front = nat_lt front (length name) && is_cut_at suffixes name front
+
+-- ---- suffixes at the end of a name
+
+-- the number of the first suffix of one of the lengths that a name ends with
+unfoldable pub first_end : List Text → List ℕ → Text → Option ℕ
+first_end suffixes lengths name =
+    position_from (λ suffix. is_number lengths (length suffix) && ends_with nat_eq name suffix) 0 suffixes
+
+-- the number of that of one length
+unfoldable pub end_of_length : List Text → Text → ℕ → Option ℕ
+end_of_length suffixes name len =
+    position_from (λ suffix. nat_eq (length suffix) len && ends_with nat_eq name suffix) 0 suffixes
+
+-- the less of two numbers, of which either may be absent
 abbrev pub earlier : Option ℕ → Option ℕ → Option ℕ
 earlier None other = other
 earlier (Some place) None = Some place
 earlier (Some place) (Some next) = Some (min place next)
+
+-- ---- rules
 
 -- whether the rule that stands at a spot has the form of a suffix rule
 abbrev pub is_bare_at : List (Option Rule) → Spot → Bool

@@ -8,9 +8,9 @@ ghost use Rattle.kt_rules.specs.Suffixes.{suffix_patterns};
 
 use super::spot::Spot;
 use super::suffix::is_suffix_name;
+use super::suffixes::Suffixes;
 use super::target_rule::{TargetRule, has_bare, is_bare, rule_at};
 use crate::entry::Entry;
-use kt_list::Names;
 use std::marker::Model;
 
 /// The explicit rules of a target, in order.
@@ -67,7 +67,7 @@ impl<'a> Iterator for Explicit<'a> {
 /// Whether the rules of this name at the spots that have the form of suffix rules are suffix rules.
 /// Where none has it, the name isn't looked at.
 pub(crate) fn skips_bare(
-    suffixes: &Names,
+    suffixes: &Suffixes,
     slots: &[Option<Entry>],
     spots: &[Spot],
     name: &[u8],

@@ -5,12 +5,12 @@ ghost use Rattle.kt_rules.specs.Book.{begins_with_dot, first_goal_by, goal_in, i
 ghost use Rattle.kt_rules.specs.Slots.{rule_told, rules_in, slot_goal};
 
 use super::suffix::is_suffix_name;
+use super::suffixes::Suffixes;
 use super::target_rule::{TargetRule, is_bare, is_made};
 use crate::entry::{Entry, Target};
-use kt_list::Names;
 
 /// The first target of an explicit rule that may be the default goal.
-pub(crate) fn first_goal<'a>(suffixes: &Names, slots: &'a [Option<Entry>]) -> Option<&'a [u8]>
+pub(crate) fn first_goal<'a>(suffixes: &Suffixes, slots: &'a [Option<Entry>]) -> Option<&'a [u8]>
     ensures { option_map (λ name. name.now) result ≡ first_goal_by suffixes.now (rules_in slots.now) }
 {
     for slot in slots {
@@ -22,7 +22,7 @@ pub(crate) fn first_goal<'a>(suffixes: &Names, slots: &'a [Option<Entry>]) -> Op
     None
 }
 
-fn goal_in_slot<'a>(suffixes: &Names, slot: &'a Option<Entry>) -> Option<&'a [u8]>
+fn goal_in_slot<'a>(suffixes: &Suffixes, slot: &'a Option<Entry>) -> Option<&'a [u8]>
     ensures { option_map (λ name. name.now) result ≡ slot_goal suffixes.now slot.now }
 {
     match slot {
@@ -32,7 +32,7 @@ fn goal_in_slot<'a>(suffixes: &Names, slot: &'a Option<Entry>) -> Option<&'a [u8
 }
 
 // The first of an entry's targets that may be the default goal.
-fn goal_in<'a>(suffixes: &Names, entry: &'a Entry) -> Option<&'a [u8]>
+fn goal_in<'a>(suffixes: &Suffixes, entry: &'a Entry) -> Option<&'a [u8]>
     ensures { option_map (λ name. name.now) result ≡ goal_in suffixes.now entry.now }
 {
     for target in entry.targets() {
@@ -43,7 +43,7 @@ fn goal_in<'a>(suffixes: &Names, entry: &'a Entry) -> Option<&'a [u8]>
     None
 }
 
-fn is_goal(suffixes: &Names, rule: TargetRule) -> bool
+fn is_goal(suffixes: &Suffixes, rule: TargetRule) -> bool
     ensures { result ≡ is_goal suffixes.now (rule_told rule.entry) }
 {
     let name = rule.target.name.as_slice();

@@ -9,16 +9,16 @@ ghost use Rattle.kt_rules.specs.Suffixes.{percent, suffix_patterns};
 
 use super::pattern::{Pattern, SuffixForm};
 use super::pattern_set::PatternSet;
-use super::suffix::suffix_cut;
+use super::suffixes::Suffixes;
 use super::target_rule::{TargetRule, is_bare, is_made, is_pattern};
 use crate::entry::{Entry, Name, Needs, Target};
-use kt_list::{Names, Sequence};
+use kt_list::Sequence;
 use std::alloc::{AllocError, Global};
 
 /// The pattern rules that the entries in slots are, whether a later one repeats them or not.
 pub(crate) fn candidates<'a>(
     alloc: Global,
-    suffixes: &Names,
+    suffixes: &Suffixes,
     slots: &'a [Option<Entry>],
 ) -> Result<Vec<Pattern<'a>>, AllocError>
     ensures { IfOk result (λ patterns. patterns.items ≡ flat_map (patterns_in suffixes.now) (rules_in slots.now)) }
@@ -32,7 +32,7 @@ pub(crate) fn candidates<'a>(
 
 fn add_slot<'a>(
     alloc: Global,
-    suffixes: &Names,
+    suffixes: &Suffixes,
     slot: &'a Option<Entry>,
     patterns: &mut Vec<Pattern<'a>>,
 ) -> Result<(), AllocError>
@@ -46,7 +46,7 @@ fn add_slot<'a>(
 
 fn add_entry<'a>(
     alloc: Global,
-    suffixes: &Names,
+    suffixes: &Suffixes,
     entry: &'a Entry,
     patterns: &mut Vec<Pattern<'a>>,
 ) -> Result<(), AllocError>
@@ -61,7 +61,7 @@ fn add_entry<'a>(
 
 fn add_suffix_rules<'a>(
     alloc: Global,
-    suffixes: &Names,
+    suffixes: &Suffixes,
     entry: &'a Entry,
     patterns: &mut Vec<Pattern<'a>>,
 ) -> Result<(), AllocError>
@@ -76,7 +76,7 @@ fn add_suffix_rules<'a>(
 // Appends what a target's suffix rule is as a pattern rule, if it is one.
 fn add_suffix_rule<'a>(
     alloc: Global,
-    suffixes: &Names,
+    suffixes: &Suffixes,
     rule: TargetRule<'a>,
     patterns: &mut Vec<Pattern<'a>>,
 ) -> Result<(), AllocError>
@@ -98,7 +98,7 @@ fn add_suffix_rule<'a>(
 // What a suffix rule makes and needs whose target has the name, where there may be one.
 fn named_form(
     alloc: Global,
-    suffixes: &Names,
+    suffixes: &Suffixes,
     name: &[u8],
 ) -> Result<Option<SuffixForm>, AllocError>
     ensures { IfOk result (λ form. (rule : Rule) → option_map (form_told rule) form
@@ -107,7 +107,7 @@ fn named_form(
     if suffixes.contains(name) {
         return Ok(Some(suffix_form(alloc, b"", name)?));
     }
-    match suffix_cut(suffixes, name) {
+    match suffixes.cut(name) {
         Some(place) => Ok(Some(suffix_form(alloc, &name[place..], &name[..place])?)),
         None => Ok(None),
     }

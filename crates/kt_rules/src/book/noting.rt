@@ -1,57 +1,44 @@
 //! Notes the targets of an entry.
-ghost use Rattle.std.specs.Prelude.{◌≡◌, ◌++◌, OnErr, OnOk, fold};
+ghost use Rattle.std.specs.Prelude.{◌≡◌, ◌++◌, [], OnErr, OnOk, fold, is_some, if◌then◌else◌};
 ghost use Rattle.kt_text.specs.Words.{Text};
-ghost use Rattle.kt_rules.specs.Indexes.{noted_at};
 ghost use Rattle.kt_rules.specs.Book.{phony_of};
 ghost use Rattle.kt_rules.specs.Names.{with_name};
-ghost use Rattle.kt_rules.specs.Slots.{GotRecipes, GotSpots, GrewIn, target_spots};
+ghost use Rattle.kt_rules.specs.Slots.{GotRecipes, GotSpots, GrewIn, spots_at, target_spots};
 ghost use Rattle.kt_rules.specs.Suffixes.{suffixes_after};
 
 use super::special::{learn_phony, learn_suffixes};
 use super::spot::Spot;
+use super::spots::Spots;
+use super::suffixes::Suffixes;
 use super::target_rule::{has_recipe, is_made};
 use crate::entry::{Entry, Target};
-use crate::index::Index;
 use kt_list::Names;
 use std::alloc::AllocError;
 
 /// Notes what the entry in a slot says. Where memory is refused, some targets may be noted, and the
 /// names are as they were.
 pub(crate) fn learn(
-    targets: &mut Index<Spot>,
-    recipes: &mut Index<Spot>,
+    spots: &mut Spots,
     phony: &mut Names,
-    suffixes: &mut Names,
+    suffixes: &mut Suffixes,
     entry: &Entry,
     place: usize,
 ) -> Result<(), AllocError>
-    ensures targets_noted { OnOk result (GotSpots entry.now place targets.old targets.new) }
-    ensures recipes_noted { OnOk result (GotRecipes entry.now place recipes.old recipes.new) }
+    ensures targets_noted { OnOk result (GotSpots entry.now place spots.old.0 spots.new.0) }
+    ensures recipes_noted { OnOk result (GotRecipes entry.now place spots.old.1 spots.new.1) }
     ensures phony_learned { OnOk result (phony.new ≡ fold with_name phony.old (phony_of entry.now)) }
     ensures suffixes_learned { OnOk result (suffixes.new ≡ suffixes_after suffixes.old entry.now) }
-    ensures targets_refused { OnErr result (GrewIn place targets.old targets.new) }
-    ensures recipes_refused { OnErr result (GrewIn place recipes.old recipes.new) }
+    ensures targets_refused { OnErr result (GrewIn place spots.old.0 spots.new.0) }
+    ensures recipes_refused { OnErr result (GrewIn place spots.old.1 spots.new.1) }
     ensures phony_refused { OnErr result (phony.new ≡ phony.old) }
     ensures suffixes_refused { OnErr result (suffixes.new ≡ suffixes.old) }
 {
-    note_targets(targets, entry, place)?;
-    note_recipes(recipes, entry, place)?;
+    note_targets(spots, entry, place)?;
     learn_names(phony, suffixes, entry)
 }
 
-// Notes each target that the entry in a slot makes, if it has a recipe.
-fn note_recipes(recipes: &mut Index<Spot>, entry: &Entry, place: usize) -> Result<(), AllocError>
-    ensures noted { OnOk result (GotRecipes entry.now place recipes.old recipes.new) }
-    ensures refused { OnErr result (GrewIn place recipes.old recipes.new) }
-{
-    if !has_recipe(entry) {
-        return Ok(());
-    }
-    note_targets(recipes, entry, place)
-}
-
 // Learns the names that the entry's special targets need, or none where memory is refused.
-fn learn_names(phony: &mut Names, suffixes: &mut Names, entry: &Entry) -> Result<(), AllocError>
+fn learn_names(phony: &mut Names, suffixes: &mut Suffixes, entry: &Entry) -> Result<(), AllocError>
     ensures phony_learned { OnOk result (phony.new ≡ fold with_name phony.old (phony_of entry.now)) }
     ensures suffixes_learned { OnOk result (suffixes.new ≡ suffixes_after suffixes.old entry.now) }
     ensures phony_refused { OnErr result (phony.new ≡ phony.old) }
@@ -68,38 +55,39 @@ fn learn_names(phony: &mut Names, suffixes: &mut Names, entry: &Entry) -> Result
     }
 }
 
-/// Notes each target that the entry in a slot makes. Where memory is refused, some may be noted.
-pub(crate) fn note_targets(
-    index: &mut Index<Spot>,
-    entry: &Entry,
-    place: usize,
-) -> Result<(), AllocError>
-    ensures noted { OnOk result (GotSpots entry.now place index.old index.new) }
-    ensures refused { OnErr result (GrewIn place index.old index.new) }
+// Notes each target that the entry in a slot makes. Where memory is refused, some may be noted.
+fn note_targets(spots: &mut Spots, entry: &Entry, place: usize) -> Result<(), AllocError>
+    ensures targets_noted { OnOk result (GotSpots entry.now place spots.old.0 spots.new.0) }
+    ensures recipes_noted { OnOk result (GotRecipes entry.now place spots.old.1 spots.new.1) }
+    ensures targets_refused { OnErr result (GrewIn place spots.old.0 spots.new.0) }
+    ensures recipes_refused { OnErr result (GrewIn place spots.old.1 spots.new.1) }
 {
     for (number, target) in entry.targets().iter().enumerate() {
         let spot = Spot {
             entry: place,
             target: number,
         };
-        note_target(index, entry, target, spot)?;
+        note_target(spots, entry, target, spot)?;
     }
     Ok(())
 }
 
 // Notes the target, if the entry makes it.
 fn note_target(
-    index: &mut Index<Spot>,
+    spots: &mut Spots,
     entry: &Entry,
     target: &Target,
     spot: Spot,
 ) -> Result<(), AllocError>
-    ensures noted { OnOk result ((name : Text) → noted_at index.new name ≡ noted_at index.old name
+    ensures targets_noted { OnOk result ((name : Text) → spots_at spots.new.0 name ≡ spots_at spots.old.0 name
         ++ target_spots entry.now target.now spot name) }
-    ensures refused { OnErr result ((name : Text) → noted_at index.new name ≡ noted_at index.old name) }
+    ensures recipes_noted { OnOk result ((name : Text) → spots_at spots.new.1 name ≡ spots_at spots.old.1 name
+        ++ (if is_some entry.now.recipe then target_spots entry.now target.now spot name else [])) }
+    ensures targets_refused { OnErr result (GrewIn spot.entry spots.old.0 spots.new.0) }
+    ensures recipes_refused { OnErr result (GrewIn spot.entry spots.old.1 spots.new.1) }
 {
     if !is_made(entry, target) {
         return Ok(());
     }
-    index.note(target.name.as_slice(), spot)
+    spots.note(target.name.as_slice(), spot, has_recipe(entry))
 }

@@ -53,7 +53,7 @@ impl Book {
     fn has_recipe(&self, name: &[u8]) -> bool
         ensures { result ≡ list_any (λ earlier. true) (recipes_of self.now name.now) }
     {
-        first_rule(self.slots.as_slice(), self.recipes.noted(name)).is_some()
+        first_rule(self.slots.as_slice(), self.spots.recipes(name)).is_some()
     }
 }
 

@@ -84,7 +84,7 @@ impl Book {
     fn has_other_colons(&self, entry: &Entry, name: &[u8]) -> bool
         ensures { result ≡ list_any (differ_in_colons entry.now) (rules_of self.now name.now) }
     {
-        match first_rule(self.slots.as_slice(), self.targets.noted(name)) {
+        match first_rule(self.slots.as_slice(), self.spots.targets(name)) {
             Some(rule) => differ_in_colons(entry, rule.entry),
             None => false,
         }
@@ -94,7 +94,7 @@ impl Book {
     fn has_group(&self, entry: &Entry, name: &[u8]) -> bool
         ensures { result ≡ list_any (is_beside_group entry.now) (recipes_of self.now name.now) }
     {
-        match first_rule(self.slots.as_slice(), self.recipes.noted(name)) {
+        match first_rule(self.slots.as_slice(), self.spots.recipes(name)) {
             Some(rule) => either_is_group(entry, rule.entry),
             None => false,
         }

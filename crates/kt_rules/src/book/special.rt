@@ -5,6 +5,7 @@ ghost use Rattle.kt_rules.specs.Book.{phony_of};
 ghost use Rattle.kt_rules.specs.Names.{with_name};
 ghost use Rattle.kt_rules.specs.Suffixes.{all_needs, special_needs, start_suffixes, suffixes_after};
 
+use super::suffixes::Suffixes;
 use super::target_rule::needs_nothing;
 use crate::entry::{Entry, Name, Needs, Target};
 use kt_list::Names;
@@ -13,14 +14,14 @@ use std::alloc::{AllocError, Global};
 
 /// The suffixes that are known before any rule.
 #[tactic(auto, unfolding(crate::specs::Suffixes::start_suffixes))]
-pub(crate) fn start_suffixes(alloc: Global) -> Result<Names, AllocError>
-    ensures { IfOk result (λ suffixes. suffixes ≡ start_suffixes) }
+pub(crate) fn start_names(alloc: Global) -> Result<Names, AllocError>
+    ensures { IfOk result (λ names. names ≡ start_suffixes) }
 {
-    let mut suffixes = Names::new(alloc);
+    let mut names = Names::new(alloc);
     for suffix in words(b".o .c .cc .cpp .s .S .y .l .h .sh .a .f") {
-        suffixes.add(suffix)?;
+        names.add(suffix)?;
     }
-    Ok(suffixes)
+    Ok(names)
 }
 
 /// Makes the names phony that the entry's `.PHONY` needs.
@@ -35,7 +36,7 @@ pub(crate) fn learn_phony(phony: &mut Names, entry: &Entry) -> Result<(), AllocE
 }
 
 /// Changes the suffixes by the entry's `.SUFFIXES`.
-pub(crate) fn learn_suffixes(suffixes: &mut Names, entry: &Entry) -> Result<(), AllocError>
+pub(crate) fn learn_suffixes(suffixes: &mut Suffixes, entry: &Entry) -> Result<(), AllocError>
     ensures learned { OnOk result (suffixes.new ≡ suffixes_after suffixes.old entry.now) }
     ensures refused { OnErr result (suffixes.new ≡ suffixes.old) }
 {
@@ -46,7 +47,7 @@ pub(crate) fn learn_suffixes(suffixes: &mut Names, entry: &Entry) -> Result<(), 
         suffixes.clear();
         return Ok(());
     }
-    add_needs(suffixes, needs)
+    suffixes.add_needs(needs)
 }
 
 // What the entry's special target of this name needs.
@@ -63,8 +64,8 @@ fn named_target<'a>(targets: &'a [Target], name: &[u8]) -> Option<&'a Target>
     targets.iter().find(|target| target.name.as_slice() == name)
 }
 
-// Adds all names that are needed, or none where memory is refused.
-fn add_needs(names: &mut Names, needs: &Needs) -> Result<(), AllocError>
+/// Adds all names that are needed, or none where memory is refused.
+pub(crate) fn add_needs(names: &mut Names, needs: &Needs) -> Result<(), AllocError>
     ensures added { OnOk result (names.new ≡ fold with_name names.old (all_needs needs.now)) }
     ensures refused { OnErr result (names.new ≡ names.old) }
 {

@@ -1,66 +1,78 @@
-//! Names of suffix rules.
-ghost use Rattle.std.specs.Prelude.{◌≡◌, ◌≤◌, length, is_some, IfSome};
-ghost use Rattle.kt_rules.specs.inner.SuffixCuts.{cut_behind, earlier, first_cut, goes_on, is_cut_behind};
-ghost use Rattle.kt_rules.specs.Suffixes.{suffix_cut, suffix_patterns};
+//! Names of suffix rules, and suffixes at the end of names.
+ghost use Rattle.std.specs.Prelude.{◌≡◌, ◌≤◌, length, is_some};
+ghost use Rattle.kt_rules.specs.inner.SuffixCuts.{cut_after, earlier, end_of_length, first_cut, first_end, goes_on};
+ghost use Rattle.kt_rules.specs.Suffixes.{is_cut_at, suffix_patterns};
 
-use crate::entry::Name;
+use super::suffixes::Suffixes;
 use kt_list::Names;
 
 /// Whether a suffix rule may have the name: it is a suffix, or two.
-pub(crate) fn is_suffix_name(suffixes: &Names, name: &[u8]) -> bool
+pub(crate) fn is_suffix_name(suffixes: &Suffixes, name: &[u8]) -> bool
     ensures { result ≡ is_some (suffix_patterns suffixes.now name.now) }
 {
-    suffixes.contains(name) || suffix_cut(suffixes, name).is_some()
+    suffixes.contains(name) || suffixes.cut(name).is_some()
 }
 
-/// The first place at which the name is cut into two suffixes.
-pub(crate) fn suffix_cut(suffixes: &Names, name: &[u8]) -> Option<usize>
-    ensures cut { result ≡ suffix_cut suffixes.now name.now }
-    ensures within { IfSome result (λ place. place ≤ length name.now) }
-{
-    first_cut(suffixes, suffixes.as_slice(), name)
-}
-
-// The first place at which the name is cut into one of some beginnings and a suffix. Each of them is
-// tried, so that of a long name without suffixes nothing is hashed.
-fn first_cut(suffixes: &Names, fronts: &[Name], name: &[u8]) -> Option<usize>
-    ensures { result ≡ first_cut suffixes.now fronts.now name.now }
+/// The first place of one of the lengths at which the name is cut into two suffixes.
+pub(crate) fn first_cut(suffixes: &Names, lengths: &[usize], name: &[u8]) -> Option<usize>
+    ensures { result ≡ first_cut suffixes.now lengths.now name.now }
 {
     let mut first = None;
-    for front in fronts {
-        first = earlier(first, cut_behind(suffixes, front.as_slice(), name));
+    for front in lengths {
+        first = earlier(first, cut_after(suffixes, name, *front));
     }
     first
 }
 
-// The place at which the name is cut into this beginning and a suffix.
-#[tactic(auto, using(crate::proofs::CutBehindLemmas::cut_behind_is))]
-fn cut_behind(suffixes: &Names, front: &[u8], name: &[u8]) -> Option<usize>
-    ensures { result ≡ cut_behind suffixes.now name.now front.now }
+// The place of one length, if the name is so cut there.
+#[tactic(auto, using(crate::proofs::SuffixLemmas::cut_after_is))]
+fn cut_after(suffixes: &Names, name: &[u8], front: usize) -> Option<usize>
+    ensures { result ≡ cut_after suffixes.now name.now front }
 {
-    if goes_on(suffixes, front, name) {
-        Some(front.len())
+    if goes_on(suffixes, name, front) {
+        Some(front)
     } else {
         None
     }
 }
 
-// Whether the name begins with this beginning, and goes on with a suffix.
-fn goes_on(suffixes: &Names, front: &[u8], name: &[u8]) -> bool
-    ensures { result ≡ goes_on suffixes.now name.now front.now }
+fn goes_on(suffixes: &Names, name: &[u8], front: usize) -> bool
+    ensures { result ≡ goes_on suffixes.now name.now front }
 {
-    front.len() < name.len() && is_cut_behind(suffixes, front, name)
+    front < name.len() && is_cut_at(suffixes, name, front)
 }
 
-fn is_cut_behind(suffixes: &Names, front: &[u8], name: &[u8]) -> bool
-    requires { length front.now ≤ length name.now }
-    ensures { result ≡ is_cut_behind suffixes.now name.now front.now (length front.now) }
+fn is_cut_at(suffixes: &Names, name: &[u8], place: usize) -> bool
+    requires { place ≤ length name.now }
+    ensures { result ≡ is_cut_at suffixes.now name.now place }
 {
-    let (begun, rest) = name.split_at(front.len());
-    begun == front && suffixes.contains(rest)
+    let (begun, rest) = name.split_at(place);
+    suffixes.contains(begun) && suffixes.contains(rest)
 }
 
-// The less of two places, of which either may be absent.
+/// The number of the first suffix of one of the lengths that the name ends with.
+pub(crate) fn first_end(suffixes: &Names, lengths: &[usize], name: &[u8]) -> Option<usize>
+    ensures { result ≡ first_end suffixes.now lengths.now name.now }
+{
+    let mut first = None;
+    for len in lengths {
+        first = earlier(first, end_of_length(suffixes, name, *len));
+    }
+    first
+}
+
+// The number of that of one length.
+fn end_of_length(suffixes: &Names, name: &[u8], len: usize) -> Option<usize>
+    ensures { result ≡ end_of_length suffixes.now name.now len }
+{
+    if len > name.len() {
+        return None;
+    }
+    let (_, end) = name.split_at(name.len() - len);
+    suffixes.number_of(end)
+}
+
+// The less of two numbers, of which either may be absent.
 fn earlier(first: Option<usize>, other: Option<usize>) -> Option<usize>
     ensures { result ≡ earlier first other }
 {

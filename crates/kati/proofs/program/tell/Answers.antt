@@ -5,9 +5,8 @@ use Rattle.kati.proofs.program.tell.Goals as goal
 
 pub returns-in-Read-clause-told : goal.returns-in-Read-clause-told
 returns-in-Read-clause-told g c = rw c.in-Read.is
-    (subst (λ (name : Text). Tells (codes "kati: cannot read " ++ (name ++ codes "\n")) (g.E.Sink.failed c.args.err.now)
-    (g.E.Sink.failed c.tell_line.new.err) (g.E.Sink.written c.args.err.now) (g.E.Sink.written c.tell_line.new.err))
-    c.as_str.ensures.value c.tell_line.ensures.told)
+    (subst (λ (name : Text). Tells (codes "kati: cannot read " ++ (name ++ codes "\n")) (g.E.Sink.seen c.args.err.now)
+    (g.E.Sink.seen c.tell_line.new.err)) c.as_str.ensures.value c.tell_line.ensures.told)
 
 pub returns-in-Memory-clause-told : goal.returns-in-Memory-clause-told
 returns-in-Memory-clause-told g c = rw c.in-Memory.is c.tell_text.ensures.told

@@ -1,25 +1,25 @@
-use Rattle.std.proofs.Common.{refl, ap}
-use Rattle.std.proofs.lemmas.Result.{IfErr-weaker}
-use Rattle.kati.specs.Told.{fault_words}
-use Rattle.kati.proofs.BlameLemmas.{blames_on, on_ok_weaker}
-use Rattle.kati.proofs.TellLemmas.{told_since}
+use Rattle.std.proofs.Common.{ap, refl}
+use Rattle.kati.specs.Devices.{devices}
+use Rattle.kati.proofs.BlameLemmas.{on_ok_weaker}
+use Rattle.kati.proofs.TellLemmas.{told_end}
 use Rattle.kati.proofs.program.whole.Goals as goal
 
 pub returns-in-Ok : goal.returns-in-Ok
-returns-in-Ok g c = record {
-  answered = c.args_of.result;
-  answers = c.args_of.ensures.answers;
-  exits = rw c.in-Ok.is (record {
-    run = c.run-ended.result;
-    after = g.E.Sink.written c.run-ended.new.err;
-    leaves = c.run-ended.ensures.leaves;
-    exit = c.finish.ensures.code;
-    blames = blames_on c.run-ended.result _ _ _ _ _ _ _ _ c.finish.ensures.counts
-        (on_ok_weaker c.run-ended.result _ _ (λ same. ap g.E.Sink.failed same) c.finish.ensures.quiet) c.run-ended.ensures.blames;
-    quiet = on_ok_weaker c.run-ended.result _ _ (λ same. ap g.E.Sink.written same) c.finish.ensures.quiet;
-    told = IfErr-weaker c.run-ended.result _ _ (λ fault told. told_since (fault_words fault) _ _ _ _ _ c.run-ended.ensures.counts told) c.finish.ensures.told;
-  });
-}
+returns-in-Ok g c =
+    let files = g.F.Files.seen c.run-ended.new.files in
+    record {
+      answered = c.args_of.result;
+      answers = c.args_of.ensures.answers;
+      exits = rw c.in-Ok.is (record {
+        run = c.run-ended.result;
+        ended = devices files (g.O.Sink.seen c.run-ended.new.out) (g.E.Sink.seen c.run-ended.new.err);
+        leaves = c.run-ended.ensures.leaves;
+        blames = c.run-ended.ensures.blames;
+        exit = c.finish.ensures.code;
+        told = told_end c.run-ended.result files (g.O.Sink.seen c.run-ended.new.out) (g.E.Sink.seen c.run-ended.new.err) (g.E.Sink.seen c.finish.new.err)
+            (on_ok_weaker c.run-ended.result _ _ (λ same. ap g.E.Sink.seen same) c.finish.ensures.quiet) c.finish.ensures.told;
+      });
+    }
 
 pub returns-in-Err : goal.returns-in-Err
 returns-in-Err g c = record { answered = c.args_of.result; answers = c.args_of.ensures.answers; exits = rw c.in-Err.is (refl, c.refuse.ensures) }

@@ -1,22 +1,28 @@
-use Rattle.std.proofs.Common.{ap}
-use Rattle.std.proofs.lemmas.Result.{IfErr-weaker}
-use Rattle.kati.specs.Told.{fault_words}
+use Rattle.std.proofs.Common.{ap, refl}
+use Rattle.kati.specs.Devices.{devices}
 use Rattle.kati.proofs.BlameLemmas.{on_ok_weaker}
-use Rattle.kati.proofs.TellLemmas.{told_since}
+use Rattle.kati.proofs.TellLemmas.{told_end}
+use Rattle.kati_names.specs.Names.{nothing_seen}
 use Rattle.kati_names.proofs.NameLemmas.{blames_after}
 use Rattle.kati_names.proofs.program.names_of_run.Goals as goal
 
 pub returns : goal.returns
-returns g c = record {
-  run = c.run-ran.result;
-  after = g.E.Sink.written c.run-ran.new.err;
-  leaves = c.run-ran.ensures.leaves;
-  ended = c.with_names-ended.result;
-  names = c.with_names-ended.ensures;
-  exit = c.finish.ensures.code;
-  blames = blames_after c.run-ran.result c.with_names-ended.result _ _ _ _ _ _ _ _ _ _ c.finish.ensures.counts
-      (on_ok_weaker c.with_names-ended.result _ _ (λ same. ap g.E.Sink.failed same) c.finish.ensures.quiet)
-      c.with_names-ended.ensures c.run-ran.ensures.blames;
-  quiet = on_ok_weaker c.with_names-ended.result _ _ (λ same. ap g.E.Sink.written same) c.finish.ensures.quiet;
-  told = IfErr-weaker c.with_names-ended.result _ _ (λ fault told. told_since (fault_words fault) _ _ _ _ _ c.run-ran.ensures.counts told) c.finish.ensures.told;
-}
+returns g c =
+    let first = g.F.Files.seen c.args.files.now in
+    let files = g.F.Files.seen c.run-ran.new.files in
+    let out = g.O.Sink.seen c.with_names-ended.new.out in
+    let err = g.E.Sink.seen c.run-ran.new.err in
+    record {
+      run = c.run-ran.result;
+      ran = devices files nothing_seen err;
+      leaves = c.run-ran.ensures.leaves;
+      ended = c.with_names-ended.result;
+      named = devices files out err;
+      names = c.with_names-ended.ensures;
+      rest = (refl, refl);
+      blames = blames_after c.run-ran.result c.with_names-ended.result first files (g.O.Sink.seen c.args.out.now) out
+          (g.E.Sink.seen c.args.err.now) err c.with_names-ended.ensures c.run-ran.ensures.blames;
+      exit = c.finish.ensures.code;
+      told = told_end c.with_names-ended.result files out err (g.E.Sink.seen c.finish.new.err)
+          (on_ok_weaker c.with_names-ended.result _ _ (λ same. ap g.E.Sink.seen same) c.finish.ensures.quiet) c.finish.ensures.told;
+    }

@@ -8,15 +8,15 @@ use Rattle.kt_eval.proofs.machine.read_once.Goals as goal
 pub returns-clause-reads : goal.returns-clause-reads
 returns-clause-reads g c =
     reads_when (map (λ name. name.now) c.args.names.now) c.args.limit (read_of c.args.makefile.macros c.args.makefile.book)
-    (traced c.args.messages.items (g.F.Files.names c.args.files.now)) c.new.result.items c.read_first-result.result c.read_first-result.new.self.world
-    _ _ _ _ c.new.ensures.items (search rules) (search rules) (search rules) (search rules) (g.F.Files.known c.args.files.now) c.read_first-result.ensures.gives
+    (traced c.args.messages.items (g.F.Files.seen c.args.files.now).names) c.new.result.items c.read_first-result.result c.read_first-result.new.self.world
+    _ _ _ _ c.new.ensures.items (search rules) (search rules) (search rules) (search rules) (g.F.Files.seen c.args.files.now).known c.read_first-result.ensures.gives
 
 pub returns-clause-cut : goal.returns-clause-cut
 returns-clause-cut g c =
     let left = c.read_first-result.new.self.world in
     cut_when (map (λ name. name.now) c.args.names.now) c.args.limit (read_of c.args.makefile.macros c.args.makefile.book)
-    (traced c.args.messages.items (g.F.Files.names c.args.files.now)) c.new.result.items c.read_first-result.result left
-    left.table left.book _ _ c.new.ensures.items refl refl (search rules) (search rules) (g.F.Files.known c.args.files.now) c.read_first-result.ensures.cut
+    (traced c.args.messages.items (g.F.Files.seen c.args.files.now).names) c.new.result.items c.read_first-result.result left
+    left.table left.book _ _ c.new.ensures.items refl refl (search rules) (search rules) (g.F.Files.seen c.args.files.now).known c.read_first-result.ensures.cut
 
 pub returns-clause-said : goal.returns-clause-said
 returns-clause-said g c =
@@ -26,4 +26,4 @@ returns-clause-said g c =
 pub returns-clause-asked : goal.returns-clause-asked
 returns-clause-asked g c =
     let kept = c.read_first-result.ensures.kept.3 in
-    front_by (g.F.Files.names c.args.files.now) c.read_first-result.new.self.world.asked _ _ refl (search rules) (kept.0 asked_for, kept.1 asked_for)
+    front_by (g.F.Files.seen c.args.files.now).names c.read_first-result.new.self.world.asked _ _ refl (search rules) (kept.0 asked_for, kept.1 asked_for)

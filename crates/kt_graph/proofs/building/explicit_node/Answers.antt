@@ -1,6 +1,7 @@
 use Rattle.std.proofs.Common.{◌∷◌, ◌++◌, ◌∙◌, ap, map, refl}
 use Rattle.kt_rules.specs.Slots.{rule_told}
 use Rattle.kt_graph.specs.declared.node.NodeKind.TheVariants.{Explicit}
+use Rattle.kt_rules.specs.Suffixes.{suffixes_of}
 use Rattle.kt_graph.specs.inner.Named.{needs_of_each}
 use Rattle.kt_graph.proofs.BuildingLemmas.{explicit_told}
 use Rattle.kt_graph.proofs.building.explicit_node.Goals as goal
@@ -9,7 +10,7 @@ pub returns : goal.returns
 returns c = λ name rules cut.
     let earlier = map rule_told c.args.used.earlier.now in
     let later = map rule_told c.args.used.later.now in
-    explicit_told c.args.suffixes.now name rules earlier later (rule_told c.args.used.rule)
+    explicit_told (suffixes_of c.args.book.now) name rules earlier later (rule_told c.args.used.rule)
     (record { kind = Explicit; parts = c.in_ok-parts.parts; making = c.in_ok-group_of.field-0 }) c.in_ok-part.part
     (map (λ needs. needs.now) c.add_needs-2.new.needs.items)
     refl c.in_ok-parts.ensures.items c.in_ok-group_of.ensures c.in_ok-part.ensures

@@ -1,12 +1,13 @@
 use Rattle.std.proofs.Common.{◌++◌, ◌∙◌, ap, map, None, refl}
 use Rattle.kt_rules.specs.Slots.{rule_told}
+use Rattle.kt_rules.specs.Suffixes.{suffixes_of}
 use Rattle.kt_graph.specs.inner.Named.{needs_of_each}
 use Rattle.kt_graph.proofs.BuildingLemmas.{plain_told}
 use Rattle.kt_graph.proofs.building.plain_node.Goals as goal
 
 pub returns : goal.returns
 returns c =
-    plain_told c.args.suffixes.now c.args.name.now (map rule_told c.args.rules.now) c.args.is_phony
+    plain_told (suffixes_of c.args.book.now) c.args.name.now (map rule_told c.args.rules.now) c.args.is_phony
     (record { kind = c.kind_without.result; parts = c.in_ok-from_array.field-0; making = None })
     (record { recipe = None; stem = c.in_ok-from_slice.field-0; needs = c.add_needs.new.needs })
     c.kind_without.ensures c.in_ok-from_array.ensures.items refl refl (c.in_ok-from_slice.ensures.items ∙ c.suffix_stem.ensures)

@@ -5,17 +5,19 @@ use Rattle.kt_ninja.proofs.sink.put.Goals as goal
 
 pub returns-in-Ok-eq0-clause-fault : goal.returns-in-Ok-eq0-clause-fault
 returns-in-Ok-eq0-clause-fault g c =
-    front_of_rest _ _ _ c.loop-done.done c.args.piece.now c.loop-done.invariant.taken
+    front_of_rest _ (g.W.Sink.seen c.loop-done.sink) _ c.loop-done.done c.args.piece.now c.loop-done.invariant.taken
     (front_taken _ _ c.in-Ok-eq0.field-0 _ (rw take_rest at c.in-Ok-eq0.ensures.takes))
 
 pub loop-done-preserved : goal.loop-done-preserved
 loop-done-preserved g c = record {
   within = grind arith;
-  taken = taken_twice _ _ _ c.loop-done.done c.in-Ok.taken c.args.piece.now c.loop-done.invariant.taken (rw take_rest at c.in-Ok.ensures.takes);
+  taken = taken_twice (g.W.Sink.seen c.args.sink.now) (g.W.Sink.seen c.loop-done.sink) (g.W.Sink.seen c.write.new.self)
+      c.loop-done.done c.in-Ok.taken c.args.piece.now c.loop-done.invariant.taken (rw take_rest at c.in-Ok.ensures.takes);
   steady = c.in-Ok.ensures.holds (omega arith) ∙ c.loop-done.invariant.steady;
   empty = λ none. absurd (let bad : c.loop-done.done < length c.args.piece.now = c.loop-done-test.true in omega (arith, bad, ap length none));
 }
 
 pub returns-in-Err-clause-fault : goal.returns-in-Err-clause-fault
 returns-in-Err-clause-fault g c =
-    front_of_rest _ _ _ c.loop-done.done c.args.piece.now c.loop-done.invariant.taken (rw take_rest at c.in-Err.ensures.front)
+    front_of_rest _ (g.W.Sink.seen c.loop-done.sink) _ c.loop-done.done c.args.piece.now c.loop-done.invariant.taken
+    (rw take_rest at c.in-Err.ensures.front)

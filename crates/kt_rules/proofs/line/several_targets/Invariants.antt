@@ -5,7 +5,7 @@ use Rattle.kt_rules.proofs.line.several_targets.Given as goal
 
 abbrev pub invariant-loop-word : goal.invariant-loop-word
 invariant-loop-word l =
-    fold with_name (map (λ name. name.items) l.names.keys) (map name_of (written_words l.rest)) ≡ fold with_name [] (map name_of (written_words l.text))
+    fold with_name l.names.keys (map name_of (written_words l.rest)) ≡ fold with_name [] (map name_of (written_words l.text))
 
 abbrev pub decreases-loop-word : goal.decreases-loop-word
 decreases-loop-word l = length (written_words l.rest)

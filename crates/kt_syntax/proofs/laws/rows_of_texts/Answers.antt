@@ -9,4 +9,15 @@ use Rattle.kt_syntax.proofs.laws.rows_of_texts.Goals as goal
 
 pub returns : goal.returns
 unfolding is_blank closing behind_dollar more_masked mask_from mask_of is_continued is_ended groups pieces_of condensed_line condensed_rest condensed_group condensed_of uncommented uncommented_of joint_of recipe_line recipe_lines recipe_of
-returns c = record { runs = refl; in_reference = refl; condensed = refl; last = refl; recipe = refl; reference = refl; dollar = refl }
+returns c = record {
+  runs = refl;
+  three = refl;
+  in_reference = refl;
+  condensed = refl;
+  last = refl;
+  recipe = refl;
+  two_tabs = refl;
+  blanks_stay = refl;
+  reference = refl;
+  dollar = refl;
+}

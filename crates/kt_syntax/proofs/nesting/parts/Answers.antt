@@ -1,16 +1,17 @@
 use Rattle.std.proofs.Common.{◌≤◌, length, ap, ◌∙◌, arith}
 use Rattle.kt_syntax.specs.Parts.{missing_in}
+use Rattle.kt_syntax.specs.Roles.{head_of}
 use Rattle.kt_syntax.proofs.NestingLemmas.{depth-after, parts_ended, parts_more, scanned_ended, scanned_more}
 use Rattle.kt_syntax.proofs.nesting.parts.Goals as goal
 
 pub loop-line-preserved : goal.loop-line-preserved
 loop-line-preserved c = record {
-  found = parts_more _ _ _ _ c.args.text.now c.args.lines.now c.loop-line.line-index _ c.in_ok-head_of.field-0 _ _ c.loop-line-test.true c.in_ok-head_of.ensures
+  found = parts_more _ _ _ _ c.args.text.now c.args.lines.now c.loop-line.line-index _ c.in_ok-head.head _ _ c.loop-line-test.true (c.in_ok-head.ensures ∙ ap (head_of c.args.text.now) (c.line.ensures ∙ c.line-item.is))
       c.in_ok-advance.ensures.part c.in_ok-advance.ensures.scan c.in_ok-push.ensures.items c.loop-line.invariant.found;
-  scanned = scanned_more _ _ _ c.args.text.now c.args.lines.now c.loop-line.line-index _ c.in_ok-head_of.field-0 c.loop-line-test.true c.in_ok-head_of.ensures
+  scanned = scanned_more _ _ _ c.args.text.now c.args.lines.now c.loop-line.line-index _ c.in_ok-head.head c.loop-line-test.true (c.in_ok-head.ensures ∙ ap (head_of c.args.text.now) (c.line.ensures ∙ c.line-item.is))
       c.in_ok-advance.ensures.scan c.loop-line.invariant.scanned;
   shallow =
-      let deeper = depth-after c.loop-line.scan.define c.loop-line.scan.conditionals c.in_ok-head_of.field-0.role c.in_ok-head_of.field-0.number in
+      let deeper = depth-after c.loop-line.scan.define c.loop-line.scan.conditionals c.in_ok-head.head.role c.in_ok-head.head.number in
       rw c.in_ok-advance.ensures.scan (omega (arith, deeper, c.loop-line.invariant.shallow));
 }
 

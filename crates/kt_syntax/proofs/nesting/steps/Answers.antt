@@ -14,6 +14,6 @@ loop-part-preserved c =
     let place : c.len-in-Some.result ≡ length c.pop.new.self.items = search rules in (
       c.in-Some.part ∷ after,
       sym (append_assoc c.pop.new.self.items (c.in-Some.part ∷ []) after) ∙ ap (λ (x : List _). x ++ after) (sym c.in-Some.ensures.items) ∙ c.loop-part.invariant.1,
-      c.in_ok-push_front.ensures.items ∙ steps_more _ _ _ _ _ _ (rw size at c.loop-part.invariant.3) c.in_ok-step.ensures.step (rw size at c.loop-part.invariant.2),
+      c.in_ok-push_front.ensures.items ∙ steps_more _ _ _ _ _ _ (rw size at c.loop-part.invariant.3) (c.in_ok-of.ensures ∙ c.in_ok-step.ensures.step) (rw size at c.loop-part.invariant.2),
       ahead_more _ _ _ _ _ (rw size at c.loop-part.invariant.3) (rw place at c.in_ok-step.ensures.places),
     )

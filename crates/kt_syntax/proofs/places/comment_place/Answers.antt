@@ -1,5 +1,6 @@
-use Rattle.kt_syntax.proofs.SymbolLemmas.{no_comment, not_found}
+use Rattle.std.proofs.Common.{sym, ◌∙◌}
+use Rattle.kt_syntax.proofs.SymbolLemmas.{no_comment, not_there}
 use Rattle.kt_syntax.proofs.places.comment_place.Goals as goal
 
-pub returns-in-None-clause-value : goal.returns-in-None-clause-value
-returns-in-None-clause-value c = no_comment c.args.text.now (not_found 35 c.args.text.now c.in-None.ensures)
+pub returns-clause-value : goal.returns-clause-value
+returns-clause-value c = no_comment c.args.text.now (not_there 35 c.args.text.now (sym c.has_byte.ensures ∙ c.if-has_byte.false))

@@ -1,7 +1,7 @@
-use Rattle.std.proofs.Common.{take}
+use Rattle.std.proofs.Common.{sym, take, ◌∙◌}
 use Rattle.kt_syntax.proofs.Unsigned.{unsigned_is_unspecific}
 use Rattle.kt_syntax.specs.Mask.{mask_of}
 use Rattle.kt_syntax.proofs.rule_line.is_target_specific.Goals as goal
 
-pub returns-in-None : goal.returns-in-None
-returns-in-None c = unsigned_is_unspecific c.args.text.now (take c.args.end (mask_of c.args.text.now)) c.in-None.ensures
+pub returns : goal.returns
+returns c = unsigned_is_unspecific c.args.text.now (take c.args.end (mask_of c.args.text.now)) (sym c.has_byte.ensures ∙ c.if-has_byte.false)

@@ -1,9 +1,10 @@
-use Rattle.std.proofs.Common.{◌≡◌, ◌++◌, true, false, length, append-nil, refl, sym, arith, rules}
+use Rattle.std.proofs.Common.{◌≡◌, ◌++◌, ◌&&◌, ◌∙◌, ap, Bool, true, false, length, append-nil, refl, sym, arith, rules}
 use Rattle.std.proofs.lemmas.Bool.Decides.{nat_tests}
+use Rattle.kt_text.specs.Words.{is_nonempty}
 use Rattle.kt_text.specs.Lines.{logical_lines_of}
 use Rattle.kt_text.proofs.LogicalLemmas.{line_ended, lines_start, lines_more, lines_end}
 use Rattle.kt_text.proofs.logical.cut_lines.Goals as goal
-use Rattle.kt_text.proofs.logical.cut_lines.Goals.{then-not-continued+in_ok-push, else-not-continued}
+use Rattle.kt_text.proofs.logical.cut_lines.Goals.{then-not-continued+in_ok-of+in_ok-push, else-not-continued}
 
 pub loop-rest-init : goal.loop-rest-init
 loop-rest-init c = record {
@@ -17,16 +18,16 @@ loop-rest-preserved c =
     let line = c.first_line.result.0.now in
     let added : c.if-not-continued.lines.items ≡ c.loop-rest.lines.items ++ line_ended c.goes_on-continued.result c.or_at-begin.result c.loop-rest.at line =
     elim c.if-not-continued.branch [
-      | then-not-continued+in_ok-push w ↦
+      | then-not-continued+in_ok-of+in_ok-push w ↦
           let off : c.goes_on-continued.result ≡ false = search rules in
-          rw (off, w.lines-is, w.in_ok-push.ensures.items, w.ended.ensures, w.kept_length.ensures.value) refl
+          rw (off, w.lines-is, w.in_ok-push.ensures.items, w.in_ok-of.ensures, w.ended.ensures, c.of-end.ensures.kept) refl
       | else-not-continued w ↦
           let on : c.goes_on-continued.result ≡ true = search rules in
           rw (on, w.lines-is) (sym (append-nil c.loop-rest.lines.items))
     ] in
     record {
       cut = rw added (lines_more c.loop-rest.continued c.goes_on-continued.result c.loop-rest.begin c.or_at-begin.result c.loop-rest.at c.loop-rest.number line
-          c.first_line.result.1.now _ c.loop-rest.lines.items (logical_lines_of c.args.text.now) c.or_at-begin.ensures c.goes_on-continued.ensures c.first_line.ensures.cut c.loop-rest.invariant.cut);
+          c.first_line.result.1.now _ c.loop-rest.lines.items (logical_lines_of c.args.text.now) c.or_at-begin.ensures (c.goes_on-continued.ensures ∙ ap (λ (b : Bool). b && is_nonempty c.first_line.result.1.now) c.of-end.ensures.continued) c.first_line.ensures.cut c.loop-rest.invariant.cut);
       place = omega (arith, c.loop-rest.invariant.place, c.first_line.ensures.whole);
       numbered = omega (arith, c.loop-rest.invariant.numbered, c.first_line.ensures.some);
     }

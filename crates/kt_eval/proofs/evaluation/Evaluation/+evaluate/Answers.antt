@@ -117,7 +117,7 @@ pub are_equal-returns-in_err-x : goal.are_equal-returns-in_err-x
 are_equal-returns-in_err-x g t c =
     let p = err_from_is_err_and c.from_residual.result c.from_residual.ensures.1 in
     let early = λ (known : AreKnown c.args.self.now.known).
-    (equal_fails g.M.Scope.writable (store_of c.args.self.now.known) c.args.below c.in_err-x.field-0.0 c.args.self.now.world c.expand_here.new.self.world (compared_told c.in-Some.compared) (c.in_err-x.ensures.gives known, c.in_err-x.ensures.cut known)) in
+    (equal_fails g.M.Scope.writable (store_of c.args.self.now.known) c.args.below c.in_err-x.field-0.0 c.args.self.now.world c.expand_text.new.self.world (compared_told c.in-Some.compared) (c.in_err-x.ensures.gives known, c.in_err-x.ensures.cut known)) in
     record {
       gives = λ known. rw (p.1, p.2, c.in-Some.is) (early known).0;
       cut = λ known. rw (p.1, p.2, c.in-Some.is) (early known).1;

@@ -1,5 +1,4 @@
-use Rattle.std.proofs.Common.{Option, Some, None, map}
-use Rattle.std.specs.Prelude.{IfSome}
+use Rattle.std.proofs.Common.{map}
 use Rattle.std.proofs.lemmas.Result.{err_from_is_err_and}
 use Rattle.kt_eval.specs.Machines.{read_by, traced_by}
 use Rattle.kt_eval.proofs.MachineLemmas.{known_before, known_cut}
@@ -8,12 +7,12 @@ use Rattle.kt_eval.proofs.machine.Machine.read.Goals as goal
 pub returns-in_err-empty-clause-reads : goal.returns-in_err-empty-clause-reads
 returns-in_err-empty-clause-reads g c =
     let p = err_from_is_err_and c.from_residual.result c.from_residual.ensures.1 in
-    rw (p.1, p.2) (known_cut (g.F.Files.known c.args.files.now))
+    rw (p.1, p.2) (known_cut (g.F.Files.seen c.args.files.now).known)
 
 pub returns-in_err-empty-clause-cut : goal.returns-in_err-empty-clause-cut
 returns-in_err-empty-clause-cut g c =
     let p = err_from_is_err_and c.from_residual.result c.from_residual.ensures.1 in
     let held = c.args.self.now in
     rw (p.1, p.2)
-    (known_before (map (λ name. name.now) c.args.names.now) held.limit (read_by held) (traced_by held (g.F.Files.names c.args.files.now))
-    (g.F.Files.known c.args.files.now))
+    (known_before (map (λ name. name.now) c.args.names.now) held.limit (read_by held) (traced_by held (g.F.Files.seen c.args.files.now).names)
+    (g.F.Files.seen c.args.files.now).known)

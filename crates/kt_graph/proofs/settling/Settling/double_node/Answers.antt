@@ -1,4 +1,4 @@
-use Rattle.std.proofs.Common.{◌≡◌, ◌∙◌, ap, map}
+use Rattle.std.proofs.Common.{◌≡◌, map}
 use Rattle.kt_text.specs.Words.{Text}
 use Rattle.kt_rules.specs.Slots.{rule_told}
 use Rattle.kt_rules.specs.Suffixes.{suffixes_of}
@@ -12,7 +12,7 @@ returns-clause-says c =
     let made = map rule_told c.args.rules.now in
     let suffixes = suffixes_of c.args.self.now.book.now in
     let same : (name : Text) → named_told name c.in_ok-named.named ≡ double_node suffixes name made
-    = λ name. c.in_ok-named.ensures name ∙ ap (λ s. double_node s name made) c.suffixes.ensures in
+    = λ name. c.in_ok-named.ensures name in
     said_too c.hold.result c.hold.new.self.numbers c.hold.new.self.instances.keys (λ name. named_told name c.in_ok-named.named)
     (λ name. double_node suffixes name made) same c.hold.ensures.says
 
@@ -21,6 +21,6 @@ returns-clause-grown c =
     let made = map rule_told c.args.rules.now in
     let suffixes = suffixes_of c.args.self.now.book.now in
     let same : (name : Text) → named_told name c.in_ok-named.named ≡ double_node suffixes name made
-    = λ name. c.in_ok-named.ensures name ∙ ap (λ s. double_node s name made) c.suffixes.ensures in
+    = λ name. c.in_ok-named.ensures name in
     grown_too c.hold.result c.args.self.now c.hold.new.self (λ name. named_told name c.in_ok-named.named)
     (λ name. double_node suffixes name made) same c.hold.ensures.grown

@@ -1,4 +1,4 @@
-use Rattle.std.proofs.Common.{◌≡◌, ◌∙◌, List, ap, subst}
+use Rattle.std.proofs.Common.{◌≡◌, List, subst}
 use Rattle.std.proofs.lemmas.Result.{IfOk-weaker, on_ok_weaker}
 use Rattle.kt_text.specs.Words.{Text}
 use Rattle.kt_rules.specs.declared.entry.Target.{Target}
@@ -19,7 +19,7 @@ returns-clause-says c =
     let instances = c.hold.new.self.instances.keys in
     let same : (name : Text) (rules : List (Rule × Target)) → IsCut rules c.args.used
     → named_told name c.in_ok-named.named ≡ explicit_node suffixes name rules (rule_told c.args.used.rule)
-    = λ name rules cut. c.in_ok-named.ensures name rules cut ∙ ap (λ s. explicit_node s name rules (rule_told c.args.used.rule)) c.suffixes.ensures in
+    = λ name rules cut. c.in_ok-named.ensures name rules cut in
     IfOk-weaker c.hold.result (λ node. (name : Text) → SaysNode names instances (named_told name c.in_ok-named.named) node)
     (λ node. (name : Text) (rules : List (Rule × Target)) → IsCut rules c.args.used → SaysNode names instances (explicit_node suffixes name rules (rule_told c.args.used.rule)) node)
     (λ node h name rules cut. subst (λ n. SaysNode names instances n node) (same name rules cut) (h name)) c.hold.ensures.says
@@ -29,7 +29,7 @@ returns-clause-grown c =
     let suffixes = suffixes_of c.args.self.now.book.now in
     let same : (name : Text) (rules : List (Rule × Target)) → IsCut rules c.args.used
     → named_told name c.in_ok-named.named ≡ explicit_node suffixes name rules (rule_told c.args.used.rule)
-    = λ name rules cut. c.in_ok-named.ensures name rules cut ∙ ap (λ s. explicit_node s name rules (rule_told c.args.used.rule)) c.suffixes.ensures in
+    = λ name rules cut. c.in_ok-named.ensures name rules cut in
     on_ok_weaker c.hold.result
     (λ (h : (name : Text) → Grows c.args.self.now (needed_by (named_told name c.in_ok-named.named)) c.hold.new.self) name rules cut.
     subst (λ n. Grows c.args.self.now (needed_by n) c.hold.new.self) (same name rules cut) (h name)) c.hold.ensures.grown

@@ -18,7 +18,7 @@ returns-clause-says c =
     let names = c.hold.new.self.numbers in
     let instances = c.hold.new.self.instances.keys in
     let same : named_told name c.in_ok-named.named ≡ plain_node (suffixes_of book) name made (is_phony book name)
-    = c.in_ok-named.ensures ∙ ap (λ s. plain_node s name made c.is_phony-is_phony.result) c.suffixes.ensures
+    = c.in_ok-named.ensures
     ∙ ap (plain_node (suffixes_of book) name made) c.is_phony-is_phony.ensures in
     IfOk-weaker c.hold.result (λ node. (name : Text) → SaysNode names instances (named_told name c.in_ok-named.named) node)
     (SaysNode names instances (plain_node (suffixes_of book) name made (is_phony book name)))
@@ -30,7 +30,7 @@ returns-clause-grown c =
     let name = c.args.name.now in
     let made = map rule_told c.args.rules.now in
     let same : named_told name c.in_ok-named.named ≡ plain_node (suffixes_of book) name made (is_phony book name)
-    = c.in_ok-named.ensures ∙ ap (λ s. plain_node s name made c.is_phony-is_phony.result) c.suffixes.ensures
+    = c.in_ok-named.ensures
     ∙ ap (plain_node (suffixes_of book) name made) c.is_phony-is_phony.ensures in
     on_ok_weaker c.hold.result
     (λ (h : (name : Text) → Grows c.args.self.now (needed_by (named_told name c.in_ok-named.named)) c.hold.new.self).

@@ -5,7 +5,7 @@ use Rattle.kt_ninja.proofs.block.Block.put.Given as goal
 abbrev pub invariant-loop-done : goal.invariant-loop-done
 invariant-loop-done g l = record {
   within : l.done ≤ length l.piece;
-  puts : Puts g.W.Sink.written g.W.Sink.failed l.fn.self l.self (take l.done l.piece);
+  puts : Puts g.W.Sink.seen l.fn.self l.self (take l.done l.piece);
 }
 
 abbrev pub decreases-loop-done : goal.decreases-loop-done

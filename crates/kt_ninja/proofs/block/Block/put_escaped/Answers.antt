@@ -22,5 +22,5 @@ pub returns : goal.returns
 returns g c =
     let test = is_special c.args.escapes in
     let none = escaped-none test c.loop-at.rest.now (c.in_default.ensures.first) in
-    let P : List ℕ → Type 0 = λ t. Puts g.W.Sink.written g.W.Sink.failed c.loop-at.self c.put-2.new.self t in
+    let P : List ℕ → Type 0 = λ t. Puts g.W.Sink.seen c.loop-at.self c.put-2.new.self t in
     up_to_all _ c.loop-at.invariant (subst P (sym none) c.put-2.ensures)

@@ -5,7 +5,7 @@ use Rattle.kt_ninja.proofs.block.Block.put_statements.Given as goal
 
 abbrev pub invariant-loop-statement : goal.invariant-loop-statement
 invariant-loop-statement g l = record {
-  puts : PutsUpTo g.W.Sink.written g.W.Sink.failed l.fn.self l.self
+  puts : PutsUpTo g.W.Sink.seen l.fn.self l.self
       (statements_text 0 l.statements) (statements_text l.number (drop l.statement-index l.statements));
   at_most : l.number ≤ l.statement-index;
 }

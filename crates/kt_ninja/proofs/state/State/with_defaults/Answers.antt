@@ -1,7 +1,7 @@
 use Rattle.std.proofs.Common.{◌++◌, ap, sym, ◌∙◌}
 use Rattle.std.specs.List.{list_all}
 use Rattle.kt_ninja.specs.NinjaRead.{State, add_defaults}
-use Rattle.kt_ninja.specs.Writable.{is_among}
+use Rattle.kt_list.specs.Names.{is_among}
 use Rattle.kt_ninja.proofs.StateLemmas.{defaults_added}
 use Rattle.kt_ninja.proofs.state.State.with_defaults.Goals as goal
 

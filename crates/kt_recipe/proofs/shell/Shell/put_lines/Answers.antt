@@ -17,9 +17,9 @@ returns-in_err-put_line c =
     let command = command_in c.loop-line.command.items in
     rw (p.1, p.2)
     (stops_all _ _ c.in_err-put_line.field-0.0 c.args.messages.now.items c.loop-line.messages.items c.put_line.new.messages.items
-    (put_line (setting_at shell line.place) line.text command) (put_lines shell.macros.now automatic shell.limit (drop (i + 1) c.args.lines.now))
-    (put_lines shell.macros.now automatic shell.limit c.args.lines.now (command_in c.args.command.now.items))
-    (put_lines_front shell.macros.now automatic shell.limit (drop (i + 1) c.args.lines.now)) c.loop-line.invariant.kept
-    (lines_from shell.macros.now automatic shell.limit c.args.lines.now i line command c.loop-line.messages.items c.loop-line-test.true c.line-item.is
+    (put_line (setting_at shell line.place) line.text command) (put_lines shell.commands.now.table automatic shell.commands.now.limit (drop (i + 1) c.args.lines.now))
+    (put_lines shell.commands.now.table automatic shell.commands.now.limit c.args.lines.now (command_in c.args.command.now.items))
+    (put_lines_front shell.commands.now.table automatic shell.commands.now.limit (drop (i + 1) c.args.lines.now)) c.loop-line.invariant.kept
+    (lines_from shell.commands.now.table automatic shell.commands.now.limit c.args.lines.now i line command c.loop-line.messages.items c.loop-line-test.true c.line-item.is
     ∙ c.loop-line.invariant.rest)
     c.in_err-put_line.ensures)

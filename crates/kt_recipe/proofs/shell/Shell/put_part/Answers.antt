@@ -10,6 +10,6 @@ unfolding put_part put_lines
 returns-in-None c =
     let shell = c.args.self.now in
     let command = command_in c.args.command.now.items in
-    says_nothing _ (put_part shell.macros.now shell.limit shell.node.now shell.part command) _ c.args.messages.now.items
-    (ap (λ lines. put_lines shell.macros.now (automatic_in shell.node.now shell.part) shell.limit (unwrap_or lines []) command c.args.messages.now.items)
+    says_nothing _ (put_part shell.commands.now.table shell.commands.now.limit shell.node.now shell.part command) _ c.args.messages.now.items
+    (ap (λ lines. put_lines shell.commands.now.table (automatic_in shell.node.now shell.part) shell.commands.now.limit (unwrap_or lines []) command c.args.messages.now.items)
     (sym c.in-None.ensures))

@@ -9,10 +9,10 @@ invariant_of-self-in_err-learn c =
     let at : length c.as_slice-place.result.now ≡ length c.self.inside.slots.items = ap length c.as_slice-place.ensures.value in
     let refused = c.in_err-learn.ensures in
     rw c.in_ok-push.ensures.items
-    (kept_none c.self.inside.slots.items c.self.inside.targets c.learn.new.targets c.self.inside.recipes c.learn.new.recipes c.self.inside.phony c.learn.new.phony c.self.inside.suffixes c.learn.new.suffixes
+    (kept_none c.self.inside.slots.items c.self.inside.spots.0 c.learn.new.spots.0 c.self.inside.spots.1 c.learn.new.spots.1 c.self.inside.phony c.learn.new.phony c.self.inside.suffixes c.learn.new.suffixes
     c.self.invariant
-    (subst (λ n. GrewIn n c.self.inside.targets c.learn.new.targets) at refused.targets_refused)
-    (subst (λ n. GrewIn n c.self.inside.recipes c.learn.new.recipes) at refused.recipes_refused)
+    (subst (λ n. GrewIn n c.self.inside.spots.0 c.learn.new.spots.0) at refused.targets_refused)
+    (subst (λ n. GrewIn n c.self.inside.spots.1 c.learn.new.spots.1) at refused.recipes_refused)
     refused.phony_refused refused.suffixes_refused)
 
 pub returns-in_err-learn-clause-refused : goal.returns-in_err-learn-clause-refused
@@ -24,10 +24,10 @@ invariant_of-self-2 c =
     let at : length c.as_slice-place.result.now ≡ length c.self.inside.slots.items = ap length c.as_slice-place.ensures.value in
     let learned = c.in_ok-learn.ensures in
     rw (put_last c.self.inside.slots.items c.push.new.self.items (length c.as_slice-place.result.now) c.args.entry c.in_ok-push.ensures.items at)
-    (kept_some c.self.inside.slots.items c.args.entry c.self.inside.targets c.learn.new.targets c.self.inside.recipes c.learn.new.recipes c.self.inside.phony c.learn.new.phony c.self.inside.suffixes c.learn.new.suffixes
+    (kept_some c.self.inside.slots.items c.args.entry c.self.inside.spots.0 c.learn.new.spots.0 c.self.inside.spots.1 c.learn.new.spots.1 c.self.inside.phony c.learn.new.phony c.self.inside.suffixes c.learn.new.suffixes
     c.self.invariant (rw c.self.view_is c.requires)
-    (subst (λ n. GotSpots c.args.entry n c.self.inside.targets c.learn.new.targets) at learned.targets_noted)
-    (subst (λ n. GotRecipes c.args.entry n c.self.inside.recipes c.learn.new.recipes) at learned.recipes_noted)
+    (subst (λ n. GotSpots c.args.entry n c.self.inside.spots.0 c.learn.new.spots.0) at learned.targets_noted)
+    (subst (λ n. GotRecipes c.args.entry n c.self.inside.spots.1 c.learn.new.spots.1) at learned.recipes_noted)
     learned.phony_learned learned.suffixes_learned)
 
 pub returns-clause-grown : goal.returns-clause-grown

@@ -1,0 +1,205 @@
+-- A list that holds all names that goals may need: those that rules name, and texts of bounded length.
+use Rattle.std.proofs.Common.{◌≡◌, ◌⊎◌, ◌≤◌, ◌+◌, ◌-◌, ℕ, Bool, true, false, not, List, [], ◌∷◌, ◌++◌, length, filter, flat_map, Option, Some, None, refl, sym, ap, subst, ⊎_elim, inl, inr, if◌then◌else◌}
+use Rattle.std.specs.Prelude.{option_map, slice_get}
+use Rattle.std.specs.List.{Contains, after_last, before_last, last_or, list_any}
+use Rattle.std.specs.Option.{option_and_then}
+use Rattle.std.proofs.lemmas.List.Elements.{Contains-append_cases, Contains-append_left, Contains-append_right}
+use Rattle.std.proofs.lemmas.Option.{none-some, same_Some}
+use Rattle.kt_text.specs.Words.{Text}
+use Rattle.kt_rules.specs.declared.entry.Needs.{Needs}
+use Rattle.kt_rules.specs.declared.entry.Target.{Target}
+use Rattle.kt_rules.specs.Entry.{Rule, needs_for}
+use Rattle.kt_rules.specs.Names.{is_among, without_repeats}
+use Rattle.kt_rules.specs.Suffixes.{all_needs, is_suffix_rule, suffixes_of}
+use Rattle.kt_rules.specs.Book.{explicit_rules, has_recipe, is_double, is_made, is_phony, patterns_of, rules_of, target_rules}
+use Rattle.kt_graph.specs.Candidates.{Candidate}
+use Rattle.kt_graph.specs.Node.{Part, bare_part, chosen_rule, double_node, inputs_of, joined_needs, needs_behind, node_by, node_of, order_only_of, other_rules, own_part, searched, used_rule}
+use Rattle.kt_graph.specs.Reach.{HasInput}
+use Rattle.kt_graph.specs.Search.{choice_of}
+use Rattle.kt_graph.proofs.GrowthLemmas.{from_flat_map, in_flat_map}
+use Rattle.kt_graph.proofs.MadeLemmas.{chosen_is}
+use Rattle.kt_graph.proofs.MemberLemmas.{Contains-cases, Contains-from_map, Contains-here, Contains-none, Contains-there}
+use Rattle.kt_graph.proofs.TroubleLemmas.{from_filter}
+use Rattle.kt_graph.proofs.UnknownLemmas.{from_without_repeats}
+use Rattle.kati.proofs.ClosingLemmas.{IsClosed}
+use Rattle.kati.proofs.FitLemmas.{Below, bound, chosen_fits, from_drop, from_take, from_texts, in_bound, in_texts, least_bound, texts}
+
+-- ---- the inputs of a node
+
+-- an explicit rule of a name needs it
+abbrev IsNamed : List (Rule × Target) → Text → Type 0
+IsNamed made input = (one : Rule × Target) × Contains made one × Contains (all_needs (needs_for one.0 one.1)) input
+
+-- the candidate that is chosen for a name needs it
+abbrev IsChosenBy : List Rule → List Text → Text → Text → Type 0
+IsChosenBy rules known name input =
+    (one : Candidate) × (choice_of (patterns_of rules) known name ≡ Some one) × Contains (all_needs one.needs) input
+
+joined_named : (made : List (Rule × Target)) (input : Text) → Contains (all_needs (joined_needs made)) input → IsNamed made input
+unfolding joined_needs
+joined_named made input has = ⊎_elim
+    (λ (h : Contains (joined_needs made).prerequisites input).
+    let found = from_flat_map (λ (one : Rule × Target). (needs_for one.0 one.1).prerequisites) made input h in
+    (found.0, found.1, Contains-append_left (needs_for found.0.0 found.0.1).prerequisites (needs_for found.0.0 found.0.1).order_only input found.2))
+    (λ (h : Contains (joined_needs made).order_only input).
+    let found = from_flat_map (λ (one : Rule × Target). (needs_for one.0 one.1).order_only) made input h in
+    (found.0, found.1, Contains-append_right (needs_for found.0.0 found.0.1).prerequisites (needs_for found.0.0 found.0.1).order_only input found.2))
+    (Contains-append_cases (joined_needs made).prerequisites (joined_needs made).order_only input has)
+
+behind_cases : (first later : Needs) (input : Text) → Contains (all_needs (needs_behind first later)) input → Contains (all_needs first) input ⊎ Contains (all_needs later) input
+behind_cases first later input has = ⊎_elim
+    (λ (h : Contains (first.prerequisites ++ later.prerequisites) input). ⊎_elim
+    (λ (g : Contains first.prerequisites input). inl (Contains-append_left first.prerequisites first.order_only input g))
+    (λ (g : Contains later.prerequisites input). inr (Contains-append_left later.prerequisites later.order_only input g))
+    (Contains-append_cases first.prerequisites later.prerequisites input h))
+    (λ (h : Contains (first.order_only ++ later.order_only) input). ⊎_elim
+    (λ (g : Contains first.order_only input). inl (Contains-append_right first.prerequisites first.order_only input g))
+    (λ (g : Contains later.order_only input). inr (Contains-append_right later.prerequisites later.order_only input g))
+    (Contains-append_cases first.order_only later.order_only input h))
+    (Contains-append_cases (first.prerequisites ++ later.prerequisites) (first.order_only ++ later.order_only) input has)
+
+fewer_named : (made more : List (Rule × Target)) (input : Text) → ((one : Rule × Target) → Contains made one → Contains more one) → IsNamed made input → IsNamed more input
+fewer_named made more input within named = (named.0, within named.0 named.1, named.2)
+
+last_in : (o : Option (Rule × Target)) (made : List (Rule × Target)) (one : Rule × Target) → last_or o made ≡ Some one → (o ≡ Some one) ⊎ Contains made one
+last_in o [] one e = inl e
+last_in o (first ∷ made) one e = ⊎_elim
+    (λ (h : Some first ≡ Some one). inr (subst (Contains (first ∷ made)) (same_Some first one h) (Contains-here first made)))
+    (λ (h : Contains made one). inr (Contains-there first made one h))
+    (last_in (Some first) made one e)
+
+used_in : (made : List (Rule × Target)) (one : Rule × Target) → used_rule made ≡ Some one → Contains made one
+used_in made one e = ⊎_elim (λ (h : None ≡ Some one). absurd (none-some one h)) (λ (h : Contains (filter has_recipe made) one). (from_filter has_recipe made one h).0)
+    (last_in None (filter has_recipe made) one e)
+
+others_in : (made : List (Rule × Target)) (one : Rule × Target) → Contains (other_rules made) one → Contains made one
+others_in made one has = ⊎_elim
+    (λ (h : Contains (before_last has_recipe made) one). from_take _ made one h)
+    (λ (h : Contains (after_last has_recipe made) one). from_drop _ made one h)
+    (Contains-append_cases (before_last has_recipe made) (after_last has_recipe made) one has)
+
+module _ (rules : List Rule) (known : List Text) (name : Text) where
+  abbrev made : List (Rule × Target)
+  made = explicit_rules rules name
+
+  abbrev IsTold : Text → Type 0
+  IsTold input = IsNamed made input ⊎ IsChosenBy rules known name input
+
+  alone : (part : Part) (one : Part) → Contains (part ∷ []) one → part ≡ one
+  alone part one has = ⊎_elim (λ (same : part ≡ one). same) (λ (none : Contains [] one). Contains-none one none) (Contains-cases part [] one has)
+
+  searched_choice : (found : Candidate × Rule) → searched rules known name ≡ Some found → choice_of (patterns_of rules) known name ≡ Some found.0
+  searched_choice found e = by (is_phony rules name) e
+    where
+      drawn : (one : Candidate) (o : Option Rule) → option_map (λ rule. (one, rule)) o ≡ Some found → one ≡ found.0
+      drawn one None e = absurd (none-some found e)
+      drawn one (Some rule) e = ap (λ (pair : Candidate × Rule). pair.0) (same_Some (one, rule) found e)
+
+      chosen : (o : Option Candidate) → option_and_then (chosen_rule (patterns_of rules)) o ≡ Some found → o ≡ Some found.0
+      chosen None e = absurd (none-some found e)
+      chosen (Some one) e = ap (λ (c : Candidate). Some c) (drawn one (slice_get (patterns_of rules) one.rule) e)
+
+      by : (b : Bool) → (if b then None else option_and_then (chosen_rule (patterns_of rules)) (choice_of (patterns_of rules) known name)) ≡ Some found
+          → choice_of (patterns_of rules) known name ≡ Some found.0
+      by true e = absurd (none-some found e)
+      by false e = chosen (choice_of (patterns_of rules) known name) e
+
+  part_told : (part : Part) (input : Text) → Contains (node_of rules known name).parts part → Contains (all_needs part.needs) input → IsTold input
+  unfolding node_of
+  part_told part input has needed = by (list_any (λ rule. is_double rule.0.kind) made) has
+    where
+      joined : Contains (all_needs (joined_needs made)) input → IsTold input
+      joined h = inl (joined_named made input h)
+
+      node : (used : Option (Rule × Target)) → used_rule made ≡ used → (found : Option (Candidate × Rule)) → searched rules known name ≡ found
+          → Contains (node_by rules name made used found).parts part → IsTold input
+      node (Some used) is found also h =
+          let same = alone _ part h in ⊎_elim
+          (λ (own : Contains (all_needs (needs_for used.0 used.1)) input). inl (used, used_in made used is, own))
+          (λ (rest : Contains (all_needs (joined_needs (other_rules made))) input).
+          inl (fewer_named (other_rules made) made input (others_in made) (joined_named (other_rules made) input rest)))
+          (behind_cases (needs_for used.0 used.1) (joined_needs (other_rules made)) input
+          (subst (λ (one : Part). Contains (all_needs one.needs) input) (sym same) needed))
+      node None is (Some found) also h =
+          let same = alone _ part h in ⊎_elim
+          (λ (own : Contains (all_needs found.0.needs) input). inr (found.0, searched_choice found also, own))
+          (λ (rest : Contains (all_needs (joined_needs made)) input). joined rest)
+          (behind_cases found.0.needs (joined_needs made) input (subst (λ (one : Part). Contains (all_needs one.needs) input) (sym same) needed))
+      node None is None also h =
+          joined (subst (λ (one : Part). Contains (all_needs one.needs) input) (sym (alone (bare_part (suffixes_of rules) name (joined_needs made)) part h)) needed)
+
+      by : (b : Bool) → Contains (if b then double_node (suffixes_of rules) name made else node_by rules name made (used_rule made) (searched rules known name)).parts part
+          → IsTold input
+      by true h =
+          let one = Contains-from_map (own_part (suffixes_of rules)) made part h in
+          inl (one.0, one.1, subst (λ (p : Part). Contains (all_needs p.needs) input) (sym one.2) needed)
+      by false h = node (used_rule made) refl (searched rules known name) refl h
+
+  input_told : (input : Text) → HasInput rules known name input → IsTold input
+  unfolding inputs_of order_only_of
+  input_told input has = ⊎_elim
+      (λ (h : Contains (inputs_of (node_of rules known name)) input).
+      let found = from_flat_map (λ (part : Part). part.needs.prerequisites) (node_of rules known name).parts input
+      (from_without_repeats (flat_map (λ part. part.needs.prerequisites) (node_of rules known name).parts) input h) in
+      part_told found.0 input found.1 (Contains-append_left found.0.needs.prerequisites found.0.needs.order_only input found.2))
+      (λ (h : Contains (order_only_of (node_of rules known name)) input).
+      let kept = from_filter (λ one. not (is_among (inputs_of (node_of rules known name)) one))
+      (without_repeats (flat_map (λ part. part.needs.order_only) (node_of rules known name).parts)) input h in
+      let found = from_flat_map (λ (part : Part). part.needs.order_only) (node_of rules known name).parts input
+      (from_without_repeats (flat_map (λ part. part.needs.order_only) (node_of rules known name).parts) input kept.0) in
+      part_told found.0 input found.1 (Contains-append_right found.0.needs.prerequisites found.0.needs.order_only input found.2))
+      (Contains-append_cases (inputs_of (node_of rules known name)) (order_only_of (node_of rules known name)) input has)
+
+-- ---- the list
+
+made_in : (rules : List Rule) (name : Text) (one : Rule × Target) (input : Text) → Contains (explicit_rules rules name) one
+    → Contains (all_needs (needs_for one.0 one.1)) input
+    → Contains (flat_map (λ (rule : Rule). flat_map (λ (target : Target). all_needs (needs_for rule target)) rule.targets) rules) input
+unfolding explicit_rules rules_of
+made_in rules name one input has needed =
+    let plain = from_filter (λ (made : Rule × Target). not (is_suffix_rule (suffixes_of rules) name made)) (rules_of rules name) one has in
+    let named = from_filter (λ (made : Rule × Target). Rattle.std.specs.Prelude.bytes_eq name made.1.name) (flat_map target_rules rules) one plain.0 in
+    let from = from_flat_map target_rules rules one named.0 in
+    let target = Contains-from_map (λ (t : Target). (from.0, t)) (filter (is_made from.0) from.0.targets) one from.2 in
+    let kept = from_filter (is_made from.0) from.0.targets target.0 target.1 in
+    in_flat_map (λ (rule : Rule). flat_map (λ (t : Target). all_needs (needs_for rule t)) rule.targets) rules from.0 input from.1
+    (in_flat_map (λ (t : Target). all_needs (needs_for from.0 t)) from.0.targets target.0 input kept.0
+    (subst (λ (made : Rule × Target). Contains (all_needs (needs_for made.0 made.1)) input) (sym target.2) needed))
+
+module _ (rules : List Rule) (known goals : List Text) where
+  abbrev named : List Text
+  named = goals ++ flat_map (λ (rule : Rule). flat_map (λ (target : Target). all_needs (needs_for rule target)) rule.targets) rules
+
+  abbrev patterns : List Text
+  patterns = flat_map (λ (rule : Rule). all_needs rule.needs) (patterns_of rules)
+
+  abbrev most : ℕ
+  most = bound (flat_map (λ (text : Text). text) (named ++ patterns))
+
+  text_below : (text : Text) → Contains (named ++ patterns) text → Below most text
+  text_below text has symbol inside = in_bound (flat_map (λ (text : Text). text) (named ++ patterns)) symbol
+      (in_flat_map (λ (one : Text). one) (named ++ patterns) text symbol has inside)
+
+  pub closed_names : (limit : ℕ) → limit ≡ 4096 → IsClosed rules known goals (named ++ texts most limit)
+  closed_names limit is = record {
+    begun = λ name has. Contains-append_left named (texts most limit) name
+        (Contains-append_left goals (flat_map (λ (rule : Rule). flat_map (λ (target : Target). all_needs (needs_for rule target)) rule.targets) rules) name has);
+    closed = λ name input has needed. ⊎_elim
+        (λ (explicit : IsNamed (explicit_rules rules name) input). Contains-append_left named (texts most limit) input
+        (Contains-append_right goals (flat_map (λ (rule : Rule). flat_map (λ (target : Target). all_needs (needs_for rule target)) rule.targets) rules) input
+        (made_in rules name explicit.0 input explicit.1 explicit.2)))
+        (λ (chosen : IsChosenBy rules known name input).
+        let fits = chosen_fits most (least_bound (flat_map (λ (text : Text). text) (named ++ patterns))) (patterns_of rules) false name chosen.0 input
+        (name_below name has)
+        (λ rule need in_rules in_needs. text_below need (Contains-append_right named patterns need
+        (in_flat_map (λ (one : Rule). all_needs one.needs) (patterns_of rules) rule need in_rules in_needs)))
+        (chosen_is (patterns_of rules) known 7 [] name chosen.0 chosen.1).0 chosen.2 in
+        Contains-append_right named (texts most limit) input (in_texts most limit input fits.0 (subst (λ (n : ℕ). length input ≤ n) (sym is) fits.1)))
+        (input_told rules known name input needed);
+  }
+    where
+      name_below : (name : Text) → Contains (named ++ texts most limit) name → Below most name
+      name_below name has = ⊎_elim
+          (λ (h : Contains named name). text_below name (Contains-append_left named patterns name h))
+          (λ (h : Contains (texts most limit) name). from_texts most limit name h)
+          (Contains-append_cases named (texts most limit) name has)

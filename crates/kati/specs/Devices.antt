@@ -1,0 +1,12 @@
+-- What is seen of the devices of a run (kati's own).
+use Rattle.kt_eval.specs.Files.{FilesSeen}
+use Rattle.kt_ninja.specs.Written.{SinkSeen}
+
+-- the files, the output and the error output
+pub record Devices : Type 0 where
+  pub files : FilesSeen
+  pub out : SinkSeen
+  pub err : SinkSeen
+
+abbrev pub devices : FilesSeen → SinkSeen → SinkSeen → Devices
+devices files out err = record { files = files; out = out; err = err }

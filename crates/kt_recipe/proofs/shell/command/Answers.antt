@@ -1,0 +1,16 @@
+use Rattle.std.proofs.Common.{None, length}
+use Rattle.std.specs.List.{range_with_len}
+use Rattle.std.proofs.lemmas.Result.{err_from_is_err_and}
+use Rattle.kt_recipe.specs.Shell.{shell_of}
+use Rattle.kt_recipe.proofs.ShellLemmas.{out_of_memory, put_parts_front}
+use Rattle.kt_recipe.proofs.shell.command.Goals as goal
+
+pub returns-in_err-new : goal.returns-in_err-new
+unfolding shell_of
+returns-in_err-new c =
+    let p = err_from_is_err_and c.from_residual.result c.from_residual.ensures.1 in
+    let table = c.args.macros.now in
+    let node = c.args.node.now in
+    rw (p.1, p.2)
+    (out_of_memory _ (shell_of table c.args.limit node) c.args.messages.now.items
+    (put_parts_front table c.args.limit node (range_with_len 0 (length node.parts)) None))

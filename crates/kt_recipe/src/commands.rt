@@ -1,0 +1,81 @@
+//! What the commands of a makefile are made with.
+ghost use Rattle.std.specs.Prelude.{◌≡◌, IfOk, Some, option_map};
+ghost use Rattle.kt_eval.specs.Pure.{Says};
+
+use crate::plain::plain_shell;
+use kt_eval::{Automatic, Macros, Stop};
+use kt_list::Sequence;
+use kt_rules::Place;
+use std::alloc::{AllocError, Global};
+use std::marker::Model;
+
+/// Makes the commands of a makefile's nodes. Where the two values of its shell stand for themselves,
+/// as they mostly do, the shell is expanded here, once for all pieces.
+#[derive(Drop)]
+pub struct Commands<'m> {
+    alloc: Global,
+    macros: &'m Macros,
+    limit: u64,
+    shell: Option<Vec<u8>>,
+}
+
+impl<'m> Model for Commands<'m> {
+    ghost use Rattle.std.specs.Prelude.{◌≡◌, option_map};
+    ghost use Rattle.kt_recipe.specs.Shell.{CommandsOf};
+    ghost use Rattle.kt_recipe.specs.inner.Plain.{plain_shell};
+
+    ghost Value = { CommandsOf };
+
+    ghost view = { λ commands. record { table = commands.macros.now; limit = commands.limit } };
+
+    ghost invariant = { λ commands. option_map (λ text. text.items) commands.shell
+        ≡ plain_shell commands.macros.now commands.limit };
+}
+
+impl<'m> Commands<'m> {
+    ghost use Rattle.kt_eval.specs.Pure.{expanded_pure};
+    ghost use Rattle.kt_recipe.specs.inner.Plain.{plain_shell};
+
+    /// By these macros, and this limit of levels.
+    pub fn new(alloc: Global, macros: &'m Macros, limit: u64) -> Result<Commands<'m>, AllocError>
+        ensures { IfOk result (λ commands. commands ≡ record { table = macros.now; limit = limit }) }
+    {
+        let shell = plain_shell(alloc, macros, limit)?;
+        Ok(Commands {
+            alloc,
+            macros,
+            limit,
+            shell,
+        })
+    }
+
+    pub(crate) fn alloc(&self) -> Global {
+        self.alloc
+    }
+
+    // The shell of all pieces, where its values stand for themselves.
+    pub(crate) fn plain_shell(&self) -> Option<&[u8]>
+        ensures { option_map (λ text. text.now) result ≡ plain_shell self.now.table self.now.limit }
+    {
+        match &self.shell {
+            Some(shell) => Some(shell.as_slice()),
+            None => None,
+        }
+    }
+
+    // A text of a recipe, expanded.
+    pub(crate) fn expand<A: Automatic>(
+        &self,
+        text: &[u8],
+        automatic: &A,
+        place: Place,
+        messages: &mut Vec<Sequence<u8>>,
+    ) -> Result<Vec<u8>, Stop>
+        ensures { Says (λ v. v.items)
+            (expanded_pure self.now.table (A.values automatic.now) (Some place) self.now.limit text.now)
+            result messages.old.items messages.new.items }
+    {
+        self.macros
+            .expand_pure(text, automatic, Some(place), messages, self.limit)
+    }
+}

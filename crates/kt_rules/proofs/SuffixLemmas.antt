@@ -1,0 +1,482 @@
+-- Suffixes in a name, by their lengths.
+use Rattle.std.proofs.Common.{◌≡◌, ℕ, zero, suc, ◌+◌, ◌-◌, ◌<◌, ◌≤◌, Bool, true, false, cond, ◌&&◌, ◌||◌, not, List, [], ◌∷◌, ◌++◌, find, fold, position, length, take, drop, Option, Some, None, IfSome, refl, sym, ap, subst, ◌∙◌, true≢false, arith, get_or, slice_get}
+use Rattle.std.specs.Prelude.{◌≢◌, min, nat_eq, nat_lt, if◌then◌else◌}
+use Rattle.std.specs.Option.{option_and_then}
+use Rattle.std.specs.List.{ends_with, position_from, position_or_len, range_with_len}
+use Rattle.std.specs.Cmp.Lexicographic.{pointwise, as_long, nat_list_eq_equiv, unequal}
+use Rattle.std.proofs.lemmas.Bool.{ltb-true, ltb-false, lt-ltb, eqb-true, eq-eqb}
+use Rattle.std.proofs.lemmas.Option.{IfSome_then, slice_get_past}
+use Rattle.std.proofs.lemmas.Iterator.Adapters.{position_from-zero}
+use Rattle.std.specs.Prelude.{Result, Ok, Err, OnOk, OnErr}
+use Rattle.std.proofs.lemmas.Grind.{fold-append}
+use Rattle.std.proofs.lemmas.List.{drop_more, drop_all, length-drop, length-take-le}
+use Rattle.std.proofs.lemmas.List.Folds as folds
+use Rattle.kt_text.specs.Words.{Text}
+use Rattle.kt_rules.specs.Names.{is_among, with_name}
+use Rattle.kt_rules.specs.inner.SuffixCuts.{HaveLengths, KeepLengths, cut_after, earlier, end_of_length, first_cut, first_end, goes_on, is_number, lengths_with, with_number}
+use Rattle.kt_rules.specs.declared.entry.Needs.{Needs}
+use Rattle.kt_rules.specs.Suffixes.{all_needs, is_cut_at, suffix_cut}
+
+-- ---- lengths
+
+or_left : (a b : Bool) → a ≡ true → (a || b) ≡ true
+or_left true b h = refl
+or_left false b h = absurd (true≢false (sym h))
+
+or_right : (a b : Bool) → b ≡ true → (a || b) ≡ true
+or_right true b h = refl
+or_right false b h = h
+
+or_either : (P : Type 0) (a b : Bool) → (a || b) ≡ true → (a ≡ true → P) → (b ≡ true → P) → P
+or_either P true b h one two = one refl
+or_either P false b h one two = two h
+
+-- a number that is added stands at the end
+last_number : (numbers : List ℕ) (number : ℕ) → is_number (numbers ++ number ∷ []) number ≡ true
+last_number [] number = or_left (nat_eq number number) false (eq-eqb number number refl)
+last_number (first ∷ numbers) number = or_right (nat_eq number first) _ (last_number numbers number)
+
+more_numbers : (numbers : List ℕ) (number other : ℕ) → is_number numbers other ≡ true → is_number (numbers ++ number ∷ []) other ≡ true
+more_numbers [] number other h = absurd (true≢false (sym h))
+more_numbers (first ∷ numbers) number other h =
+    or_either (is_number (first ∷ numbers ++ number ∷ []) other ≡ true) (nat_eq other first) (is_number numbers other) h
+    (or_left (nat_eq other first) _)
+    (λ e. or_right (nat_eq other first) _ (more_numbers numbers number other e))
+
+-- a number that is added is among the numbers, and the others stay
+number_added : (numbers : List ℕ) (number : ℕ) → is_number (with_number numbers number) number ≡ true
+number_added numbers number = by (is_number numbers number) refl
+  where
+    by : (b : Bool) → is_number numbers number ≡ b → is_number (if b then numbers else numbers ++ number ∷ []) number ≡ true
+    by true h = h
+    by false h = last_number numbers number
+
+number_kept : (numbers : List ℕ) (number other : ℕ) → is_number numbers other ≡ true → is_number (with_number numbers number) other ≡ true
+number_kept numbers number other h = by (is_number numbers number)
+  where
+    by : (b : Bool) → is_number (if b then numbers else numbers ++ number ∷ []) other ≡ true
+    by true = h
+    by false = more_numbers numbers number other h
+
+-- one length more keeps those of all names
+pub length_kept : (old lengths : List ℕ) (number : ℕ) → KeepLengths old lengths → KeepLengths old (with_number lengths number)
+length_kept old lengths number kept names have name h = number_kept lengths number (length name) (kept names have name h)
+
+-- a name among others and one more
+among_more : (names : List Text) (name other : Text) → is_among (names ++ name ∷ []) other ≡ true → (is_among names other || pointwise nat_eq other name) ≡ true
+among_more [] name other h = or_either (pointwise nat_eq other name ≡ true) (pointwise nat_eq other name) false h (λ e. e) (λ e. absurd (true≢false (sym e)))
+among_more (first ∷ names) name other h =
+    or_either ((is_among (first ∷ names) other || pointwise nat_eq other name) ≡ true) (pointwise nat_eq other first) (is_among (names ++ name ∷ []) other) h
+    (λ e. or_left (is_among (first ∷ names) other) _ (or_left (pointwise nat_eq other first) _ e))
+    (λ e. or_either ((is_among (first ∷ names) other || pointwise nat_eq other name) ≡ true) (is_among names other) (pointwise nat_eq other name)
+    (among_more names name other e)
+    (λ a. or_left (is_among (first ∷ names) other) _ (or_right (pointwise nat_eq other first) _ a))
+    (or_right (is_among (first ∷ names) other) _))
+
+-- a name more with its length
+name_added : (names : List Text) (lengths : List ℕ) (name : Text) → HaveLengths names lengths → HaveLengths (with_name names name) (with_number lengths (length name))
+name_added names lengths name have = by (is_among names name)
+  where
+    before : (other : Text) → is_among names other ≡ true → is_number (with_number lengths (length name)) (length other) ≡ true
+    before other h = number_kept lengths (length name) (length other) (have other h)
+
+    last : (other : Text) → pointwise nat_eq other name ≡ true → is_number (with_number lengths (length name)) (length other) ≡ true
+    last other same =
+        let e : length other ≡ length name = as_long nat_eq other name same in
+        ap (is_number (with_number lengths (length name))) e ∙ number_added lengths (length name)
+
+    by : (b : Bool) → HaveLengths (if b then names else names ++ name ∷ []) (with_number lengths (length name))
+    by true = before
+    by false = λ other h.
+        or_either (is_number (with_number lengths (length name)) (length other) ≡ true) (is_among names other) (pointwise nat_eq other name)
+        (among_more names name other h) (before other) (last other)
+
+-- the names that are added, with their lengths
+pub names_added : (names : List Text) (lengths : List ℕ) (more : List Text) → HaveLengths names lengths → HaveLengths (fold with_name names more) (lengths_with lengths more)
+unfolding lengths_with
+names_added names lengths [] have = have
+names_added names lengths (name ∷ more) have =
+    names_added (with_name names name) (with_number lengths (length name)) more (name_added names lengths name have)
+
+-- the needs of a rule that are added, with their lengths
+pub needs_added : (names : List Text) (lengths first second : List ℕ) (needs : Needs) → HaveLengths names lengths
+    → first ≡ lengths_with lengths needs.prerequisites → second ≡ lengths_with first needs.order_only
+    → HaveLengths (fold with_name names (all_needs needs)) second
+needs_added names lengths first second needs have one two =
+    let both : HaveLengths (fold with_name (fold with_name names needs.prerequisites) needs.order_only) (lengths_with (lengths_with lengths needs.prerequisites) needs.order_only)
+    = names_added (fold with_name names needs.prerequisites) (lengths_with lengths needs.prerequisites) needs.order_only
+    (names_added names lengths needs.prerequisites have) in
+    subst (λ all. HaveLengths all second) (sym (fold-append with_name names needs.prerequisites needs.order_only))
+    (subst (λ ls. HaveLengths (fold with_name (fold with_name names needs.prerequisites) needs.order_only) ls)
+    (sym (two ∙ ap (λ ls. lengths_with ls needs.order_only) one)) both)
+
+-- names that were added, or are as they were
+pub by_result : {A E : Type 0} (result : Result A E) (old new more : List Text) (lengths : List ℕ) → OnOk result (new ≡ more) → OnErr result (new ≡ old)
+    → HaveLengths more lengths → HaveLengths old lengths → HaveLengths new lengths
+by_result (Ok x) old new more lengths ok err all few = subst (λ names. HaveLengths names lengths) (sym ok) all
+by_result (Err e) old new more lengths ok err all few = subst (λ names. HaveLengths names lengths) (sym err) few
+
+-- names by themselves, with their lengths
+kept_with : (lengths : List ℕ) (names : List Text) (number : ℕ) → is_number lengths number ≡ true → is_number (lengths_with lengths names) number ≡ true
+unfolding lengths_with
+kept_with lengths [] number h = h
+kept_with lengths (name ∷ names) number h = kept_with (with_number lengths (length name)) names number (number_kept lengths (length name) number h)
+
+pub own_lengths : (lengths : List ℕ) (names : List Text) → HaveLengths names (lengths_with lengths names)
+unfolding lengths_with
+own_lengths lengths [] other h = absurd (true≢false (sym h))
+own_lengths lengths (name ∷ names) other h =
+    or_either (is_number (lengths_with (with_number lengths (length name)) names) (length other) ≡ true) (pointwise nat_eq other name) (is_among names other) h
+    (λ same. ap (is_number (lengths_with (with_number lengths (length name)) names)) (as_long nat_eq other name same)
+    ∙ kept_with (with_number lengths (length name)) names (length name) (number_added lengths (length name)))
+    (own_lengths (with_number lengths (length name)) names other)
+
+-- no names
+pub none_added : (lengths : List ℕ) → HaveLengths [] lengths
+none_added lengths name h = absurd (true≢false (sym h))
+
+-- a length of names from a place on
+pub lengths_at : (lengths : List ℕ) (names : List Text) (i : ℕ) (name : Text) → i < length names → name ≡ get_or names i name
+    → lengths_with (with_number lengths (length name)) (drop (i + 1) names) ≡ lengths_with lengths (drop i names)
+unfolding lengths_with
+lengths_at lengths names i name h e =
+    ap (λ (x : Text). lengths_with lengths (x ∷ drop (i + 1) names)) e ∙ ap (lengths_with lengths) (sym (drop_more names i name h))
+
+pub lengths_end : (lengths : List ℕ) (names : List Text) (i : ℕ) → length names ≤ i → lengths_with lengths (drop i names) ≡ lengths
+unfolding lengths_with
+lengths_end lengths names i h = ap (lengths_with lengths) (drop_all i names h)
+
+-- ---- the less of two places
+
+if_found : (P : ℕ → Type 0) (from : ℕ) (found : Option ℕ) (b : Bool) → P from → IfSome found P → IfSome (cond b (Some from) found) P
+if_found P from found true h rest = h
+if_found P from found false h rest = rest
+
+one_before : (from place : ℕ) → from + 1 ≤ place → from ≤ place
+one_before from place h = omega arith
+
+min_same : (n : ℕ) → Some n ≡ Some (min n n)
+min_same n = let e : n ≡ min n n = omega arith in ap Some e
+
+min_left : (n : ℕ) (found : Option ℕ) → IfSome found (λ place. n + 1 ≤ place) → Some n ≡ earlier (Some n) found
+min_left n None h = refl
+min_left n (Some place) h = let e : n ≡ min n place = omega arith in ap Some e
+
+min_right : (n : ℕ) (found : Option ℕ) → IfSome found (λ place. n + 1 ≤ place) → Some n ≡ earlier found (Some n)
+min_right n None h = refl
+min_right n (Some place) h = let e : n ≡ min place n = omega arith in ap Some e
+
+either_step : (p q c : Bool) (from : ℕ) (one two both : Option ℕ) → IfSome one (λ place. from + 1 ≤ place) → IfSome two (λ place. from + 1 ≤ place)
+    → both ≡ earlier one two
+    → cond ((p || q) && c) (Some from) both ≡ earlier (cond (p && c) (Some from) one) (cond (q && c) (Some from) two)
+either_step true true true from one two both a b e = min_same from
+either_step true false true from one two both a b e = min_left from two b
+either_step false true true from one two both a b e = min_right from one a
+either_step false false c from one two both a b e = e
+either_step true true false from one two both a b e = e
+either_step true false false from one two both a b e = e
+either_step false true false from one two both a b e = e
+
+earlier_none : (found : Option ℕ) → earlier found None ≡ found
+earlier_none None = refl
+earlier_none (Some place) = refl
+
+earlier_assoc : (a b c : Option ℕ) → earlier (earlier a b) c ≡ earlier a (earlier b c)
+earlier_assoc None b c = refl
+earlier_assoc (Some x) None c = refl
+earlier_assoc (Some x) (Some y) None = refl
+earlier_assoc (Some x) (Some y) (Some z) = let e : min (min x y) z ≡ min x (min y z) = omega arith in ap Some e
+
+-- ---- places in a name
+
+same_end : (from many place : ℕ) → place ≤ from + 1 + many → place ≤ from + suc many
+same_end from many place h = omega arith
+
+at_zero : (many place : ℕ) → place ≤ 0 + many → place ≤ many
+at_zero many place h = omega arith
+
+-- what is found stands among the numbers
+found_from : (test : ℕ → Bool) (many from : ℕ) → IfSome (find test (range_with_len from many)) (λ place. from ≤ place)
+found_from test zero from = tt
+found_from test (suc many) from =
+    if_found (λ place. from ≤ place) from (find test (range_with_len (from + 1) many)) (test from) (omega arith)
+    (IfSome_then (find test (range_with_len (from + 1) many)) (found_from test many (from + 1)) (one_before from))
+
+-- and before their end
+found_before : (test : ℕ → Bool) (many from : ℕ) → IfSome (find test (range_with_len from many)) (λ place. place ≤ from + many)
+found_before test zero from = tt
+found_before test (suc many) from =
+    if_found (λ place. place ≤ from + suc many) from (find test (range_with_len (from + 1) many)) (test from) (omega arith)
+    (IfSome_then (find test (range_with_len (from + 1) many)) (found_before test many (from + 1)) (same_end from many))
+
+pub cut_within : (suffixes : List Text) (name : Text) (found : Option ℕ) → found ≡ suffix_cut suffixes name → IfSome found (λ place. place ≤ length name)
+cut_within suffixes name found e =
+    subst (λ o. IfSome o (λ place. place ≤ length name)) (sym e)
+    (IfSome_then (suffix_cut suffixes name) (found_before (is_cut_at suffixes name) (length name) 0) (at_zero (length name)))
+
+-- the first place that passes one of two tests
+either : (p q c : ℕ → Bool) (many from : ℕ)
+    → find (λ place. (p place || q place) && c place) (range_with_len from many)
+    ≡ earlier (find (λ place. p place && c place) (range_with_len from many)) (find (λ place. q place && c place) (range_with_len from many))
+either p q c zero from = refl
+either p q c (suc many) from =
+    either_step (p from) (q from) (c from) from (find (λ place. p place && c place) (range_with_len (from + 1) many))
+    (find (λ place. q place && c place) (range_with_len (from + 1) many)) (find (λ place. (p place || q place) && c place) (range_with_len (from + 1) many))
+    (found_from (λ place. p place && c place) many (from + 1)) (found_from (λ place. q place && c place) many (from + 1)) (either p q c many (from + 1))
+
+none_found : (test : ℕ → Bool) (many from : ℕ) → ((place : ℕ) → place < from + many → test place ≡ false) → find test (range_with_len from many) ≡ None
+none_found test zero from h = refl
+none_found test (suc many) from h =
+    ap (λ b. cond b (Some from) (find test (range_with_len (from + 1) many))) (h from (omega arith))
+    ∙ none_found test many (from + 1) (λ place low. h place (omega arith))
+
+same_found : (one other : ℕ → Bool) (many from : ℕ) → ((place : ℕ) → place < from + many → one place ≡ other place)
+    → find one (range_with_len from many) ≡ find other (range_with_len from many)
+same_found one other zero from h = refl
+same_found one other (suc many) from h =
+    ap (λ b. cond b (Some from) (find one (range_with_len (from + 1) many))) (h from (omega arith))
+    ∙ ap (λ o. cond (other from) (Some from) o) (same_found one other many (from + 1) (λ place low. h place (omega arith)))
+
+later : (test : ℕ → Bool) (from only : ℕ) → test only ≡ true → from ≤ only → test from ≡ false → from + 1 ≤ only
+later test from only t low e = by (nat_lt from only) refl
+  where
+    by : (b : Bool) → nat_lt from only ≡ b → from + 1 ≤ only
+    by true h = let less : from < only = ltb-true from only h in omega arith
+    by false h =
+        let more : only ≤ from = ltb-false from only h in
+        let same : only ≡ from = omega arith in
+        absurd (true≢false (sym t ∙ ap test same ∙ e))
+
+first_or_later : (from only : ℕ) (found : Option ℕ) (b : Bool) → (b ≡ true → from ≡ only) → (b ≡ false → found ≡ Some only) → cond b (Some from) found ≡ Some only
+first_or_later from only found true one other = ap Some (one refl)
+first_or_later from only found false one other = other refl
+
+one_found : (test : ℕ → Bool) (many from only : ℕ) → from ≤ only → only < from + many → test only ≡ true
+    → ((place : ℕ) → place < from + many → test place ≡ true → place ≡ only) → find test (range_with_len from many) ≡ Some only
+one_found test zero from only a b t h = absurd (omega arith)
+one_found test (suc many) from only a b t h =
+    first_or_later from only (find test (range_with_len (from + 1) many)) (test from) (h from (omega arith))
+    (λ e. one_found test many (from + 1) only (later test from only t a e) (omega arith) t (λ place low. h place (omega arith)))
+
+and_true : (a b : Bool) → (a && b) ≡ true → a ≡ true
+and_true true b h = refl
+and_true false b h = h
+
+-- ---- names cut into two suffixes
+
+from_zero : (place many : ℕ) → place < 0 + many → place < many
+from_zero place many h = omega arith
+
+-- all suffixes are found by their lengths
+pub all_cuts : (suffixes : List Text) (lengths : List ℕ) (name : Text) → HaveLengths suffixes lengths → first_cut suffixes lengths name ≡ suffix_cut suffixes name
+unfolding first_cut
+all_cuts suffixes lengths name have =
+    same_found (λ place. is_number lengths place && is_cut_at suffixes name place) (is_cut_at suffixes name) (length name) 0
+    (λ place low. by place (from_zero place (length name) low) (is_among suffixes (take place name)) refl)
+  where
+    known : (place : ℕ) → place < length name → is_among suffixes (take place name) ≡ true → is_number lengths place ≡ true
+    known place low h =
+        let within : place ≤ length name = omega arith in
+        ap (is_number lengths) (sym (length-take-le place name within)) ∙ have (take place name) h
+
+    drops : (b c : Bool) → b ≡ true → (b && c) ≡ c
+    drops true c h = refl
+    drops false c h = absurd (true≢false (sym h))
+
+    nothing : (b c : Bool) → (b && (false && c)) ≡ (false && c)
+    nothing true c = refl
+    nothing false c = refl
+
+    by : (place : ℕ) → place < length name → (b : Bool) → is_among suffixes (take place name) ≡ b
+        → (is_number lengths place && is_cut_at suffixes name place) ≡ is_cut_at suffixes name place
+    by place low true h = drops (is_number lengths place) (is_cut_at suffixes name place) (known place low h)
+    by place low false h =
+        ap (λ b. is_number lengths place && (b && is_among suffixes (drop place name))) h
+        ∙ nothing (is_number lengths place) (is_among suffixes (drop place name))
+        ∙ ap (λ b. b && is_among suffixes (drop place name)) (sym h)
+
+no_cut : (suffixes : List Text) (name : Text) → first_cut suffixes [] name ≡ None
+unfolding first_cut
+no_cut suffixes name = none_found (λ place. false) (length name) 0 (λ place low. refl)
+
+-- one more length
+more_cuts : (suffixes : List Text) (front : ℕ) (lengths : List ℕ) (name : Text)
+    → first_cut suffixes (front ∷ lengths) name ≡ earlier (cut_after suffixes name front) (first_cut suffixes lengths name)
+unfolding first_cut cut_after
+more_cuts suffixes front lengths name =
+    either (λ place. nat_eq place front) (is_number lengths) (is_cut_at suffixes name) (length name) 0
+
+-- a length from a place on is tried
+pub cut_at : (suffixes : List Text) (lengths : List ℕ) (i front : ℕ) (name : Text) (first cut next : Option ℕ) → i < length lengths
+    → front ≡ get_or lengths i 0 → cut ≡ cut_after suffixes name front → next ≡ earlier first cut
+    → earlier next (first_cut suffixes (drop (i + 1) lengths) name) ≡ earlier first (first_cut suffixes (drop i lengths) name)
+cut_at suffixes lengths i front name first cut next h e at both =
+    ap (λ o. earlier o (first_cut suffixes (drop (i + 1) lengths) name)) (both ∙ ap (earlier first) at)
+    ∙ earlier_assoc first (cut_after suffixes name front) (first_cut suffixes (drop (i + 1) lengths) name)
+    ∙ ap (earlier first) (sym (more_cuts suffixes front (drop (i + 1) lengths) name))
+    ∙ ap (λ (n : ℕ). earlier first (first_cut suffixes (n ∷ drop (i + 1) lengths) name)) e
+    ∙ ap (λ ns. earlier first (first_cut suffixes ns name)) (sym (drop_more lengths i 0 h))
+
+-- nothing is left
+pub cut_end : (suffixes : List Text) (lengths : List ℕ) (i : ℕ) (name : Text) (first : Option ℕ) → length lengths ≤ i
+    → earlier first (first_cut suffixes (drop i lengths) name) ≡ first
+cut_end suffixes lengths i name first h =
+    ap (λ ns. earlier first (first_cut suffixes ns name)) (drop_all i lengths h)
+    ∙ ap (earlier first) (no_cut suffixes name) ∙ earlier_none first
+
+-- a name is cut after a length at one place at most
+pub cut_after_is : (suffixes : List Text) (name : Text) (front : ℕ)
+    → cut_after suffixes name front ≡ (if goes_on suffixes name front then Some front else None)
+unfolding cut_after
+cut_after_is suffixes name front = by (nat_lt front (length name)) (is_cut_at suffixes name front) refl refl
+  where
+    here : (cut : Bool) → cut ≡ true → is_cut_at suffixes name front ≡ cut → (nat_eq front front && is_cut_at suffixes name front) ≡ true
+    here cut t c = ap (λ b. b && is_cut_at suffixes name front) (eq-eqb front front refl) ∙ c ∙ t
+
+    at_front : (place : ℕ) → (nat_eq place front && is_cut_at suffixes name place) ≡ true → place ≡ front
+    at_front place h = eqb-true place front (and_true (nat_eq place front) (is_cut_at suffixes name place) h)
+
+    nowhere : (front < length name → is_cut_at suffixes name front ≡ false) → (place : ℕ) → place < length name → (b : Bool) → nat_eq place front ≡ b → (b && is_cut_at suffixes name place) ≡ false
+    nowhere none place low true e =
+        let same : place ≡ front = eqb-true place front e in
+        ap (is_cut_at suffixes name) same ∙ none (subst (λ n. n < length name) same low)
+    nowhere none place low false e = refl
+
+    none_at : (front < length name → is_cut_at suffixes name front ≡ false) → (place : ℕ) → place < 0 + length name → (nat_eq place front && is_cut_at suffixes name place) ≡ false
+    none_at none place low = nowhere none place (from_zero place (length name) low) (nat_eq place front) refl
+
+    by : (low cut : Bool) → nat_lt front (length name) ≡ low → is_cut_at suffixes name front ≡ cut
+        → find (λ place. nat_eq place front && is_cut_at suffixes name place) (range_with_len 0 (length name)) ≡ (if low && cut then Some front else None)
+    by true true l c =
+        let low : front < length name = ltb-true front (length name) l in
+        one_found (λ place. nat_eq place front && is_cut_at suffixes name place) (length name) 0 front (omega arith) (omega arith) (here true refl c)
+        (λ place less h. at_front place h)
+    by true false l c = none_found (λ place. nat_eq place front && is_cut_at suffixes name place) (length name) 0 (none_at (λ low. c))
+    by false cut l c =
+        none_found (λ place. nat_eq place front && is_cut_at suffixes name place) (length name) 0
+        (none_at (λ low. absurd (true≢false (sym (lt-ltb front (length name) low) ∙ l))))
+
+-- ---- suffixes at the end of a name
+
+place_found : (test : Text → Bool) (xs : List Text) (from : ℕ) → IfSome (position_from test from xs) (λ place. from ≤ place)
+place_found test [] from = tt
+place_found test (x ∷ xs) from =
+    if_found (λ place. from ≤ place) from (position_from test (from + 1) xs) (test x) (omega arith)
+    (IfSome_then (position_from test (from + 1) xs) (place_found test xs (from + 1)) (one_before from))
+
+-- the first text that passes one of two tests
+either_text : (p q c : Text → Bool) (xs : List Text) (from : ℕ)
+    → position_from (λ x. (p x || q x) && c x) from xs ≡ earlier (position_from (λ x. p x && c x) from xs) (position_from (λ x. q x && c x) from xs)
+either_text p q c [] from = refl
+either_text p q c (x ∷ xs) from =
+    either_step (p x) (q x) (c x) from (position_from (λ x. p x && c x) (from + 1) xs) (position_from (λ x. q x && c x) (from + 1) xs)
+    (position_from (λ x. (p x || q x) && c x) (from + 1) xs)
+    (place_found (λ x. p x && c x) xs (from + 1)) (place_found (λ x. q x && c x) xs (from + 1)) (either_text p q c xs (from + 1))
+
+no_place : (xs : List Text) (from : ℕ) → position_from (λ x. false) from xs ≡ None
+no_place [] from = refl
+no_place (x ∷ xs) from = no_place xs (from + 1)
+
+-- two tests that agree on all texts of a list
+same_places : (one other : Text → Bool) (xs : List Text) (from : ℕ) → ((x : Text) → is_among xs x ≡ true → one x ≡ other x)
+    → position_from one from xs ≡ position_from other from xs
+same_places one other [] from h = refl
+same_places one other (x ∷ xs) from h =
+    ap (λ b. cond b (Some from) (position_from one (from + 1) xs)) (h x (or_left (pointwise nat_eq x x) (is_among xs x) (nat_list_eq_equiv.refl x)))
+    ∙ ap (λ o. cond (other x) (Some from) o) (same_places one other xs (from + 1) (λ y e. h y (or_right (pointwise nat_eq y x) (is_among xs y) e)))
+
+no_end : (suffixes : List Text) (name : Text) → first_end suffixes [] name ≡ None
+unfolding first_end
+no_end suffixes name = no_place suffixes 0
+
+more_ends : (suffixes : List Text) (len : ℕ) (lengths : List ℕ) (name : Text)
+    → first_end suffixes (len ∷ lengths) name ≡ earlier (end_of_length suffixes name len) (first_end suffixes lengths name)
+unfolding first_end end_of_length
+more_ends suffixes len lengths name =
+    either_text (λ suffix. nat_eq (length suffix) len) (λ suffix. is_number lengths (length suffix)) (ends_with nat_eq name) suffixes 0
+
+-- a length from a place on is tried
+pub end_at : (suffixes : List Text) (lengths : List ℕ) (i len : ℕ) (name : Text) (first one next : Option ℕ) → i < length lengths
+    → len ≡ get_or lengths i 0 → one ≡ end_of_length suffixes name len → next ≡ earlier first one
+    → earlier next (first_end suffixes (drop (i + 1) lengths) name) ≡ earlier first (first_end suffixes (drop i lengths) name)
+end_at suffixes lengths i len name first one next h e at both =
+    ap (λ o. earlier o (first_end suffixes (drop (i + 1) lengths) name)) (both ∙ ap (earlier first) at)
+    ∙ earlier_assoc first (end_of_length suffixes name len) (first_end suffixes (drop (i + 1) lengths) name)
+    ∙ ap (earlier first) (sym (more_ends suffixes len (drop (i + 1) lengths) name))
+    ∙ ap (λ (n : ℕ). earlier first (first_end suffixes (n ∷ drop (i + 1) lengths) name)) e
+    ∙ ap (λ ns. earlier first (first_end suffixes ns name)) (sym (drop_more lengths i 0 h))
+
+-- nothing is left
+pub end_end : (suffixes : List Text) (lengths : List ℕ) (i : ℕ) (name : Text) (first : Option ℕ) → length lengths ≤ i
+    → earlier first (first_end suffixes (drop i lengths) name) ≡ first
+end_end suffixes lengths i name first h =
+    ap (λ ns. earlier first (first_end suffixes ns name)) (drop_all i lengths h)
+    ∙ ap (earlier first) (no_end suffixes name) ∙ earlier_none first
+
+-- a suffix of another length is not the end of that length
+other_length : (name suffix : Text) (len : ℕ) → len ≤ length name → nat_eq (length suffix) len ≡ false → length (drop (length name - len) name) ≢ length suffix
+other_length name suffix len low e same =
+    let left : length (drop (length name - len) name) ≡ length name - (length name - len) = length-drop (length name - len) name in
+    let is : length suffix ≡ len = omega arith in
+    true≢false (sym (eq-eqb (length suffix) len is) ∙ e)
+
+-- a suffix of one length at the end of a name is the end of that length
+end_same : (name suffix : Text) (len : ℕ) → len ≤ length name
+    → (nat_eq (length suffix) len && ends_with nat_eq name suffix) ≡ pointwise nat_eq (drop (length name - len) name) suffix
+end_same name suffix len low = by (nat_eq (length suffix) len) refl
+  where
+    by : (b : Bool) → nat_eq (length suffix) len ≡ b → (b && ends_with nat_eq name suffix) ≡ pointwise nat_eq (drop (length name - len) name) suffix
+    by true e =
+        nat_list_eq_equiv.symm suffix (drop (length name - length suffix) name)
+        ∙ ap (λ n. pointwise nat_eq (drop (length name - n) name) suffix) (eqb-true (length suffix) len e)
+    by false e = sym (unequal nat_eq (drop (length name - len) name) suffix (other_length name suffix len low e))
+
+-- a longer text is not the end of a name
+longer : (name suffix : Text) (len : ℕ) → length name < len → length suffix ≡ len → length suffix ≢ length (drop (length name - length suffix) name)
+longer name suffix len more is same =
+    let left : length (drop (length name - length suffix) name) ≡ length name - (length name - length suffix) = length-drop (length name - length suffix) name in
+    absurd (omega arith)
+
+-- none of a length ends a shorter name
+end_longer : (name suffix : Text) (len : ℕ) → length name < len → (nat_eq (length suffix) len && ends_with nat_eq name suffix) ≡ false
+end_longer name suffix len more = by (nat_eq (length suffix) len) refl
+  where
+    by : (b : Bool) → nat_eq (length suffix) len ≡ b → (b && ends_with nat_eq name suffix) ≡ false
+    by true e =
+        unequal nat_eq suffix (drop (length name - length suffix) name)
+        (longer name suffix len more (eqb-true (length suffix) len e))
+    by false e = refl
+
+-- the end of a length, among the suffixes
+pub end_is : (suffixes : List Text) (name : Text) (len : ℕ) → len ≤ length name
+    → end_of_length suffixes name len ≡ position (pointwise nat_eq (drop (length name - len) name)) suffixes
+unfolding end_of_length
+end_is suffixes name len low =
+    same_places (λ suffix. nat_eq (length suffix) len && ends_with nat_eq name suffix) (pointwise nat_eq (drop (length name - len) name)) suffixes 0
+    (λ suffix h. end_same name suffix len low)
+    ∙ sym (position_from-zero (pointwise nat_eq (drop (length name - len) name)) suffixes)
+
+pub end_is_none : (suffixes : List Text) (name : Text) (len : ℕ) → length name < len → end_of_length suffixes name len ≡ None
+unfolding end_of_length
+end_is_none suffixes name len more =
+    same_places (λ suffix. nat_eq (length suffix) len && ends_with nat_eq name suffix) (λ suffix. false) suffixes 0
+    (λ suffix h. end_longer name suffix len more)
+    ∙ no_place suffixes 0
+
+-- the first that passes stands at the first place that does
+at_place : (test : Text → Bool) (xs : List Text) → find test xs ≡ option_and_then (slice_get xs) (position test xs)
+at_place test xs = by (nat_lt (position_or_len test xs) (length xs)) refl
+  where
+    by : (b : Bool) → nat_lt (position_or_len test xs) (length xs) ≡ b → find test xs ≡ option_and_then (slice_get xs) (cond b (Some (position_or_len test xs)) None)
+    by true e = folds.find_at test xs
+    by false e = folds.find_at test xs ∙ slice_get_past xs (position_or_len test xs) (ltb-false (position_or_len test xs) (length xs) e)
+
+-- all suffixes are found by their lengths
+pub all_ends : (suffixes : List Text) (lengths : List ℕ) (name : Text) → HaveLengths suffixes lengths
+    → find (λ suffix. ends_with nat_eq name suffix) suffixes ≡ option_and_then (slice_get suffixes) (first_end suffixes lengths name)
+unfolding first_end
+all_ends suffixes lengths name have =
+    at_place (ends_with nat_eq name) suffixes
+    ∙ ap (option_and_then (slice_get suffixes)) (position_from-zero (ends_with nat_eq name) suffixes
+    ∙ same_places (ends_with nat_eq name) (λ suffix. is_number lengths (length suffix) && ends_with nat_eq name suffix) suffixes 0
+    (λ suffix h. ap (λ b. b && ends_with nat_eq name suffix) (sym (have suffix h))))

@@ -1,7 +1,0 @@
-use Rattle.std.proofs.Common.{◌≡◌, fold}
-use Rattle.kt_rules.specs.Names.{with_name}
-use Rattle.kt_rules.specs.Suffixes.{start_suffixes}
-use Rattle.kt_rules.proofs.book.special.start_suffixes.Given as goal
-
-abbrev pub invariant-loop-suffix : goal.invariant-loop-suffix
-invariant-loop-suffix l = fold with_name l.suffixes l.suffix-iterator ≡ start_suffixes

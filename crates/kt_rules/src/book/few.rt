@@ -1,0 +1,83 @@
+//! Spots, of which there mostly is one.
+ghost use Rattle.std.specs.Prelude.{◌≡◌, ◌++◌, ◌∷◌, [], IfOk, OnErr, OnOk};
+ghost use Rattle.kt_rules.specs.inner.Lists.{few_of};
+
+use super::spot::Spot;
+use std::alloc::{AllocError, Global};
+use std::marker::Model;
+use std::slice::from_ref;
+
+/// A list of spots, of which a single one takes no memory of its own.
+#[derive(Drop)]
+pub(crate) struct Few {
+    form: Form,
+}
+
+#[derive(Drop)]
+enum Form {
+    None,
+    One(Spot),
+    Several(Vec<Spot>),
+}
+
+impl Model for Few {
+    ghost use Rattle.std.specs.Prelude.{List};
+    ghost use Rattle.kt_rules.specs.declared.book.spot.Spot.{Spot};
+
+    ghost Value = { List Spot };
+
+    ghost use Rattle.kt_rules.specs.inner.Lists.{few_of};
+
+    ghost view = { λ few. few_of few.form };
+}
+
+impl Few {
+    /// No spots.
+    pub(crate) fn none() -> Few
+        ensures { result ≡ [] }
+    {
+        Few { form: Form::None }
+    }
+
+    /// The spots, borrowed.
+    pub(crate) fn as_slice(&self) -> &[Spot]
+        ensures { result.now ≡ self.now }
+    {
+        match &self.form {
+            Form::None => &[],
+            Form::One(spot) => from_ref(spot),
+            Form::Several(spots) => spots.as_slice(),
+        }
+    }
+
+    /// Adds a spot after the others. An `Err` is out of memory, and leaves the list as it was.
+    pub(crate) fn push(&mut self, alloc: Global, spot: Spot) -> Result<(), AllocError>
+        ensures pushed { OnOk result (self.new ≡ self.old ++ spot ∷ []) }
+        ensures refused { OnErr result (self.new ≡ self.old) }
+    {
+        match &mut self.form {
+            Form::None => self.form = Form::One(spot),
+            Form::One(first) => {
+                let both = pair(alloc, *first, spot)?;
+                hold(&mut self.form, both);
+            }
+            Form::Several(spots) => spots.push(spot)?,
+        }
+        Ok(())
+    }
+}
+
+fn hold(form: &mut Form, spots: Vec<Spot>)
+    ensures { few_of form.new ≡ spots.items }
+{
+    *form = Form::Several(spots);
+}
+
+fn pair(alloc: Global, first: Spot, second: Spot) -> Result<Vec<Spot>, AllocError>
+    ensures { IfOk result (λ both. both.items ≡ first ∷ second ∷ []) }
+{
+    let mut both = Vec::with_capacity(alloc, 2)?;
+    both.push(first)?;
+    both.push(second)?;
+    Ok(both)
+}

@@ -1,0 +1,81 @@
+//! Spots by numbers.
+ghost use Rattle.std.specs.Prelude.{◌≡◌, ◌++◌, ◌∷◌, [], ℕ, ◌<◌, ◌≤◌, OnErr, OnOk, length, nat_eq, if◌then◌else◌};
+ghost use Rattle.kt_rules.specs.inner.Lists.{SameAt, list_at};
+
+use super::few::Few;
+use super::spot::Spot;
+use std::alloc::{AllocError, Global};
+use std::marker::Model;
+
+/// The spots that were noted at each number, in the order in which they were.
+#[derive(Drop)]
+pub(crate) struct Lists {
+    alloc: Global,
+    lists: Vec<Few>,
+}
+
+impl Model for Lists {
+    ghost use Rattle.std.specs.Prelude.{List};
+    ghost use Rattle.kt_rules.specs.declared.book.spot.Spot.{Spot};
+
+    ghost Value = { List (List Spot) };
+
+    ghost view = { λ lists. lists.lists.items };
+}
+
+impl Lists {
+    /// No spots at any number.
+    pub(crate) fn new(alloc: Global) -> Lists
+        ensures { result ≡ [] }
+    {
+        Lists {
+            alloc,
+            lists: Vec::new(alloc),
+        }
+    }
+
+    /// The spots at a number.
+    pub(crate) fn noted(&self, number: usize) -> &[Spot]
+        ensures { result.now ≡ list_at self.now number }
+    {
+        match self.lists.get(number) {
+            Some(noted) => noted.as_slice(),
+            None => &[],
+        }
+    }
+
+    /// Notes one spot more at a number. An `Err` is out of memory, and leaves all spots as they were.
+    pub(crate) fn note(&mut self, number: usize, spot: Spot) -> Result<(), AllocError>
+        ensures noted { OnOk result ((other : ℕ) → list_at self.new other
+            ≡ list_at self.old other ++ (if nat_eq other number then spot ∷ [] else [])) }
+        ensures refused { OnErr result (SameAt self.old self.new) }
+        ensures within { (count : ℕ) → length self.old ≤ count → number < count → length self.new ≤ count }
+    {
+        reach(&mut self.lists, number)?;
+        note_at(self.alloc, &mut self.lists, number, spot)
+    }
+}
+
+// Makes empty lists up to a number.
+fn reach(lists: &mut Vec<Few>, number: usize) -> Result<(), AllocError>
+    ensures same { SameAt lists.old.items lists.new.items }
+    ensures reached { OnOk result (number < length lists.new.items) }
+    ensures within { (count : ℕ) → length lists.old.items ≤ count → number < count → length lists.new.items ≤ count }
+{
+    while lists.len() <= number {
+        lists.push(Few::none())?;
+    }
+    Ok(())
+}
+
+// Notes one spot more at a number that has a list.
+fn note_at(alloc: Global, lists: &mut Vec<Few>, number: usize, spot: Spot) -> Result<(), AllocError>
+    requires { number < length lists.old.items }
+    ensures noted { OnOk result ((other : ℕ) → list_at lists.new.items other
+        ≡ list_at lists.old.items other ++ (if nat_eq other number then spot ∷ [] else [])) }
+    ensures refused { OnErr result (SameAt lists.old.items lists.new.items) }
+    ensures many { length lists.new.items ≡ length lists.old.items }
+{
+    let list = &mut lists[number];
+    list.push(alloc, spot)
+}

@@ -1,0 +1,109 @@
+//! The suffixes of a book.
+ghost use Rattle.std.specs.Prelude.{◌≡◌, ◌≤◌, [], find, fold, length, nat_eq, option_map, IfOk, IfSome, OnErr, OnOk};
+ghost use Rattle.std.specs.List.{ends_with};
+ghost use Rattle.kt_rules.specs.Names.{is_among, with_name};
+ghost use Rattle.kt_rules.specs.inner.SuffixCuts.{KeepLengths, lengths_with};
+ghost use Rattle.kt_rules.specs.Suffixes.{all_needs, start_suffixes, suffix_cut};
+
+use super::special::{add_needs, start_names};
+use super::suffix::{first_cut, first_end};
+use crate::entry::{Name, Needs};
+use indexmap::IndexSet;
+use kt_list::Names;
+use std::alloc::{AllocError, Global};
+use std::marker::Model;
+
+/// Suffixes, each once, in the order in which they came.
+///
+/// They are looked for in a name by their lengths, so that it makes no difference how many have one length.
+#[derive(Drop)]
+pub(crate) struct Suffixes {
+    names: Names,
+    // Each length that one of them has, and maybe others.
+    lengths: IndexSet<usize>,
+}
+
+impl Model for Suffixes {
+    ghost use Rattle.std.specs.Prelude.{List};
+    ghost use Rattle.kt_text.specs.Words.{Text};
+
+    ghost Value = { List Text };
+
+    ghost view = { λ suffixes. suffixes.names };
+
+    ghost use Rattle.kt_rules.specs.inner.SuffixCuts.{HaveLengths};
+
+    ghost invariant = { λ suffixes. HaveLengths suffixes.names suffixes.lengths.keys };
+}
+
+impl Suffixes {
+    /// The suffixes that are known before any rule.
+    pub(crate) fn start(alloc: Global) -> Result<Suffixes, AllocError>
+        ensures { IfOk result (λ suffixes. suffixes ≡ start_suffixes) }
+    {
+        let names = start_names(alloc)?;
+        let mut lengths = IndexSet::new(alloc);
+        note_lengths(&mut lengths, names.as_slice())?;
+        Ok(Suffixes { names, lengths })
+    }
+
+    /// The suffixes, in order.
+    pub(crate) fn as_slice(&self) -> &[Name]
+        ensures { result.now ≡ self.now }
+    {
+        self.names.as_slice()
+    }
+
+    /// Whether a name is a suffix.
+    pub(crate) fn contains(&self, name: &[u8]) -> bool
+        ensures { result ≡ is_among self.now name.now }
+    {
+        self.names.contains(name)
+    }
+
+    /// The first place at which the name is cut into two suffixes.
+    pub(crate) fn cut(&self, name: &[u8]) -> Option<usize>
+        ensures cut { result ≡ suffix_cut self.now name.now }
+        ensures within { IfSome result (λ place. place ≤ length name.now) }
+    {
+        first_cut(&self.names, self.lengths.as_slice(), name)
+    }
+
+    /// The first suffix that the name ends with.
+    pub(crate) fn end_of(&self, name: &[u8]) -> Option<&[u8]>
+        ensures { option_map (λ suffix. suffix.now) result ≡ find
+            (λ suffix. ends_with nat_eq name.now suffix) self.now }
+    {
+        let number = first_end(&self.names, self.lengths.as_slice(), name)?;
+        self.names.get(number)
+    }
+
+    /// Adds all names that are needed, or none where memory is refused.
+    pub(crate) fn add_needs(&mut self, needs: &Needs) -> Result<(), AllocError>
+        ensures added { OnOk result (self.new ≡ fold with_name self.old (all_needs needs.now)) }
+        ensures refused { OnErr result (self.new ≡ self.old) }
+    {
+        note_lengths(&mut self.lengths, needs.prerequisites.as_slice())?;
+        note_lengths(&mut self.lengths, needs.order_only.as_slice())?;
+        add_needs(&mut self.names, needs)
+    }
+
+    /// Takes all suffixes away.
+    pub(crate) fn clear(&mut self)
+        ensures { self.new ≡ [] }
+    {
+        self.names.clear();
+        self.lengths.clear();
+    }
+}
+
+// Notes the length of each name. Where memory is refused, those of some may be noted.
+fn note_lengths(lengths: &mut IndexSet<usize>, names: &[Name]) -> Result<(), AllocError>
+    ensures noted { OnOk result (lengths.new.keys ≡ lengths_with lengths.old.keys names.now) }
+    ensures kept { KeepLengths lengths.old.keys lengths.new.keys }
+{
+    for name in names {
+        lengths.insert(name.as_slice().len())?;
+    }
+    Ok(())
+}

@@ -1,0 +1,85 @@
+//! Suffixes in names, beside a plain loop over them.
+use crate::asking::{Question, add, answers};
+use kt_rules::{Book, Name, RuleFault};
+use kt_testing::{Random, put};
+use std::alloc::Global;
+use std::test::Fail;
+
+const BYTES: &[&[u8]] = &[b".", b"a", b"b"];
+
+#[test]
+fn finds_the_suffix_of_a_name(rt: HostRuntime) -> Result<(), Fail> {
+    answers(
+        &rt,
+        rt.alloc(),
+        &[
+            (b"", Question::SuffixOf(b"x.o"), b".o"),
+            (b"", Question::SuffixOf(b".cpp"), b".cpp"),
+            (b"", Question::SuffixOf(b"cpp"), b"none"),
+            (b"", Question::SuffixOf(b""), b"none"),
+            (b".SUFFIXES:", Question::SuffixOf(b"x.o"), b"none"),
+            (b".SUFFIXES: b.o", Question::SuffixOf(b"ab.o"), b".o"),
+            (
+                b".SUFFIXES:\n.SUFFIXES: b.o .o",
+                Question::SuffixOf(b"ab.o"),
+                b"b.o",
+            ),
+            (
+                b".SUFFIXES: .a-suffix-of-more-than-thirty-bytes",
+                Question::SuffixOf(b"x.a-suffix-of-more-than-thirty-bytes"),
+                b".a-suffix-of-more-than-thirty-bytes",
+            ),
+            // What stood before the suffixes were taken away isn't found.
+            (
+                b".SUFFIXES:\n.SUFFIXES: .x",
+                Question::SuffixOf(b"x.cpp"),
+                b"none",
+            ),
+        ],
+    )?;
+    Ok(())
+}
+
+#[test]
+fn agrees_with_a_plain_loop(rt: HostRuntime) -> Result<(), Fail> {
+    let alloc = rt.alloc();
+    let mut random = Random::new(1);
+    for _ in 0..60 {
+        let book = random_book(alloc, &mut random)?;
+        for _ in 0..20 {
+            let name = random_name(alloc, b"", &mut random);
+            let expected = plain_suffix(book.suffixes(), name.as_slice());
+            assert_eq!(rt; book.suffix_of(name.as_slice()), expected);
+        }
+    }
+    Ok(())
+}
+
+/// A book with a few suffixes.
+fn random_book(alloc: Global, random: &mut Random) -> Result<Book, RuleFault> {
+    let mut book = Book::new(alloc)?;
+    let _none = add(alloc, &mut book, b".SUFFIXES:", 1)?;
+    for _ in 0..8 {
+        let line = random_name(alloc, b".SUFFIXES: ", random);
+        let _none = add(alloc, &mut book, line.as_slice(), 2)?;
+    }
+    Ok(book)
+}
+
+/// A name of one to four bytes after a text.
+fn random_name(alloc: Global, before: &[u8], random: &mut Random) -> Vec<u8> {
+    let mut name = Vec::new(alloc);
+    put(&mut name, before);
+    put(&mut name, random.piece(BYTES));
+    put(&mut name, random.text(alloc, BYTES, 4).as_slice());
+    name
+}
+
+fn plain_suffix<'s>(suffixes: &'s [Name], name: &[u8]) -> Option<&'s [u8]> {
+    for suffix in suffixes {
+        if name.ends_with(suffix.as_slice()) {
+            return Some(suffix.as_slice());
+        }
+    }
+    None
+}

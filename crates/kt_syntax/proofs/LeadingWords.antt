@@ -1,0 +1,400 @@
+-- Lines that begin with a word of blocks: their symbols, and their kind.
+use Rattle.std.proofs.Common.{◌≡◌, ◌==◌, ◌&&◌, ◌+◌, ◌-◌, ◌<◌, ℕ, zero, suc, Bool, true, false, not, List, [], ◌∷◌, ◌++◌, Option, Some, None, length, take, drop, refl, sym, ap, ◌∙◌, arith, zero-add, ⊎_elim, true≢false, take-append-drop}
+use Rattle.std.proofs.Math.Seq.{take-append_seam, take-append-add, drop-append_seam, drop-append-add}
+use Rattle.std.proofs.lemmas.Bool.{and_parts, cases_Bool, eqb-true, false_from_ne_true, or_parts}
+use Rattle.std.specs.List.{list_all, prefix_len, slice_range}
+use Rattle.std.specs.Prelude.{is_some}
+use Rattle.kt_text.specs.Words.{Text, is_blank, trimmed_start}
+use Rattle.kt_syntax.specs.declared.form.Directive.{Directive}
+use Rattle.kt_syntax.specs.declared.form.Directive.TheVariants.{Ifdef, Ifndef, Ifeq, Ifneq, Else, Endif, Define, Endef, Include, OptionalInclude}
+use Rattle.kt_syntax.proofs.Masking.{mask_from-nil, take_nil}
+use Rattle.kt_syntax.proofs.OwnRuns.{name_goes_on, no_operator}
+use Rattle.kt_syntax.proofs.OwnSymbols.{own_byte, same_symbol}
+use Rattle.kt_syntax.specs.Kinds.{Parts, assignment_parts, before_comment, block_word, comment_place, directive, directive_of, kind_by_parts, kind_by_word, kind_of, kind_within, name_end, operator_of, parts_after, parts_at, past_blanks, past_word, worded}
+use Rattle.kt_syntax.specs.Mask.{mask_byte, mask_from, mask_of, more_masked}
+use Rattle.kt_syntax.specs.Roles.{first_word, starts_condition}
+use Rattle.kt_syntax.specs.declared.form.Operator.{Operator}
+use Rattle.kt_syntax.specs.inner.Leading.{IsLed, begins_slash, block_text, is_apart, is_loud, may_assign}
+use Rattle.kt_syntax.specs.inner.OwnRuns.{begins_operator, ends_own_name, ends_own_word, is_mark}
+
+-- ---- bytes
+
+-- a byte of a word: it ends no name, and begins no comment
+abbrev pub is_quiet : ℕ → Bool
+is_quiet byte = not (is_loud byte)
+
+-- a byte that is its own symbol
+abbrev pub is_own : ℕ → Bool
+is_own byte = not (is_mark byte)
+
+-- one that begins no comment, and quotes none
+abbrev is_calm : ℕ → Bool
+is_calm byte = not (byte == 35) && not (byte == 92)
+
+abbrev pub is_solid : ℕ → Bool
+is_solid byte = not (is_blank byte)
+
+pub no_longer : (b : Bool) → not b ≡ true → b ≡ false
+no_longer false h = refl
+no_longer true h = absurd (true≢false (sym h))
+
+negated : (b : Bool) → b ≡ false → not b ≡ true
+negated b h = rw h refl
+
+pub record IsQuiet (byte : ℕ) : Type 0 where
+  pub name : ends_own_name byte ≡ false
+  pub own : is_own byte ≡ true
+  pub calm : is_calm byte ≡ true
+  pub solid : is_solid byte ≡ true
+
+pub quiet : (byte : ℕ) → is_quiet byte ≡ true → IsQuiet byte
+quiet byte h =
+    let both = or_parts (ends_own_name byte) (byte == 35) (no_longer (is_loud byte) h) in
+    let name : ends_own_name byte ≡ false = both.0 in
+    let word = or_parts (ends_own_word byte) (begins_operator byte) name in
+    let mark = or_parts (is_blank byte) (is_mark byte) word.0 in
+    let slash = or_parts (byte == 36) (byte == 92) mark.1 in
+    let sign : (byte == 35) ≡ false = both.1 in
+    record {
+      name = name;
+      own = negated (is_mark byte) mark.1;
+      calm = rw (sign, slash.1) refl;
+      solid = negated (is_blank byte) mark.0;
+    }
+
+-- what holds of each quiet byte holds of all of a quiet text
+pub all_quiet : (test : ℕ → Bool) (text : Text) → ((byte : ℕ) → is_quiet byte ≡ true → test byte ≡ true) → list_all is_quiet text ≡ true → list_all test text ≡ true
+all_quiet test [] each h = refl
+all_quiet test (byte ∷ text) each h =
+    let both = and_parts (is_quiet byte) (list_all is_quiet text) h in
+    rw (each byte both.0) (all_quiet test text each both.1)
+
+blank_own : (byte : ℕ) → is_blank byte ≡ true → is_own byte ≡ true
+unfolding is_blank
+blank_own byte h =
+    ⊎_elim (λ (space : (byte == 32) ≡ true). rw (eqb-true byte 32 space) refl)
+    (λ (other : (byte == 32) ≡ false). let tab : (byte == 9) ≡ true = rw other at h in rw (eqb-true byte 9 tab) refl)
+    (cases_Bool (byte == 32))
+
+blank_calm : (byte : ℕ) → is_blank byte ≡ true → is_calm byte ≡ true
+unfolding is_blank
+blank_calm byte h =
+    ⊎_elim (λ (space : (byte == 32) ≡ true). rw (eqb-true byte 32 space) refl)
+    (λ (other : (byte == 32) ≡ false). let tab : (byte == 9) ≡ true = rw other at h in rw (eqb-true byte 9 tab) refl)
+    (cases_Bool (byte == 32))
+
+all_blank : (test : ℕ → Bool) (text : Text) → ((byte : ℕ) → is_blank byte ≡ true → test byte ≡ true) → list_all is_blank text ≡ true → list_all test text ≡ true
+all_blank test [] each h = refl
+all_blank test (byte ∷ text) each h =
+    let both = and_parts (is_blank byte) (list_all is_blank text) h in
+    rw (each byte both.0) (all_blank test text each both.1)
+
+-- ---- a front of such bytes
+
+pub prefix_over : (test : ℕ → Bool) (front tail : List ℕ) → list_all test front ≡ true → prefix_len test (front ++ tail) ≡ length front + prefix_len test tail
+prefix_over test [] tail h = sym (zero-add _)
+prefix_over test (byte ∷ front) tail h =
+    let both = and_parts (test byte) (list_all test front) h in
+    let later = prefix_over test front tail both.1 in
+    rw both.0 (omega arith)
+
+pub own_over : (symbol : ℕ) (front tail : Text) → list_all is_own front ≡ true → mask_from 0 symbol false (front ++ tail) ≡ front ++ mask_from 0 0 false tail
+own_over symbol [] tail h = same_symbol symbol 0 tail
+own_over symbol (byte ∷ front) tail h =
+    let both = and_parts (is_own byte) (list_all is_own front) h in
+    own_byte symbol byte (front ++ tail) (no_longer (is_mark byte) both.0) ∙ ap (λ (mask : List ℕ). byte ∷ mask) (own_over byte front tail both.1)
+
+comment_over : (front : Text) (mask : List ℕ) → list_all is_calm front ≡ true → before_comment false (front ++ mask) ≡ length front + before_comment false mask
+unfolding before_comment
+comment_over [] mask h = sym (zero-add _)
+comment_over (byte ∷ front) mask h =
+    let both = and_parts (is_calm byte) (list_all is_calm front) h in
+    let calm = and_parts (not (byte == 35)) (not (byte == 92)) both.0 in
+    let later = comment_over front mask both.1 in
+    rw (no_longer (byte == 35) calm.0, no_longer (byte == 92) calm.1) (omega arith)
+
+pub name_over : (place : ℕ) (front : Text) (mask : List ℕ) (text : Text) → list_all is_quiet front ≡ true
+    → name_end place (front ++ mask) (front ++ text) ≡ name_end (place + length front) mask text
+name_over place [] mask text h = ap (λ n. name_end n mask text) (let same : place ≡ place + 0 = omega arith in same)
+name_over place (byte ∷ front) mask text h =
+    let both = and_parts (is_quiet byte) (list_all is_quiet front) h in
+    let count : place + 1 + length front ≡ place + length (byte ∷ front) = omega arith in
+    name_goes_on place byte (front ++ mask) (front ++ text) (quiet byte both.0).name ∙ name_over (place + 1) front mask text both.1
+    ∙ ap (λ n. name_end n mask text) count
+
+-- ---- blanks after a word
+
+begins_blank : Text → Bool
+begins_blank [] = false
+begins_blank (byte ∷ text) = is_blank byte
+
+pub taken_all : (test : ℕ → Bool) (text : Text) → list_all test (take (prefix_len test text) text) ≡ true
+taken_all test [] = refl
+taken_all test (byte ∷ text) =
+    ⊎_elim (λ (h : test byte ≡ true).
+    let run : prefix_len test (byte ∷ text) ≡ suc (prefix_len test text) = rw h (omega arith) in
+    ap (λ n. list_all test (take n (byte ∷ text))) run ∙ rw h (taken_all test text))
+    (λ (h : test byte ≡ false).
+    let run : prefix_len test (byte ∷ text) ≡ 0 = rw h refl in
+    ap (λ n. list_all test (take n (byte ∷ text))) run)
+    (cases_Bool (test byte))
+
+taken_blank : (text : Text) → list_all is_blank (take (prefix_len is_blank text) text) ≡ true
+taken_blank text = taken_all is_blank text
+
+trimmed_open : (text : Text) → begins_blank (trimmed_start text) ≡ false
+unfolding begins_blank
+trimmed_open [] = refl
+trimmed_open (byte ∷ text) =
+    ⊎_elim (λ (h : is_blank byte ≡ true).
+    let run : prefix_len is_blank (byte ∷ text) ≡ suc (prefix_len is_blank text) = rw h (omega arith) in
+    ap (λ n. begins_blank (drop n (byte ∷ text))) run ∙ trimmed_open text)
+    (λ (h : is_blank byte ≡ false).
+    let run : prefix_len is_blank (byte ∷ text) ≡ 0 = rw h refl in
+    ap (λ n. begins_blank (drop n (byte ∷ text))) run ∙ h)
+    (cases_Bool (is_blank byte))
+
+-- a byte that is neither a blank nor a backslash stands for no blank
+first_open : (byte : ℕ) (text : Text) → is_blank byte ≡ false → (byte == 92) ≡ false → is_blank (mask_byte byte (more_masked false byte text)) ≡ false
+unfolding more_masked is_blank
+first_open byte text blank backslash =
+    ⊎_elim (λ (h : (byte == 36) ≡ true). rw h refl) (λ (h : (byte == 36) ≡ false). rw (h, backslash) blank) (cases_Bool (byte == 36))
+
+none_taken : (count symbol : ℕ) (mask : List ℕ) → is_blank symbol ≡ false → prefix_len is_blank (take count (symbol ∷ mask)) ≡ 0
+none_taken zero symbol mask h = refl
+none_taken (suc count) symbol mask h = rw h refl
+
+-- so no blank comes at the begin of what is left of a mask
+open_taken : (count : ℕ) (text : Text) → begins_blank text ≡ false → begins_slash text ≡ false → prefix_len is_blank (take count (mask_from 0 0 false text)) ≡ 0
+unfolding begins_blank mask_from
+open_taken count [] b a = ap (λ (mask : List ℕ). prefix_len is_blank mask) (take_nil count)
+open_taken count (byte ∷ text) b a =
+    let first = first_open byte text b a in
+    none_taken count (mask_byte byte (more_masked false byte text)) _ first
+
+open_whole : (text : Text) → begins_blank text ≡ false → begins_slash text ≡ false → prefix_len is_blank (mask_from 0 0 false text) ≡ 0
+unfolding begins_blank mask_from
+open_whole [] b a = refl
+open_whole (byte ∷ text) b a =
+    let first = first_open byte text b a in
+    rw first refl
+
+unassigning : (text : Text) → may_assign text ≡ false → (operator_of text ≡ None) × (begins_slash text ≡ false)
+unfolding operator_of
+unassigning [] a = (refl, refl)
+unassigning (byte ∷ text) a = let parts = or_parts (begins_operator byte) (byte == 92) a in (no_operator byte text parts.0, parts.1)
+
+-- ---- a word with what comes after it
+
+-- how many symbols of what comes after a word stand before the comment
+abbrev pub left_before : Text → ℕ
+left_before after = before_comment false (mask_from 0 0 false after)
+
+pub mask_led : (word after : Text) → list_all is_quiet word ≡ true → mask_of (word ++ after) ≡ word ++ mask_from 0 0 false after
+unfolding mask_of
+mask_led word after h = own_over 0 word after (all_quiet is_own word (λ byte q. (quiet byte q).own) h)
+
+front_led : (word after : Text) → list_all is_quiet word ≡ true
+    → take (comment_place (word ++ after)) (mask_of (word ++ after)) ≡ word ++ take (left_before after) (mask_from 0 0 false after)
+front_led word after h =
+    let mask : List ℕ = mask_from 0 0 false after in
+    let place = comment_over word mask (all_quiet is_calm word (λ byte q. (quiet byte q).calm) h) in
+    ap (λ (m : List ℕ). take (before_comment false m) m) (mask_led word after h) ∙ ap (λ n. take n (word ++ mask)) place
+    ∙ take-append-add word mask (before_comment false mask)
+
+-- a word ends at the end and at a blank
+ends_there : (count : ℕ) (after : Text) → is_apart after ≡ true → prefix_len is_solid (take count (mask_from 0 0 false after)) ≡ 0
+ends_there count [] h = ap (λ (mask : List ℕ). prefix_len is_solid mask) (ap (take count) (mask_from-nil 0 0 false) ∙ take_nil count)
+ends_there zero (byte ∷ after) h = refl
+ends_there (suc count) (byte ∷ after) h =
+    ap (λ (mask : List ℕ). prefix_len is_solid (take (suc count) mask)) (own_byte 0 byte after (no_longer (is_mark byte) (blank_own byte h))) ∙ rw h refl
+
+word_led : (word after : Text) → list_all is_quiet word ≡ true → is_apart after ≡ true
+    → past_word 0 (word ++ take (left_before after) (mask_from 0 0 false after)) ≡ length word
+word_led word after h apart =
+    let tail : List ℕ = take (left_before after) (mask_from 0 0 false after) in
+    let run = prefix_over is_solid word tail (all_quiet is_solid word (λ byte q. (quiet byte q).solid) h) in
+    let none = ends_there (left_before after) after apart in
+    omega arith
+
+pub cut_led : (word after : Text) → slice_range (word ++ after) 0 (length word) ≡ word
+cut_led word after = ap (λ n. take n (word ++ after)) (let all : length word - 0 ≡ length word = omega arith in all) ∙ take-append_seam word after
+
+-- the name of an assignment would end there, too
+pub name_led : (count place : ℕ) (after : Text) → is_apart after ≡ true → name_end place (take count (mask_from 0 0 false after)) after ≡ Some place
+unfolding name_end
+name_led count place [] h = ap (λ (mask : List ℕ). name_end place mask []) (ap (take count) (mask_from-nil 0 0 false) ∙ take_nil count)
+name_led zero place (byte ∷ after) h = refl
+name_led (suc count) place (byte ∷ after) h =
+    ap (λ (mask : List ℕ). name_end place (take (suc count) mask) (byte ∷ after)) (own_byte 0 byte after (no_longer (is_mark byte) (blank_own byte h))) ∙ rw h refl
+
+-- ---- blanks after the word
+
+abbrev pub run_of : Text → ℕ
+run_of after = prefix_len is_blank after
+
+-- the symbols of what comes after the word: its blanks, and those of the rest
+pub mask_apart : (after : Text) → mask_from 0 0 false after ≡ take (run_of after) after ++ mask_from 0 0 false (trimmed_start after)
+mask_apart after =
+    ap (mask_from 0 0 false) (sym (take-append-drop (run_of after) after))
+    ∙ own_over 0 (take (run_of after) after) (trimmed_start after) (all_blank is_own (take (run_of after) after) blank_own (taken_blank after))
+
+pub length_run : (after : Text) → length (take (run_of after) after) ≡ run_of after
+length_run [] = refl
+length_run (byte ∷ after) =
+    ⊎_elim (λ (h : is_blank byte ≡ true).
+    let run : run_of (byte ∷ after) ≡ suc (run_of after) = rw h (omega arith) in
+    ap (λ n. length (take n (byte ∷ after))) run ∙ ap suc (length_run after) ∙ sym run)
+    (λ (h : is_blank byte ≡ false).
+    let run : run_of (byte ∷ after) ≡ 0 = rw h refl in
+    ap (λ n. length (take n (byte ∷ after))) run ∙ sym run)
+    (cases_Bool (is_blank byte))
+
+pub run_whole : (after : Text) → begins_slash (trimmed_start after) ≡ false → prefix_len is_blank (mask_from 0 0 false after) ≡ run_of after
+run_whole after a =
+    let front : Text = take (run_of after) after in
+    let rest : List ℕ = mask_from 0 0 false (trimmed_start after) in
+    let over = prefix_over is_blank front rest (taken_blank after) in
+    let none = open_whole (trimmed_start after) (trimmed_open after) a in
+    let size = length_run after in
+    ap (λ (mask : List ℕ). prefix_len is_blank mask) (mask_apart after) ∙ omega arith
+
+run_before : (after : Text) → begins_slash (trimmed_start after) ≡ false → prefix_len is_blank (take (left_before after) (mask_from 0 0 false after)) ≡ run_of after
+run_before after a =
+    let front : Text = take (run_of after) after in
+    let rest : List ℕ = mask_from 0 0 false (trimmed_start after) in
+    let place = comment_over front rest (all_blank is_calm front blank_calm (taken_blank after)) in
+    let cut : take (left_before after) (mask_from 0 0 false after) ≡ front ++ take (before_comment false rest) rest
+    = ap (λ (m : List ℕ). take (before_comment false m) m) (mask_apart after) ∙ ap (λ n. take n (front ++ rest)) place
+    ∙ take-append-add front rest (before_comment false rest) in
+    let over = prefix_over is_blank front (take (before_comment false rest) rest) (taken_blank after) in
+    let none = open_taken (before_comment false rest) (trimmed_start after) (trimmed_open after) a in
+    let size = length_run after in
+    ap (λ (mask : List ℕ). prefix_len is_blank mask) cut ∙ omega arith
+
+-- the blanks after the word, by a mask that begins with it
+blanks_led : (word : Text) (tail : List ℕ) (after : Text) → prefix_len is_blank tail ≡ run_of after → past_blanks (length word) (word ++ tail) ≡ length word + run_of after
+blanks_led word tail after h = ap (λ (mask : List ℕ). length word + prefix_len is_blank mask) (drop-append_seam word tail) ∙ ap (λ n. length word + n) h
+
+-- ---- the kind of such a line
+
+-- the symbols before the comment
+abbrev pub symbols_of : Text → Text → List ℕ
+symbols_of word after = word ++ take (left_before after) (mask_from 0 0 false after)
+
+-- its kind, by what it is as an assignment
+pub kind_by : (tab : Bool) (word after : Text) (parts : Option Parts) → list_all is_quiet word ≡ true → 0 < length word → assignment_parts (word ++ after) (symbols_of word after) 0 ≡ parts
+    → kind_of (word ++ after) tab ≡ kind_by_parts tab (word ++ after) (symbols_of word after) 0 parts
+unfolding kind_of kind_within
+kind_by tab [] after parts h some p = absurd (omega arith)
+kind_by tab (first ∷ others) after parts h some p =
+    let word : Text = first ∷ others in
+    let text : Text = word ++ after in
+    let mask : List ℕ = symbols_of word after in
+    let solid : is_blank first ≡ false = no_longer (is_blank first) (quiet first (and_parts (is_quiet first) (list_all is_quiet others) h).0).solid in
+    let begin : past_blanks 0 mask ≡ 0 = rw solid refl in
+    let more : (0 == length mask) ≡ false = false_from_ne_true (0 == length mask) (λ e. absurd (let none = eqb-true 0 (length mask) e in omega arith)) in
+    ap (λ (m : List ℕ). kind_within tab text m (past_blanks 0 m)) (front_led word after h)
+    ∙ ap (kind_within tab text mask) begin
+    ∙ rw more (ap (kind_by_parts tab text mask 0) p)
+
+-- what stands after the name and the blanks
+rest_led : (word after : Text) → drop (length word + run_of after) (word ++ after) ≡ trimmed_start after
+rest_led word after = drop-append-add word after (run_of after)
+
+parts_led : (word after : Text) (found : Option (Operator × ℕ)) → begins_slash (trimmed_start after) ≡ false → operator_of (trimmed_start after) ≡ found
+    → parts_after (word ++ after) (symbols_of word after) (Some (length word)) ≡ parts_at (word ++ after) (length word) (length word + run_of after) found
+parts_led word after found a o =
+    let text : Text = word ++ after in
+    let is = blanks_led word (take (left_before after) (mask_from 0 0 false after)) after (run_before after a) in
+    ap (λ n. parts_at text (length word) n (operator_of (drop n text))) is
+    ∙ ap (λ (t : Text). parts_at text (length word) (length word + run_of after) (operator_of t)) (rest_led word after)
+    ∙ ap (parts_at text (length word) (length word + run_of after)) o
+
+-- the name ends with the word, where a blank or an operator comes after it
+name_is : (word after : Text) → list_all is_quiet word ≡ true → name_end (length word) (take (left_before after) (mask_from 0 0 false after)) after ≡ Some (length word)
+    → name_end 0 (symbols_of word after) (word ++ after) ≡ Some (length word)
+name_is word after h ends =
+    let tail : List ℕ = take (left_before after) (mask_from 0 0 false after) in
+    name_over 0 word tail after h ∙ ap (λ n. name_end n tail after) (zero-add (length word)) ∙ ends
+
+pub assignment_led : (word after : Text) (found : Option (Operator × ℕ)) → list_all is_quiet word ≡ true
+    → name_end (length word) (take (left_before after) (mask_from 0 0 false after)) after ≡ Some (length word) → begins_slash (trimmed_start after) ≡ false
+    → operator_of (trimmed_start after) ≡ found
+    → assignment_parts (word ++ after) (symbols_of word after) 0 ≡ parts_at (word ++ after) (length word) (length word + run_of after) found
+unfolding assignment_parts
+assignment_led word after found h ends a o =
+    ap (parts_after (word ++ after) (symbols_of word after)) (name_is word after h ends) ∙ parts_led word after found a o
+
+-- ---- no assignment
+
+worded_led : (tab : Bool) (word after : Text) → list_all is_quiet word ≡ true → is_apart after ≡ true → begins_slash (trimmed_start after) ≡ false
+    → worded tab (word ++ after) (symbols_of word after) 0 ≡ kind_by_word (directive_of tab word) word (trimmed_start after)
+unfolding worded
+worded_led tab word after h apart a =
+    let text : Text = word ++ after in
+    let whole = ap (past_blanks (length word)) (mask_led word after h) ∙ blanks_led word (mask_from 0 0 false after) after (run_whole after a) in
+    ap (λ n. kind_by_word (directive_of tab (slice_range text 0 n)) (slice_range text 0 n) (drop (past_blanks n (mask_of text)) text)) (word_led word after h apart)
+    ∙ ap (λ (w : Text). kind_by_word (directive_of tab w) w (drop (past_blanks (length word) (mask_of text)) text)) (cut_led word after)
+    ∙ ap (λ n. kind_by_word (directive_of tab word) word (drop n text)) whole
+    ∙ ap (kind_by_word (directive_of tab word) word) (rest_led word after)
+
+pub kind_worded : (tab : Bool) (word after : Text) → list_all is_quiet word ≡ true → 0 < length word → is_apart after ≡ true → begins_slash (trimmed_start after) ≡ false
+    → operator_of (trimmed_start after) ≡ None → kind_of (word ++ after) tab ≡ kind_by_word (directive_of tab word) word (trimmed_start after)
+kind_worded tab word after h some apart a o =
+    kind_by tab word after None h some (assignment_led word after None h (name_led (left_before after) (length word) after apart) a o)
+    ∙ worded_led tab word after h apart a
+
+first_led : (word after : Text) → list_all is_quiet word ≡ true → is_apart after ≡ true → first_word (word ++ after) ≡ word
+unfolding first_word
+first_led word after h apart =
+    ap (λ (mask : List ℕ). slice_range (word ++ after) 0 (past_word 0 mask)) (front_led word after h)
+    ∙ ap (slice_range (word ++ after) 0) (word_led word after h apart) ∙ cut_led word after
+
+-- ---- the words of blocks
+
+no_block : (found : Directive) → block_word [] ≡ Some found → ⊥
+unfolding block_word
+no_block found h = true≢false (sym (ap is_some h))
+
+-- a word of blocks is quiet, and has a byte
+record IsWord (text : Text) : Type 0 where
+  pub some : 0 < length text
+  pub quiet : list_all is_quiet text ≡ true
+
+block_words : (word : Directive) → block_word (block_text word) ≡ Some word → IsWord (block_text word)
+unfolding is_blank
+block_words Ifdef h = record { some = omega arith; quiet = refl }
+block_words Ifndef h = record { some = omega arith; quiet = refl }
+block_words Ifeq h = record { some = omega arith; quiet = refl }
+block_words Ifneq h = record { some = omega arith; quiet = refl }
+block_words Else h = record { some = omega arith; quiet = refl }
+block_words Endif h = record { some = omega arith; quiet = refl }
+block_words Define h = record { some = omega arith; quiet = refl }
+block_words Endef h = record { some = omega arith; quiet = refl }
+block_words Include h = absurd (no_block Include h)
+block_words OptionalInclude h = absurd (no_block OptionalInclude h)
+
+directed : (word : Text) (found : Directive) (rest : Text) → block_word word ≡ Some found → kind_by_word (directive_of false word) word rest ≡ directive found rest
+unfolding directive_of
+directed word found rest block = rw block refl
+
+pub leading_kind : (text after rest : Text) (word : Directive) → IsLed word text after → rest ≡ trimmed_start after → is_apart after ≡ true → may_assign rest ≡ false
+    → directive word rest ≡ kind_of text false
+leading_kind text after rest word led is apart a =
+    let found = block_words word led.1 in
+    let plain = unassigning (trimmed_start after) (rw is at a) in
+    ap (directive word) is
+    ∙ sym (ap (λ (t : Text). kind_of t false) led.0
+    ∙ kind_worded false (block_text word) after found.quiet found.some apart plain.1 plain.0
+    ∙ directed (block_text word) word (trimmed_start after) led.1)
+
+pub leading_first : (text after : Text) (word : Directive) → IsLed word text after → is_apart after ≡ true → block_word (first_word text) ≡ Some word
+leading_first text after word led apart =
+    ap block_word (ap first_word led.0 ∙ first_led (block_text word) after (block_words word led.1).quiet apart) ∙ led.1
+
+-- nothing starts no condition
+pub nothing_starts : (rest : Text) → length rest ≡ 0 → false ≡ starts_condition rest
+unfolding starts_condition first_word block_word before_comment mask_of mask_from
+nothing_starts [] none = refl
+nothing_starts (byte ∷ rest) none = absurd (omega arith)

@@ -1,0 +1,173 @@
+-- The place after the words that may stand before a target-specific macro, by the places of those words.
+use Rattle.std.proofs.Common.{◌≡◌, ◌≤◌, ◌<◌, ◌-◌, ◌+◌, ◌&&◌, ℕ, zero, suc, Bool, true, false, not, if◌then◌else◌, List, [], ◌∷◌, length, drop, take, refl, sym, ap, subst, ◌∙◌, arith, Option, Some, None, ⊎_elim, inl, inr, ◌⊎◌, ltb, unwrap_or}
+use Rattle.std.proofs.lemmas.Bool.{and_parts, cases_Bool, cases_order, false≢true, lt-ltb, ltb-true}
+use Rattle.std.proofs.lemmas.List.{get_or-drop, length-drop}
+use Rattle.std.proofs.lemmas.List.Sums.{prefix_len_passes, prefix_len_stops}
+use Rattle.std.specs.Prelude.{nat_lt, slice_index}
+use Rattle.std.specs.List.{prefix_len, slice_range}
+use Rattle.std.specs.Str.{bytes_eq}
+use Rattle.kt_text.specs.Words.{Text, is_blank}
+use Rattle.kt_syntax.specs.Kinds.{past_blanks, past_word}
+use Rattle.kt_syntax.specs.Assignments.{AreBlanks}
+use Rattle.kt_syntax.specs.Heads.{after_modifier, after_modifiers, found_or, is_modifier, modifier_at}
+use Rattle.kt_syntax.specs.Modifiers.{AreModifiers, IsAfterModifiers, IsModifier, ModifierLaw}
+use Rattle.kt_syntax.proofs.AssignmentLemmas.{blanks_are, blanks_only}
+
+-- ---- the end of a word
+
+abbrev is_inner : ℕ → Bool
+is_inner symbol = not (is_blank symbol)
+
+not_false : (b : Bool) → not b ≡ true → b ≡ false
+not_false true h = absurd (false≢true h)
+not_false false h = refl
+
+not_true : (b : Bool) → not b ≡ false → b ≡ true
+not_true true h = refl
+not_true false h = absurd (false≢true (sym h))
+
+word_inner : (mask : List ℕ) (begin k : ℕ) → begin ≤ k → k < past_word begin mask → is_blank (slice_index mask k) ≡ false
+word_inner mask begin k low high =
+    let at : begin + (k - begin) ≡ k = omega arith in
+    let passes = prefix_len_passes is_inner (drop begin mask) (k - begin) 0 (omega arith) in
+    not_false (is_blank (slice_index mask k))
+    (subst (λ m. is_inner (slice_index mask m) ≡ true) at (sym (ap is_inner (get_or-drop begin mask (k - begin) 0)) ∙ passes))
+
+word_stops : (mask : List ℕ) (begin : ℕ) → past_word begin mask < length mask → is_blank (slice_index mask (past_word begin mask)) ≡ true
+word_stops mask begin room =
+    let size = length-drop begin mask in
+    let n : ℕ = prefix_len is_inner (drop begin mask) in
+    not_true (is_blank (slice_index mask (past_word begin mask)))
+    (sym (ap is_inner (get_or-drop begin mask n 0)) ∙ prefix_len_stops is_inner (drop begin mask) 0 (omega (arith, size, room)))
+
+word_only : (mask : List ℕ) (begin end : ℕ) → begin ≤ end → ((k : ℕ) → begin ≤ k → k < end → is_blank (slice_index mask k) ≡ false) → end < length mask
+    → is_blank (slice_index mask end) ≡ true → end ≡ past_word begin mask
+word_only mask begin end order inner within ends =
+    ⊎_elim (λ same. same)
+    (λ h. ⊎_elim
+    (λ below. absurd (false≢true (sym (word_inner mask begin end order below) ∙ ends)))
+    (λ above. absurd (false≢true (sym (inner (past_word begin mask) (omega arith) above) ∙ word_stops mask begin (omega (arith, above, within))))) h)
+    (cases_order end (past_word begin mask))
+
+-- ---- one word
+
+some_same : (first second : ℕ) → Some first ≡ Some second → first ≡ second
+some_same first second e = ap (λ o. unwrap_or o first) e
+
+none_some : (x : ℕ) → None ≡ Some x → ⊥
+none_some x e = cc
+
+pub modifier_is : (text : Text) (mask : List ℕ) (from end : ℕ) → after_modifier text mask from ≡ Some end → IsModifier text mask from end
+unfolding after_modifier
+modifier_is text mask from end e =
+    let begin : ℕ = past_blanks from mask in
+    let stop : ℕ = past_word begin mask in
+    let gap = blanks_are mask from in
+    ⊎_elim
+    (λ h.
+    let same : stop ≡ end = some_same stop end (sym (ap (λ b. if b then Some stop else None) h) ∙ e) in
+    let parts = and_parts (is_modifier (slice_range text begin stop)) (nat_lt stop (length mask)) h in
+    let room : stop < length mask = ltb-true stop (length mask) parts.1 in
+    subst (IsModifier text mask from) same
+    (record {
+      begin = begin;
+      gap = gap;
+      order = omega arith;
+      word = parts.0;
+      inner = word_inner mask begin;
+      within = room;
+      ends = word_stops mask begin room;
+    }))
+    (λ h. absurd (none_some end (sym (ap (λ b. if b then Some stop else None) h) ∙ e)))
+    (cases_Bool (is_modifier (slice_range text begin stop) && nat_lt stop (length mask)))
+
+pub modifier_found : (text : Text) (mask : List ℕ) (from end : ℕ) → IsModifier text mask from end → after_modifier text mask from ≡ Some end
+unfolding after_modifier
+modifier_found text mask from end is =
+    let begins = blanks_only mask from is.begin is.gap in
+    let stops = word_only mask is.begin end is.order is.inner is.within is.ends in
+    ap (λ b. modifier_at text mask b (past_word b mask)) (sym begins) ∙ ap (modifier_at text mask is.begin) (sym stops)
+    ∙ rw (is.word, lt-ltb end (length mask) is.within) refl
+
+-- it has bytes
+no_word : is_modifier [] ≡ false
+unfolding is_modifier
+no_word = refl
+
+modifier_long : (text : Text) (mask : List ℕ) (from end : ℕ) → IsModifier text mask from end → from < end
+modifier_long text mask from end is =
+    let low = is.gap.order in
+    let order = is.order in
+    ⊎_elim
+    (λ same. absurd (false≢true (sym no_word ∙ sym (ap is_modifier (empty is.begin end same)) ∙ is.word)))
+    (λ h. ⊎_elim (λ below. omega (arith, low, below)) (λ above. absurd (omega (arith, order, above))) h)
+    (cases_order is.begin end)
+  where
+    empty : (a b : ℕ) → a ≡ b → slice_range text a b ≡ []
+    empty a b e = let none : b - a ≡ 0 = omega arith in ap (λ n. take n (drop a text)) none
+
+-- ---- all of them
+
+after_none : (most : ℕ) (text : Text) (mask : List ℕ) (from : ℕ) → after_modifier text mask from ≡ None → after_modifiers most text mask from ≡ from
+unfolding after_modifiers
+after_none zero text mask from e = refl
+after_none (suc most) text mask from e = ap (found_or from (λ end. after_modifiers most text mask end)) e
+
+after_some : (most : ℕ) (text : Text) (mask : List ℕ) (from end : ℕ) → after_modifier text mask from ≡ Some end
+    → after_modifiers (suc most) text mask from ≡ after_modifiers most text mask end
+unfolding after_modifiers
+after_some most text mask from end e = ap (found_or from (λ stop. after_modifiers most text mask stop)) e
+
+no_room : (text : Text) (mask : List ℕ) (from end : ℕ) → length mask ≤ 0 + from → ¬ IsModifier text mask from end
+no_room text mask from end room is =
+    let long = modifier_long text mask from end is in
+    let within = is.within in
+    omega (arith, room, long, within)
+
+-- no word comes next, or one does
+data Next (text : Text) (mask : List ℕ) (from : ℕ) : Type 0 where
+  no_next : after_modifier text mask from ≡ None → Next text mask from
+  next : (end : ℕ) → after_modifier text mask from ≡ Some end → Next text mask from
+
+next_by : (text : Text) (mask : List ℕ) (from : ℕ) (found : Option ℕ) → after_modifier text mask from ≡ found → Next text mask from
+next_by text mask from None e = no_next e
+next_by text mask from (Some end) e = next end e
+
+next_of : (text : Text) (mask : List ℕ) (from : ℕ) → Next text mask from
+next_of text mask from = next_by text mask from (after_modifier text mask from) refl
+
+none_last : (text : Text) (mask : List ℕ) (from : ℕ) → after_modifier text mask from ≡ None → (end : ℕ) → ¬ IsModifier text mask from end
+none_last text mask from e end is = none_some end (sym e ∙ modifier_found text mask from end is)
+
+no_further : (most : ℕ) (text : Text) (mask : List ℕ) (from : ℕ) → after_modifier text mask from ≡ None → IsAfterModifiers text mask from (after_modifiers most text mask from)
+no_further most text mask from e =
+    subst (IsAfterModifiers text mask from) (sym (after_none most text mask from e)) (record { ends = []; are = refl; last = none_last text mask from e })
+
+one_further : (text : Text) (mask : List ℕ) (from end place : ℕ) → IsModifier text mask from end → IsAfterModifiers text mask end place → IsAfterModifiers text mask from place
+one_further text mask from end place is later = record { ends = end ∷ later.ends; are = (is, later.are); last = later.last }
+
+are_after : (most : ℕ) (text : Text) (mask : List ℕ) (from : ℕ) → length mask ≤ most + from → Next text mask from → IsAfterModifiers text mask from (after_modifiers most text mask from)
+are_after most text mask from room (no_next e) = no_further most text mask from e
+are_after zero text mask from room (next end e) = absurd (no_room text mask from end room (modifier_is text mask from end e))
+are_after (suc most) text mask from room (next end e) =
+    let is = modifier_is text mask from end e in
+    let long = modifier_long text mask from end is in
+    subst (IsAfterModifiers text mask from) (sym (after_some most text mask from end e))
+    (one_further text mask from end (after_modifiers most text mask end) is (are_after most text mask end (omega (arith, room, long)) (next_of text mask end)))
+
+only_after : (most : ℕ) (text : Text) (mask : List ℕ) (from place : ℕ) (ends : List ℕ) → length mask ≤ most + from → AreModifiers text mask from ends place
+    → ((end : ℕ) → ¬ IsModifier text mask place end) → Next text mask from → place ≡ after_modifiers most text mask from
+only_after most text mask from place [] room are last (no_next e) = sym are ∙ sym (after_none most text mask from e)
+only_after most text mask from place [] room are last (next end e) = absurd (last end (subst (λ p. IsModifier text mask p end) are (modifier_is text mask from end e)))
+only_after most text mask from place (end ∷ ends) room are last (no_next e) = absurd (none_last text mask from e end are.0)
+only_after zero text mask from place (end ∷ ends) room are last (next stop e) = absurd (no_room text mask from end room are.0)
+only_after (suc most) text mask from place (end ∷ ends) room are last (next stop e) =
+    let long = modifier_long text mask from end are.0 in
+    only_after most text mask end place ends (omega (arith, room, long)) are.1 last (next_of text mask end)
+    ∙ sym (after_some most text mask from end (modifier_found text mask from end are.0))
+
+pub modifier_law : ModifierLaw
+modifier_law = record {
+  is = λ text mask from. are_after (length mask) text mask from (omega arith) (next_of text mask from);
+  only = λ text mask from place is. only_after (length mask) text mask from place is.ends (omega arith) is.are is.last (next_of text mask from);
+}

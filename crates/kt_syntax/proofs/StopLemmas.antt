@@ -1,0 +1,445 @@
+-- Where the first semicolon or the comment of a line stands, found by its bytes alone.
+use Rattle.std.proofs.Common.{◌≡◌, ◌<◌, ◌≤◌, ◌-◌, ◌+◌, ◌==◌, ◌&&◌, ◌||◌, ℕ, zero, suc, Bool, true, false, not, List, [], ◌∷◌, ◌++◌, length, take, drop, if◌then◌else◌, Option, Some, None, option_map, refl, sym, ap, subst, ◌∙◌, arith, append_assoc, ⊎_elim}
+use Rattle.std.proofs.lemmas.Bool.{and_parts, cases_Bool, eq-eqb, eqb-true, false≢true, ne_eqb}
+use Rattle.std.proofs.lemmas.Bool.Decides.{Decides-eqb}
+use Rattle.std.proofs.lemmas.List.{nil_from_length}
+use Rattle.std.proofs.lemmas.Slice.Eq.{starts_is}
+use Rattle.std.specs.Prelude.{nat_eq}
+use Rattle.std.specs.List.{starts_with}
+use Rattle.kt_text.specs.Words.{Text}
+use Rattle.kt_syntax.specs.Terms.{behind_dollar, closing, kept, referred, unit_length}
+use Rattle.kt_syntax.specs.declared.term.Mark.TheVariants.{Parentheses, Braces}
+use Rattle.kt_syntax.specs.Mask.{goes_odd, inside, mask_byte, mask_from, mask_of, more_masked}
+use Rattle.kt_syntax.proofs.StopPlaces.{IsFound, Stop, found_stop, is_stop, later, stop, stop-nil, stop-no, stop-yes}
+
+-- ---- by the bytes
+
+-- outside references, after an odd number of backslashes or not; after a dollar; in a reference in parentheses or braces
+pub data State : Type 0 where
+  plain : (odd : Bool) → State
+  dollar : State
+  within : (braces : Bool) (depth : ℕ) → State
+
+abbrev pub opener : Bool → ℕ
+opener false = 40
+opener true = 123
+
+abbrev pub closer : Bool → ℕ
+closer false = 41
+closer true = 125
+
+abbrev pub next : State → ℕ → State
+next (plain odd) byte = if byte == 36 then dollar else plain (goes_odd odd byte)
+next dollar byte = if byte == 36 then plain false else (if byte == 40 then within false 0 else (if byte == 123 then within true 0 else plain false))
+next (within braces depth) byte =
+    if byte == opener braces then within braces (depth + 1)
+    else (if byte == closer braces then (if depth == 0 then plain false else within braces (depth - 1)) else within braces depth)
+
+abbrev pub stops : State → ℕ → Bool
+stops (plain odd) byte = is_stop odd byte
+stops dollar byte = false
+stops (within braces depth) byte = false
+
+unfoldable pub found_at : State → Text → Stop
+found_at state [] = (0, false)
+found_at state (byte ∷ text) = if stops state byte then (0, byte == 59) else later (found_at (next state byte) text)
+
+pub at-yes : (state : State) (byte : ℕ) (text : Text) → stops state byte ≡ true → found_at state (byte ∷ text) ≡ (0, byte == 59)
+unfolding found_at
+at-yes state byte text h = rw h refl
+
+pub at-no : (state : State) (byte : ℕ) (text : Text) → stops state byte ≡ false → found_at state (byte ∷ text) ≡ later (found_at (next state byte) text)
+unfolding found_at
+at-no state byte text h = rw h refl
+
+pub at-nil : (state : State) → found_at state [] ≡ (0, false)
+unfolding found_at
+at-nil state = refl
+
+-- ---- the same place
+
+-- how much of a text is inside a reference that is open
+skip_of : Option ℕ → Text → ℕ
+skip_of None text = length text
+skip_of (Some place) text = suc place
+
+some_more : (at : ℕ) → Some (at + 1) ≡ Some (suc at)
+some_more at = let more : at + 1 ≡ suc at = omega arith in ap (λ n. Some n) more
+
+closing_last : (first second at depth byte : ℕ) (text : Text) → (byte == first) ≡ false → (byte == second) ≡ true → (depth == 0) ≡ true
+    → closing first second (at + 1) depth (byte ∷ text) ≡ option_map suc (closing first second at depth (byte ∷ text))
+unfolding closing
+closing_last first second at depth byte text h g z = rw (h, g, z) (some_more at)
+
+closing_less : (first second at depth byte : ℕ) (text : Text) → (byte == first) ≡ false → (byte == second) ≡ true → (depth == 0) ≡ false
+    → closing first second (at + 1 + 1) (depth - 1) text ≡ option_map suc (closing first second (at + 1) (depth - 1) text)
+    → closing first second (at + 1) depth (byte ∷ text) ≡ option_map suc (closing first second at depth (byte ∷ text))
+unfolding closing
+closing_less first second at depth byte text h g z rest = rw (h, g, z) rest
+
+closing_opened : (first second at depth byte : ℕ) (text : Text) → (byte == first) ≡ true
+    → closing first second (at + 1 + 1) (depth + 1) text ≡ option_map suc (closing first second (at + 1) (depth + 1) text)
+    → closing first second (at + 1) depth (byte ∷ text) ≡ option_map suc (closing first second at depth (byte ∷ text))
+unfolding closing
+closing_opened first second at depth byte text h rest = rw h rest
+
+closing_on : (first second at depth byte : ℕ) (text : Text) → (byte == first) ≡ false → (byte == second) ≡ false
+    → closing first second (at + 1 + 1) depth text ≡ option_map suc (closing first second (at + 1) depth text)
+    → closing first second (at + 1) depth (byte ∷ text) ≡ option_map suc (closing first second at depth (byte ∷ text))
+unfolding closing
+closing_on first second at depth byte text h g rest = rw (h, g) rest
+
+closing_nil : (first second at depth : ℕ) → closing first second (at + 1) depth [] ≡ option_map suc (closing first second at depth [])
+unfolding closing
+closing_nil first second at depth = refl
+
+closing_shift : (first second at depth : ℕ) (text : Text) → closing first second (at + 1) depth text ≡ option_map suc (closing first second at depth text)
+closing_shift first second at depth [] = closing_nil first second at depth
+closing_shift first second at depth (byte ∷ text) =
+    ⊎_elim (λ h. closing_opened first second at depth byte text h (closing_shift first second (at + 1) (depth + 1) text))
+    (λ h. ⊎_elim
+    (λ g. ⊎_elim (λ z. closing_last first second at depth byte text h g z)
+    (λ z. closing_less first second at depth byte text h g z (closing_shift first second (at + 1) (depth - 1) text)) (cases_Bool (depth == 0)))
+    (λ g. closing_on first second at depth byte text h g (closing_shift first second (at + 1) depth text)) (cases_Bool (byte == second)))
+    (cases_Bool (byte == first))
+
+skip_more : (found : Option ℕ) (byte : ℕ) (text : Text) → skip_of (option_map suc found) (byte ∷ text) ≡ suc (skip_of found text)
+unfolding skip_of
+skip_more None byte text = refl
+skip_more (Some place) byte text = refl
+
+abbrev skip_at : Bool → ℕ → Text → ℕ
+skip_at braces depth text = skip_of (closing (opener braces) (closer braces) 0 depth text) text
+
+closing_more : (braces : Bool) (depth byte : ℕ) (text : Text) → skip_of (closing (opener braces) (closer braces) (0 + 1) depth text) (byte ∷ text) ≡ suc (skip_at braces depth text)
+closing_more braces depth byte text =
+    ap (λ o. skip_of o (byte ∷ text)) (closing_shift (opener braces) (closer braces) 0 depth text) ∙ skip_more (closing (opener braces) (closer braces) 0 depth text) byte text
+
+skip-open : (braces : Bool) (depth byte : ℕ) (text : Text) → (byte == opener braces) ≡ true → skip_at braces depth (byte ∷ text) ≡ suc (skip_at braces (depth + 1) text)
+unfolding closing
+skip-open braces depth byte text h = rw h (closing_more braces (depth + 1) byte text)
+
+skip-last : (braces : Bool) (depth byte : ℕ) (text : Text) → (byte == opener braces) ≡ false → (byte == closer braces) ≡ true → (depth == 0) ≡ true → skip_at braces depth (byte ∷ text) ≡ 1
+unfolding closing skip_of
+skip-last braces depth byte text h g z = rw (h, g, z) refl
+
+skip-close : (braces : Bool) (depth byte : ℕ) (text : Text) → (byte == opener braces) ≡ false → (byte == closer braces) ≡ true → (depth == 0) ≡ false
+    → skip_at braces depth (byte ∷ text) ≡ suc (skip_at braces (depth - 1) text)
+unfolding closing
+skip-close braces depth byte text h g z = rw (h, g, z) (closing_more braces (depth - 1) byte text)
+
+skip-other : (braces : Bool) (depth byte : ℕ) (text : Text) → (byte == opener braces) ≡ false → (byte == closer braces) ≡ false
+    → skip_at braces depth (byte ∷ text) ≡ suc (skip_at braces depth text)
+unfolding closing
+skip-other braces depth byte text h g = rw (h, g) (closing_more braces depth byte text)
+
+skip-nil : (braces : Bool) (depth : ℕ) → skip_at braces depth [] ≡ 0
+unfolding closing skip_of
+skip-nil braces depth = refl
+
+-- symbols that a byte takes with it
+stop_inside : (odd : Bool) (mask : List ℕ) → stop odd (inside ∷ mask) ≡ later (stop false mask)
+unfolding stop
+stop_inside odd mask = refl
+
+stop_space : (odd : Bool) (mask : List ℕ) → stop odd (32 ∷ mask) ≡ later (stop false mask)
+unfolding stop
+stop_space odd mask = refl
+
+mask_more : (skip symbol : ℕ) (odd : Bool) (byte : ℕ) (text : Text) → mask_from (suc skip) symbol odd (byte ∷ text) ≡ symbol ∷ mask_from skip symbol (goes_odd odd byte) text
+unfolding mask_from
+mask_more skip symbol odd byte text = refl
+
+mask_new : (symbol more : ℕ) (odd : Bool) (byte : ℕ) (text : Text) → more_masked odd byte text ≡ more
+    → mask_from 0 symbol odd (byte ∷ text) ≡ mask_byte byte more ∷ mask_from more (mask_byte byte more) (goes_odd odd byte) text
+unfolding mask_from
+mask_new symbol more odd byte text e = ap (λ n. mask_byte byte n ∷ mask_from n (mask_byte byte n) (goes_odd odd byte) text) e
+
+mask_nil : (skip symbol : ℕ) (odd : Bool) → mask_from skip symbol odd [] ≡ []
+unfolding mask_from
+mask_nil skip symbol odd = refl
+
+-- what is shown of all texts up to a length
+record Same (fuel : ℕ) : Type 0 where
+  outside : (told odd : Bool) (symbol : ℕ) (text : Text) → length text ≤ fuel → stop told (mask_from 0 symbol odd text) ≡ found_at (plain told) text
+  inner : (told odd braces : Bool) (depth : ℕ) (text : Text) → length text ≤ fuel
+      → stop told (mask_from (skip_at braces depth text) inside odd text) ≡ found_at (within braces depth) text
+
+-- one byte of a reference
+in_reference : (told odd : Bool) (skip byte : ℕ) (text : Text) (state after : State) → stops state byte ≡ false → next state byte ≡ after
+    → stop false (mask_from skip inside (goes_odd odd byte) text) ≡ found_at after text
+    → stop told (mask_from (suc skip) inside odd (byte ∷ text)) ≡ found_at state (byte ∷ text)
+in_reference told odd skip byte text state after h e rest =
+    ap (stop told) (mask_more skip inside odd byte text) ∙ stop_inside told (mask_from skip inside (goes_odd odd byte) text) ∙ ap later rest
+    ∙ sym (at-no state byte text h ∙ ap (λ s. later (found_at s text)) e)
+
+next-open : (braces : Bool) (depth byte : ℕ) → (byte == opener braces) ≡ true → next (within braces depth) byte ≡ within braces (depth + 1)
+next-open braces depth byte h = rw h refl
+
+next-last : (braces : Bool) (depth byte : ℕ) → (byte == opener braces) ≡ false → (byte == closer braces) ≡ true → (depth == 0) ≡ true → next (within braces depth) byte ≡ plain false
+next-last braces depth byte h g z = rw (h, g, z) refl
+
+next-close : (braces : Bool) (depth byte : ℕ) → (byte == opener braces) ≡ false → (byte == closer braces) ≡ true → (depth == 0) ≡ false
+    → next (within braces depth) byte ≡ within braces (depth - 1)
+next-close braces depth byte h g z = rw (h, g, z) refl
+
+next-other : (braces : Bool) (depth byte : ℕ) → (byte == opener braces) ≡ false → (byte == closer braces) ≡ false → next (within braces depth) byte ≡ within braces depth
+next-other braces depth byte h g = rw (h, g) refl
+
+referred_step : (fuel : ℕ) → Same fuel → (told odd braces : Bool) (depth byte : ℕ) (text : Text) → length text ≤ fuel
+    → stop told (mask_from (skip_at braces depth (byte ∷ text)) inside odd (byte ∷ text)) ≡ found_at (within braces depth) (byte ∷ text)
+referred_step fuel same told odd braces depth byte text small =
+    let flag : Bool = goes_odd odd byte in
+    ⊎_elim
+    (λ h. ap (λ n. stop told (mask_from n inside odd (byte ∷ text))) (skip-open braces depth byte text h)
+    ∙ in_reference told odd (skip_at braces (depth + 1) text) byte text (within braces depth) (within braces (depth + 1)) refl (next-open braces depth byte h)
+    (same.inner false flag braces (depth + 1) text small))
+    (λ h. ⊎_elim
+    (λ g. ⊎_elim
+    (λ z. ap (λ n. stop told (mask_from n inside odd (byte ∷ text))) (skip-last braces depth byte text h g z)
+    ∙ in_reference told odd 0 byte text (within braces depth) (plain false) refl (next-last braces depth byte h g z) (same.outside false flag inside text small))
+    (λ z. ap (λ n. stop told (mask_from n inside odd (byte ∷ text))) (skip-close braces depth byte text h g z)
+    ∙ in_reference told odd (skip_at braces (depth - 1) text) byte text (within braces depth) (within braces (depth - 1)) refl (next-close braces depth byte h g z)
+    (same.inner false flag braces (depth - 1) text small))
+    (cases_Bool (depth == 0)))
+    (λ g. ap (λ n. stop told (mask_from n inside odd (byte ∷ text))) (skip-other braces depth byte text h g)
+    ∙ in_reference told odd (skip_at braces depth text) byte text (within braces depth) (within braces depth) refl (next-other braces depth byte h g)
+    (same.inner false flag braces depth text small))
+    (cases_Bool (byte == closer braces)))
+    (cases_Bool (byte == opener braces))
+
+-- what comes after a dollar
+dollar_none : (behind_dollar kept []).1 ≡ 0
+unfolding behind_dollar
+dollar_none = refl
+
+dollar_dollar : (byte : ℕ) (text : Text) → (byte == 36) ≡ true → (behind_dollar kept (byte ∷ text)).1 ≡ 1
+unfolding behind_dollar
+dollar_dollar byte text h = rw h refl
+
+referred_long : (found : Option ℕ) (text : Text) → (referred Parentheses text found).1 ≡ suc (skip_of found text)
+unfolding skip_of
+referred_long None text = omega arith
+referred_long (Some place) text = omega arith
+
+referred_braces : (found : Option ℕ) (text : Text) → (referred Braces text found).1 ≡ suc (skip_of found text)
+unfolding skip_of
+referred_braces None text = omega arith
+referred_braces (Some place) text = omega arith
+
+dollar_parentheses : (byte : ℕ) (text : Text) → (byte == 36) ≡ false → (byte == 40) ≡ true → (behind_dollar kept (byte ∷ text)).1 ≡ suc (skip_at false 0 text)
+unfolding behind_dollar
+dollar_parentheses byte text h g = rw (h, g) (referred_long (closing 40 41 0 0 text) text)
+
+dollar_braces : (byte : ℕ) (text : Text) → (byte == 36) ≡ false → (byte == 40) ≡ false → (byte == 123) ≡ true → (behind_dollar kept (byte ∷ text)).1 ≡ suc (skip_at true 0 text)
+unfolding behind_dollar
+dollar_braces byte text h g f = rw (h, g, f) (referred_braces (closing 123 125 0 0 text) text)
+
+dollar_single : (byte : ℕ) (text : Text) → (byte == 36) ≡ false → (byte == 40) ≡ false → (byte == 123) ≡ false → (behind_dollar kept (byte ∷ text)).1 ≡ unit_length kept (byte ∷ text)
+unfolding behind_dollar
+dollar_single byte text h g f = rw (h, g, f) refl
+
+unit_one : (text : Text) → starts_with nat_eq text (92 ∷ 10 ∷ []) ≡ false → starts_with nat_eq text (92 ∷ 13 ∷ 10 ∷ []) ≡ false → unit_length kept text ≡ 1
+unit_one text h g = rw (h, g) refl
+
+-- the rest of a continuation in a reference of one byte
+newline_inside : (fuel : ℕ) → Same fuel → (odd : Bool) (text : Text) → length text ≤ fuel → stop false (mask_from 1 inside odd (10 ∷ text)) ≡ found_at (plain false) (10 ∷ text)
+newline_inside fuel same odd text small =
+    in_reference false odd 0 10 text (plain false) (plain false) refl refl (same.outside false (goes_odd odd 10) inside text small)
+
+return_inside : (fuel : ℕ) → Same fuel → (odd : Bool) (text : Text) → length text ≤ fuel → stop false (mask_from 2 inside odd (13 ∷ 10 ∷ text)) ≡ found_at (plain false) (13 ∷ 10 ∷ text)
+return_inside fuel same odd text small =
+    in_reference false odd 1 13 (10 ∷ text) (plain false) (plain false) refl refl (newline_inside fuel same (goes_odd odd 13) text small)
+
+single_two : (text : Text) → starts_with nat_eq text (92 ∷ 10 ∷ []) ≡ true → unit_length kept text ≡ 2
+single_two text h = rw h refl
+
+single_three : (text : Text) → starts_with nat_eq text (92 ∷ 10 ∷ []) ≡ false → starts_with nat_eq text (92 ∷ 13 ∷ 10 ∷ []) ≡ true → unit_length kept text ≡ 3
+single_three text h g = rw (h, g) refl
+
+abbrev DollarSame : Bool → Text → Type 0
+DollarSame odd text = stop false (mask_from ((behind_dollar kept text).1) inside odd text) ≡ found_at dollar text
+
+continued_single : (fuel : ℕ) → Same fuel → (odd : Bool) (text : Text) → length text ≤ fuel → stop false (mask_from 2 inside odd (92 ∷ 10 ∷ text)) ≡ found_at dollar (92 ∷ 10 ∷ text)
+continued_single fuel same odd text small =
+    in_reference false odd 1 92 (10 ∷ text) dollar (plain false) refl refl (newline_inside fuel same (goes_odd odd 92) text small)
+
+returned_single : (fuel : ℕ) → Same fuel → (odd : Bool) (text : Text) → length text ≤ fuel → stop false (mask_from 3 inside odd (92 ∷ 13 ∷ 10 ∷ text)) ≡ found_at dollar (92 ∷ 13 ∷ 10 ∷ text)
+returned_single fuel same odd text small =
+    in_reference false odd 2 92 (13 ∷ 10 ∷ text) dollar (plain false) refl refl (return_inside fuel same (goes_odd odd 92) text small)
+
+dollar_is : (odd : Bool) (n : ℕ) (text : Text) → (behind_dollar kept text).1 ≡ n → stop false (mask_from n inside odd text) ≡ found_at dollar text → DollarSame odd text
+dollar_is odd n text e rest = ap (λ k. stop false (mask_from k inside odd text)) e ∙ rest
+
+single_step : (fuel : ℕ) → Same fuel → (odd : Bool) (byte : ℕ) (text : Text) → length text ≤ fuel → (byte == 36) ≡ false → (byte == 40) ≡ false → (byte == 123) ≡ false → DollarSame odd (byte ∷ text)
+single_step fuel same odd byte text small h g f =
+    let whole : Text = byte ∷ text in
+    let single = dollar_single byte text h g f in
+    ⊎_elim
+    (λ a.
+    let begins : whole ≡ 92 ∷ 10 ∷ drop 2 whole = (starts_is Decides-eqb whole (92 ∷ 10 ∷ []) true (sym a)).0 refl in
+    let size = ap length begins in
+    dollar_is odd 2 whole (single ∙ single_two whole a)
+    (subst (λ (t : Text). stop false (mask_from 2 inside odd t) ≡ found_at dollar t) (sym begins) (continued_single fuel same odd (drop 2 whole) (omega (arith, size, small)))))
+    (λ a. ⊎_elim
+    (λ b.
+    let begins : whole ≡ 92 ∷ 13 ∷ 10 ∷ drop 3 whole = (starts_is Decides-eqb whole (92 ∷ 13 ∷ 10 ∷ []) true (sym b)).0 refl in
+    let size = ap length begins in
+    dollar_is odd 3 whole (single ∙ single_three whole a b)
+    (subst (λ (t : Text). stop false (mask_from 3 inside odd t) ≡ found_at dollar t) (sym begins) (returned_single fuel same odd (drop 3 whole) (omega (arith, size, small)))))
+    (λ b. dollar_is odd 1 whole (single ∙ unit_one whole a b)
+    (in_reference false odd 0 byte text dollar (plain false) refl (rw (h, g, f) refl) (same.outside false (goes_odd odd byte) inside text small)))
+    (cases_Bool (starts_with nat_eq whole (92 ∷ 13 ∷ 10 ∷ []))))
+    (cases_Bool (starts_with nat_eq whole (92 ∷ 10 ∷ [])))
+
+dollar_step : (fuel : ℕ) → Same fuel → (odd : Bool) (text : Text) → length text ≤ fuel → DollarSame odd text
+dollar_step fuel same odd [] small = dollar_is odd 0 [] dollar_none (ap (stop false) (mask_nil 0 inside odd) ∙ stop-nil false ∙ sym (at-nil dollar))
+dollar_step fuel same odd (byte ∷ text) small =
+    let less : length text ≤ fuel = omega (arith, small) in
+    let flag : Bool = goes_odd odd byte in
+    ⊎_elim
+    (λ h. dollar_is odd 1 (byte ∷ text) (dollar_dollar byte text h)
+    (in_reference false odd 0 byte text dollar (plain false) refl (rw h refl) (same.outside false flag inside text less)))
+    (λ h. ⊎_elim
+    (λ g. dollar_is odd (suc (skip_at false 0 text)) (byte ∷ text) (dollar_parentheses byte text h g)
+    (in_reference false odd (skip_at false 0 text) byte text dollar (within false 0) refl (rw (h, g) refl) (same.inner false flag false 0 text less)))
+    (λ g. ⊎_elim
+    (λ f. dollar_is odd (suc (skip_at true 0 text)) (byte ∷ text) (dollar_braces byte text h g f)
+    (in_reference false odd (skip_at true 0 text) byte text dollar (within true 0) refl (rw (h, g, f) refl) (same.inner false flag true 0 text less)))
+    (λ f. single_step fuel same odd byte text less h g f)
+    (cases_Bool (byte == 123)))
+    (cases_Bool (byte == 40)))
+    (cases_Bool (byte == 36))
+
+-- a byte outside references
+more_dollar : (odd : Bool) (text : Text) → more_masked odd 36 text ≡ (behind_dollar kept text).1
+unfolding more_masked
+more_dollar odd text = refl
+
+more_other : (odd : Bool) (byte : ℕ) (text : Text) → (byte == 36) ≡ false → goes_odd odd byte ≡ false → more_masked odd byte text ≡ 0
+unfolding more_masked
+more_other odd byte text h g = rw (h, g) refl
+
+more_continued : (text : Text) → more_masked false 92 (10 ∷ text) ≡ 1
+unfolding more_masked
+more_continued text = refl
+
+more_returned : (text : Text) → more_masked false 92 (13 ∷ 10 ∷ text) ≡ 2
+unfolding more_masked
+more_returned text = refl
+
+more_backslash : (text : Text) → starts_with nat_eq text (10 ∷ []) ≡ false → starts_with nat_eq text (13 ∷ 10 ∷ []) ≡ false → more_masked false 92 text ≡ 0
+unfolding more_masked
+more_backslash text h g = rw (h, g) refl
+
+abbrev OutsideSame : Bool → Bool → ℕ → Text → Type 0
+OutsideSame told odd symbol text = stop told (mask_from 0 symbol odd text) ≡ found_at (plain told) text
+
+-- it is its own symbol
+own_byte : (told odd : Bool) (symbol byte : ℕ) (text : Text) → (byte == 36) ≡ false → more_masked odd byte text ≡ 0
+    → OutsideSame (goes_odd told byte) (goes_odd odd byte) byte text → OutsideSame told odd symbol (byte ∷ text)
+own_byte told odd symbol byte text h none rest =
+    let own : mask_byte byte 0 ≡ byte = rw h refl in
+    let mask : mask_from 0 symbol odd (byte ∷ text) ≡ byte ∷ mask_from 0 byte (goes_odd odd byte) text =
+    mask_new symbol 0 odd byte text none ∙ ap (λ s. s ∷ mask_from 0 s (goes_odd odd byte) text) own in
+    ⊎_elim
+    (λ g. ap (stop told) mask ∙ stop-yes told byte (mask_from 0 byte (goes_odd odd byte) text) g ∙ sym (at-yes (plain told) byte text g))
+    (λ g. ap (stop told) mask ∙ stop-no told byte (mask_from 0 byte (goes_odd odd byte) text) g ∙ ap later rest
+    ∙ sym (at-no (plain told) byte text g ∙ ap (λ s. later (found_at s text)) (goes h)))
+    (cases_Bool (is_stop told byte))
+  where
+    goes : (byte == 36) ≡ false → (if byte == 36 then dollar else plain (goes_odd told byte)) ≡ plain (goes_odd told byte)
+    goes e = rw e refl
+
+newline_masked : (fuel : ℕ) → Same fuel → (odd told : Bool) (text : Text) → length text ≤ fuel → stop false (mask_from 1 32 odd (10 ∷ text)) ≡ found_at (plain told) (10 ∷ text)
+newline_masked fuel same odd told text small =
+    ap (stop false) (mask_more 0 32 odd 10 text) ∙ stop_space false (mask_from 0 32 (goes_odd odd 10) text)
+    ∙ ap later (same.outside false (goes_odd odd 10) 32 text small) ∙ sym (at-no (plain told) 10 text refl)
+
+continued_masked : (fuel : ℕ) → Same fuel → (told : Bool) (symbol : ℕ) (text : Text) → length text ≤ fuel → OutsideSame told false symbol (92 ∷ 10 ∷ text)
+continued_masked fuel same told symbol text small =
+    ap (stop told) (mask_new symbol 1 false 92 (10 ∷ text) (more_continued text)) ∙ stop_space told (mask_from 1 32 (goes_odd false 92) (10 ∷ text))
+    ∙ ap later (newline_masked fuel same (goes_odd false 92) (goes_odd told 92) text small) ∙ sym (at-no (plain told) 92 (10 ∷ text) refl)
+
+returned_masked : (fuel : ℕ) → Same fuel → (told : Bool) (symbol : ℕ) (text : Text) → length text ≤ fuel → OutsideSame told false symbol (92 ∷ 13 ∷ 10 ∷ text)
+returned_masked fuel same told symbol text small =
+    ap (stop told) (mask_new symbol 2 false 92 (13 ∷ 10 ∷ text) (more_returned text)) ∙ stop_space told (mask_from 2 32 (goes_odd false 92) (13 ∷ 10 ∷ text))
+    ∙ ap later
+    (ap (stop false) (mask_more 1 32 (goes_odd false 92) 13 (10 ∷ text)) ∙ stop_space false (mask_from 1 32 (goes_odd (goes_odd false 92) 13) (10 ∷ text))
+    ∙ ap later (newline_masked fuel same (goes_odd (goes_odd false 92) 13) (goes_odd (goes_odd told 92) 13) text small)
+    ∙ sym (at-no (plain (goes_odd told 92)) 13 (10 ∷ text) refl))
+    ∙ sym (at-no (plain told) 92 (13 ∷ 10 ∷ text) refl)
+
+backslash_step : (fuel : ℕ) → Same fuel → (told : Bool) (symbol : ℕ) (text : Text) → length text ≤ fuel → OutsideSame told false symbol (92 ∷ text)
+backslash_step fuel same told symbol text small =
+    ⊎_elim
+    (λ a.
+    let begins : text ≡ 10 ∷ drop 1 text = (starts_is Decides-eqb text (10 ∷ []) true (sym a)).0 refl in
+    let size = ap length begins in
+    subst (λ (t : Text). OutsideSame told false symbol (92 ∷ t)) (sym begins) (continued_masked fuel same told symbol (drop 1 text) (omega (arith, size, small))))
+    (λ a. ⊎_elim
+    (λ b.
+    let begins : text ≡ 13 ∷ 10 ∷ drop 2 text = (starts_is Decides-eqb text (13 ∷ 10 ∷ []) true (sym b)).0 refl in
+    let size = ap length begins in
+    subst (λ (t : Text). OutsideSame told false symbol (92 ∷ t)) (sym begins) (returned_masked fuel same told symbol (drop 2 text) (omega (arith, size, small))))
+    (λ b. own_byte told false symbol 92 text refl (more_backslash text a b) (same.outside (goes_odd told 92) (goes_odd false 92) 92 text small))
+    (cases_Bool (starts_with nat_eq text (13 ∷ 10 ∷ []))))
+    (cases_Bool (starts_with nat_eq text (10 ∷ [])))
+
+not_so : (odd : Bool) → not odd ≡ true → odd ≡ false
+not_so true h = absurd (false≢true h)
+not_so false h = refl
+
+dollar_masked : (fuel : ℕ) → Same fuel → (told odd : Bool) (symbol : ℕ) (text : Text) → length text ≤ fuel → OutsideSame told odd symbol (36 ∷ text)
+dollar_masked fuel same told odd symbol text small =
+    let more : ℕ = (behind_dollar kept text).1 in
+    ap (stop told) (mask_new symbol more odd 36 text (more_dollar odd text)) ∙ stop_inside told (mask_from more inside (goes_odd odd 36) text)
+    ∙ ap later (dollar_step fuel same (goes_odd odd 36) text small) ∙ sym (at-no (plain told) 36 text refl)
+
+outside_step : (fuel : ℕ) → Same fuel → (told odd : Bool) (symbol byte : ℕ) (text : Text) → length text ≤ fuel → OutsideSame told odd symbol (byte ∷ text)
+outside_step fuel same told odd symbol byte text small =
+    ⊎_elim
+    (λ h. subst (λ b. OutsideSame told odd symbol (b ∷ text)) (sym (eqb-true byte 36 h)) (dollar_masked fuel same told odd symbol text small))
+    (λ h. ⊎_elim
+    (λ g.
+    let parts = and_parts (byte == 92) (not odd) g in
+    subst (λ b. OutsideSame told odd symbol (b ∷ text)) (sym (eqb-true byte 92 parts.0))
+    (subst (λ o. OutsideSame told o symbol (92 ∷ text)) (sym (not_so odd parts.1)) (backslash_step fuel same told symbol text small)))
+    (λ g. own_byte told odd symbol byte text h (more_other odd byte text h g) (same.outside (goes_odd told byte) (goes_odd odd byte) byte text small))
+    (cases_Bool (goes_odd odd byte)))
+    (cases_Bool (byte == 36))
+
+outside_nil : (told odd : Bool) (symbol : ℕ) → OutsideSame told odd symbol []
+outside_nil told odd symbol = ap (stop told) (mask_nil 0 symbol odd) ∙ stop-nil told ∙ sym (at-nil (plain told))
+
+referred_nil : (told odd braces : Bool) (depth : ℕ) → stop told (mask_from (skip_at braces depth []) inside odd []) ≡ found_at (within braces depth) []
+referred_nil told odd braces depth = ap (stop told) (mask_nil (skip_at braces depth []) inside odd) ∙ stop-nil told ∙ sym (at-nil (within braces depth))
+
+none_same : Same 0
+none_same = record { outside = outside; inner = inner }
+  where
+    outside : (told odd : Bool) (symbol : ℕ) (text : Text) → length text ≤ 0 → OutsideSame told odd symbol text
+    outside told odd symbol text small = subst (OutsideSame told odd symbol) (sym (nil_from_length text (omega (arith, small)))) (outside_nil told odd symbol)
+
+    inner : (told odd braces : Bool) (depth : ℕ) (text : Text) → length text ≤ 0 → stop told (mask_from (skip_at braces depth text) inside odd text) ≡ found_at (within braces depth) text
+    inner told odd braces depth text small =
+        subst (λ (t : Text). stop told (mask_from (skip_at braces depth t) inside odd t) ≡ found_at (within braces depth) t) (sym (nil_from_length text (omega (arith, small))))
+        (referred_nil told odd braces depth)
+
+outside_more : (fuel : ℕ) → Same fuel → (told odd : Bool) (symbol : ℕ) (text : Text) → length text ≤ suc fuel → OutsideSame told odd symbol text
+outside_more fuel same told odd symbol [] small = outside_nil told odd symbol
+outside_more fuel same told odd symbol (byte ∷ text) small = outside_step fuel same told odd symbol byte text (omega arith)
+
+referred_more : (fuel : ℕ) → Same fuel → (told odd braces : Bool) (depth : ℕ) (text : Text) → length text ≤ suc fuel
+    → stop told (mask_from (skip_at braces depth text) inside odd text) ≡ found_at (within braces depth) text
+referred_more fuel same told odd braces depth [] small = referred_nil told odd braces depth
+referred_more fuel same told odd braces depth (byte ∷ text) small = referred_step fuel same told odd braces depth byte text (omega arith)
+
+all_same : (fuel : ℕ) → Same fuel
+all_same zero = none_same
+all_same (suc fuel) = record { outside = outside_more fuel (all_same fuel); inner = referred_more fuel (all_same fuel) }
+
+-- where the head of a line ends
+pub head_found : (text : Text) → IsFound false (mask_of text) (found_at (plain false) text)
+unfolding mask_of
+head_found text = subst (IsFound false (mask_from 0 0 false text)) ((all_same (length text)).outside false false 0 text (omega arith)) (found_stop false (mask_from 0 0 false text))

@@ -1,0 +1,108 @@
+-- Where the head of a line ends, by its mask in one walk: at the first semicolon or at the comment.
+use Rattle.std.proofs.Common.{◌≡◌, ◌<◌, ◌+◌, ◌==◌, ◌&&◌, ◌||◌, ℕ, suc, Bool, true, false, not, List, [], ◌∷◌, take, if◌then◌else◌, refl, sym, ap, subst, ◌∙◌, arith, ⊎_elim}
+use Rattle.std.proofs.lemmas.Bool.{cases_Bool, eqb-true, false≢true}
+use Rattle.std.specs.List.{position_or_len}
+use Rattle.kt_syntax.specs.Mask.{goes_odd}
+use Rattle.kt_syntax.specs.Kinds.{before_comment}
+
+-- a place, and whether a semicolon stands there
+abbrev pub Stop : Type 0
+Stop = ℕ × Bool
+
+abbrev pub ahead : ℕ → Stop → Stop
+ahead n found = (n + found.0, found.1)
+
+abbrev pub later : Stop → Stop
+later found = (suc found.0, found.1)
+
+abbrev pub is_stop : Bool → ℕ → Bool
+is_stop odd symbol = (symbol == 35 && not odd) || symbol == 59
+
+unfoldable pub stop : Bool → List ℕ → Stop
+stop odd [] = (0, false)
+stop odd (symbol ∷ mask) = if is_stop odd symbol then (0, symbol == 59) else later (stop (goes_odd odd symbol) mask)
+
+pub stop-yes : (odd : Bool) (symbol : ℕ) (mask : List ℕ) → is_stop odd symbol ≡ true → stop odd (symbol ∷ mask) ≡ (0, symbol == 59)
+unfolding stop
+stop-yes odd symbol mask h = rw h refl
+
+pub stop-no : (odd : Bool) (symbol : ℕ) (mask : List ℕ) → is_stop odd symbol ≡ false → stop odd (symbol ∷ mask) ≡ later (stop (goes_odd odd symbol) mask)
+unfolding stop
+stop-no odd symbol mask h = rw h refl
+
+pub stop-nil : (odd : Bool) → stop odd [] ≡ (0, false)
+unfolding stop
+stop-nil odd = refl
+
+abbrev pub head : Bool → List ℕ → ℕ
+head odd mask = position_or_len (λ symbol. symbol == 59) (take (before_comment odd mask) mask)
+
+-- the place of the head's end, and that of the comment by whether it is a semicolon's
+pub record IsFound (odd : Bool) (mask : List ℕ) (found : Stop) : Type 0 where
+  pub place : head odd mask ≡ found.0
+  pub semicolon : found.1 ≡ true → found.0 < before_comment odd mask
+  pub none : found.1 ≡ false → found.0 ≡ before_comment odd mask
+
+comment-yes : (odd : Bool) (symbol : ℕ) (mask : List ℕ) → (symbol == 35 && not odd) ≡ true → before_comment odd (symbol ∷ mask) ≡ 0
+unfolding before_comment
+comment-yes odd symbol mask h = rw h refl
+
+comment-no : (odd : Bool) (symbol : ℕ) (mask : List ℕ) → (symbol == 35 && not odd) ≡ false → before_comment odd (symbol ∷ mask) ≡ suc (before_comment (goes_odd odd symbol) mask)
+unfolding before_comment
+comment-no odd symbol mask h = rw h refl
+
+comment-nil : (odd : Bool) → before_comment odd [] ≡ 0
+unfolding before_comment
+comment-nil odd = refl
+
+is_sign : (a b : Bool) → (a && b) ≡ true → a ≡ true
+is_sign true b h = refl
+is_sign false b h = h
+
+no_place : (symbol : ℕ) (mask : List ℕ) (n : ℕ) → (symbol == 59) ≡ true → position_or_len (λ s. s == 59) (symbol ∷ take n mask) ≡ 0
+no_place symbol mask n g = rw g refl
+
+one_more : (n : ℕ) → 1 + n ≡ suc n
+one_more n = omega arith
+
+one_place : (symbol : ℕ) (mask : List ℕ) (n : ℕ) → (symbol == 59) ≡ false → position_or_len (λ s. s == 59) (symbol ∷ take n mask) ≡ suc (position_or_len (λ s. s == 59) (take n mask))
+one_place symbol mask n g = rw g (one_more (position_or_len (λ s. s == 59) (take n mask)))
+
+pub found_stop : (odd : Bool) (mask : List ℕ) → IsFound odd mask (stop odd mask)
+found_stop odd [] =
+    subst (IsFound odd []) (sym (stop-nil odd))
+    (record { place = ap (λ n. position_or_len (λ symbol. symbol == 59) (take n [])) (comment-nil odd); semicolon = λ e. absurd (false≢true e); none = λ e. sym (comment-nil odd) })
+found_stop odd (symbol ∷ mask) =
+    ⊎_elim
+    (λ h.
+    let at = comment-yes odd symbol mask h in
+    let sign : (symbol == 59) ≡ false = ap (λ b. b == 59) (eqb-true symbol 35 (is_sign (symbol == 35) (not odd) h)) in
+    let here = stop-yes odd symbol mask (ap (λ b. b || symbol == 59) h) in
+    subst (IsFound odd (symbol ∷ mask)) (sym (here ∙ ap (λ b. (0, b)) sign))
+    (record {
+      place = ap (λ n. position_or_len (λ s. s == 59) (take n (symbol ∷ mask))) at;
+      semicolon = λ e. absurd (false≢true e);
+      none = λ e. sym at;
+    }))
+    (λ h. ⊎_elim
+    (λ g.
+    let at = comment-no odd symbol mask h in
+    let here = stop-yes odd symbol mask (ap (λ b. b || symbol == 59) h ∙ g) in
+    subst (IsFound odd (symbol ∷ mask)) (sym (here ∙ ap (λ b. (0, b)) g))
+    (record {
+      place = ap (λ n. position_or_len (λ s. s == 59) (take n (symbol ∷ mask))) at ∙ no_place symbol mask (before_comment (goes_odd odd symbol) mask) g;
+      semicolon = λ e. rw at (omega arith);
+      none = λ e. absurd (false≢true (sym e));
+    }))
+    (λ g.
+    let at = comment-no odd symbol mask h in
+    let here = stop-no odd symbol mask (ap (λ b. b || symbol == 59) h ∙ g) in
+    let rest = found_stop (goes_odd odd symbol) mask in
+    subst (IsFound odd (symbol ∷ mask)) (sym here)
+    (record {
+      place = ap (λ n. position_or_len (λ s. s == 59) (take n (symbol ∷ mask))) at ∙ one_place symbol mask (before_comment (goes_odd odd symbol) mask) g ∙ ap suc rest.place;
+      semicolon = λ e. let less = rest.semicolon e in rw at (omega (arith, less));
+      none = λ e. ap suc (rest.none e) ∙ sym at;
+    }))
+    (cases_Bool (symbol == 59)))
+    (cases_Bool (symbol == 35 && not odd))

@@ -1,0 +1,14 @@
+use Rattle.std.proofs.Common.{◌∙◌, sym}
+use Rattle.kt_syntax.proofs.LeadingForms.{form_colon, form_worded}
+use Rattle.kt_syntax.proofs.front.unassigning_form.Goals as goal
+
+pub returns-then-begins_colon : goal.returns-then-begins_colon
+returns-then-begins_colon c =
+    form_colon c.args.word.now c.args.after.now c.args.rest.now c.args.tab c.requires.quiet c.requires.some c.requires.rest c.requires.none
+    (sym c.begins_colon.ensures ∙ c.if-begins_colon.true)
+
+pub returns : goal.returns
+returns c =
+    c.form_by_word.ensures
+    ∙ form_worded c.args.word.now c.args.after.now c.args.rest.now c.args.tab c.requires.quiet c.requires.some c.requires.rest c.requires.none
+    (sym c.is_apart.ensures ∙ c.if-not-is_apart.false) (sym c.begins_slash.ensures ∙ c.if-begins_slash.false)

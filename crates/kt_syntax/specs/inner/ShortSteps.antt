@@ -1,0 +1,17 @@
+-- Steps by their parts and places (kati's own).
+use Rattle.std.specs.Prelude.{ℕ}
+use Rattle.kt_syntax.specs.declared.part.Part.{Part}
+use Rattle.kt_syntax.specs.declared.part.Part.TheVariants as part
+use Rattle.kt_syntax.specs.declared.step.Step.{Step}
+use Rattle.kt_syntax.specs.declared.step.Step.TheVariants as step
+
+-- the step of a line with this part, which names these places or none
+abbrev pub step_with : Part → ℕ → ℕ → Step
+step_with part.Line next after = step.Line
+step_with part.Body next after = step.Body
+step_with part.Define next after = step.Define next
+step_with part.Endef next after = step.Endef
+step_with part.Conditional next after = step.Conditional next after
+step_with (part.Branch condition) next after = step.Branch condition next after
+step_with part.Endif next after = step.Endif
+step_with (part.Stray stray) next after = step.Stray stray

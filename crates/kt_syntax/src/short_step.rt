@@ -1,0 +1,87 @@
+//! Steps as blocks hold them: in half the room of a `Step`.
+ghost use Rattle.std.specs.Prelude.{◌≡◌, IfOk};
+ghost use Rattle.kt_syntax.specs.inner.ShortSteps.{step_with};
+
+use crate::part::Part;
+use crate::step::Step;
+use std::alloc::AllocError;
+use std::marker::Model;
+
+// A step with places in numbers of 32 bits; contracts see the step.
+#[derive(Debug, Drop)]
+pub(crate) struct ShortStep {
+    part: Part,
+    next: u32,
+    after: u32,
+}
+
+impl Model for ShortStep {
+    ghost use Rattle.kt_syntax.specs.declared.step.Step.{Step};
+    ghost use Rattle.kt_syntax.specs.inner.ShortSteps.{step_with};
+
+    ghost Value = { Step };
+
+    ghost view = { λ short. step_with short.part short.next short.after };
+}
+
+impl ShortStep {
+    // The same step. One with a place beyond 4,294,967,295 has none, as if memory were refused for it.
+    pub(crate) fn of(step: Step) -> Result<ShortStep, AllocError>
+        ensures { IfOk result (λ short. short ≡ step) }
+    {
+        match step {
+            Step::Line => ShortStep::with(Part::Line, 0, 0),
+            Step::Body => ShortStep::with(Part::Body, 0, 0),
+            Step::Define { end } => ShortStep::with(Part::Define, end, 0),
+            Step::Endef => ShortStep::with(Part::Endef, 0, 0),
+            Step::Conditional { next, after } => ShortStep::with(Part::Conditional, next, after),
+            Step::Branch {
+                condition,
+                next,
+                after,
+            } => ShortStep::with(Part::Branch(condition), next, after),
+            Step::Endif => ShortStep::with(Part::Endif, 0, 0),
+            Step::Stray(stray) => ShortStep::with(Part::Stray(stray), 0, 0),
+        }
+    }
+
+    fn with(part: Part, next: usize, after: usize) -> Result<ShortStep, AllocError>
+        ensures { IfOk result (λ short. short ≡ step_with part next after) }
+    {
+        Ok(ShortStep {
+            part,
+            next: narrow(next)?,
+            after: narrow(after)?,
+        })
+    }
+
+    pub(crate) fn step(&self) -> Step
+        ensures { result ≡ self.now }
+    {
+        let next = self.next as usize;
+        let after = self.after as usize;
+        match self.part {
+            Part::Line => Step::Line,
+            Part::Body => Step::Body,
+            Part::Define => Step::Define { end: next },
+            Part::Endef => Step::Endef,
+            Part::Conditional => Step::Conditional { next, after },
+            Part::Branch(condition) => Step::Branch {
+                condition,
+                next,
+                after,
+            },
+            Part::Endif => Step::Endif,
+            Part::Stray(stray) => Step::Stray(stray),
+        }
+    }
+}
+
+fn narrow(place: usize) -> Result<u32, AllocError>
+    ensures { IfOk result (λ narrowed. narrowed ≡ place) }
+{
+    if place > 4_294_967_295 {
+        return Err(AllocError);
+    }
+    Ok(place as u32)
+}
