@@ -300,7 +300,7 @@ def main():
         return
     asked.kati = os.path.abspath(asked.kati)
     if not os.access(asked.kati, os.X_OK):
-        sys.exit(f"{asked.kati} isn't built: (cd crates/kati_program && rt run > /dev/null)")
+        sys.exit(f"{asked.kati} isn't built: (cd crates/kati_program && rt run -- --help > /dev/null)")
     for name in asked.tables or TABLES:
         title, print_table = TABLES[name]
         print(f"## {title}\n", flush=True)
