@@ -7,8 +7,8 @@ import re
 import unittest
 
 TOP = pathlib.Path(__file__).resolve().parents[2]
-CODE = TOP / "crates/kt_eval/src/text_functions.rt"
-DEFINITION = TOP / "crates/kt_eval/specs/TextFunctions.antt"
+CODE = TOP / "crates/kt_eval/src/expanding/text_functions.rt"
+DEFINITION = TOP / "crates/kt_eval/specs/expanding/TextFunctions.antt"
 LANGUAGE = TOP / "docs/LANGUAGE.md"
 
 

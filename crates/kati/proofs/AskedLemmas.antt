@@ -4,20 +4,19 @@ use Rattle.kt_text.specs.Words.{Text}
 use Rattle.kt_text.specs.Lines.{nul_line}
 use Rattle.kt_eval.specs.declared.stop.Stop.{Stop}
 use Rattle.kt_eval.specs.declared.stop.Stop.TheVariants as stops
-use Rattle.kt_eval.specs.Files.{Store, look}
-use Rattle.kt_eval.specs.Fronts.{IsFront}
-use Rattle.kt_eval.specs.Machines.{ComesBefore, Read, Trace, predefined, read_of, traced}
+use Rattle.kt_eval.specs.files.Files.{Store, look}
+use Rattle.kt_eval.specs.Prefixes.{IsPrefix}
+use Rattle.kt_eval.specs.reading.Machine.{ComesBefore, Read, Trace, predefined, read_of, traced}
 use Rattle.kt_eval.specs.Outcome.{Gives, IfCut, Outcome, Gave, Stopped, left_of, then_do}
-use Rattle.kt_graph.specs.Node.{Node}
 use Rattle.kt_ninja.specs.declared.plan.Plan.{Plan}
-use Rattle.kt_eval.proofs.GrowingLemmas.{front_next, front_same}
-use Rattle.kt_eval.proofs.MachineLemmas.{before_reading}
+use Rattle.kt_eval.proofs.lemmas.GrowingLemmas.{front_same}
+use Rattle.kt_eval.proofs.lemmas.reading.MachineLemmas.{before_reading}
 use Rattle.kati_args.specs.declared.args.Args.{Args}
 use Rattle.kati.specs.Asked.{NamesAreAsked, names_asked}
 use Rattle.kati.specs.Listing.{if_small, if_without_nul, list_in, listed}
 use Rattle.kati.specs.Makefile.{command_line_table, makefile_names, makefile_read}
 use Rattle.kati.specs.Meaning.{Meaning, MeansAfter, MeansGoals, Wanted, meaning_of, prepared, wanted_by}
-use Rattle.kati.specs.Planned.{planned}
+use Rattle.kati.specs.Planning.{planned}
 use Rattle.kati.specs.Steps.{telling}
 use Rattle.kati.proofs.OutcomeLemmas.{asked_then, telling_asks}
 
@@ -43,33 +42,33 @@ list_after store asked name = list_asks name (traced [] (asked ++ name ∷ [])) 
 
 -- a reading that was cut or came to its end
 pub reads_asked : {A C : Type 0} (see : A → C) (result : Result A Stop) (trace : Trace) (end : Outcome Trace C) → Gives see result trace end
-    → IfCut result (ComesBefore trace (left_of end)) → IsFront trace.asked (left_of end).asked
-reads_asked {C} see (Ok x) trace end is cut = subst (λ (o : Outcome Trace C). IsFront trace.asked (left_of o).asked) (sym is) (front_same trace.asked)
+    → IfCut result (ComesBefore trace (left_of end)) → IsPrefix trace.asked (left_of end).asked
+reads_asked {C} see (Ok x) trace end is cut = subst (λ (o : Outcome Trace C). IsPrefix trace.asked (left_of o).asked) (sym is) (front_same trace.asked)
 reads_asked {C} see (Err (stops.Fault fault)) trace end is cut =
-    subst (λ (o : Outcome Trace C). IsFront trace.asked (left_of o).asked) (sym is) (front_same trace.asked)
+    subst (λ (o : Outcome Trace C). IsPrefix trace.asked (left_of o).asked) (sym is) (front_same trace.asked)
 reads_asked see (Err (stops.Device name)) trace end is cut = cut.1
 reads_asked see (Err stops.Memory) trace end is cut = cut.1
 
 -- the names asked for before the makefile come first
-pub before_makefile : (args : Args) (store : Store) (trace : Trace) → IsFront trace.asked (left_of (makefile_read args store trace)).asked
+pub before_makefile : (args : Args) (store : Store) (trace : Trace) → IsPrefix trace.asked (left_of (makefile_read args store trace)).asked
 before_makefile args store trace =
     (before_reading store (makefile_names args.makefile) args.limit (read_of (predefined (command_line_table args.macros)) []) trace).1
 
 -- ---- after the makefile no name is asked for
 
-goals_front : (args : Args) (list : Text) (read : Read) (trace : Trace) → IsFront trace.asked (left_of (telling (wanted_by args list read) trace)).asked
+goals_front : (args : Args) (list : Text) (read : Read) (trace : Trace) → IsPrefix trace.asked (left_of (telling (wanted_by args list read) trace)).asked
 goals_front args list read trace =
-    subst (λ (names : List Text). IsFront trace.asked names) (sym (telling_asks trace (wanted_by args list read))) (front_same trace.asked)
+    subst (λ (names : List Text). IsPrefix trace.asked names) (sym (telling_asks trace (wanted_by args list read))) (front_same trace.asked)
 
 makefile_stops : (args : Args) (store : Store) (list : Text) (trace : Trace) (names : List Text)
-    → IsFront names (left_of (makefile_read args store trace)).asked
-    → IsFront names (left_of (then_do (makefile_read args store trace) (λ read. telling (wanted_by args list read)))).asked
+    → IsPrefix names (left_of (makefile_read args store trace)).asked
+    → IsPrefix names (left_of (then_do (makefile_read args store trace) (λ read. telling (wanted_by args list read)))).asked
 makefile_stops args store list trace names h =
     asked_then names (makefile_read args store trace) (λ read. telling (wanted_by args list read)) (goals_front args list) h
 
 -- where the list was stopped
-pub list_stops : (args : Args) (store : Store) (asked names : List Text) → IsFront names (left_of (listed store args.files (traced [] asked))).asked
-    → IsFront names (names_asked args store asked)
+pub list_stops : (args : Args) (store : Store) (asked names : List Text) → IsPrefix names (left_of (listed store args.files (traced [] asked))).asked
+    → IsPrefix names (names_asked args store asked)
 list_stops args store asked names h = asked_then names (listed store args.files (traced [] asked))
     (λ list trace. then_do (makefile_read args store trace) (λ read. telling (wanted_by args list read)))
     (λ list trace. makefile_stops args store list trace trace.asked (before_makefile args store trace)) h
@@ -77,9 +76,9 @@ list_stops args store asked names h = asked_then names (listed store args.files 
 -- where the list was read, and the makefile came to an end or was stopped
 pub list_read : (args : Args) (store : Store) (asked middle names : List Text) (list : Text)
     → listed store args.files (traced [] asked) ≡ Gave (traced [] middle) list
-    → IsFront names (left_of (makefile_read args store (traced [] middle))).asked → IsFront names (names_asked args store asked)
+    → IsPrefix names (left_of (makefile_read args store (traced [] middle))).asked → IsPrefix names (names_asked args store asked)
 list_read args store asked middle names list is h =
-    subst (λ (o : Outcome Trace Text). IsFront names (left_of (then_do o (λ list trace. then_do (makefile_read args store trace) (λ read. telling (wanted_by args list read))))).asked)
+    subst (λ (o : Outcome Trace Text). IsPrefix names (left_of (then_do o (λ list trace. then_do (makefile_read args store trace) (λ read. telling (wanted_by args list read))))).asked)
     (sym is) (makefile_stops args store list (traced [] middle) names h)
 
 -- ---- the whole

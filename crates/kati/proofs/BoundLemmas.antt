@@ -1,5 +1,5 @@
 -- A list that holds all names that goals may need: those that rules name, and texts of bounded length.
-use Rattle.std.proofs.Common.{◌≡◌, ◌⊎◌, ◌≤◌, ◌+◌, ◌-◌, ℕ, Bool, true, false, not, List, [], ◌∷◌, ◌++◌, length, filter, flat_map, Option, Some, None, refl, sym, ap, subst, ⊎_elim, inl, inr, if◌then◌else◌}
+use Rattle.std.proofs.Common.{◌≡◌, ◌⊎◌, ◌≤◌, ℕ, Bool, true, false, not, List, [], ◌∷◌, ◌++◌, length, filter, flat_map, Option, Some, None, refl, sym, ap, subst, ⊎_elim, inl, inr, if◌then◌else◌}
 use Rattle.std.specs.Prelude.{option_map, slice_get}
 use Rattle.std.specs.List.{Contains, after_last, before_last, last_or, list_any}
 use Rattle.std.specs.Option.{option_and_then}
@@ -12,15 +12,15 @@ use Rattle.kt_rules.specs.Entry.{Rule, needs_for}
 use Rattle.kt_rules.specs.Names.{is_among, without_repeats}
 use Rattle.kt_rules.specs.Suffixes.{all_needs, is_suffix_rule, suffixes_of}
 use Rattle.kt_rules.specs.Book.{explicit_rules, has_recipe, is_double, is_made, is_phony, patterns_of, rules_of, target_rules}
-use Rattle.kt_graph.specs.Candidates.{Candidate}
-use Rattle.kt_graph.specs.Node.{Part, bare_part, chosen_rule, double_node, inputs_of, joined_needs, needs_behind, node_by, node_of, order_only_of, other_rules, own_part, searched, used_rule}
+use Rattle.kt_graph.specs.search.Candidates.{Candidate}
+use Rattle.kt_graph.specs.nodes.Node.{Part, bare_part, chosen_rule, double_node, inputs_of, joined_needs, needs_after, node_by, node_of, order_only_of, other_rules, own_part, searched, used_rule}
 use Rattle.kt_graph.specs.Reach.{HasInput}
-use Rattle.kt_graph.specs.Search.{choice_of}
-use Rattle.kt_graph.proofs.GrowthLemmas.{from_flat_map, in_flat_map}
-use Rattle.kt_graph.proofs.MadeLemmas.{chosen_is}
-use Rattle.kt_graph.proofs.MemberLemmas.{Contains-cases, Contains-from_map, Contains-here, Contains-none, Contains-there}
-use Rattle.kt_graph.proofs.TroubleLemmas.{from_filter}
-use Rattle.kt_graph.proofs.UnknownLemmas.{from_without_repeats}
+use Rattle.kt_graph.specs.search.Search.{choice_of}
+use Rattle.kt_graph.proofs.lemmas.search.GrowthLemmas.{from_flat_map, in_flat_map}
+use Rattle.kt_graph.proofs.lemmas.nodes.MadeLemmas.{chosen_is}
+use Rattle.kt_graph.proofs.lemmas.MemberLemmas.{Contains-cases, Contains-from_map, Contains-here, Contains-none, Contains-there}
+use Rattle.kt_graph.proofs.lemmas.faults.TroubleLemmas.{from_filter}
+use Rattle.kt_graph.proofs.lemmas.search.UnknownLemmas.{from_without_repeats}
 use Rattle.kati.proofs.ClosingLemmas.{IsClosed}
 use Rattle.kati.proofs.FitLemmas.{Below, bound, chosen_fits, from_drop, from_take, from_texts, in_bound, in_texts, least_bound, texts}
 
@@ -46,8 +46,8 @@ joined_named made input has = ⊎_elim
     (found.0, found.1, Contains-append_right (needs_for found.0.0 found.0.1).prerequisites (needs_for found.0.0 found.0.1).order_only input found.2))
     (Contains-append_cases (joined_needs made).prerequisites (joined_needs made).order_only input has)
 
-behind_cases : (first later : Needs) (input : Text) → Contains (all_needs (needs_behind first later)) input → Contains (all_needs first) input ⊎ Contains (all_needs later) input
-behind_cases first later input has = ⊎_elim
+after_cases : (first later : Needs) (input : Text) → Contains (all_needs (needs_after first later)) input → Contains (all_needs first) input ⊎ Contains (all_needs later) input
+after_cases first later input has = ⊎_elim
     (λ (h : Contains (first.prerequisites ++ later.prerequisites) input). ⊎_elim
     (λ (g : Contains first.prerequisites input). inl (Contains-append_left first.prerequisites first.order_only input g))
     (λ (g : Contains later.prerequisites input). inr (Contains-append_left later.prerequisites later.order_only input g))
@@ -104,9 +104,9 @@ module _ (rules : List Rule) (known : List Text) (name : Text) where
       by true e = absurd (none-some found e)
       by false e = chosen (choice_of (patterns_of rules) known name) e
 
-  part_told : (part : Part) (input : Text) → Contains (node_of rules known name).parts part → Contains (all_needs part.needs) input → IsTold input
+  part_view : (part : Part) (input : Text) → Contains (node_of rules known name).parts part → Contains (all_needs part.needs) input → IsTold input
   unfolding node_of
-  part_told part input has needed = by (list_any (λ rule. is_double rule.0.kind) made) has
+  part_view part input has needed = by (list_any (λ rule. is_double rule.0.kind) made) has
     where
       joined : Contains (all_needs (joined_needs made)) input → IsTold input
       joined h = inl (joined_named made input h)
@@ -118,13 +118,13 @@ module _ (rules : List Rule) (known : List Text) (name : Text) where
           (λ (own : Contains (all_needs (needs_for used.0 used.1)) input). inl (used, used_in made used is, own))
           (λ (rest : Contains (all_needs (joined_needs (other_rules made))) input).
           inl (fewer_named (other_rules made) made input (others_in made) (joined_named (other_rules made) input rest)))
-          (behind_cases (needs_for used.0 used.1) (joined_needs (other_rules made)) input
+          (after_cases (needs_for used.0 used.1) (joined_needs (other_rules made)) input
           (subst (λ (one : Part). Contains (all_needs one.needs) input) (sym same) needed))
       node None is (Some found) also h =
           let same = alone _ part h in ⊎_elim
           (λ (own : Contains (all_needs found.0.needs) input). inr (found.0, searched_choice found also, own))
           (λ (rest : Contains (all_needs (joined_needs made)) input). joined rest)
-          (behind_cases found.0.needs (joined_needs made) input (subst (λ (one : Part). Contains (all_needs one.needs) input) (sym same) needed))
+          (after_cases found.0.needs (joined_needs made) input (subst (λ (one : Part). Contains (all_needs one.needs) input) (sym same) needed))
       node None is None also h =
           joined (subst (λ (one : Part). Contains (all_needs one.needs) input) (sym (alone (bare_part (suffixes_of rules) name (joined_needs made)) part h)) needed)
 
@@ -141,13 +141,13 @@ module _ (rules : List Rule) (known : List Text) (name : Text) where
       (λ (h : Contains (inputs_of (node_of rules known name)) input).
       let found = from_flat_map (λ (part : Part). part.needs.prerequisites) (node_of rules known name).parts input
       (from_without_repeats (flat_map (λ part. part.needs.prerequisites) (node_of rules known name).parts) input h) in
-      part_told found.0 input found.1 (Contains-append_left found.0.needs.prerequisites found.0.needs.order_only input found.2))
+      part_view found.0 input found.1 (Contains-append_left found.0.needs.prerequisites found.0.needs.order_only input found.2))
       (λ (h : Contains (order_only_of (node_of rules known name)) input).
       let kept = from_filter (λ one. not (is_among (inputs_of (node_of rules known name)) one))
       (without_repeats (flat_map (λ part. part.needs.order_only) (node_of rules known name).parts)) input h in
       let found = from_flat_map (λ (part : Part). part.needs.order_only) (node_of rules known name).parts input
       (from_without_repeats (flat_map (λ part. part.needs.order_only) (node_of rules known name).parts) input kept.0) in
-      part_told found.0 input found.1 (Contains-append_right found.0.needs.prerequisites found.0.needs.order_only input found.2))
+      part_view found.0 input found.1 (Contains-append_right found.0.needs.prerequisites found.0.needs.order_only input found.2))
       (Contains-append_cases (inputs_of (node_of rules known name)) (order_only_of (node_of rules known name)) input has)
 
 -- ---- the list

@@ -9,7 +9,7 @@ use Rattle.std.proofs.lemmas.Slice.Eq.{bytes_eq-Decides}
 use Rattle.kt_text.specs.Words.{Text}
 use Rattle.kt_rules.specs.Entry.{Rule}
 use Rattle.kt_graph.specs.Reach.{HasInput}
-use Rattle.kt_graph.proofs.MemberLemmas.{Contains-cases, Contains-here, Contains-none, Contains-there}
+use Rattle.kt_graph.proofs.lemmas.MemberLemmas.{Contains-cases, Contains-here, Contains-none, Contains-there}
 
 -- whether something holds can be told
 abbrev pub Decided : Type 0 → Type 0

@@ -9,25 +9,25 @@ use Rattle.kt_text.specs.Words.{Text}
 use Rattle.kt_text.specs.Functions.{word_set}
 use Rattle.kt_text.proofs.SortLemmas.{word_set-sorts}
 use Rattle.kt_rules.specs.Entry.{Rule}
-use Rattle.kt_graph.specs.Faults.{IsSoundGraph, fault_number, fault_words}
-use Rattle.kt_graph.specs.Groups.{is_one_making}
-use Rattle.kt_graph.specs.Node.{Instance, Node, all_inputs, node_of}
-use Rattle.kt_graph.specs.Paths.{is_reserved}
+use Rattle.kt_graph.specs.faults.Faults.{IsSoundGraph, fault_number, fault_words}
+use Rattle.kt_graph.specs.nodes.Groups.{is_one_making}
+use Rattle.kt_graph.specs.nodes.Node.{Instance, Node, all_inputs, node_of}
+use Rattle.kt_graph.specs.faults.Paths.{is_reserved}
 use Rattle.kt_graph.specs.Reach.{AreOneMaking, ComesFirst, HasEdge, HasInput, IsCyclic, IsFirst, IsGraph, IsInGroup, IsReached, Leads, Reaches, Trouble, beside, itself, circular, no_rule, one_file, reserved_name, unmade_goal}
-use Rattle.kt_graph.specs.inner.Files.{is_repeated, made_names}
-use Rattle.kt_graph.proofs.GroupLemmas.{one_itself, one_same}
-use Rattle.kt_graph.proofs.GrowthLemmas.{from_flat_map, in_flat_map}
-use Rattle.kt_graph.proofs.MadeLemmas.{input_reached, node_name}
-use Rattle.kt_graph.proofs.MemberLemmas.{Contains-cases, Contains-here, Contains-there}
-use Rattle.kt_graph.proofs.ReachLemmas.{goal_reached}
-use Rattle.kt_graph.proofs.TroubleLemmas.{comes_first, file_trouble, filter_there, from_filter, is_reserved_there, none_below}
-use Rattle.kt_graph.proofs.WholeLemmas.{group_cases}
-use Rattle.kt_eval.specs.Machines.{Trace, traced}
+use Rattle.kt_graph.specs.inner.faults.Files.{is_repeated, made_names}
+use Rattle.kt_graph.proofs.lemmas.nodes.GroupLemmas.{one_itself, one_same}
+use Rattle.kt_graph.proofs.lemmas.search.GrowthLemmas.{from_flat_map, in_flat_map}
+use Rattle.kt_graph.proofs.lemmas.nodes.MadeLemmas.{input_reached, node_name}
+use Rattle.kt_graph.proofs.lemmas.MemberLemmas.{Contains-cases, Contains-here, Contains-there}
+use Rattle.kt_graph.proofs.lemmas.nodes.ReachLemmas.{goal_reached}
+use Rattle.kt_graph.proofs.lemmas.faults.TroubleLemmas.{comes_first, file_trouble, filter_there, from_filter, is_reserved_there, none_below}
+use Rattle.kt_graph.proofs.lemmas.nodes.WholeLemmas.{group_cases}
+use Rattle.kt_eval.specs.reading.Machine.{Trace, traced}
 use Rattle.kt_eval.specs.Outcome.{Gave, Outcome, Stopped}
 use Rattle.kt_eval.specs.Step.{fault_at}
 use Rattle.kati.specs.Meaning.{Meaning, MeansAfter, MeansGoals, Wanted, meaning_of, prepared}
 use Rattle.kati.specs.Once.{HasAMeaning}
-use Rattle.kati.specs.Planned.{planned}
+use Rattle.kati.specs.Planning.{planned}
 use Rattle.kati.specs.Steps.{telling}
 use Rattle.kati.proofs.BoundLemmas.{closed_names}
 use Rattle.kati.proofs.ClosingLemmas.{Closed, Decided, FirstOf, IsClosed, closing, decide_in, first_or_none}
@@ -92,7 +92,7 @@ module _ (rules : List Rule) (known goals names : List Text) (are : IsClosed rul
       λ has. reach.met name (from_sorted name (subst (λ (l : List Text). Contains l name) (named_alike sorted) has)),
       λ reached. subst (λ (l : List Text). Contains l name) (sym (named_alike sorted)) (in_sorted name reached),
     );
-    settled = ap (map (node_of rules known)) (sym (named_alike sorted));
+    stored = ap (map (node_of rules known)) (sym (named_alike sorted));
   }
 
   -- ---- cycles

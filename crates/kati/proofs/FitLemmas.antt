@@ -14,12 +14,12 @@ use Rattle.kt_rules.specs.declared.entry.Target.{Target}
 use Rattle.kt_rules.specs.Entry.{Rule}
 use Rattle.kt_rules.specs.Names.{after_dots, without_dots}
 use Rattle.kt_rules.specs.Suffixes.{all_needs}
-use Rattle.kt_graph.specs.Candidates.{Candidate, are_short, candidate_by, candidate_of, candidate_with, candidates_for, directory_of, fit_of, has_slash, left_out, matched_part, matching_from, needed_name, needed_names, nonempty, shorter, shortest, size_of, spelled_out, stem_of, unless_long, without_any}
-use Rattle.kt_graph.proofs.GrowthLemmas.{from_by_size, from_flat_map, in_flat_map}
-use Rattle.kt_graph.proofs.MemberLemmas.{Contains-cases, Contains-from_map, Contains-here, Contains-map, Contains-none, Contains-there}
-use Rattle.kt_graph.proofs.Membership.{each_passes}
-use Rattle.kt_graph.proofs.TroubleLemmas.{from_filter}
-use Rattle.kt_graph.proofs.WholeLemmas.{Contains-from_filter_map}
+use Rattle.kt_graph.specs.search.Candidates.{Candidate, are_short, candidate_by, candidate_of, candidate_with, candidates_for, directory_of, fit_of, has_slash, left_out, matched_part, matching_from, needed_name, needed_names, nonempty, shorter, shortest, size_of, spelled_out, stem_of, unless_long, without_any}
+use Rattle.kt_graph.proofs.lemmas.search.GrowthLemmas.{from_by_size, from_flat_map, in_flat_map}
+use Rattle.kt_graph.proofs.lemmas.MemberLemmas.{Contains-cases, Contains-from_map, Contains-here, Contains-map, Contains-none, Contains-there}
+use Rattle.kt_graph.proofs.lemmas.Membership.{each_passes}
+use Rattle.kt_graph.proofs.lemmas.faults.TroubleLemmas.{from_filter}
+use Rattle.kt_graph.proofs.lemmas.nodes.WholeLemmas.{Contains-from_filter_map}
 
 -- ---- parts of lists
 

@@ -1,3 +1,7 @@
+pub mod DrawnLemmas
+pub mod SketchLemmas
+pub mod GraphPlanLemmas
+pub mod TellingLemmas
 pub mod PlanLemmas
 pub mod BlameLemmas
 pub mod MeaningLemmas

@@ -5,36 +5,42 @@ use Rattle.kt_rules.specs.Entry.{Rule}
 use Rattle.kt_eval.specs.declared.fault.Fault.{Fault}
 use Rattle.kt_eval.specs.declared.stop.Stop.{Stop}
 use Rattle.kt_eval.specs.declared.stop.Stop.TheVariants as stops
-use Rattle.kt_eval.specs.Machines.{Trace, traced}
-use Rattle.kt_eval.specs.Files.{Store}
+use Rattle.kt_eval.specs.reading.Machine.{Trace, traced}
+use Rattle.kt_eval.specs.files.Files.{Store}
 use Rattle.kt_eval.specs.Outcome.{Ends, Fails, IsOfNoDevice, Gives, Outcome, Gave, Stopped}
 use Rattle.kt_eval.specs.Step.{fault_at}
-use Rattle.kt_graph.specs.declared.fault.GraphFault.{GraphFault}
-use Rattle.kt_graph.specs.declared.fault.GraphFault.TheVariants as graphs
-use Rattle.kt_graph.specs.Faults.{IsSoundGraph, TellsFirst, fault_number}
-use Rattle.kt_graph.specs.Node.{Node}
+use Rattle.kt_graph.specs.declared.faults.fault.GraphFault.{GraphFault}
+use Rattle.kt_graph.specs.declared.faults.fault.GraphFault.TheVariants as graphs
+use Rattle.kt_graph.specs.faults.Faults.{IsSoundGraph, ReportsFirst, fault_number}
+use Rattle.kt_graph.specs.nodes.Node.{Node}
 use Rattle.kt_ninja.specs.declared.plan.Plan.{Plan}
 use Rattle.kati_args.specs.declared.args.Args.{Args}
 use Rattle.kati.specs.Meaning.{Meaning, MeansAfter, Wanted, meaning_of, prepared}
-use Rattle.kati.specs.Planned.{planned}
+use Rattle.kati.specs.Planning.{planned}
 use Rattle.kati.specs.inner.Stops.{IsFirstStop, IsStopOf}
 use Rattle.kati.specs.inner.Views.{EndMeans, GoalsEnd}
 
 abbrev pub meant : List Text → List Text → Result Plan Fault → Meaning
 meant said asked result = record { messages = said; result = result; asked = asked }
 
--- the plan of a sound graph
+-- the plan of a sound graph, as it is seen
+pub seen_means : {A : Type 0} (see : A → Plan) (limit : ℕ) (want : Wanted) (trace : Trace) (nodes : List Node) (heard : List Text) (result : Result A Stop)
+    → IsSoundGraph want.read.book want.known want.goals nodes
+    → Gives see result heard (planned want.read.book want.read.table limit want.goals nodes trace.said)
+    → Ends (GoalsEnd limit want) trace see result (traced heard trace.asked)
+seen_means see limit want trace nodes heard (Ok plan) sound is = inl (record { nodes = nodes; graph = sound; means = rw is refl })
+seen_means see limit want trace nodes heard (Err (stops.Fault fault)) sound is = inl (record { nodes = nodes; graph = sound; means = rw is refl })
+seen_means see limit want trace nodes heard (Err (stops.Device name)) sound is = tt
+seen_means see limit want trace nodes heard (Err stops.Memory) sound is = tt
+
 pub plan_means : (limit : ℕ) (want : Wanted) (trace : Trace) (nodes : List Node) (heard : List Text) (result : Result Plan Stop)
     → IsSoundGraph want.read.book want.known want.goals nodes
     → Gives (λ (plan : Plan). plan) result heard (planned want.read.book want.read.table limit want.goals nodes trace.said)
     → Ends (GoalsEnd limit want) trace (λ (plan : Plan). plan) result (traced heard trace.asked)
-plan_means limit want trace nodes heard (Ok plan) sound is = inl (record { nodes = nodes; graph = sound; means = rw is refl })
-plan_means limit want trace nodes heard (Err (stops.Fault fault)) sound is = inl (record { nodes = nodes; graph = sound; means = rw is refl })
-plan_means limit want trace nodes heard (Err (stops.Device name)) sound is = tt
-plan_means limit want trace nodes heard (Err stops.Memory) sound is = tt
+plan_means limit want trace nodes heard result sound is = seen_means (λ (plan : Plan). plan) limit want trace nodes heard result sound is
 
 -- what comes first of what is wrong with a graph
-pub first_stop : (rules : List Rule) (known goals : List Text) (fault : GraphFault) (stop : Stop) → TellsFirst rules known goals fault → IsStopOf fault stop
+pub first_stop : (rules : List Rule) (known goals : List Text) (fault : GraphFault) (stop : Stop) → ReportsFirst rules known goals fault → IsStopOf fault stop
     → IsFirstStop rules known goals stop
 first_stop rules known goals graphs.Memory stop tells is = subst (λ (s : Stop). IsFirstStop rules known goals s) (sym is) tt
 first_stop rules known goals (graphs.Refused number words) stop tells is =

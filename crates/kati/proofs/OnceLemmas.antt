@@ -14,16 +14,16 @@ use Rattle.std.proofs.lemmas.Map.Views.{All-after_first}
 use Rattle.std.proofs.lemmas.Option.{none-some, same_Some}
 use Rattle.kt_text.specs.Words.{Text}
 use Rattle.kt_rules.specs.Entry.{Rule}
-use Rattle.kt_eval.specs.Machines.{Trace, traced}
+use Rattle.kt_eval.specs.reading.Machine.{Trace, traced}
 use Rattle.kt_eval.specs.Outcome.{Outcome, Gave, Stopped}
 use Rattle.kt_eval.specs.Step.{fault_at}
-use Rattle.kt_graph.specs.Faults.{fault_number, fault_words}
-use Rattle.kt_graph.specs.Node.{Node, node_of}
+use Rattle.kt_graph.specs.faults.Faults.{fault_number, fault_words}
+use Rattle.kt_graph.specs.nodes.Node.{Node, node_of}
 use Rattle.kt_graph.specs.Reach.{ComesFirst, IsFirst, IsGraph, IsSound, Trouble, no_rule, circular, reserved_name, one_file}
-use Rattle.kt_graph.proofs.MemberLemmas.{Contains-cases, Contains-here, Contains-none, Contains-there}
+use Rattle.kt_graph.proofs.lemmas.MemberLemmas.{Contains-cases, Contains-here, Contains-none, Contains-there}
 use Rattle.kati.specs.Meaning.{Meaning, MeansAfter, MeansGoals, Wanted, meaning_of, prepared}
 use Rattle.kati.specs.Once.{HasOneMeaning}
-use Rattle.kati.specs.Planned.{planned}
+use Rattle.kati.specs.Planning.{planned}
 use Rattle.kati.specs.Steps.{telling}
 use Rattle.kati.proofs.PlanLemmas.{name_in, not_less, order}
 
@@ -71,7 +71,7 @@ module _ (name other : Text) (names others : List Text) (rises : IsStrictlySorte
   same_first : IsStrictlySortedBy order (other ∷ others) → Contains (other ∷ others) name → Contains (name ∷ names) other → name ≡ other
   same_first rise there back = equal_by name other (not_before_first other others name rise there) (not_before_first name names other rises back)
 
--- names in order are told by what they contain
+-- names in order are recognised by what they contain
 same_names : (names others : List Text) → IsStrictlySortedBy order names → IsStrictlySortedBy order others
     → ((name : Text) → Contains names name → Contains others name) → ((name : Text) → Contains others name → Contains names name) → names ≡ others
 same_names [] [] rises rise there back = refl
@@ -89,7 +89,7 @@ same_names (name ∷ names) (other ∷ others) rises rise there back =
 
 module _ (rules : List Rule) (known goals : List Text) where
   graph_once : (nodes others : List Node) → IsGraph rules known goals nodes → IsGraph rules known goals others → nodes ≡ others
-  graph_once nodes others one other = one.settled ∙ ap (map (node_of rules known)) same ∙ sym other.settled
+  graph_once nodes others one other = one.stored ∙ ap (map (node_of rules known)) same ∙ sym other.stored
     where
       same : map name_in nodes ≡ map name_in others
       same = same_names (map name_in nodes) (map name_in others) one.rises other.rises

@@ -3,11 +3,11 @@ use Rattle.std.proofs.Common.{◌≡◌, List, [], Result, Ok, Err, refl}
 use Rattle.kt_text.specs.Words.{Text}
 use Rattle.kt_eval.specs.declared.stop.Stop.{Stop}
 use Rattle.kt_eval.specs.declared.stop.Stop.TheVariants as stops
-use Rattle.kt_eval.specs.Files.{Store}
-use Rattle.kt_eval.specs.Fronts.{IsFront}
-use Rattle.kt_eval.specs.Machines.{Read, Trace, traced}
+use Rattle.kt_eval.specs.files.Files.{Store}
+use Rattle.kt_eval.specs.Prefixes.{IsPrefix}
+use Rattle.kt_eval.specs.reading.Machine.{Read, Trace, traced}
 use Rattle.kt_eval.specs.Outcome.{Gives, Outcome, Gave, Stopped, StepOver, leaving, left_of, then_do}
-use Rattle.kt_eval.proofs.GrowingLemmas.{front_next}
+use Rattle.kt_eval.proofs.lemmas.GrowingLemmas.{front_next}
 use Rattle.kati_args.specs.declared.args.Args.{Args}
 use Rattle.kati.specs.Listing.{listed}
 use Rattle.kati.specs.Makefile.{makefile_read}
@@ -35,8 +35,8 @@ telling_asks {A} trace step = by (step trace.said)
 
 -- names that are asked for before the end of a step are before that of a longer one
 pub asked_then : {A B : Type 0} (names : List Text) (first : Outcome Trace A) (next : A → StepOver Trace B)
-    → ((x : A) (trace : Trace) → IsFront trace.asked (left_of (next x trace)).asked) → IsFront names (left_of first).asked
-    → IsFront names (left_of (then_do first next)).asked
+    → ((x : A) (trace : Trace) → IsPrefix trace.asked (left_of (next x trace)).asked) → IsPrefix names (left_of first).asked
+    → IsPrefix names (left_of (then_do first next)).asked
 asked_then names (Gave trace x) next more h = front_next names trace.asked (left_of (next x trace)).asked h (more x trace)
 asked_then names (Stopped trace fault) next more h = h
 

@@ -1,7 +1,7 @@
 -- The plan of what goals need can be written, where its names and commands can.
 use Rattle.std.proofs.Common.{◌≡◌, ◌≢◌, ℕ, ◌+◌, Bool, true, false, not, ◌&&◌, if◌then◌else◌, cond, List, [], ◌∷◌, ◌++◌, map, filter, find, flat_map, Option, Some, None, refl, sym, ap, ◌∙◌, subst, ⊎_elim, append-nil, arith, ◌||◌}
-use Rattle.std.specs.Prelude.{IfOk, MatchOption, Result, Ok, Err, nat_eq}
-use Rattle.std.specs.Option.{option_and_then}
+use Rattle.std.specs.Prelude.{IfOk, MatchOption, Result, Ok, Err, length, nat_eq, slice_get}
+use Rattle.std.specs.Option.{option_and_then, option_map_or}
 use Rattle.std.specs.List.{All, AllPairs, Contains, list_all, list_any}
 use Rattle.std.specs.List.Sorted.{IsStrictlySortedBy}
 use Rattle.std.specs.Ordering.{is_eq, nat_cmp}
@@ -24,22 +24,23 @@ use Rattle.kt_rules.specs.Entry.{Rule}
 use Rattle.kt_eval.specs.declared.fault.Fault.{Fault}
 use Rattle.kt_eval.specs.declared.stop.Stop.{Stop}
 use Rattle.kt_eval.specs.Outcome.{Outcome, Gave, Stopped}
-use Rattle.kt_eval.specs.Table.{Table}
-use Rattle.kt_graph.specs.Faults.{IsSoundGraph}
-use Rattle.kt_graph.specs.Groups.{AreGroups, are_together, groups_among, groups_of, is_leading, leader_name, made_nodes}
-use Rattle.kt_graph.specs.Node.{Node, is_leaf, node_of}
-use Rattle.kt_graph.specs.Paths.{canon_of, is_reserved, parts_of}
+use Rattle.kt_eval.specs.macros.Macros.{Table}
+use Rattle.kt_graph.specs.faults.Faults.{IsSoundGraph}
+use Rattle.kt_graph.specs.nodes.Groups.{AreGroups, are_together, groups_among, groups_of, is_leading, leader_name, made_nodes}
+use Rattle.kt_graph.specs.nodes.Node.{Node, is_leaf, node_of}
+use Rattle.kt_graph.specs.faults.Paths.{canon_of, is_reserved, parts_of}
 use Rattle.kt_graph.specs.Reach.{IsGraph, IsReached, unmade_goal}
-use Rattle.kt_graph.proofs.GroupLaw.{are_groups}
-use Rattle.kt_graph.proofs.MemberLemmas.{Contains-cases, Contains-from_map, Contains-here, Contains-map, Contains-none, Contains-there}
-use Rattle.kt_graph.proofs.TroubleLemmas.{filter_there, found_nowhere, from_filter}
-use Rattle.kt_graph.proofs.WholeLemmas.{mapped_itself}
+use Rattle.kt_graph.proofs.lemmas.nodes.GroupLaw.{are_groups}
+use Rattle.kt_graph.proofs.lemmas.MemberLemmas.{Contains-cases, Contains-from_map, Contains-here, Contains-map, Contains-none, Contains-there}
+use Rattle.kt_graph.proofs.lemmas.faults.TroubleLemmas.{filter_there, found_nowhere, from_filter}
+use Rattle.kt_graph.proofs.lemmas.nodes.WholeLemmas.{mapped_itself}
 use Rattle.kt_ninja.specs.declared.plan.Plan.{Plan}
 use Rattle.kt_ninja.specs.declared.plan.Statement.{Statement}
 use Rattle.kt_ninja.specs.Plan.{outputs}
 use Rattle.kt_ninja.specs.Plan as plans
-use Rattle.kt_ninja.specs.Writable.{IsWritable, HasWritableTexts, Trouble, bad_name, bad_command, is_empty, is_made, is_name, trouble_of_statements}
-use Rattle.kati.specs.Planned.{always_build, always_built, command_for, has_implicit, outs_of, plan_groups, plan_of, statement_of, text_fault, unwritable_in, with_always_built}
+use Rattle.kt_ninja.specs.View.{names_at}
+use Rattle.kt_ninja.specs.Writable.{IsWritable, HasWritableTexts, Obstacle, bad_name, bad_command, is_empty, is_made, is_name, obstacle_of_statements}
+use Rattle.kati.specs.Planning.{always_build, always_built, command_for, first_output, has_implicit, outs_of, plan_groups, plan_of, statement_of, text_fault, unwritable_in, with_always_built}
 use Rattle.kati.specs.inner.Stops.{IsFaultOf}
 use Rattle.kati.proofs.OutcomeLemmas.{gave_both}
 use Rattle.kati.specs.inner.Views.{is_text_trouble}
@@ -75,9 +76,9 @@ apart (name ∷ names) rest rises off differ =
     AllPairs-cons (λ (a b : Text). a ≢ b) name (names ++ rest)
     (all_if (λ (x : Text). name ≢ x) (names ++ rest) (λ x has. ⊎_elim
     (λ (later : Contains names x). not_less name x (All-contains (λ (q : Text). order name q ≡ Less) names x (All-after_first order name names rises) later))
-    (λ (behind : Contains rest x) (same : name ≡ x). off name (Contains-here name names) (subst (λ (y : Text). Contains rest y) (sym same) behind))
+    (λ (after : Contains rest x) (same : name ≡ x). off name (Contains-here name names) (subst (λ (y : Text). Contains rest y) (sym same) after))
     (Contains-append_cases names rest x has)))
-    (apart names rest (sorted_tail order name names rises) (λ x has behind. off x (Contains-there name names x has) behind) differ)
+    (apart names rest (sorted_tail order name names rises) (λ x has after. off x (Contains-there name names x has) after) differ)
 
 no_pairs : AllPairs (λ (a b : Text). a ≢ b) []
 no_pairs i j d below within = absurd (omega arith)
@@ -104,7 +105,7 @@ to_flat {A} {B} f (first ∷ xs) x y has in_x =
 
 itself_together : (node : Node) → are_together node node ≡ true
 itself_together node =
-    ap (λ b. b || Rattle.kt_graph.specs.Groups.is_one_making node.made_with node.made_with) ((bytes_eq-Decides node.name node.name).1 refl)
+    ap (λ b. b || Rattle.kt_graph.specs.nodes.Groups.is_one_making node.made_with node.made_with) ((bytes_eq-Decides node.name node.name).1 refl)
 
 nonempty_names : (group : List Node) (node : Node) → Contains group node → is_empty (outs_of group) ≡ false
 nonempty_names [] node has = Contains-none node has
@@ -124,7 +125,7 @@ module _ (rules : List Rule) (known goals : List Text) (nodes : List Node) (grap
   in_nodes node has = (from_filter (λ (one : Node). not (is_leaf one.kind)) nodes node has).0
 
   pub node_is : (node : Node) → Contains nodes node → node_of rules known node.name ≡ node
-  node_is node has = mapped_itself (node_of rules known) name_in nodes node graph.settled has
+  node_is node has = mapped_itself (node_of rules known) name_in nodes node graph.stored has
 
   -- groups with a common name are one group
   one_group : (group other : List Node) (name : Text) → Contains (groups_of nodes) group → Contains (groups_of nodes) other
@@ -146,8 +147,8 @@ module _ (rules : List Rule) (known goals : List Text) (nodes : List Node) (grap
       subst (λ (names : List Text). AllPairs (λ (a b : Text). a ≢ b) names) (sym (flat_map-cons outs_of group groups))
       (apart (outs_of group) (flat_map outs_of groups)
       (All-contains (λ (one : List Node). IsStrictlySortedBy order (map name_in one)) (groups_of nodes) group law.members is_group)
-      (λ name here behind.
-      let other = from_flat outs_of groups name behind in
+      (λ name here after.
+      let other = from_flat outs_of groups name after in
       let same : group ≡ other.0
       = one_group group other.0 name is_group (within other.0 (Contains-there group groups other.0 other.1)) here other.2 in
       not_less (leader_name group) (leader_name other.0)
@@ -276,40 +277,40 @@ module _ (rules : List Rule) (known goals : List Text) (nodes : List Node) (soun
             (λ goal has. Contains-there always_build (outputs statements) goal (each_goal goal has));
       }
 
--- the plan of a sound graph, where its texts can be written
-pub plan_writable : (rules : List Rule) (table : Table) (limit : ℕ) (known goals : List Text) (nodes : List Node) (said heard : List Text) (statements : List Statement)
+-- the plan of a sound graph, as it is seen, where its texts can be written
+pub plan_writable : {A : Type 0} (see : A → Plan) (rules : List Rule) (table : Table) (limit : ℕ) (known goals : List Text) (nodes : List Node) (said heard : List Text) (statements : List Statement)
     → IsSoundGraph rules known goals nodes → plan_groups rules table limit (groups_of nodes) [] said ≡ Gave heard statements
     → (plan : Plan) → plan ≡ plan_of statements goals
-    → (result : Result Plan Stop) → IfOk result (λ p. p ≡ plan) → IfOk result HasWritableTexts → IfOk result IsWritable
-plan_writable rules table limit known goals nodes said heard statements sound planned_so plan is (Ok p) same texts =
+    → (result : Result A Stop) → IfOk result (λ p. see p ≡ plan) → IfOk result (λ p. HasWritableTexts (see p)) → IfOk result (λ p. IsWritable (see p))
+plan_writable see rules table limit known goals nodes said heard statements sound planned_so plan is (Ok p) same texts =
     subst IsWritable (sym (same ∙ is))
     (can_be_written rules known goals nodes sound statements (outs_told rules table limit (groups_of nodes) [] said heard statements planned_so)
     (subst HasWritableTexts (same ∙ is) texts))
-plan_writable rules table limit known goals nodes said heard statements sound planned_so plan is (Err stop) same texts = tt
+plan_writable see rules table limit known goals nodes said heard statements sound planned_so plan is (Err stop) same texts = tt
 
 -- ---- what can't be written
 
-text_by : (trouble other : Trouble) → Some trouble ≡ Some other → is_text_trouble other ≡ true → is_text_trouble trouble ≡ true
+text_by : (trouble other : Obstacle) → Some trouble ≡ Some other → is_text_trouble other ≡ true → is_text_trouble trouble ≡ true
 text_by trouble other e is = ap is_text_trouble (same_Some trouble other e) ∙ is
 
 -- what is wrong with names and commands is never anything else
-pub text_troubles : (number : ℕ) (statements : List Statement) (trouble : Trouble) → Some trouble ≡ trouble_of_statements number statements
+pub text_troubles : (number : ℕ) (statements : List Statement) (trouble : Obstacle) → Some trouble ≡ obstacle_of_statements number statements
     → is_text_trouble trouble ≡ true
 text_troubles number [] trouble e = absurd (none-some trouble (sym e))
 text_troubles number (s ∷ statements) trouble e =
     by (λ f. text_troubles (number + 1) statements trouble f) (find (λ (n : Text). not (is_name n)) (plans.names_of s)) (is_made s.made) e
   where
-    rest : Option Trouble
-    rest = trouble_of_statements (number + 1) statements
+    rest : Option Obstacle
+    rest = obstacle_of_statements (number + 1) statements
 
-    by : (Some trouble ≡ trouble_of_statements (number + 1) statements → is_text_trouble trouble ≡ true) → (found : Option Text) (made : Bool)
-        → Some trouble ≡ Rattle.std.specs.Option.option_or (Rattle.std.specs.Option.option_or (Rattle.std.specs.Prelude.option_map bad_name found) (if made then None else Some (bad_command number))) (trouble_of_statements (number + 1) statements)
+    by : (Some trouble ≡ obstacle_of_statements (number + 1) statements → is_text_trouble trouble ≡ true) → (found : Option Text) (made : Bool)
+        → Some trouble ≡ Rattle.std.specs.Option.option_or (Rattle.std.specs.Option.option_or (Rattle.std.specs.Prelude.option_map bad_name found) (if made then None else Some (bad_command number))) (obstacle_of_statements (number + 1) statements)
         → is_text_trouble trouble ≡ true
     by more (Some name) made f = text_by trouble (bad_name name) f refl
     by more None false f = text_by trouble (bad_command number) f refl
     by more None true f = more f
 
-text_settled : (plan : Plan) (trouble : Trouble) (result : Option Stop) → Some trouble ≡ trouble_of_statements 0 plan.statements
+pub text_settled : (plan : Plan) (trouble : Obstacle) (result : Option Stop) → Some trouble ≡ obstacle_of_statements 0 plan.statements
     → MatchOption result ((text_fault plan.statements trouble ≡ None) × (is_text_trouble trouble ≡ false))
     (λ stop. (fault : Fault) × (text_fault plan.statements trouble ≡ Some fault) × IsFaultOf fault stop)
     → MatchOption result ((unwritable_in plan.statements ≡ None) × HasWritableTexts plan)
@@ -318,14 +319,21 @@ unfolding unwritable_in
 text_settled plan trouble None is h = absurd (false≢true (sym h.1 ∙ text_troubles 0 plan.statements trouble is))
 text_settled plan trouble (Some stop) is h = (h.0, ap (option_and_then (text_fault plan.statements)) (sym is) ∙ h.1, h.2)
 
--- the same, where the statements are borrowed
-pub text_settled_in : (plan : Plan) (statements : List Statement) (trouble : Trouble) (result : Option Stop) → statements ≡ plan.statements
-    → Some trouble ≡ trouble_of_statements 0 plan.statements
-    → MatchOption result ((text_fault statements trouble ≡ None) × (is_text_trouble trouble ≡ false))
-    (λ stop. (fault : Fault) × (text_fault statements trouble ≡ Some fault) × IsFaultOf fault stop)
-    → MatchOption result ((unwritable_in plan.statements ≡ None) × HasWritableTexts plan)
-    (λ stop. (fault : Fault) × (unwritable_in plan.statements ≡ Some fault) × IsFaultOf fault stop)
-text_settled_in plan statements trouble result same is h =
-    text_settled plan trouble result is
-    (subst (λ (ss : List Statement). MatchOption result ((text_fault ss trouble ≡ None) × (is_text_trouble trouble ≡ false))
-    (λ stop. (fault : Fault) × (text_fault ss trouble ≡ Some fault) × IsFaultOf fault stop)) same h)
+-- the least output of a statement at a place
+pub least_here : (found : Option Statement) (name : Text) → slice_get (names_at (λ s. s.outs) found) 0 ≡ Some name
+    → name ≡ option_map_or (λ statement. first_output statement.outs) found []
+least_here None name is = absurd (cc is)
+least_here (Some s) name is = by s.outs is
+  where
+    by : (outs : List Text) → slice_get outs 0 ≡ Some name → name ≡ first_output outs
+    by [] e = absurd (cc e)
+    by (first ∷ outs) e = sym (same_Some first name e)
+
+pub least_none : (found : Option Statement) → length (names_at (λ s. s.outs) found) ≡ 0
+    → [] ≡ option_map_or (λ statement. first_output statement.outs) found []
+least_none None is = refl
+least_none (Some s) is = by s.outs is
+  where
+    by : (outs : List Text) → length outs ≡ 0 → [] ≡ first_output outs
+    by [] e = refl
+    by (first ∷ outs) e = absurd (omega (arith, e))

@@ -5,7 +5,7 @@ use Rattle.std.proofs.lemmas.List.Concat.{flat_map-cons}
 use Rattle.std.proofs.lemmas.List.Sums.{fold-append}
 use Rattle.kt_text.specs.Words.{Text}
 use Rattle.kt_rules.specs.Names.{with_name}
-use Rattle.kt_graph.specs.Node.{Node}
+use Rattle.kt_graph.specs.nodes.Node.{Node}
 
 -- the names of one node more
 pub names_more : (names : Node → List Text) (old new : List Text) (group : List Node) (i : ℕ) (node : Node) → i < length group → node ≡ get_or group i node

@@ -1,22 +1,22 @@
 -- Each plan that a run means can be written, and is read back.
 use Rattle.std.proofs.Common.{◌≡◌, ℕ, Bool, true, false, List, [], Option, Some, None, Result, Ok, Err, refl, sym, ap, ◌∙◌, subst, inl, inr}
 use Rattle.std.specs.Option.{option_and_then}
-use Rattle.std.proofs.lemmas.Bool.{false≢true, true≢false}
+use Rattle.std.proofs.lemmas.Bool.{false≢true}
 use Rattle.kt_text.specs.Words.{Text}
 use Rattle.kt_eval.specs.declared.fault.Fault.{Fault}
-use Rattle.kt_eval.specs.Files.{Store}
-use Rattle.kt_eval.specs.Machines.{Trace, traced}
+use Rattle.kt_eval.specs.files.Files.{Store}
+use Rattle.kt_eval.specs.reading.Machine.{Trace, traced}
 use Rattle.kt_eval.specs.Outcome.{Outcome, Gave, Stopped, leaving}
-use Rattle.kt_graph.specs.Groups.{groups_of}
-use Rattle.kt_graph.specs.Node.{Node}
+use Rattle.kt_graph.specs.nodes.Groups.{groups_of}
+use Rattle.kt_graph.specs.nodes.Node.{Node}
 use Rattle.kt_ninja.specs.declared.plan.Plan.{Plan}
 use Rattle.kt_ninja.specs.declared.plan.Statement.{Statement}
-use Rattle.kt_ninja.specs.Writable.{IsWritable, Trouble, no_output, bad_name, bad_command, repeated, not_an_output, trouble_of_statements}
+use Rattle.kt_ninja.specs.Writable.{IsWritable, Obstacle, no_output, bad_name, bad_command, repeated, not_an_output, obstacle_of_statements}
 use Rattle.kt_ninja.proofs.Deciding.{texts_exactly}
 use Rattle.kt_ninja.proofs.PrintThenRead.{printed_is_read}
 use Rattle.kati_args.specs.declared.args.Args.{Args}
 use Rattle.kati.specs.Meaning.{Meaning, Means, MeansAfter, MeansGoals, Wanted, meaning_of, prepared}
-use Rattle.kati.specs.Planned.{plan_groups, plan_of, plan_unless, planned, text_fault, unwritable_in, written}
+use Rattle.kati.specs.Planning.{plan_groups, plan_of, plan_unless, planned, text_fault, unwritable_in, written}
 use Rattle.kati.specs.ReadBack.{PlansReadBack}
 use Rattle.kati.specs.Steps.{telling}
 use Rattle.kati.specs.inner.Views.{is_text_trouble}
@@ -48,18 +48,18 @@ went_on limit (Gave trace want) m plan ok h = record { trace = trace; want = wan
 went_on limit (Stopped trace fault) m plan ok h = absurd (false≢true (sym (ap (λ (n : Meaning). has_plan n.result) h) ∙ ap has_plan ok))
 
 -- texts without a fault can be written
-untroubled : (statements : List Statement) → unwritable_in statements ≡ None → trouble_of_statements 0 statements ≡ None
+untroubled : (statements : List Statement) → unwritable_in statements ≡ None → obstacle_of_statements 0 statements ≡ None
 unfolding unwritable_in
-untroubled statements e = by (trouble_of_statements 0 statements) refl e
+untroubled statements e = by (obstacle_of_statements 0 statements) refl e
   where
-    told : (trouble : Trouble) → is_text_trouble trouble ≡ true → text_fault statements trouble ≡ None → ⊥
+    told : (trouble : Obstacle) → is_text_trouble trouble ≡ true → text_fault statements trouble ≡ None → ⊥
     told (bad_name name) is f = absurd (cc f)
     told (bad_command number) is f = absurd (cc f)
     told (no_output number) is f = false≢true is
     told (repeated name) is f = false≢true is
     told (not_an_output name) is f = false≢true is
 
-    by : (trouble : Option Trouble) → trouble_of_statements 0 statements ≡ trouble → option_and_then (text_fault statements) trouble ≡ None → trouble ≡ None
+    by : (trouble : Option Obstacle) → obstacle_of_statements 0 statements ≡ trouble → option_and_then (text_fault statements) trouble ≡ None → trouble ≡ None
     by None is f = refl
     by (Some trouble) is f = absurd (told trouble (text_troubles 0 statements trouble (sym is)) f)
 
@@ -91,8 +91,8 @@ plan_given limit want nodes trace plan e =
     let told = told_plan (planned want.read.book want.read.table limit want.goals nodes trace.said) trace plan e in
     let both = gave_both (plan_groups want.read.book want.read.table limit (groups_of nodes) [] trace.said)
     (λ statements. written (plan_of statements want.goals)) told.0 plan told.1 in
-    let settled = plan_unless_is plan (plan_of both.given want.goals) (unwritable_in (plan_of both.given want.goals).statements) both.middle told.0 both.rest in
-    record { heard = both.middle; statements = both.given; groups = both.is; fine = settled.0; is = settled.1 }
+    let stored = plan_unless_is plan (plan_of both.given want.goals) (unwritable_in (plan_of both.given want.goals).statements) both.middle told.0 both.rest in
+    record { heard = both.middle; statements = both.given; groups = both.is; fine = stored.0; is = stored.1 }
 
 goals_fine : (limit : ℕ) (want : Wanted) (trace : Trace) (m : Meaning) (plan : Plan) → m.result ≡ Ok plan
     → MeansGoals limit want trace m → IsWritable plan

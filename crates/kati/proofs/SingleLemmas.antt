@@ -7,8 +7,8 @@ use Rattle.std.proofs.lemmas.List.{append_assoc}
 use Rattle.std.proofs.lemmas.List.Folds.{list_any-append}
 use Rattle.kt_text.specs.Words.{Text}
 use Rattle.kt_rules.specs.Names.{is_among, with_name, without_repeats}
-use Rattle.kt_graph.specs.Node.{Node, inputs_of, order_only_of}
-use Rattle.kati.specs.Planned.{joined_inputs, joined_order_only}
+use Rattle.kt_graph.specs.nodes.Node.{Node, inputs_of, order_only_of}
+use Rattle.kati.specs.Planning.{joined_inputs, joined_order_only}
 
 -- none of the names is among those before it
 abbrev AreNew : List Text → List Text → Type 0

@@ -10,23 +10,23 @@ use Rattle.kt_text.specs.Words.{Text}
 use Rattle.kt_rules.specs.Entry.{Rule}
 use Rattle.kt_rules.specs.Names.{is_among, without_repeats}
 use Rattle.kt_eval.specs.declared.stop.Stop.{Stop}
-use Rattle.kt_eval.specs.Machines.{Read, Trace}
+use Rattle.kt_eval.specs.reading.Machine.{Read, Trace}
 use Rattle.kt_eval.specs.Outcome.{Ends}
-use Rattle.kt_graph.specs.Groups.{groups_of}
-use Rattle.kt_graph.specs.Node.{Node, all_inputs, inputs_of, order_only_of}
-use Rattle.kt_graph.specs.Paths.{always_name, canon_of, is_reserved}
+use Rattle.kt_graph.specs.nodes.Groups.{groups_of}
+use Rattle.kt_graph.specs.nodes.Node.{Node, all_inputs, inputs_of, order_only_of}
+use Rattle.kt_graph.specs.faults.Paths.{always_name, canon_of, is_reserved}
 use Rattle.kt_graph.specs.Reach.{HasEdge, IsInGroup, IsMade, IsReached, Leads}
-use Rattle.kt_graph.proofs.MadeLemmas.{input_reached}
-use Rattle.kt_graph.proofs.MemberLemmas.{Contains-cases, Contains-from_map, Contains-map, Contains-none}
-use Rattle.kt_graph.proofs.TroubleLemmas.{from_filter}
-use Rattle.kt_graph.proofs.UnknownLemmas.{from_without_repeats}
+use Rattle.kt_graph.proofs.lemmas.nodes.MadeLemmas.{input_reached}
+use Rattle.kt_graph.proofs.lemmas.MemberLemmas.{Contains-cases, Contains-from_map, Contains-map, Contains-none}
+use Rattle.kt_graph.proofs.lemmas.faults.TroubleLemmas.{from_filter}
+use Rattle.kt_graph.proofs.lemmas.search.UnknownLemmas.{from_without_repeats}
 use Rattle.kt_ninja.specs.Plan.{outputs}
 use Rattle.kt_ninja.specs.declared.plan.Plan.{Plan}
 use Rattle.kt_ninja.specs.declared.plan.Statement.{Statement}
 use Rattle.kt_ninja.specs.Writable.{IsWritable}
 use Rattle.kati.specs.Exact.{IsAlwaysBuilt, IsOfGroup, TellsGraph}
 use Rattle.kati.specs.Meaning.{Wanted}
-use Rattle.kati.specs.Planned.{always_build, always_built, implicit_of, joined_inputs, joined_order_only, outs_of, statement_of}
+use Rattle.kati.specs.Planning.{always_build, always_built, implicit_of, joined_inputs, joined_order_only, outs_of, statement_of}
 use Rattle.kati.specs.Sound.{IsSoundPlan, IsUnreserved, NeedsInput, NeedsItself, PlansAreSound}
 use Rattle.kati.specs.inner.Views.{GoalsEnd}
 use Rattle.kati.proofs.ExactLemmas.{are_graphs, goals_told, of_group}

@@ -1,5 +1,5 @@
--- What a sink is told in pieces, and what is told at the end.
-use Rattle.std.proofs.Common.{◌≡◌, ◌≤◌, ℕ, ◌++◌, Result, Ok, Err, refl, sym, subst, inl, inr, arith}
+-- What a sink is told in pieces, and what is reported at the end.
+use Rattle.std.proofs.Common.{◌≡◌, ◌≤◌, ◌++◌, Result, Ok, Err, refl, sym, subst, inl, inr, arith}
 use Rattle.std.specs.Prelude.{IfErr, OnErr, OnOk}
 use Rattle.kt_list.specs.Counters.{Rises}
 use Rattle.kt_text.specs.Words.{Text}
@@ -7,30 +7,30 @@ use Rattle.kt_ninja.specs.Written.{GrowsByFront, SinkSeen, Takes}
 use Rattle.kt_ninja.proofs.Growth.{front_after, front_of_more, takes_twice}
 use Rattle.kati.specs.declared.faults.RunFault.{RunFault}
 use Rattle.kati.specs.declared.status.Status.{Status}
-use Rattle.kati.specs.Devices.{Devices, devices}
-use Rattle.kt_eval.specs.Files.{FilesSeen}
-use Rattle.kati.specs.Told.{Tells, TellsEnd, fault_words}
+use Rattle.kati.specs.Devices.{devices}
+use Rattle.kt_eval.specs.files.Files.{FilesSeen}
+use Rattle.kati.specs.ErrorOutput.{WritesOrFails, ReportsEnd, fault_words}
 
 -- the first piece was taken, and the others are told after it
-pub told_after : (a b : Text) (old middle new : SinkSeen) → old.failed ≤ middle.failed → Takes old middle a → Tells b middle new
-    → Tells (a ++ b) old new
+pub told_after : (a b : Text) (old middle new : SinkSeen) → old.failed ≤ middle.failed → Takes old middle a → WritesOrFails b middle new
+    → WritesOrFails (a ++ b) old new
 told_after a b old middle new counts one (inl whole) = inl (takes_twice old middle new a b one whole)
 told_after a b old middle new counts one (inr cut) = inr (omega (arith, cut.0), front_after old middle new a b one cut.1)
 
 -- the first piece was cut
-pub told_cut : (a b : Text) (old new : SinkSeen) → Rises old.failed new.failed → GrowsByFront old new a → Tells (a ++ b) old new
+pub told_cut : (a b : Text) (old new : SinkSeen) → Rises old.failed new.failed → GrowsByFront old new a → WritesOrFails (a ++ b) old new
 told_cut a b old new fails grows = inr (fails, front_of_more old new a b grows)
 
 -- what one call of `put` leaves
 pub told_by : {A B : Type 0} (result : Result A B) (text : Text) (old new : SinkSeen)
     → OnOk result (Takes old new text) → OnErr result (GrowsByFront old new text) → OnErr result (Rises old.failed new.failed)
-    → Tells text old new
+    → WritesOrFails text old new
 told_by (Ok x) text old new whole cut fails = inl whole
 told_by (Err e) text old new whole cut fails = inr (fails, cut)
 
--- what is told at the end goes to the error output alone
+-- what is reported at the end goes to the error output alone
 pub told_end : (result : Result Status RunFault) (files : FilesSeen) (out err err' : SinkSeen) → OnOk result (err' ≡ err)
-    → IfErr result (λ fault. Tells (fault_words fault) err err') → TellsEnd result (devices files out err) (devices files out err')
+    → IfErr result (λ fault. WritesOrFails (fault_words fault) err err') → ReportsEnd result (devices files out err) (devices files out err')
 told_end (Ok status) files out err err' same told =
     subst (λ (last : SinkSeen). devices files out last ≡ devices files out err) (sym same) refl
 told_end (Err fault) files out err err' same told = (refl, refl, told)

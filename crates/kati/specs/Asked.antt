@@ -1,8 +1,8 @@
 -- The names that a run asks for (kati's own).
 use Rattle.std.specs.Prelude.{◌≡◌, List, []}
 use Rattle.kt_text.specs.Words.{Text}
-use Rattle.kt_eval.specs.Files.{Store}
-use Rattle.kt_eval.specs.Machines.{traced}
+use Rattle.kt_eval.specs.files.Files.{Store}
+use Rattle.kt_eval.specs.reading.Machine.{traced}
 use Rattle.kt_eval.specs.Outcome.{left_of}
 use Rattle.kati_args.specs.declared.args.Args.{Args}
 use Rattle.kati.specs.Meaning.{Meaning, Means, prepared}

@@ -1,5 +1,5 @@
 -- What is seen of the devices of a run (kati's own).
-use Rattle.kt_eval.specs.Files.{FilesSeen}
+use Rattle.kt_eval.specs.files.Files.{FilesSeen}
 use Rattle.kt_ninja.specs.Written.{SinkSeen}
 
 -- the files, the output and the error output

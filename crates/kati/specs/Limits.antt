@@ -2,12 +2,12 @@
 use Rattle.std.specs.Prelude.{◌≡◌, ℕ, ◌≤◌, List, Result, Ok, Err}
 use Rattle.kt_text.specs.Words.{Text}
 use Rattle.kt_eval.specs.declared.fault.Fault.{Fault}
-use Rattle.kt_eval.specs.Files.{Store}
+use Rattle.kt_eval.specs.files.Files.{Store}
 use Rattle.kt_ninja.specs.declared.plan.Plan.{Plan}
 use Rattle.kati_args.specs.declared.args.Args.{Args}
 use Rattle.kati.specs.declared.status.Status.{Status}
 use Rattle.kati.specs.Devices.{Devices}
-use Rattle.kati.specs.Headline.{Ends}
+use Rattle.kati.specs.AfterRun.{Ends}
 use Rattle.kati.specs.Meaning.{Meaning, Means}
 
 -- the same arguments with this limit

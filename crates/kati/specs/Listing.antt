@@ -1,18 +1,15 @@
 -- The list of files that exist, which `--files` names (kati's own).
-use Rattle.std.specs.Prelude.{ℕ, [], ◌++◌, length, Bool, true, false, nat_lt, Option, Some, None}
+use Rattle.std.specs.Prelude.{ℕ, [], length, Bool, true, false, nat_lt, Option, Some, None}
 use Rattle.kt_text.specs.Words.{Text}
 use Rattle.kt_text.specs.Lines.{nul_line}
 use Rattle.kt_rules.specs.declared.fault_kind.FaultKind.TheVariants.{FileTooLarge, NoFile, NulByte}
 use Rattle.kt_eval.specs.declared.fault.Fault.{Fault}
 use Rattle.kt_eval.specs.Step.{fault_of}
-use Rattle.kt_eval.specs.Files.{Store, look}
-use Rattle.kt_eval.specs.Machines.{Trace}
+use Rattle.kt_eval.specs.files.Files.{Store, look}
+use Rattle.kt_eval.specs.reading.Machine.{Trace}
+use Rattle.kt_eval.specs.reading.Reading.{largest_file}
 use Rattle.kt_eval.specs.Outcome.{StepOver, ◌>>◌, done, stop_at}
 use Rattle.kati.specs.Steps.{ask_for, fault_nowhere}
-
--- the most bytes of a list
-abbrev pub most_bytes : ℕ
-most_bytes = 16777216
 
 abbrev pub nul_fault : Text → ℕ → Fault
 nul_fault name line = fault_of (Some (record { file = name; line = line })) NulByte []
@@ -30,7 +27,7 @@ if_small name text false = if_without_nul name text (nul_line text)
 -- by whether it is there
 abbrev pub list_in : Text → Option Text → StepOver Trace Text
 list_in name None = stop_at (fault_nowhere NoFile name)
-list_in name (Some text) = if_small name text (nat_lt most_bytes (length text))
+list_in name (Some text) = if_small name text (nat_lt largest_file (length text))
 
 -- the text of the list, which is empty where none is asked for
 abbrev pub listed : Store → Option Text → StepOver Trace Text

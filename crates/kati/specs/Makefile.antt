@@ -2,12 +2,12 @@
 -- make manual, "Overriding Variables").
 use Rattle.std.specs.Prelude.{List, [], ◌∷◌, fold, Option, Some, None, codes}
 use Rattle.kt_text.specs.Words.{Text, trimmed_start}
-use Rattle.kt_eval.specs.Files.{Store}
-use Rattle.kt_eval.specs.Table.{Table, put}
+use Rattle.kt_eval.specs.files.Files.{Store}
+use Rattle.kt_eval.specs.macros.Macros.{Table, put}
 use Rattle.kt_eval.specs.declared.macros.Macro.{Macro as Entry}
 use Rattle.kt_eval.specs.declared.macros.Flavour.TheVariants.{Deferred}
 use Rattle.kt_eval.specs.declared.macros.Origin.TheVariants.{CommandLine}
-use Rattle.kt_eval.specs.Machines.{Read, Trace, predefined, read_of, reading}
+use Rattle.kt_eval.specs.reading.Machine.{Read, Trace, predefined, read_of, reading}
 use Rattle.kt_eval.specs.Outcome.{StepOver}
 use Rattle.kati_args.specs.declared.args.Args.{Args}
 use Rattle.kati_args.specs.declared.args.Macro.{Macro}

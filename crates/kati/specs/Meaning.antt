@@ -2,21 +2,21 @@
 use Rattle.std.specs.Prelude.{◌≡◌, ℕ, List, [], Some, None, ◌⊎◌, Result, Ok, Err}
 use Rattle.kt_text.specs.Words.{Text}
 use Rattle.kt_eval.specs.declared.fault.Fault.{Fault}
-use Rattle.kt_eval.specs.Files.{Store}
-use Rattle.kt_eval.specs.Machines.{Read, Trace, traced}
+use Rattle.kt_eval.specs.files.Files.{Store}
+use Rattle.kt_eval.specs.reading.Machine.{Read, Trace, traced}
 use Rattle.kt_eval.specs.Outcome.{Outcome, Gave, Stopped, StepOver, ◌>>=◌, done}
 use Rattle.kt_eval.specs.Step.{fault_at}
 use Rattle.kt_graph.specs.Known.{known_names}
-use Rattle.kt_graph.specs.Node.{Node}
+use Rattle.kt_graph.specs.nodes.Node.{Node}
 use Rattle.kt_graph.specs.Reach.{Trouble, ComesFirst}
-use Rattle.kt_graph.specs.Faults.{IsSoundGraph, fault_number, fault_words}
+use Rattle.kt_graph.specs.faults.Faults.{IsSoundGraph, fault_number, fault_words}
 use Rattle.kt_ninja.specs.declared.plan.Plan.{Plan}
 use Rattle.kati_args.specs.declared.args.Args.{Args}
 use Rattle.kati.specs.Steps.{telling}
 use Rattle.kati.specs.Listing.{listed}
 use Rattle.kati.specs.Makefile.{makefile_read}
-use Rattle.kati.specs.Chosen.{chosen_goals}
-use Rattle.kati.specs.Planned.{planned}
+use Rattle.kati.specs.Goals.{chosen_goals}
+use Rattle.kati.specs.Planning.{planned}
 
 -- the names asked for are those that were before the run, and its own
 pub record Meaning : Type 0 where

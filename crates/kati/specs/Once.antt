@@ -1,7 +1,7 @@
 -- That a run has a meaning, and only one (kati's own).
 use Rattle.std.specs.Prelude.{◌≡◌, List}
 use Rattle.kt_text.specs.Words.{Text}
-use Rattle.kt_eval.specs.Files.{Store}
+use Rattle.kt_eval.specs.files.Files.{Store}
 use Rattle.kati_args.specs.declared.args.Args.{Args}
 use Rattle.kati.specs.Meaning.{Meaning, Means}
 

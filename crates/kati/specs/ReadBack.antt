@@ -1,7 +1,7 @@
 -- What Ninja's rules read of what is written (kati's own).
 use Rattle.std.specs.Prelude.{◌≡◌, List, Ok}
 use Rattle.kt_text.specs.Words.{Text}
-use Rattle.kt_eval.specs.Files.{Store}
+use Rattle.kt_eval.specs.files.Files.{Store}
 use Rattle.kt_ninja.specs.declared.plan.Plan.{Plan}
 use Rattle.kt_ninja.specs.NinjaRead.{ninja_read}
 use Rattle.kt_ninja.specs.Text.{plan_text}

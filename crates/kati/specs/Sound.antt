@@ -3,15 +3,15 @@
 use Rattle.std.specs.Prelude.{◌≡◌, ◌⊎◌, false, List, ◌++◌, Ok}
 use Rattle.std.specs.List.{Contains}
 use Rattle.kt_text.specs.Words.{Text}
-use Rattle.kt_eval.specs.Files.{Store}
-use Rattle.kt_graph.specs.Paths.{canon_of, is_reserved}
+use Rattle.kt_eval.specs.files.Files.{Store}
+use Rattle.kt_graph.specs.faults.Paths.{canon_of, is_reserved}
 use Rattle.kt_graph.specs.Reach.{Reaches}
 use Rattle.kt_ninja.specs.Plan.{outputs}
 use Rattle.kt_ninja.specs.declared.plan.Plan.{Plan}
 use Rattle.kt_ninja.specs.declared.plan.Statement.{Statement}
 use Rattle.kati_args.specs.declared.args.Args.{Args}
 use Rattle.kati.specs.Meaning.{Meaning, Means}
-use Rattle.kati.specs.Planned.{always_build, always_built}
+use Rattle.kati.specs.Planning.{always_build, always_built}
 
 -- one of the statements makes the name, and needs the input
 pub record NeedsInput (statements : List Statement) (name input : Text) : Type 0 where

@@ -3,7 +3,7 @@ use Rattle.std.specs.Prelude.{List, ◌∷◌, [], ◌++◌, None}
 use Rattle.kt_text.specs.Words.{Text}
 use Rattle.kt_rules.specs.declared.fault_kind.FaultKind.{FaultKind}
 use Rattle.kt_eval.specs.declared.fault.Fault.{Fault}
-use Rattle.kt_eval.specs.Machines.{Trace, traced}
+use Rattle.kt_eval.specs.reading.Machine.{Trace, traced}
 use Rattle.kt_eval.specs.Outcome.{Gave, StepOver, leaving}
 use Rattle.kt_eval.specs.Step.{fault_of}
 

@@ -1,4 +1,6 @@
 -- What only contracts of private functions and proofs cite: nothing here has to be read to know what is promised.
 pub mod Stops
 pub mod Views
+pub mod Drawn
+pub mod Shown
 pub mod Delivered

@@ -1,8 +1,8 @@
 //! Whether a Ninja file is the plan.
 ghost use Rattle.std.specs.Prelude.{◌≡◌, ◌∷◌, ◌++◌, [], IfOk, IfErr, IfSome, OnOk, option_map, Some};
-ghost use Rattle.kt_eval.specs.Files.{look};
-ghost use Rattle.kati.specs.Checked.{AskedAtCheck, IsChecked, IsSame};
-ghost use Rattle.kati.specs.Headline.{ReadBlames};
+ghost use Rattle.kt_eval.specs.files.Files.{look};
+ghost use Rattle.kati.specs.Checking.{AskedAtCheck, IsChecked, IsSame};
+ghost use Rattle.kati.specs.AfterRun.{ReadBlames};
 ghost use Rattle.kati.specs.declared.faults.RunFault.TheVariants.{Memory};
 
 use crate::faults::RunFault;

@@ -2,14 +2,13 @@
 ghost use Rattle.std.specs.Prelude.{[], List};
 ghost use Rattle.kt_text.specs.Words.{Text};
 ghost use Rattle.kt_eval.specs.Outcome.{AsksNothing, Gives};
-ghost use Rattle.kt_eval.specs.Pure.{Says};
+ghost use Rattle.kt_eval.specs.expanding.Pure.{Says};
 ghost use Rattle.kt_graph.specs.Goals.{default_goals};
-ghost use Rattle.kati.specs.Chosen.{chosen_goals, default_goal_text, goals_or_none};
-ghost use Rattle.kati.specs.inner.Views.{read_told};
+ghost use Rattle.kati.specs.Goals.{chosen_goals, default_goal_text, goals_or_none};
+ghost use Rattle.kati.specs.inner.Views.{read_view};
 
-use crate::reading::Makefile;
 use crate::words::stop_on;
-use kt_eval::{Macros, NoAutomatic, Stop};
+use kt_eval::{Macros, Makefile, NoAutomatic, Stop};
 use kt_graph::{default_goal, named_goals};
 use kt_list::Sequence;
 use kt_rules::{Book, FaultKind, Name};
@@ -24,7 +23,7 @@ pub(crate) fn chosen_goals(
     messages: &mut Vec<Sequence<u8>>,
 ) -> Result<Vec<Name>, Stop>
     ensures gives { Gives (λ v. v.items) result messages.new.items
-        (chosen_goals limit (read_told makefile.now) goals.now messages.old.items) }
+        (chosen_goals limit (read_view makefile.now) goals.now messages.old.items) }
     ensures asks_nothing { AsksNothing result }
 {
     if goals.is_empty() {
@@ -41,7 +40,7 @@ fn default_goals(
     messages: &mut Vec<Sequence<u8>>,
 ) -> Result<Vec<Name>, Stop>
     ensures gives { Gives (λ v. v.items) result messages.new.items
-        (chosen_goals limit (read_told makefile.now) [] messages.old.items) }
+        (chosen_goals limit (read_view makefile.now) [] messages.old.items) }
     ensures asks_nothing { AsksNothing result }
 {
     let text = default_goal_text(&makefile.macros, limit, messages)?;
@@ -49,7 +48,7 @@ fn default_goals(
 }
 
 // The text of the macro that names the goal.
-#[tactic(auto, unfolding(crate::specs::Chosen::default_goal_text))]
+#[tactic(auto, unfolding(crate::specs::Goals::default_goal_text))]
 fn default_goal_text(
     macros: &Macros,
     limit: u64,

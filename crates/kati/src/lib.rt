@@ -4,17 +4,22 @@
 mod checking;
 mod faults;
 mod goals;
+mod graph_plan;
 pub mod laws;
 mod listing;
+mod makefile;
+mod name_list;
 mod outcome;
 mod planning;
 mod program;
-mod reading;
 mod running;
+mod sketch;
 mod statements;
 mod status;
+mod telling;
 mod translating;
 mod words;
+mod writing;
 
 pub use faults::RunFault;
 pub use kati_args::{ArgFault, Args, args_of};

@@ -1,7 +1,7 @@
 //! The list of files that exist.
 ghost use Rattle.std.specs.Prelude.{◌≡◌, [], option_map, IfOk, IfSome, Some};
-ghost use Rattle.kt_eval.specs.Fronts.{IsFront};
-ghost use Rattle.kt_eval.specs.Machines.{Trace, traced};
+ghost use Rattle.kt_eval.specs.Prefixes.{IsPrefix};
+ghost use Rattle.kt_eval.specs.reading.Machine.{Trace, traced};
 ghost use Rattle.kt_eval.specs.Outcome.{AsksNothing, Gives, left_of};
 ghost use Rattle.kt_eval.specs.Step.{Blames};
 ghost use Rattle.kati.specs.Listing.{list_in, listed, nul_fault};
@@ -9,14 +9,11 @@ ghost use Rattle.kati.specs.inner.Stops.{IsFaultOf};
 
 use crate::words::stop_on;
 use kati_args::Word;
-use kt_eval::{FileFault, Files, Stop};
+use kt_eval::{FileFault, Files, LARGEST_FILE, Stop};
 use kt_list::Shared;
 use kt_rules::{FaultKind, Place};
 use kt_text::nul_line;
 use std::alloc::{AllocError, Global};
-
-/// The most bytes of a list.
-const MOST_BYTES: usize = 16_777_216;
 
 /// The text of the list, which is empty where none is asked for.
 pub(crate) fn listed<F: Files>(
@@ -28,7 +25,7 @@ pub(crate) fn listed<F: Files>(
         (λ store. Gives (λ v. v.items) result (traced [] (F.seen files.new).names)
         (listed store name.now (traced [] (F.seen files.old).names))) }
     ensures asked { IfSome (F.seen files.old).known
-        (λ store. IsFront (F.seen files.new).names (left_of (listed store name.now (traced []
+        (λ store. IsPrefix (F.seen files.new).names (left_of (listed store name.now (traced []
         (F.seen files.old).names))).asked) }
     ensures keeps { (F.seen files.new).known ≡ (F.seen files.old).known }
     ensures blames { Blames result (F.seen files.old) (F.seen files.new) }
@@ -43,7 +40,7 @@ fn read_list<F: Files>(alloc: Global, name: &str, files: &mut F) -> Result<Vec<u
     ensures gives { IfSome (F.seen files.old).known
         (λ store. Gives (λ v. v.items) result (traced [] (F.seen files.new).names)
         (listed store (Some name.now) (traced [] (F.seen files.old).names))) }
-    ensures asked { IfSome (F.seen files.old).known (λ store. IsFront (F.seen files.new).names
+    ensures asked { IfSome (F.seen files.old).known (λ store. IsPrefix (F.seen files.new).names
         (left_of (listed store (Some name.now) (traced [] (F.seen files.old).names))).asked) }
     ensures keeps { (F.seen files.new).known ≡ (F.seen files.old).known }
     ensures blames { Blames result (F.seen files.old) (F.seen files.new) }
@@ -73,7 +70,7 @@ fn checked(alloc: Global, name: &str, text: Vec<u8>) -> Result<Vec<u8>, Stop>
     ensures gives { (trace : Trace) → Gives (λ v. v.items) result trace (list_in name.now (Some text.items) trace) }
     ensures asks_nothing { AsksNothing result }
 {
-    if text.len() > MOST_BYTES {
+    if text.len() > LARGEST_FILE {
         let name = name.as_bytes();
         return Err(stop_on(alloc, FaultKind::FileTooLarge, name, None));
     }

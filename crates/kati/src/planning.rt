@@ -1,29 +1,54 @@
 //! The plan of a graph.
-ghost use Rattle.std.specs.Prelude.{◌≡◌, ◌++◌, ◌∷◌, [], List, map, option_map, IfOk, MatchOption, None, Some, false};
-ghost use Rattle.std.specs.List.{list_any};
+ghost use Rattle.std.specs.Prelude.{◌≡◌, ◌++◌, ◌∷◌, [], List, map, IfOk, MatchOption, None, Some, false};
 ghost use Rattle.kt_text.specs.Words.{Text};
 ghost use Rattle.kt_eval.specs.declared.fault.Fault.{Fault as FaultType};
-ghost use Rattle.kt_graph.specs.Faults.{IsSoundGraph};
-ghost use Rattle.kt_ninja.specs.Writable.{HasWritableTexts, IsWritable, told_trouble};
+ghost use Rattle.kt_graph.specs.faults.Faults.{IsSoundGraph};
+ghost use Rattle.kt_graph.specs.nodes.Groups.{groups_of};
+ghost use Rattle.kt_recipe.specs.Views.{command_in};
+ghost use Rattle.kt_ninja.specs.Writable.{HasWritableTexts, IsWritable, told_obstacle};
 ghost use Rattle.kt_eval.specs.Outcome.{AsksNothing, Gives, done, then_do};
-ghost use Rattle.kati.specs.Planned.{command_for, first_output, has_implicit, least_output, plan_groups, plan_of};
-ghost use Rattle.kati.specs.Planned.{planned, statement_of, text_fault, unwritable_in, with_always_built, written};
+ghost use Rattle.kati.specs.Planning.{command_for, least_output, plan_groups, plan_of, planned, text_fault};
+ghost use Rattle.kati.specs.Planning.{unwritable_in, written};
+ghost use Rattle.kati.specs.inner.Drawn.{AlwaysFirst, draw_groups, drawn_of, statements_drawn};
+ghost use Rattle.kati.specs.inner.Shown.{plan_view};
 ghost use Rattle.kati.specs.inner.Stops.{IsFaultOf};
 ghost use Rattle.kati.specs.inner.Views.{is_text_trouble};
 
-use crate::reading::Makefile;
-use crate::statements::{always_built, statement_of};
+use crate::graph_plan::GraphPlan;
+use crate::sketch::Sketch;
+use crate::statements::sketch_group;
 use crate::words::stop_on;
-use kt_eval::Stop;
+use kt_eval::{Makefile, Stop};
 use kt_graph::{Graph, Node};
 use kt_list::Sequence;
-use kt_ninja::{Plan, Statement, Unwritable, texts_can_be_written};
+use kt_ninja::{Listed, Plan, PlanView, Unwritable, copied_plan, texts_can_be_written};
 use kt_recipe::Commands;
 use kt_rules::{Book, FaultKind, Name};
 use std::alloc::{AllocError, Global};
+use std::mem;
 
 /// A statement for each group, in order, and before them that of what is always built.
-#[tactic(auto, unfolding(crate::specs::Planned::planned))]
+#[tactic(auto, unfolding(crate::specs::Planning::planned))]
+pub(crate) fn graph_plan<'g>(
+    alloc: Global,
+    makefile: &Makefile,
+    limit: u64,
+    graph: &'g Graph<'_>,
+    goals: Vec<Name>,
+    messages: &mut Vec<Sequence<u8>>,
+) -> Result<GraphPlan<'g>, Stop>
+    ensures gives { Gives plan_view result messages.new.items
+        (planned makefile.now.book makefile.now.macros limit goals.items graph.now messages.old.items) }
+    ensures asks_nothing { AsksNothing result }
+    ensures writable { (known : List Text) → IsSoundGraph makefile.now.book known goals.items graph.now
+        → IfOk result (λ plan. IsWritable (plan_view plan)) }
+{
+    let groups = all_groups(alloc, graph)?;
+    let sketch = sketched(alloc, makefile, limit, groups.as_slice(), messages)?;
+    written(alloc, plan_of(groups, sketch, goals))
+}
+
+/// The same, built.
 pub(crate) fn plan(
     alloc: Global,
     makefile: &Makefile,
@@ -38,122 +63,131 @@ pub(crate) fn plan(
     ensures writable { (known : List Text) → IsSoundGraph makefile.now.book known goals.items graph.now
         → IfOk result IsWritable }
 {
-    let groups = graph.groups()?;
-    let commands = Commands::new(alloc, &makefile.macros, limit)?;
-    let statements = statements(
-        alloc,
-        &makefile.book,
-        &commands,
-        groups.as_slice(),
-        messages,
-    )?;
-    written(alloc, plan_of(alloc, statements, goals)?)
+    let plan = graph_plan(alloc, makefile, limit, graph, goals, messages)?;
+    Ok(copied_plan(alloc, &plan)?)
 }
 
-#[tactic(auto, unfolding(crate::specs::Planned::plan_groups))]
-fn statements(
+// The groups, one after another.
+fn all_groups<'g>(alloc: Global, graph: &'g Graph<'_>) -> Result<Vec<Vec<Node<'g>>>, AllocError>
+    ensures { IfOk result (λ groups. map (λ group. group.items) groups.items ≡ groups_of graph.now) }
+{
+    let mut left = graph.groups()?;
+    let mut groups = Vec::new(alloc);
+    let mut group = Vec::new(alloc);
+    while left.next_into(&mut group)? {
+        groups.push(mem::replace(&mut group, Vec::new(alloc)))?;
+    }
+    Ok(groups)
+}
+
+// What is held of each group.
+fn sketched(
+    alloc: Global,
+    makefile: &Makefile,
+    limit: u64,
+    groups: &[Vec<Node>],
+    messages: &mut Vec<Sequence<u8>>,
+) -> Result<Sketch, Stop>
+    ensures gives { Gives (λ sketch. statements_drawn (map (λ group. group.items) groups.now) sketch) result
+        messages.new.items (plan_groups makefile.now.book makefile.now.macros limit
+        (map (λ group. group.items) groups.now) [] messages.old.items) }
+    ensures always { IfOk result (λ sketch. AlwaysFirst (map (λ group. group.items) groups.now) sketch) }
+    ensures asks_nothing { AsksNothing result }
+{
+    let commands = Commands::new(alloc, &makefile.macros, limit)?;
+    sketch_groups(alloc, &makefile.book, &commands, groups, messages)
+}
+
+#[tactic(auto, unfolding(crate::specs::inner::Drawn::draw_groups))]
+fn sketch_groups(
     alloc: Global,
     book: &Book,
     commands: &Commands<'_>,
     groups: &[Vec<Node>],
     messages: &mut Vec<Sequence<u8>>,
-) -> Result<Vec<Statement>, Stop>
-    ensures gives { Gives (λ v. v.items) result messages.new.items
-        (plan_groups book.now commands.now.table commands.now.limit (map (λ group. group.items) groups.now) []
+) -> Result<Sketch, Stop>
+    ensures gives { Gives (λ sketch. sketch) result messages.new.items
+        (draw_groups book.now commands.now.table commands.now.limit (map (λ group. group.items) groups.now) []
         messages.old.items) }
     ensures asks_nothing { AsksNothing result }
 {
-    let mut statements = Vec::new(alloc);
+    let mut sketch = Sketch::new(alloc);
+    let mut command = Vec::new(alloc);
     for group in groups {
         add(
             alloc,
             book,
             commands,
             group.as_slice(),
-            &mut statements,
+            &mut command,
+            &mut sketch,
             messages,
         )?;
     }
-    Ok(statements)
+    Ok(sketch)
 }
 
-// Adds the statement of a group.
+// Adds a group. The command has room of its own, which serves one group after the other.
 fn add(
     alloc: Global,
     book: &Book,
     commands: &Commands<'_>,
     group: &[Node],
-    statements: &mut Vec<Statement>,
+    command: &mut Vec<u8>,
+    sketch: &mut Sketch,
     messages: &mut Vec<Sequence<u8>>,
 ) -> Result<(), Stop>
-    ensures gives { Gives (λ _. statements.new.items) result messages.new.items
+    ensures gives { Gives (λ _. sketch.new) result messages.new.items
         (then_do (command_for commands.now.table commands.now.limit group.now messages.old.items)
-        (λ command. done (statements.old.items ++ statement_of book.now group.now command ∷ []))) }
+        (λ command. done (sketch.old ++ drawn_of book.now group.now command ∷ []))) }
     ensures asks_nothing { AsksNothing result }
 {
-    let command = command_for(commands, group, messages)?;
-    statements.push(statement_of(alloc, book, group, command)?)?;
+    put_command(commands, group, command, messages)?;
+    sketch_group(alloc, book, group, command.as_slice(), sketch)?;
     Ok(())
 }
 
-// The command of the least member, which stands first.
-fn command_for(
+// Makes the text the command of the least member, which stands first.
+fn put_command(
     commands: &Commands<'_>,
     group: &[Node],
+    command: &mut Vec<u8>,
     messages: &mut Vec<Sequence<u8>>,
-) -> Result<Option<Vec<u8>>, Stop>
-    ensures gives { Gives (option_map (λ text. text.items)) result messages.new.items
+) -> Result<(), Stop>
+    ensures gives { Gives (λ _. command_in command.new.items) result messages.new.items
         (command_for commands.now.table commands.now.limit group.now messages.old.items) }
     ensures asks_nothing { AsksNothing result }
 {
     match group {
-        [least, ..] => commands.command(least, messages),
-        [] => Ok(None),
+        [least, ..] => commands.write(least, command, messages),
+        [] => {
+            command.clear();
+            Ok(())
+        }
     }
 }
 
-fn plan_of(alloc: Global, statements: Vec<Statement>, goals: Vec<Name>) -> Result<Plan, AllocError>
-    ensures { IfOk result (λ plan. plan ≡ plan_of statements.items goals.items) }
+fn plan_of<'g>(groups: Vec<Vec<Node<'g>>>, sketch: Sketch, goals: Vec<Name>) -> GraphPlan<'g>
+    requires { AlwaysFirst (map (λ group. group.items) groups.items) sketch }
+    ensures { plan_view result
+        ≡ plan_of (statements_drawn (map (λ group. group.items) groups.entry.items) sketch) goals.items }
 {
-    Ok(Plan {
-        statements: Sequence::from(with_always_built(alloc, statements)?),
-        defaults: Sequence::from(goals),
-    })
-}
-
-#[tactic(auto, unfolding(crate::specs::Planned::with_always_built))]
-fn with_always_built(
-    alloc: Global,
-    statements: Vec<Statement>,
-) -> Result<Vec<Statement>, AllocError>
-    ensures { IfOk result (λ all. all.items ≡ with_always_built statements.items) }
-{
-    let mut statements = statements;
-    if has_implicit(statements.as_slice()) {
-        statements.insert(0, always_built(alloc)?)?;
+    let always = sketch.has_always();
+    GraphPlan {
+        groups,
+        sketch,
+        always,
+        goals,
     }
-    Ok(statements)
-}
-
-fn has_implicit(statements: &[Statement]) -> bool
-    ensures { result ≡ list_any has_implicit statements.now }
-{
-    statements.iter().any(|statement| needs_more(statement))
-}
-
-fn needs_more(statement: &Statement) -> bool
-    ensures { result ≡ has_implicit statement.now }
-{
-    !matches!(statement.implicit.as_slice(), [])
 }
 
 // The plan, unless a name or a command of it can't be written.
-#[tactic(auto, unfolding(crate::specs::Planned::written))]
-fn written(alloc: Global, plan: Plan) -> Result<Plan, Stop>
-    ensures gives { (said : List Text) → Gives (λ plan. plan) result said (written plan said) }
+#[tactic(auto, unfolding(crate::specs::Planning::written))]
+fn written<'g>(alloc: Global, plan: GraphPlan<'g>) -> Result<GraphPlan<'g>, Stop>
+    ensures gives { (said : List Text) → Gives plan_view result said (written (plan_view plan.entry) said) }
     ensures asks_nothing { AsksNothing result }
-    ensures same { IfOk result (λ again. again ≡ plan) }
-    ensures texts { IfOk result HasWritableTexts }
+    ensures same { IfOk result (λ copy. plan_view copy ≡ plan_view plan.entry) }
+    ensures texts { IfOk result (λ copy. HasWritableTexts (plan_view copy)) }
 {
     match text_stop(alloc, &plan) {
         None => Ok(plan),
@@ -161,47 +195,44 @@ fn written(alloc: Global, plan: Plan) -> Result<Plan, Stop>
     }
 }
 
-#[tactic(auto, unfolding(crate::specs::Planned::unwritable_in))]
-fn text_stop(alloc: Global, plan: &Plan) -> Option<Stop>
-    ensures { MatchOption result ((unwritable_in plan.now.statements ≡ None) × HasWritableTexts plan.now)
-        (λ stop. (fault : FaultType) × (unwritable_in plan.now.statements ≡ Some fault) × IsFaultOf fault stop) }
+#[tactic(auto, unfolding(crate::specs::Planning::unwritable_in))]
+fn text_stop(alloc: Global, plan: &GraphPlan) -> Option<Stop>
+    ensures { MatchOption result
+        ((unwritable_in (plan_view plan.now).statements ≡ None) × HasWritableTexts (plan_view plan.now))
+        (λ stop. (fault : FaultType) × (unwritable_in (plan_view plan.now).statements ≡ Some fault)
+        × IsFaultOf fault stop) }
 {
     match texts_can_be_written(plan) {
         Ok(()) => None,
-        Err(trouble) => stop_of(alloc, plan.statements.as_slice(), trouble),
+        Err(trouble) => stop_of(alloc, plan, trouble),
     }
 }
 
-fn stop_of(alloc: Global, statements: &[Statement], trouble: Unwritable) -> Option<Stop>
-    ensures { MatchOption result ((text_fault statements.now (told_trouble trouble.entry) ≡ None)
-        × (is_text_trouble (told_trouble trouble.entry) ≡ false))
-        (λ stop. (fault : FaultType) × (text_fault statements.now (told_trouble trouble.entry) ≡ Some fault)
+fn stop_of(alloc: Global, plan: &GraphPlan, trouble: Unwritable) -> Option<Stop>
+    ensures { MatchOption result
+        ((text_fault (plan_view plan.now).statements (told_obstacle trouble.entry) ≡ None)
+        × (is_text_trouble (told_obstacle trouble.entry) ≡ false))
+        (λ stop. (fault : FaultType)
+        × (text_fault (plan_view plan.now).statements (told_obstacle trouble.entry) ≡ Some fault)
         × IsFaultOf fault stop) }
 {
     match trouble {
         Unwritable::BadName(name) => Some(stop_on(alloc, FaultKind::NameNotWritable, name, None)),
         Unwritable::BadCommand(number) => {
-            let output = least_output(statements, number);
+            let output = least_output(plan, number);
             Some(stop_on(alloc, FaultKind::CommandNotWritable, output, None))
         }
         _ => None,
     }
 }
 
-fn least_output(statements: &[Statement], number: usize) -> &[u8]
-    ensures { result.now ≡ least_output statements.now number }
+fn least_output<'p>(plan: &'p GraphPlan, number: usize) -> &'p [u8]
+    ensures { result.now ≡ least_output (plan_view plan.now).statements number }
 {
-    match statements.get(number) {
-        Some(statement) => first_output(statement.outs.as_slice()),
-        None => b"",
-    }
-}
-
-fn first_output(names: &[Name]) -> &[u8]
-    ensures { result.now ≡ first_output names.now }
-{
-    match names {
-        [first, ..] => first.as_slice(),
-        [] => b"",
+    let outputs = Listed::Outputs(number);
+    if plan.name_count(outputs) > 0 {
+        plan.name(outputs, 0)
+    } else {
+        b""
     }
 }

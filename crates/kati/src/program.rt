@@ -4,8 +4,8 @@ ghost use Rattle.kt_list.specs.Counters.{Rises};
 ghost use Rattle.kt_ninja.specs.Written.{GrowsByFront, Takes};
 ghost use Rattle.kati.specs.Devices.{devices};
 ghost use Rattle.kati.specs.Exits.{exit_code};
-ghost use Rattle.kati.specs.Headline.{KatiExits};
-ghost use Rattle.kati.specs.Told.{GivesHelp, RefusesBy, Tells, fault_words};
+ghost use Rattle.kati.specs.AfterRun.{KatiExits};
+ghost use Rattle.kati.specs.ErrorOutput.{GivesHelp, RefusesBy, WritesOrFails, fault_words};
 
 use crate::faults::RunFault;
 use crate::running::run;
@@ -20,7 +20,7 @@ pub const USAGE: u8 = 64;
 
 /// Puts the words, the name and a newline, as far as the sink takes them.
 fn put_line<E: Sink>(err: &mut E, words: &[u8], name: &str) -> Result<(), WriteFault>
-    ensures told { Tells (words.now ++ (name.now ++ codes "\n")) (E.seen err.old) (E.seen err.new) }
+    ensures told { WritesOrFails (words.now ++ (name.now ++ codes "\n")) (E.seen err.old) (E.seen err.new) }
     ensures counts { (E.seen err.old).failed ≤ (E.seen err.new).failed }
 {
     put(err, words)?;
@@ -30,7 +30,7 @@ fn put_line<E: Sink>(err: &mut E, words: &[u8], name: &str) -> Result<(), WriteF
 
 /// Puts the text, as far as the sink takes it.
 fn tell_text<E: Sink>(err: &mut E, text: &[u8])
-    ensures told { Tells text.now (E.seen err.old) (E.seen err.new) }
+    ensures told { WritesOrFails text.now (E.seen err.old) (E.seen err.new) }
     ensures counts { (E.seen err.old).failed ≤ (E.seen err.new).failed }
 {
     let _ = put(err, text);
@@ -38,7 +38,7 @@ fn tell_text<E: Sink>(err: &mut E, text: &[u8])
 
 /// Puts the line of these words and this name, as far as the sink takes it.
 fn tell_line<E: Sink>(err: &mut E, words: &[u8], name: &str)
-    ensures told { Tells (words.now ++ (name.now ++ codes "\n")) (E.seen err.old) (E.seen err.new) }
+    ensures told { WritesOrFails (words.now ++ (name.now ++ codes "\n")) (E.seen err.old) (E.seen err.new) }
     ensures counts { (E.seen err.old).failed ≤ (E.seen err.new).failed }
 {
     let _ = put_line(err, words, name);
@@ -46,7 +46,7 @@ fn tell_line<E: Sink>(err: &mut E, words: &[u8], name: &str)
 
 /// Tells what kept a run from its end, as far as the sink takes it. Takes no memory.
 fn tell<E: Sink>(err: &mut E, fault: &RunFault)
-    ensures told { Tells (fault_words fault.now) (E.seen err.old) (E.seen err.new) }
+    ensures told { WritesOrFails (fault_words fault.now) (E.seen err.old) (E.seen err.new) }
     ensures counts { (E.seen err.old).failed ≤ (E.seen err.new).failed }
 {
     match fault {
@@ -60,7 +60,7 @@ fn tell<E: Sink>(err: &mut E, fault: &RunFault)
 pub fn finish<E: Sink>(err: &mut E, ended: Result<Status, RunFault>) -> u8
     ensures code { result ≡ exit_code ended }
     ensures quiet { OnOk ended (err.new ≡ err.old) }
-    ensures told { IfErr ended (λ fault. Tells (fault_words fault) (E.seen err.old) (E.seen err.new)) }
+    ensures told { IfErr ended (λ fault. WritesOrFails (fault_words fault) (E.seen err.old) (E.seen err.new)) }
     ensures counts { (E.seen err.old).failed ≤ (E.seen err.new).failed }
 {
     match ended {

@@ -1,27 +1,27 @@
 //! From a makefile to its plan.
 ghost use Rattle.std.specs.Prelude.{◌≡◌, List, [], IfErr, IfOk, IfSome};
 ghost use Rattle.kt_text.specs.Words.{Text};
-ghost use Rattle.kt_graph.specs.Faults.{IsSoundGraph, TellsFirst};
+ghost use Rattle.kt_graph.specs.faults.Faults.{IsSoundGraph, ReportsFirst};
 ghost use Rattle.kt_ninja.specs.Writable.{IsWritable};
-ghost use Rattle.kt_eval.specs.Fronts.{IsFront};
-ghost use Rattle.kt_eval.specs.Machines.{traced};
+ghost use Rattle.kt_eval.specs.Prefixes.{IsPrefix};
+ghost use Rattle.kt_eval.specs.reading.Machine.{traced};
 ghost use Rattle.kt_eval.specs.Outcome.{AsksNothing, Ends, Gives};
 ghost use Rattle.kt_eval.specs.Step.{Blames};
 ghost use Rattle.kati.specs.Asked.{names_asked};
-ghost use Rattle.kati.specs.Headline.{ReadBlames, Translates};
+ghost use Rattle.kati.specs.AfterRun.{ReadBlames, Translates};
 ghost use Rattle.kati.specs.Meaning.{prepared, wanted_by};
 ghost use Rattle.kati.specs.Sound.{IsSoundPlan};
 ghost use Rattle.kati.specs.inner.Stops.{IsFirstStop, IsStopOf};
-ghost use Rattle.kati.specs.inner.Views.{EndMeans, GoalsEnd, outcome_of, read_told, wanted_told};
+ghost use Rattle.kati.specs.inner.Views.{EndMeans, GoalsEnd, outcome_of, read_view, wanted_view};
 
 use crate::faults::RunFault;
 use crate::goals::chosen_goals;
 use crate::listing::listed;
+use crate::makefile::makefile_read;
 use crate::outcome::Outcome;
 use crate::planning::plan;
-use crate::reading::{Makefile, makefile_read};
 use kati_args::Args;
-use kt_eval::{Fault, Files, Stop};
+use kt_eval::{Fault, Files, Makefile, Stop};
 use kt_graph::{Graph, GraphFault, Known, graph};
 use kt_list::Sequence;
 use kt_ninja::Plan;
@@ -38,7 +38,7 @@ pub fn translate<F: Files>(alloc: Global, args: &Args, files: &mut F) -> Result<
         (λ store. IfOk result
         (λ outcome. Translates args.now store outcome (F.seen files.old).names (F.seen files.new).names)) }
     ensures asked { IfSome (F.seen files.old).known
-        (λ store. IsFront (F.seen files.new).names (names_asked args.now store (F.seen files.old).names)) }
+        (λ store. IsPrefix (F.seen files.new).names (names_asked args.now store (F.seen files.old).names)) }
     ensures writable { IfOk result (λ outcome. IfOk outcome.result IsWritable) }
     ensures sound { IfOk result (λ outcome. IfOk outcome.result IsSoundPlan) }
     ensures keeps { (F.seen files.new).known ≡ (F.seen files.old).known }
@@ -67,7 +67,7 @@ fn outcome_of(messages: Vec<Sequence<u8>>, ended: Result<Plan, Stop>) -> Result<
     }
 }
 
-// The makefile's plan: first what is wanted, and then the plan of that.
+// The makefile's plan: first what is wanted, and then its plan.
 fn planned<F: Files>(
     alloc: Global,
     args: &Args,
@@ -78,7 +78,7 @@ fn planned<F: Files>(
     ensures means { IfSome (F.seen files.old).known (λ store. Ends (EndMeans args.now store) (F.seen files.old).names
         (λ plan. plan) result (traced messages.new.items (F.seen files.new).names)) }
     ensures asked { IfSome (F.seen files.old).known
-        (λ store. IsFront (F.seen files.new).names (names_asked args.now store (F.seen files.old).names)) }
+        (λ store. IsPrefix (F.seen files.new).names (names_asked args.now store (F.seen files.old).names)) }
     ensures keeps { (F.seen files.new).known ≡ (F.seen files.old).known }
     ensures blames { Blames result (F.seen files.old) (F.seen files.new) }
     ensures writable { IfOk result IsWritable }
@@ -90,26 +90,26 @@ fn planned<F: Files>(
     plan
 }
 
-// What the goals are made from.
+/// What the goals are made from.
 #[derive(Drop)]
-struct Sources {
-    makefile: Makefile,
-    known: Known,
+pub(crate) struct Sources {
+    pub makefile: Makefile,
+    pub known: Known,
 }
 
-// The list of files, the makefile, and the goals.
-fn prepared<F: Files>(
+/// The list of files, the makefile, and the goals.
+pub(crate) fn prepared<F: Files>(
     alloc: Global,
     args: &Args,
     files: &mut F,
     messages: &mut Vec<Sequence<u8>>,
 ) -> Result<(Sources, Vec<Name>), Stop>
     requires { messages.old.items ≡ [] }
-    ensures gives { IfSome (F.seen files.old).known (λ store. Gives (λ found. wanted_told found.0 found.1.items) result
+    ensures gives { IfSome (F.seen files.old).known (λ store. Gives (λ found. wanted_view found.0 found.1.items) result
         (traced messages.new.items (F.seen files.new).names)
         (prepared args.now store (traced [] (F.seen files.old).names))) }
     ensures asked { IfSome (F.seen files.old).known
-        (λ store. IsFront (F.seen files.new).names (names_asked args.now store (F.seen files.old).names)) }
+        (λ store. IsPrefix (F.seen files.new).names (names_asked args.now store (F.seen files.old).names)) }
     ensures keeps { (F.seen files.new).known ≡ (F.seen files.old).known }
     ensures blames { Blames result (F.seen files.old) (F.seen files.new) }
 {
@@ -128,8 +128,8 @@ fn chosen(
     makefile: Makefile,
     messages: &mut Vec<Sequence<u8>>,
 ) -> Result<(Sources, Vec<Name>), Stop>
-    ensures gives { Gives (λ found. wanted_told found.0 found.1.items) result messages.new.items
-        (wanted_by args.now list.now (read_told makefile) messages.old.items) }
+    ensures gives { Gives (λ found. wanted_view found.0 found.1.items) result messages.new.items
+        (wanted_by args.now list.now (read_view makefile) messages.old.items) }
     ensures asks_nothing { AsksNothing result }
 {
     match goals_and_names(alloc, args, list, &makefile, messages) {
@@ -147,10 +147,10 @@ fn goals_and_names(
     messages: &mut Vec<Sequence<u8>>,
 ) -> Result<(Vec<Name>, Known), Stop>
     ensures gives { Gives (λ found. record {
-      read = read_told makefile.now;
+      read = read_view makefile.now;
       known = found.1;
       goals = found.0.items;
-    }) result messages.new.items (wanted_by args.now list.now (read_told makefile.now) messages.old.items) }
+    }) result messages.new.items (wanted_by args.now list.now (read_view makefile.now) messages.old.items) }
     ensures asks_nothing { AsksNothing result }
 {
     let goals = chosen_goals(alloc, args.goals.as_slice(), args.limit, makefile, messages)?;
@@ -166,7 +166,7 @@ fn planned_goals(
     goals: Vec<Name>,
     messages: &mut Vec<Sequence<u8>>,
 ) -> Result<Plan, Stop>
-    ensures means { (asked : List Text) → Ends (GoalsEnd args.now.limit (wanted_told sources.now goals.items))
+    ensures means { (asked : List Text) → Ends (GoalsEnd args.now.limit (wanted_view sources.now goals.items))
         (traced messages.old.items asked) (λ plan. plan) result (traced messages.new.items asked) }
     ensures asks_nothing { AsksNothing result }
     ensures writable { IfOk result IsWritable }
@@ -185,8 +185,12 @@ fn planned_goals(
     plan
 }
 
-// The graph of these goals, unless something is wrong with it.
-fn sound_graph<'a>(alloc: Global, sources: &'a Sources, goals: &[Name]) -> Result<Graph<'a>, Stop>
+/// The graph of these goals, unless something is wrong with it.
+pub(crate) fn sound_graph<'a>(
+    alloc: Global,
+    sources: &'a Sources,
+    goals: &[Name],
+) -> Result<Graph<'a>, Stop>
     ensures graph { IfOk result (IsSoundGraph sources.now.makefile.book sources.now.known goals.now) }
     ensures first { IfErr result (IsFirstStop sources.now.makefile.book sources.now.known goals.now) }
 {

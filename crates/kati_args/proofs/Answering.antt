@@ -11,7 +11,7 @@ use Rattle.kati_args.specs.declared.args.Args.{Args}
 use Rattle.kati_args.specs.declared.fault.ArgFault.{ArgFault}
 use Rattle.kati_args.specs.declared.fault.ArgFault.TheVariants.{BadMacro, Help, Memory, Usage}
 use Rattle.kati_args.specs.Rows.{IsUsage}
-use Rattle.kati_args.specs.Args.{Answers, AnswersFound, IsTaken, Tells, answer_to, args_in, goals_in, is_bad_macro, kati_app, macros_in, number_in, unless_bad, words_in}
+use Rattle.kati_args.specs.Args.{Answers, AnswersFound, IsTaken, ReportsError, answer_to, args_in, goals_in, is_bad_macro, kati_app, macros_in, number_in, unless_bad, words_in}
 
 pub args_are : (rows : List Row) (made : Args) → made.makefile ≡ first_of (codes "makefile") rows → made.files ≡ first_of (codes "files") rows
     → made.check ≡ first_of (codes "check") rows → made.limit ≡ unwrap_or (option_map number_in (first_of (codes "depth") rows)) 100
@@ -48,7 +48,7 @@ among words e (inl memory) other = absurd (other memory)
 among words e (inr one) other = one
 
 pub answers_fault : (words : List Text) (e : Error) (fault : ArgFault) → (IsTaken words → kind_of e ≡ OutOfMemory)
-    → HasKind (fault_of kati_app words) e → Tells e fault → Answers words (Err fault)
+    → HasKind (fault_of kati_app words) e → ReportsError e fault → Answers words (Err fault)
 answers_fault words e (Help text) taken kinds told =
     let other : kind_of e ≢ OutOfMemory = λ memory. absurd (cc (told, memory)) in
     (not_taken words e taken other, subst (λ (k : ErrorKind). IsAmong k (fault_of kati_app words)) told (among words e kinds other))

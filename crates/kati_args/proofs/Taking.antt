@@ -204,7 +204,7 @@ place_taken s (Some a) h none = positional_taken s.rules s.args_override_self a 
 step_taken : (s : Shape) (position : ℕ) (h : Held) (step : Step) → step_fault s position h step ≡ [] → step_passes s position h step ≡ true
 step_taken s position h value none = place_taken s (arg_by_index s.rules position) h none
 step_taken s position h (next waiting) none = refl
-step_taken s position h (trailing behind) none = refl
+step_taken s position h (trailing past) none = refl
 step_taken s position h (subcommand name) none = refl
 
 turn_taken : (s : Shape) (names : Names) (w : Walk) (word : Text) → turn_fault s names w word ≡ [] → turn_passes s names w word ≡ true

@@ -137,8 +137,8 @@ Answers words (Err Memory) = ⊤
 Answers words result = IsTaken words × AnswersFound (matches_of kati_app words) result
 
 -- what is returned for an error of clap's
-abbrev pub Tells : Error → ArgFault → Type 0
-Tells error (Help text) = kind_of error ≡ DisplayHelp
-Tells error (Usage text) = (kind_of error ≢ OutOfMemory) × (kind_of error ≢ DisplayHelp)
-Tells error Memory = ⊤
-Tells error (BadMacro word) = ⊥
+abbrev pub ReportsError : Error → ArgFault → Type 0
+ReportsError error (Help text) = kind_of error ≡ DisplayHelp
+ReportsError error (Usage text) = (kind_of error ≢ OutOfMemory) × (kind_of error ≢ DisplayHelp)
+ReportsError error Memory = ⊤
+ReportsError error (BadMacro word) = ⊥

@@ -1,7 +1,7 @@
 //! From the words to what they ask for.
 ghost use Rattle.std.specs.Prelude.{◌≡◌, ◌≤◌, IfOk, IfSome, codes, map, option_map, string_bytes, unwrap_or};
 ghost use Rattle.clap.specs.Words.{HasKind, IsUnsignedIn, fault_of, first_value, found_of, rows_of};
-ghost use Rattle.kati_args.specs.Args.{Answers, AnswersFound, Tells, number_in, words_in};
+ghost use Rattle.kati_args.specs.Args.{Answers, AnswersFound, ReportsError, number_in, words_in};
 
 use crate::args::Args;
 use crate::fault::ArgFault;
@@ -69,7 +69,7 @@ fn asked(alloc: Global, matches: &ArgMatches<'_>) -> Result<Args, ArgFault>
 
 /// What clap tells of the words.
 fn fault_of(alloc: Global, error: &Error) -> ArgFault
-    ensures { Tells error.now result }
+    ensures { ReportsError error.now result }
 {
     if error.kind() == ErrorKind::OutOfMemory {
         return ArgFault::Memory;

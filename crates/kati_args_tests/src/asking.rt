@@ -1,7 +1,7 @@
 //! What command lines ask for.
 use crate::told::told;
 
-/// Words on lines, and what is told of them.
+/// Words on lines, and what is reported of them.
 const ASKED: [(&str, &str); 41] = [
     ("", "100"),
     ("kati", "100"),

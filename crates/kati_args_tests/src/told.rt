@@ -1,4 +1,4 @@
-//! Command lines, and what is told of them.
+//! Command lines, and what is reported of them.
 use kati_args::{ArgFault, Args, Word, args_of};
 use std::alloc::{AllocError, Global};
 use std::process::Abort;

@@ -3,9 +3,10 @@ use itoa::Buffer;
 use std::alloc::{AllocError, Global};
 use std::collections::BTreeMap;
 
-/// Appends what a line of a text stands for: `|` and text with a newline, `>` and text without one, `?` and text in
-/// which a backslash and two digits are a byte; or so many copies of such a text: `*N TEXT`, `#FROM N TEXT` with
-/// numbers for `{i}` and `{i+1}`, and `~FROM N TEXT` with these in byte order.
+/// Appends what a line of a text stands for: `|` and text with a newline, `>` and text without one,
+/// `?` and text in which a backslash and two digits are a byte; or a given number of copies of such
+/// a text: `*N TEXT`, `#FROM N TEXT` with numbers for `{i}` and `{i+1}`, and `~FROM N TEXT` with
+/// these in byte order.
 pub fn append_line(alloc: Global, text: &mut Vec<u8>, line: &[u8]) -> Result<(), AllocError> {
     match line {
         [b'|', rest @ ..] => append_whole(text, rest),
@@ -70,7 +71,7 @@ pub fn number(digits: &[u8]) -> usize {
     value
 }
 
-/// Appends so many copies, a thousand at a time as far as that goes.
+/// Appends a given number of copies, a thousand at a time as far as that goes.
 fn append_copies(alloc: Global, text: &mut Vec<u8>, line: &[u8]) -> Result<(), AllocError> {
     let (times, word) = cut(line);
     let times = number(times);

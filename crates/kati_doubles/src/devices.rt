@@ -22,7 +22,7 @@ pub fn files_of(alloc: Global, files: &[(&str, &[u8])], nth: u64) -> Result<MemF
     Ok(MemFiles::new(alloc, pairs, nth))
 }
 
-/// An output with room for so many bytes, which takes up to so many in a call.
+/// An output with room for a given number of bytes, which takes up to a given number in a call.
 pub fn sink_of(alloc: Global, (room, step): (usize, usize)) -> Result<MemSink, AllocError> {
     MemSink::new(alloc, room, step)
 }

@@ -1,4 +1,5 @@
-//! What the tests of several crates need: words, files and outputs over memory, and what is told of a run.
+//! What the tests of several crates need: words, files and outputs over memory, and what is
+//! reported of a run.
 #![tactic(auto)]
 
 mod devices;

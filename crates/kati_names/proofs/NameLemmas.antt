@@ -5,8 +5,8 @@ use Rattle.kati.specs.declared.faults.RunFault.{RunFault}
 use Rattle.kati.specs.declared.faults.RunFault.TheVariants as faults
 use Rattle.kati.specs.declared.status.Status.{Status}
 use Rattle.kati.specs.Devices.{devices}
-use Rattle.kt_eval.specs.Files.{FilesSeen}
-use Rattle.kati.specs.Headline.{Blames}
+use Rattle.kt_eval.specs.files.Files.{FilesSeen}
+use Rattle.kati.specs.AfterRun.{Blames}
 use Rattle.kati_names.specs.Names.{NamesAfter, nothing_seen}
 
 -- what is to blame for a fault of the run is to blame for the end, too; its own output doesn't fail

@@ -10,8 +10,8 @@ use Rattle.kati.specs.declared.faults.RunFault.TheVariants as faults
 use Rattle.kati.specs.declared.status.Status.{Status}
 use Rattle.kati.specs.Devices.{Devices, devices}
 use Rattle.kati.specs.Exits.{exit_code}
-use Rattle.kati.specs.Headline.{Blames, Exits, Leaves}
-use Rattle.kati.specs.Told.{TellsEnd}
+use Rattle.kati.specs.AfterRun.{Blames, Exits, Leaves}
+use Rattle.kati.specs.ErrorOutput.{ReportsEnd}
 
 -- each name on a line of its own
 abbrev pub names_text : List Text → Text
@@ -39,7 +39,7 @@ abbrev pub nothing_seen : SinkSeen
 nothing_seen = record { written = None; failed = 0 }
 
 -- a run of kati by these arguments, whose output nobody reads; then the names that were asked for; then the exit
--- status, and what the error output is told where something kept the program from its end
+-- status, and what the error output gets where something kept the program from its end
 pub record RunExits (args : Args) (code : ℕ) (old new : Devices) : Type 0 where
   pub run : Result Status RunFault
   pub ran : Devices
@@ -50,7 +50,7 @@ pub record RunExits (args : Args) (code : ℕ) (old new : Devices) : Type 0 wher
   pub rest : (named.files ≡ ran.files) × (named.err ≡ ran.err)
   pub blames : Blames ended old named
   pub exit : code ≡ exit_code ended
-  pub told : TellsEnd ended named new
+  pub told : ReportsEnd ended named new
 
 -- the line over kati's help
 abbrev pub help_lead : Text

@@ -186,7 +186,7 @@ fn writes_names_with_ample_room_and_by_a_byte_a_call(rt: HostRuntime) {
     }
 }
 
-/// After a read that fails no name is written: its own is told.
+/// After a read that fails no name is written: its own is reported.
 #[test]
 fn stops_at_each_read_that_fails(rt: HostRuntime) {
     for row in ROWS {
@@ -212,7 +212,7 @@ fn stops_at_each_byte_of_the_output(rt: HostRuntime) {
     }
 }
 
-/// Of an error output that fails nothing more is told, and no name is written.
+/// Of an error output that fails nothing more is written, and no name is written.
 #[test]
 fn stops_at_each_byte_of_the_error_output(rt: HostRuntime) {
     for row in ROWS {

@@ -309,7 +309,7 @@ fn a_run_tells_the_read_that_fails(rt: HostRuntime) {
     }
 }
 
-/// The file that is to be checked is read after the messages are told.
+/// The file that is to be checked is read after the messages are written.
 #[test]
 fn a_run_tells_the_check_that_fails(rt: HostRuntime) {
     for row in ROWS {

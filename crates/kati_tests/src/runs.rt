@@ -347,7 +347,7 @@ fn ends_with_ample_room_and_by_a_byte_a_call(rt: HostRuntime) {
     }
 }
 
-/// Each read that fails ends the run: its name is told, and nothing is written.
+/// Each read that fails ends the run: its name is reported, and nothing is written.
 #[test]
 fn stops_at_each_read_that_fails(rt: HostRuntime) {
     for row in ROWS {
@@ -382,7 +382,7 @@ fn stops_at_each_byte_of_the_output(rt: HostRuntime) {
     }
 }
 
-/// Of an error output that fails nothing more is told, and the output gets nothing.
+/// Of an error output that fails nothing more is written, and the output gets nothing.
 #[test]
 fn stops_at_each_byte_of_the_error_output(rt: HostRuntime) {
     for row in ROWS {

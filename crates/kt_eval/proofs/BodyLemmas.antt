@@ -6,24 +6,24 @@ use Rattle.kt_text.specs.declared.line.Line.{Line}
 use Rattle.kt_text.specs.Words.{Text}
 use Rattle.kt_text.specs.Lines.{condensed_of}
 use Rattle.kt_syntax.specs.Roles.{line_text}
-use Rattle.kt_eval.specs.Assignments.{body_text}
-use Rattle.kt_eval.specs.Reading.{raw_line}
+use Rattle.kt_eval.specs.macros.Assignments.{body_text}
+use Rattle.kt_eval.specs.reading.Reading.{raw_line}
 
 -- what is left of a body, with what comes before its next line
 unfoldable pub left_of_body : Text → List Text → Text
 left_of_body separator [] = []
 left_of_body separator (line ∷ lines) = separator ++ (condensed_of line ++ left_of_body (10 ∷ []) lines)
 
-behind_first : (line : Text) (lines : List Text) → condensed_of line ++ left_of_body (10 ∷ []) lines ≡ join_with_byte 10 (map condensed_of (line ∷ lines))
+after_first : (line : Text) (lines : List Text) → condensed_of line ++ left_of_body (10 ∷ []) lines ≡ join_with_byte 10 (map condensed_of (line ∷ lines))
 unfolding left_of_body
-behind_first line [] = append-nil (condensed_of line)
-behind_first line (next ∷ lines) = ap (λ rest. condensed_of line ++ 10 ∷ rest) (behind_first next lines)
+after_first line [] = append-nil (condensed_of line)
+after_first line (next ∷ lines) = ap (λ rest. condensed_of line ++ 10 ∷ rest) (after_first next lines)
 
 -- all of it
 pub whole_body : (lines : List Text) → left_of_body [] lines ≡ body_text lines
 unfolding left_of_body body_text
 whole_body [] = refl
-whole_body (line ∷ lines) = behind_first line lines
+whole_body (line ∷ lines) = after_first line lines
 
 texts : (text : Text) (lines : List Line) → map (λ raw. raw.text) (map (raw_line text) lines) ≡ map (line_text text) lines
 texts text [] = refl

@@ -1,23 +1,5 @@
-pub mod TableLemmas
+pub mod lemmas
 pub mod LevelLemmas
-pub mod LiteralLemmas
-pub mod PlaceLemmas
-pub mod ArgumentLemmas
-pub mod RowLemmas
 pub mod BodyLemmas
-pub mod ReadingLemmas
-pub mod FrameLemmas
-pub mod GrowingLemmas
-pub mod GrowingReads
-pub mod StepLemmas
 pub mod Steps
-pub mod EarlyLemmas
 pub mod RootLemmas
-pub mod TextLemmas
-pub mod MachineLemmas
-pub mod PureLemmas
-mod ReadingRowLemmas
-pub mod LastLemmas
-pub mod SplitLemmas
-pub mod BalancedLemmas
-pub mod DoublingLemmas

@@ -1,24 +1,26 @@
 -- The lemmas of each step under one name, as attributes of functions name them.
-use Rattle.kt_eval.specs.Expansion.{referred, body_of, each_term, expanded, term_of}
+use Rattle.kt_eval.specs.expanding.Expansion.{referred, body_of, each_term, expanded, term_of}
+use Rattle.kt_eval.specs.State.{lookup}
+use Rattle.kt_eval.specs.inner.Plain.{put_of, still_deferred, put_by, left_by}
 use Rattle.kt_eval.proofs.LevelLemmas.{evaluator_reads}
-use Rattle.kt_eval.proofs.LastLemmas.{last_behind}
-use Rattle.kt_eval.proofs.StepLemmas.{accepted_longer, accepted_same, apply_and_longer, apply_and_same, apply_or_longer}
-use Rattle.kt_eval.proofs.StepLemmas.{apply_longer, apply_same}
-use Rattle.kt_eval.proofs.StepLemmas.{apply_or_same, asked_longer, asked_same, assign_line_longer, assign_line_same, assign_longer}
-use Rattle.kt_eval.proofs.StepLemmas.{assign_named_longer, assign_named_same, assign_same, branch_holds_longer, branch_holds_same}
-use Rattle.kt_eval.proofs.StepLemmas.{call_by_name_longer, call_by_name_same, called_longer, called_same, close_rule_longer}
-use Rattle.kt_eval.proofs.StepLemmas.{close_rule_same, define_longer, define_same, each_argument_longer, each_argument_same}
-use Rattle.kt_eval.proofs.StepLemmas.{each_include_longer, each_include_same, each_term_longer, each_term_same, each_word_longer}
-use Rattle.kt_eval.proofs.StepLemmas.{each_word_same, enter_rule_longer, enter_rule_same, eval_longer, eval_same, expand_longer}
-use Rattle.kt_eval.proofs.StepLemmas.{expand_same, expanded_longer, expanded_same, holds_longer, holds_same, include_line_longer}
-use Rattle.kt_eval.proofs.StepLemmas.{include_line_same, is_set_longer, is_set_same, open_rule_longer, open_rule_same}
-use Rattle.kt_eval.proofs.StepLemmas.{read_bare_tab_longer, read_bare_tab_same, read_define_longer, read_define_same, read_end_longer}
-use Rattle.kt_eval.proofs.StepLemmas.{read_end_same, read_file_longer, read_file_same, read_first_longer, read_first_same}
-use Rattle.kt_eval.proofs.StepLemmas.{read_included_longer, read_included_same, read_items_longer, read_items_same, read_kind_longer}
-use Rattle.kt_eval.proofs.StepLemmas.{read_kind_same, read_sheet_longer, read_sheet_same, read_text_longer, read_text_same}
-use Rattle.kt_eval.proofs.StepLemmas.{read_without_nul_longer, read_without_nul_same, referred_longer, referred_same}
-use Rattle.kt_eval.proofs.StepLemmas.{rule_line_longer, rule_line_same, rule_of_parts_longer, rule_of_parts_same, text_holds_longer}
-use Rattle.kt_eval.proofs.StepLemmas.{text_holds_same, value_named_longer, value_named_same, value_of_longer, value_of_same}
+use Rattle.kt_eval.proofs.lemmas.LastLemmas.{last_after}
+use Rattle.kt_eval.proofs.lemmas.StepLemmas.{accepted_longer, accepted_same, apply_and_longer, apply_and_same, apply_or_longer}
+use Rattle.kt_eval.proofs.lemmas.StepLemmas.{appended_longer, appended_same, apply_longer, apply_same}
+use Rattle.kt_eval.proofs.lemmas.StepLemmas.{apply_or_same, asked_longer, asked_same, assign_line_longer, assign_line_same, assign_longer}
+use Rattle.kt_eval.proofs.lemmas.StepLemmas.{assign_named_longer, assign_named_same, assign_same, branch_holds_longer, branch_holds_same}
+use Rattle.kt_eval.proofs.lemmas.StepLemmas.{call_by_name_longer, call_by_name_same, called_longer, called_same, close_rule_longer}
+use Rattle.kt_eval.proofs.lemmas.StepLemmas.{close_rule_same, define_longer, define_same, each_argument_longer, each_argument_same}
+use Rattle.kt_eval.proofs.lemmas.StepLemmas.{each_include_longer, each_include_same, each_term_longer, each_term_same, each_word_longer}
+use Rattle.kt_eval.proofs.lemmas.StepLemmas.{each_word_same, enter_rule_longer, enter_rule_same, eval_longer, eval_same, expand_longer}
+use Rattle.kt_eval.proofs.lemmas.StepLemmas.{expand_same, expanded_longer, expanded_same, holds_longer, holds_same, include_line_longer}
+use Rattle.kt_eval.proofs.lemmas.StepLemmas.{include_line_same, is_set_longer, is_set_same, open_rule_longer, open_rule_same}
+use Rattle.kt_eval.proofs.lemmas.StepLemmas.{read_bare_tab_longer, read_bare_tab_same, read_define_longer, read_define_same, read_end_longer}
+use Rattle.kt_eval.proofs.lemmas.StepLemmas.{read_end_same, read_file_longer, read_file_same, read_first_longer, read_first_same}
+use Rattle.kt_eval.proofs.lemmas.StepLemmas.{read_included_longer, read_included_same, read_items_longer, read_items_same, read_kind_longer}
+use Rattle.kt_eval.proofs.lemmas.StepLemmas.{read_kind_same, read_sheet_longer, read_sheet_same, read_text_longer, read_text_same}
+use Rattle.kt_eval.proofs.lemmas.StepLemmas.{read_without_nul_longer, read_without_nul_same, referred_longer, referred_same}
+use Rattle.kt_eval.proofs.lemmas.StepLemmas.{rule_line_longer, rule_line_same, rule_of_parts_longer, rule_of_parts_same, text_holds_longer}
+use Rattle.kt_eval.proofs.lemmas.StepLemmas.{text_holds_same, value_named_longer, value_named_same, value_of_longer, value_of_same}
 
 -- the two lemmas of a step under one name
 pub ruleset assign_goes = (assign_longer, assign_same)
@@ -34,6 +36,8 @@ pub ruleset expanded_goes = (expanded_longer, expanded_same)
 pub ruleset text_holds_goes = (text_holds_longer, text_holds_same)
 
 pub ruleset holds_goes = (holds_longer, holds_same)
+
+pub ruleset appended_goes = (appended_longer, appended_same)
 
 pub ruleset each_term_goes = (each_term_longer, each_term_same)
 
@@ -116,7 +120,7 @@ pub ruleset call_steps = (called_goes, value_of_goes)
 
 pub ruleset apply_eval_steps = (eval_goes, evaluator_reads)
 
-pub ruleset read_bytes_steps = (asked_goes, last_behind)
+pub ruleset read_bytes_steps = (asked_goes, last_after)
 
 pub ruleset read_included_steps = (read_included_goes, read_file_goes)
 
@@ -136,3 +140,15 @@ each_term_open = tt
 unfoldable pub referred_open : Unit {0}
 unfolding referred body_of
 referred_open = tt
+
+unfoldable pub value_open : Unit {0}
+unfolding put_of still_deferred
+value_open = tt
+
+unfoldable pub lookup_open : Unit {0}
+unfolding lookup put_of still_deferred
+lookup_open = tt
+
+unfoldable pub plain_open : Unit {0}
+unfolding put_by left_by
+plain_open = tt

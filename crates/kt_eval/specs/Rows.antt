@@ -8,15 +8,15 @@ use Rattle.kt_eval.specs.declared.fault.Fault.{Fault}
 use Rattle.kt_eval.specs.declared.macros.Flavour.TheVariants.{Deferred, Immediate}
 use Rattle.kt_eval.specs.declared.macros.Origin.TheVariants.{CommandLine}
 use Rattle.kt_eval.specs.declared.macros.Macro.{Macro}
-use Rattle.kt_eval.specs.Table.{Table, assigning, keeps, defers, expands, set_by_makefile}
+use Rattle.kt_eval.specs.macros.Macros.{Table, assigning, keeps, defers, expands, set_by_makefile}
 use Rattle.kt_eval.specs.Outcome.{Outcome, Gave, Stopped}
 use Rattle.kt_eval.specs.Step.{fault_at}
-use Rattle.kt_eval.specs.Conditions.{compared_of}
-use Rattle.kt_eval.specs.Files.{Store}
-use Rattle.kt_eval.specs.Pure.{expanded_pure}
-use Rattle.kt_eval.specs.Machines.{Trace, traced, Read, read_of, reading}
+use Rattle.kt_eval.specs.reading.Conditions.{compared_of}
+use Rattle.kt_eval.specs.files.Files.{Store}
+use Rattle.kt_eval.specs.expanding.Pure.{expanded_pure}
+use Rattle.kt_eval.specs.reading.Machine.{Trace, traced, Read, read_of, reading}
 
--- a text expanded as a recipe is, with so many levels
+-- a text expanded as a recipe is, with a given number of levels
 abbrev pub comes_to : Table → ℕ → Text → Outcome (List Text) Text
 comes_to table limit text = expanded_pure table [] None limit text []
 
@@ -84,7 +84,7 @@ abbrev pub heard_of : Outcome Trace Read → List Text × (List Text × Option F
 heard_of (Gave trace read) = (trace.said, (trace.asked, None))
 heard_of (Stopped trace fault) = (trace.said, (trace.asked, Some fault))
 
--- the file `m` is read beside others, with so many levels
+-- the file `m` is read beside others, with a given number of levels
 abbrev pub heard : Store → ℕ → List Text × (List Text × Option Fault)
 heard files limit = heard_of (reading files (codes "m" ∷ []) limit (read_of [] []) (traced [] []))
 

@@ -14,8 +14,8 @@ use Rattle.kt_eval.specs.declared.macros.Macro.{Macro}
 use Rattle.kt_eval.specs.declared.state.Found.{Found}
 use Rattle.kt_eval.specs.declared.state.Frame.{Frame}
 use Rattle.kt_eval.specs.declared.state.Frame.TheVariants.{Loop, Call}
-use Rattle.kt_eval.specs.Files.{Store, look}
-use Rattle.kt_eval.specs.Table.{Table, find, put}
+use Rattle.kt_eval.specs.files.Files.{Store, look}
+use Rattle.kt_eval.specs.macros.Macros.{Table, find, put}
 
 -- the bindings stand innermost last; `automatic` has the automatic macros of a recipe, `book` the rules that are
 -- closed, `rule` the one that is open

@@ -9,8 +9,8 @@ use Rattle.kt_rules.specs.FaultKinds.{number_of, words_with}
 use Rattle.kt_eval.specs.declared.fault.Fault.{Fault}
 use Rattle.kt_eval.specs.declared.stop.Stop.{Stop}
 use Rattle.kt_eval.specs.declared.stop.Stop.TheVariants as stops
-use Rattle.kt_eval.specs.Files.{FilesSeen, Store}
-use Rattle.kt_eval.specs.Fronts.{last}
+use Rattle.kt_eval.specs.files.Files.{FilesSeen, Store}
+use Rattle.kt_eval.specs.Prefixes.{last}
 use Rattle.kt_eval.specs.Outcome.{Gave, Stopped, StepOver}
 use Rattle.kt_eval.specs.State.{World}
 

@@ -1,3 +1,4 @@
 -- What only contracts of private functions and proofs cite: nothing here has to be read to know what is promised.
 pub mod Views
 pub mod Doing
+pub mod Plain

@@ -1,19 +1,22 @@
 //! An evaluation in progress: what it knows, and the small steps that change it.
 ghost use Rattle.std.specs.Prelude.{◌≡◌, ◌++◌, ◌≤◌, IfOk, OnErr, OnOk, None, drop, option_map, true};
+ghost use Rattle.kt_syntax.specs.Terms.{token_of};
 ghost use Rattle.kt_eval.specs.State.{innermost, lookup};
+ghost use Rattle.kt_eval.specs.inner.Plain.{left_by, put_by, put_of, still_deferred};
 
-use crate::assigning::{Assigning, assignment_of};
+use crate::expanding::calls::names_plainly;
+use crate::expanding::frames::innermost;
 use crate::fault::{Fault, append_place};
 use crate::files::{FileFault, Files};
-use crate::frames::innermost;
+use crate::macros::assigning::{Assigning, assignment_of};
+use crate::macros::scope::Scope;
 use crate::macros::{Flavour, Macro};
-use crate::page::{Page, RawLine, Source};
-use crate::scope::Scope;
-use crate::state::{Found, Frame};
+use crate::reading::page::{Page, RawLine, Source};
+use crate::state::{Found, Frame, Left};
 use crate::stop::Stop;
 use kt_list::{Sequence, Shared};
 use kt_rules::{Entry, FaultKind, Place, read_rule};
-use kt_syntax::{Operator, recipe_text};
+use kt_syntax::{Operator, Term, Unterminated, recipe_text};
 use kt_text::TextFault;
 use std::alloc::{AllocError, Global};
 use std::marker::Model;
@@ -57,7 +60,7 @@ impl<'a, M: Scope, F: Files> Evaluation<'a, M, F> {
     ghost use Rattle.std.specs.Prelude.{codes, Option, List, ℕ};
     ghost use Rattle.kt_text.specs.Words.{Text};
     ghost use Rattle.kt_text.specs.Functions.{Answers};
-    ghost use Rattle.kt_eval.specs.Expansion.{accepted, bad_argument};
+    ghost use Rattle.kt_eval.specs.expanding.Expansion.{accepted, bad_argument};
     ghost use Rattle.kt_eval.specs.Outcome.{Gives, IfCut, left_of};
     ghost use Rattle.kt_eval.specs.Step.{Blames, GoesOn, files_of};
     ghost use Rattle.kt_eval.specs.State.{bind, unbind, say, warn, message_place};
@@ -68,12 +71,65 @@ impl<'a, M: Scope, F: Files> Evaluation<'a, M, F> {
     pub(crate) fn lookup(&self, name: &[u8]) -> Result<Option<Found>, AllocError>
         ensures { IfOk result (λ found. found ≡ lookup name.now self.now.world) }
     {
-        match innermost(self.alloc, &self.frames, name)? {
+        match innermost(&self.frames, name) {
             Some(value) => Ok(Some(Found {
                 flavour: Flavour::Immediate,
-                value,
+                value: Shared::from_vec(Vec::from_slice(self.alloc, value)?)?,
             })),
             None => self.macros.find(name),
+        }
+    }
+
+    // Appends what a name stands for, as far as it is what it is expanded to with a given number of
+    // levels below; what isn't is given.
+    #[tactic(auto, unfolding(crate::proofs::Steps::lookup_open))]
+    pub(crate) fn put_value(
+        &self,
+        below: u64,
+        name: &[u8],
+        out: &mut Vec<u8>,
+    ) -> Result<Option<Shared<u8>>, AllocError>
+        ensures put { OnOk result (out.new.items ≡ out.old.items ++ put_of below (lookup name.now self.now.world)) }
+        ensures left { IfOk result (λ left. left ≡ still_deferred below (lookup name.now self.now.world)) }
+    {
+        if let Some(value) = innermost(&self.frames, name) {
+            out.extend_from_slice(value)?;
+            return Ok(None);
+        }
+        self.macros.put_value(name, below, out)
+    }
+
+    // Appends what a term gives, as far as this takes no level of its own, and tells what is left of it.
+    #[tactic(auto, unfolding(crate::proofs::Steps::plain_open))]
+    pub(crate) fn put_plain(
+        &self,
+        below: u64,
+        term: Result<Term<'_>, Unterminated>,
+        out: &mut Vec<u8>,
+    ) -> Result<Left, AllocError>
+        ensures put { OnOk result (out.new.items
+            ≡ out.old.items ++ put_by below (token_of term.entry) self.now.world) }
+        ensures left { IfOk result (λ left. left ≡ left_by below (token_of term.entry) self.now.world) }
+    {
+        match term {
+            Ok(Term::Lit(bytes)) => {
+                out.extend_from_slice(bytes)?;
+                Ok(Left::Nothing)
+            }
+            Ok(Term::Dollar) => {
+                out.extend_from_slice(b"$")?;
+                Ok(Left::Nothing)
+            }
+            Ok(Term::Ref(mark, body)) => {
+                if !names_plainly(mark, body) {
+                    return Ok(Left::Whole);
+                }
+                match self.put_value(below, body, out)? {
+                    Some(value) => Ok(Left::Value(value)),
+                    None => Ok(Left::Nothing),
+                }
+            }
+            Err(Unterminated) => Ok(Left::Whole),
         }
     }
 
@@ -165,16 +221,16 @@ impl<'a, M: Scope, F: Files> Evaluation<'a, M, F> {
 }
 
 impl<'a, M: Scope, F: Files> Evaluation<'a, M, F> {
-    ghost use Rattle.kt_eval.specs.Reading.{at_line, at_number, line_at, read_bytes};
-    ghost use Rattle.kt_eval.specs.Rules.{close_rule, enter_rule, open_rule, recipe_line, rule_place};
+    ghost use Rattle.kt_eval.specs.reading.Reading.{at_line, at_number, line_at, read_bytes};
+    ghost use Rattle.kt_eval.specs.reading.Rules.{close_rule, enter_rule, open_rule, recipe_line, rule_place};
     ghost use Rattle.kt_eval.specs.State.{move_to, set_macro, set_rule};
     ghost use Rattle.kt_eval.specs.Outcome.{Gives, IfCut, left_of};
     ghost use Rattle.kt_eval.specs.Step.{AreKnown, Blames, GoesOn, Keeps, files_of, store_of};
-    ghost use Rattle.kt_eval.specs.Table.{assigning, find, set_by_makefile};
-    ghost use Rattle.kt_eval.specs.inner.Views.{assigning_told, front_told, raw_told};
+    ghost use Rattle.kt_eval.specs.macros.Macros.{assigning, find, set_by_makefile};
+    ghost use Rattle.kt_eval.specs.inner.Views.{assigning_view, front_view, raw_view};
 
     // Moves to a line of a source; all lines of an `eval` are where it stands.
-    #[tactic(auto, unfolding(crate::specs::Reading::at_number))]
+    #[tactic(auto, unfolding(crate::specs::reading::Reading::at_number))]
     pub(crate) fn move_to(&mut self, source: &Source, number: u64) -> Result<(), AllocError>
         ensures refused { OnErr result (self.new ≡ self.old) }
         ensures done { OnOk result (self.new ≡ record self.old { world = at_number source.now number self.old.world }) }
@@ -201,7 +257,7 @@ impl<'a, M: Scope, F: Files> Evaluation<'a, M, F> {
         ensures done { OnOk result (self.new ≡ record self.old { world = at_line page.now place self.old.world }) }
         ensures said { self.new.world.said ≡ self.old.world.said }
         ensures asked { self.new.world.asked ≡ self.old.world.asked }
-        ensures line { IfOk result (λ line. raw_told line ≡ line_at page.now.lines place) }
+        ensures line { IfOk result (λ line. raw_view line ≡ line_at page.now.lines place) }
     {
         let line = page.line(place);
         self.move_to(page.source(), line.number)?;
@@ -226,7 +282,7 @@ impl<'a, M: Scope, F: Files> Evaluation<'a, M, F> {
 
     // What an assignment to a name does.
     pub(crate) fn assigning(&self, operator: Operator, name: &[u8]) -> Result<Assigning, AllocError>
-        ensures { IfOk result (λ found. assigning_told found
+        ensures { IfOk result (λ found. assigning_view found
             ≡ assigning operator (find name.now self.now.world.table)) }
     {
         assignment_of(operator, self.macros.get(name))
@@ -243,7 +299,7 @@ impl<'a, M: Scope, F: Files> Evaluation<'a, M, F> {
         requires { M.writable ≡ true }
         ensures done { OnOk result (self.new
             ≡ record self.old {
-              world = set_macro name.items (set_by_makefile flavour (front_told front ++ text.items))
+              world = set_macro name.items (set_by_makefile flavour (front_view front ++ text.items))
                   self.old.world;
             }) }
         ensures kept { Keeps self.old self.new }
@@ -289,7 +345,7 @@ impl<'a, M: Scope, F: Files> Evaluation<'a, M, F> {
     }
 
     // Closes the open rule, if there is one.
-    #[tactic(auto, unfolding(crate::specs::Rules::close_rule))]
+    #[tactic(auto, unfolding(crate::specs::reading::Rules::close_rule))]
     pub(crate) fn close_rule(&mut self) -> Result<(), Stop>
         requires { M.writable ≡ true }
         ensures gives { Gives (λ u. u) result self.new.world (close_rule self.old.world) }
@@ -305,7 +361,7 @@ impl<'a, M: Scope, F: Files> Evaluation<'a, M, F> {
     }
 
     // Puts a rule into the book.
-    #[tactic(auto, using(crate::proofs::Steps::enter_rule_goes), unfolding(crate::specs::Rules::enter_rule))]
+    #[tactic(auto, using(crate::proofs::Steps::enter_rule_goes), unfolding(crate::specs::reading::Rules::enter_rule))]
     fn enter_rule(&mut self, rule: Entry) -> Result<(), Stop>
         requires { M.writable ≡ true }
         ensures gives { Gives (λ u. u) result self.new.world (enter_rule rule self.old.world) }
@@ -324,7 +380,7 @@ impl<'a, M: Scope, F: Files> Evaluation<'a, M, F> {
     }
 
     // Opens the rule of an expanded head.
-    #[tactic(auto, using(crate::proofs::Steps::open_rule_goes), unfolding(crate::specs::Rules::open_rule))]
+    #[tactic(auto, using(crate::proofs::Steps::open_rule_goes), unfolding(crate::specs::reading::Rules::open_rule))]
     pub(crate) fn open_rule(
         &mut self,
         recipe: Option<Sequence<u8>>,
@@ -347,7 +403,7 @@ impl<'a, M: Scope, F: Files> Evaluation<'a, M, F> {
     }
 
     // Opens a rule again with one more line of its recipe.
-    #[tactic(auto, unfolding(crate::specs::Rules::recipe_line))]
+    #[tactic(auto, unfolding(crate::specs::reading::Rules::recipe_line))]
     pub(crate) fn recipe_line(&mut self, rule: Entry, text: &[u8]) -> Result<(), Stop>
         ensures gives { Gives (λ u. u) result self.new.world (recipe_line rule text.now self.old.world) }
         ensures cut { IfCut result (GoesOn self.new.world (left_of (recipe_line rule text.now self.old.world))) }
@@ -357,7 +413,7 @@ impl<'a, M: Scope, F: Files> Evaluation<'a, M, F> {
     {
         let mut rule = rule;
         let place = self.rule_place()?;
-        let line = recipe_text(self.alloc, behind_first(text))?;
+        let line = recipe_text(self.alloc, after_first(text))?;
         rule.push(Sequence::from(line), place)?;
         self.rule = Some(rule);
         Ok(())
@@ -365,7 +421,7 @@ impl<'a, M: Scope, F: Files> Evaluation<'a, M, F> {
 
     // Reads the bytes of a file, if it is there. Its name is copied first, so that no failure of the device ends in
     // being out of memory.
-    #[tactic(auto, using(crate::proofs::Steps::read_bytes_steps), unfolding(crate::specs::Reading::read_bytes))]
+    #[tactic(auto, using(crate::proofs::Steps::read_bytes_steps), unfolding(crate::specs::reading::Reading::read_bytes))]
     pub(crate) fn read_bytes(&mut self, name: &str) -> Result<Option<Vec<u8>>, Stop>
         ensures gives { AreKnown self.old.known → Gives (λ found. option_map
             (λ v. v.items) found) result self.new.world (read_bytes (store_of self.old.known) name.now self.old.world) }
@@ -383,7 +439,7 @@ impl<'a, M: Scope, F: Files> Evaluation<'a, M, F> {
     }
 }
 
-fn behind_first(text: &[u8]) -> &[u8]
+fn after_first(text: &[u8]) -> &[u8]
     ensures { result.now ≡ drop 1 text.now }
 {
     match text {

@@ -1,5 +1,6 @@
 //! What can be wrong with a makefile.
-ghost use Rattle.std.specs.Prelude.{◌≡◌, ◌++◌, IfOk, OnOk, option_map};
+ghost use Rattle.std.specs.Prelude.{◌≡◌, ◌++◌, IfOk, OnErr, OnOk, option_map};
+ghost use Rattle.kt_text.specs.Begun.{HasBegun};
 ghost use Rattle.kt_eval.specs.Faults.{fault_line, two_digits};
 ghost use Rattle.kt_eval.specs.State.{message_place};
 ghost use Rattle.kt_eval.specs.Step.{fault_of};
@@ -39,9 +40,11 @@ impl Fault {
     }
 
     /// Appends the line that tells of the fault: `FILE:LINE: *** WORDS [Enn]`, without its newline. Where the fault is
-    /// at no line, the program's name stands for its place.
+    /// at no line, the program's name stands for its place. Where memory is refused, the text holds a prefix of the line
+    /// more.
     pub fn append_to(&self, text: &mut Vec<u8>) -> Result<(), AllocError>
-        ensures { OnOk result (text.new.items ≡ text.old.items ++ fault_line self.now) }
+        ensures appended { OnOk result (text.new.items ≡ text.old.items ++ fault_line self.now) }
+        ensures refused { OnErr result (HasBegun (fault_line self.now) text.old.items text.new.items) }
     {
         append_place(&self.place, text)?;
         text.extend_from_slice(b": *** ")?;
@@ -55,7 +58,8 @@ impl Fault {
 
 // Appends the place, or the program's name where there is none.
 pub(crate) fn append_place(place: &Option<Place>, text: &mut Vec<u8>) -> Result<(), AllocError>
-    ensures { OnOk result (text.new.items ≡ text.old.items ++ message_place place.now) }
+    ensures appended { OnOk result (text.new.items ≡ text.old.items ++ message_place place.now) }
+    ensures refused { OnErr result (HasBegun (message_place place.now) text.old.items text.new.items) }
 {
     match place {
         None => text.extend_from_slice(b"kati"),
@@ -65,7 +69,8 @@ pub(crate) fn append_place(place: &Option<Place>, text: &mut Vec<u8>) -> Result<
 
 // Appends a number in two digits at least.
 fn append_number(number: u8, text: &mut Vec<u8>) -> Result<(), AllocError>
-    ensures { OnOk result (text.new.items ≡ text.old.items ++ two_digits number) }
+    ensures appended { OnOk result (text.new.items ≡ text.old.items ++ two_digits number) }
+    ensures refused { OnErr result (HasBegun (two_digits number) text.old.items text.new.items) }
 {
     let mut buffer = Buffer::new();
     if number < 10 {

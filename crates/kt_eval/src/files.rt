@@ -1,7 +1,15 @@
 //! Where makefiles are read from.
+//!
+//! In goes a name. Out come the bytes of the file, or that there is none, or that its device
+//! failed; which names were asked for, and how often a device failed, can be seen at any time.
 ghost use Rattle.std.specs.Prelude.{◌≡◌, option_map, map, string_bytes, IfOk, IfSome, ◌≤◌};
-ghost use Rattle.kt_eval.specs.Files.{AskedAfter, CountedAfter, FilesSeen, look};
+ghost use Rattle.kt_eval.specs.files.Files.{AskedAfter, CountedAfter, FilesSeen, look};
 
+mod including;
+mod memory;
+
+pub use including::LARGEST_FILE;
+pub use memory::MemFiles;
 use thiserror::Error;
 
 /// A file couldn't be read.

@@ -2,15 +2,16 @@
 ghost use Rattle.std.specs.Prelude.{ℕ, Bool, List};
 ghost use Rattle.kt_text.specs.Words.{Text};
 ghost use Rattle.kt_syntax.specs.Blocks.{Items};
-ghost use Rattle.kt_eval.specs.declared.function.Function.{Function};
-ghost use Rattle.kt_eval.specs.declared.page.Source.{Source};
-ghost use Rattle.kt_eval.specs.Arguments.{ArgumentLaw};
-ghost use Rattle.kt_eval.specs.Doubling.{DoublingLaw};
-ghost use Rattle.kt_eval.specs.Expansion.{apply, expanded};
-ghost use Rattle.kt_eval.specs.Files.{Store};
+ghost use Rattle.kt_eval.specs.declared.expanding.function.Function.{Function};
+ghost use Rattle.kt_eval.specs.declared.reading.page.Source.{Source};
+ghost use Rattle.kt_eval.specs.expanding.Arguments.{ArgumentLaw};
+ghost use Rattle.kt_eval.specs.reading.BarePlaces.{BarePlaceLaw};
+ghost use Rattle.kt_eval.specs.expanding.Doubling.{DoublingLaw};
+ghost use Rattle.kt_eval.specs.expanding.Expansion.{apply, expanded};
+ghost use Rattle.kt_eval.specs.files.Files.{Store};
 ghost use Rattle.kt_eval.specs.Growing.{StaysOneDeeper, TakesNothingBack};
-ghost use Rattle.kt_eval.specs.Levels.{evaluator};
-ghost use Rattle.kt_eval.specs.Reading.{Sheet, read_first, read_items, read_text};
+ghost use Rattle.kt_eval.specs.expanding.Levels.{evaluator};
+ghost use Rattle.kt_eval.specs.reading.Reading.{Sheet, read_first, read_items, read_text};
 ghost use Rattle.kt_eval.specs.Rows.{RowsOfAssignments, RowsOfCalls, RowsOfReading, RowsOfReferences};
 
 /// Worked values of references.
@@ -48,7 +49,8 @@ pub fn nothing_is_taken_back()
         → TakesNothingBack (read_text (evaluator reads store levels) source text) }
 {}
 
-/// What isn't too deep (E08) with so many levels is the same with one more, whatever the state before it.
+/// What isn't too deep (E08) with a given number of levels is the same with one more, whatever the
+/// state before it.
 pub fn one_deeper()
     ensures expanding { (reads : Bool) (store : Store) (text : Text)
         → StaysOneDeeper (λ levels. expanded (evaluator reads store levels) text) }
@@ -71,4 +73,10 @@ pub fn law_of_arguments()
 /// A text with each dollar doubled, as `:::=` leaves it, is expanded to the text.
 pub fn doubled_texts_expand_to_themselves()
     ensures { DoublingLaw }
+{}
+
+/// The comma of `ifeq (a,b)`, and its closing parenthesis, are the first ones before which each parenthesis that is
+/// opened is closed; where there is none, none is found.
+pub fn law_of_bare_places()
+    ensures { BarePlaceLaw }
 {}

@@ -1,10 +1,23 @@
 //! The macros of a makefile.
-ghost use Rattle.std.specs.Prelude.{◌≡◌, IfOk};
+//!
+//! In goes an assignment or a `define`: an operator, a name and a text. Out comes the table in
+//! which the name has its value, as it stands or expanded; a scope says where names are looked up,
+//! and whether anything may be set.
+ghost use Rattle.std.specs.Prelude.{◌≡◌, ◌++◌, ◌==◌, IfOk, OnOk, Some, option_map};
+ghost use Rattle.std.specs.List.{list_any};
 ghost use Rattle.kt_eval.specs.State.{found_of};
+ghost use Rattle.kt_eval.specs.inner.Plain.{is_plain, put_of, still_deferred};
+
+pub(crate) mod assigning;
+mod assignments;
+pub(crate) mod automatic;
+pub(crate) mod scope;
 
 use crate::state::Found;
+pub use automatic::{Automatic, NoAutomatic};
 use indexmap::IndexMap;
 use kt_list::Shared;
+pub use scope::Makefile;
 use std::alloc::{AllocError, Global};
 use std::marker::Model;
 
@@ -36,8 +49,8 @@ pub struct Macro {
 }
 
 impl Macro {
-    ghost use Rattle.std.specs.Prelude.{◌++◌, OnOk, codes};
-    ghost use Rattle.kt_eval.specs.Table.{set_by_makefile};
+    ghost use Rattle.std.specs.Prelude.{codes};
+    ghost use Rattle.kt_eval.specs.macros.Macros.{set_by_makefile};
 
     // One that a makefile sets.
     pub(crate) fn of_makefile(flavour: Flavour, value: Shared<u8>) -> Macro
@@ -58,6 +71,25 @@ impl Macro {
         self.value.extend_from_slice(more)
     }
 
+    // Appends the value where it is what it is expanded to, with a given number of levels below;
+    // else it is given, held once more.
+    #[tactic(auto, unfolding(crate::proofs::Steps::value_open))]
+    pub(crate) fn put_value(
+        &self,
+        below: u64,
+        out: &mut Vec<u8>,
+    ) -> Result<Option<Shared<u8>>, AllocError>
+        ensures put { OnOk result (out.new.items ≡ out.old.items ++ put_of below (Some (found_of self.now))) }
+        ensures left { IfOk result (λ left. left ≡ still_deferred below (Some (found_of self.now))) }
+    {
+        let value = self.value.as_slice();
+        if is_plain(below, self.flavour, value) {
+            out.extend_from_slice(value)?;
+            return Ok(None);
+        }
+        Ok(Some(self.value.share()?))
+    }
+
     // What a name stands for that stands for this; its value is held once more.
     pub(crate) fn found(&self) -> Result<Found, AllocError>
         ensures { IfOk result (λ found. found ≡ found_of self.now) }
@@ -69,6 +101,22 @@ impl Macro {
     }
 }
 
+// Whether a value is what it is expanded to.
+fn is_plain(below: u64, flavour: Flavour, value: &[u8]) -> bool
+    ensures { result ≡ is_plain below flavour value.now }
+{
+    match flavour {
+        Flavour::Immediate => true,
+        Flavour::Deferred => below != 0 && !has_dollar(value),
+    }
+}
+
+pub(crate) fn has_dollar(text: &[u8]) -> bool
+    ensures { result ≡ list_any (λ byte. byte == 36) text.now }
+{
+    text.iter().any(|byte| *byte == b'$')
+}
+
 /// The macros by name, in the order in which they were first set.
 #[derive(Drop)]
 pub struct Macros {
@@ -78,7 +126,7 @@ pub struct Macros {
 
 impl Model for Macros {
     ghost use Rattle.std.specs.Prelude.{map};
-    ghost use Rattle.kt_eval.specs.Table.{Table};
+    ghost use Rattle.kt_eval.specs.macros.Macros.{Table};
 
     ghost Value = { Table };
 
@@ -86,8 +134,8 @@ impl Model for Macros {
 }
 
 impl Macros {
-    ghost use Rattle.std.specs.Prelude.{[], ◌++◌, OnOk, OnErr, codes, option_map};
-    ghost use Rattle.kt_eval.specs.Table.{find, put, set_by_makefile};
+    ghost use Rattle.std.specs.Prelude.{[], OnErr, codes};
+    ghost use Rattle.kt_eval.specs.macros.Macros.{find, put, set_by_makefile};
 
     /// None.
     pub fn new(alloc: Global) -> Macros
@@ -113,6 +161,25 @@ impl Macros {
         match self.get(name) {
             None => Ok(None),
             Some(entry) => Ok(Some(entry.found()?)),
+        }
+    }
+
+    // Appends what a name stands for, as far as it is what it is expanded to; what isn't is given.
+    #[tactic(auto, unfolding(crate::proofs::Steps::value_open))]
+    pub(crate) fn put_value(
+        &self,
+        name: &[u8],
+        below: u64,
+        out: &mut Vec<u8>,
+    ) -> Result<Option<Shared<u8>>, AllocError>
+        ensures put { OnOk result (out.new.items
+            ≡ out.old.items ++ put_of below (option_map found_of (find name.now self.now))) }
+        ensures left { IfOk result (λ left. left
+            ≡ still_deferred below (option_map found_of (find name.now self.now))) }
+    {
+        match self.get(name) {
+            None => Ok(None),
+            Some(entry) => entry.put_value(below, out),
         }
     }
 

@@ -1,28 +1,37 @@
 //! Makefiles read, line by line.
+//!
+//! In go the bytes of a makefile. Each line does what its kind says: it assigns, opens a rule, goes
+//! on with a recipe, includes a file, or chooses a branch. Out come macros, rules and messages, or
+//! the first fault.
 ghost use Rattle.std.specs.Prelude.{◌≡◌, ◌<◌, ◌≤◌, ◌+◌, length, option_map, IfErr, IfOk, Some, false, true};
 ghost use Rattle.std.specs.List.{slice_get, slice_range};
-ghost use Rattle.kt_syntax.specs.Kinds.{kind_of, kind_told, line_kind};
+ghost use Rattle.kt_syntax.specs.Kinds.{kind_of, kind_view, line_kind};
 ghost use Rattle.kt_syntax.specs.Blocks.{tree_of};
 ghost use Rattle.kt_syntax.specs.Reading.{IsAhead, IsConditional, ReadsOn, left_at};
 ghost use Rattle.kt_syntax.specs.declared.step.Step.TheVariants as step;
-ghost use Rattle.kt_eval.specs.Levels.{evaluator};
-ghost use Rattle.kt_eval.specs.Reading.{branch_holds, line_at, read_bare_tab, read_define, read_end, read_held};
-ghost use Rattle.kt_eval.specs.Reading.{read_include, read_items, read_kind, read_line, read_sheet, read_stray};
-ghost use Rattle.kt_eval.specs.Reading.{read_tab, read_text};
-ghost use Rattle.kt_eval.specs.Assignments.{assign_line};
-ghost use Rattle.kt_eval.specs.Rules.{rule_line, rule_of_parts};
+ghost use Rattle.kt_eval.specs.expanding.Levels.{evaluator};
+ghost use Rattle.kt_eval.specs.reading.Reading.{branch_holds, line_at, read_bare_tab, read_define, read_end, read_held};
+ghost use Rattle.kt_eval.specs.reading.Reading.{read_include, read_items, read_kind, read_line, read_sheet, read_stray};
+ghost use Rattle.kt_eval.specs.reading.Reading.{read_tab, read_text};
+ghost use Rattle.kt_eval.specs.macros.Assignments.{assign_line};
+ghost use Rattle.kt_eval.specs.reading.Rules.{rule_line, rule_of_parts};
 ghost use Rattle.kt_syntax.specs.Comments.{plain_of};
 ghost use Rattle.kt_syntax.specs.Recipes.{recipe_of};
 ghost use Rattle.kt_eval.specs.inner.Doing.{Does, reading_from};
 ghost use Rattle.kt_eval.specs.Outcome.{Fails, Gives, IfCut, Stopped, left_of};
 ghost use Rattle.kt_eval.specs.Step.{AreKnown, Blames, GoesOn, Keeps, files_of, store_of};
-ghost use Rattle.kt_eval.specs.inner.Views.{raw_told};
+ghost use Rattle.kt_eval.specs.inner.Views.{raw_view};
+
+mod conditionals;
+pub(crate) mod conditions;
+mod machine;
+pub(crate) mod page;
 
 use crate::evaluation::Evaluation;
 use crate::fault::Fault;
 use crate::files::Files;
-use crate::page::{Page, RawLine, Source};
-use crate::scope::Scope;
+use crate::macros::scope::Scope;
+use crate::reading::page::{Page, RawLine, Source};
 use crate::stop::Stop;
 use kt_list::Sequence;
 use kt_rules::FaultKind;
@@ -31,11 +40,12 @@ use kt_syntax::{
     classify_text, plain, recipe_text, rule_parts,
 };
 use kt_text::{LineFault, line_marks};
+pub use machine::{Machine, Reading};
 use std::alloc::{AllocError, Global};
 
 impl<'a, M: Scope, F: Files> Evaluation<'a, M, F> {
     // The end that is missing.
-    #[tactic(auto, using(crate::proofs::Steps::read_end_goes), unfolding(crate::specs::Reading::read_end))]
+    #[tactic(auto, using(crate::proofs::Steps::read_end_goes), unfolding(crate::specs::reading::Reading::read_end))]
     fn read_end(&mut self, source: &Source, missing: Option<Missing>) -> Result<(), Stop>
         ensures gives { Gives (λ u. u) result self.new.world (read_end source.now missing self.old.world) }
         ensures cut { IfCut result (GoesOn self.new.world (left_of (read_end source.now missing self.old.world))) }
@@ -57,7 +67,7 @@ impl<'a, M: Scope, F: Files> Evaluation<'a, M, F> {
     }
 
     // The fault of a line that continues or ends no block.
-    #[tactic(auto, unfolding(crate::specs::Reading::read_stray))]
+    #[tactic(auto, unfolding(crate::specs::reading::Reading::read_stray))]
     fn stray(&self, kind: Stray) -> Result<Fault, AllocError>
         ensures { IfOk result (λ fault. read_stray kind self.now.world ≡ Stopped self.now.world fault) }
     {
@@ -70,7 +80,7 @@ impl<'a, M: Scope, F: Files> Evaluation<'a, M, F> {
 
     // The text of an `eval` has rules of its own.
     #[cycle(evaluate)]
-    #[tactic(auto, unfolding(crate::specs::Reading::read_held))]
+    #[tactic(auto, unfolding(crate::specs::reading::Reading::read_held))]
     pub(crate) fn read_held(&mut self, below: u64, text: &[u8]) -> Result<(), Stop>
         requires { M.writable ≡ true }
         ensures { Does (λ u. u) M.writable below (λ e. read_held e text.now) result self.old self.new }
@@ -82,7 +92,7 @@ impl<'a, M: Scope, F: Files> Evaluation<'a, M, F> {
     }
 
     #[cycle(evaluate)]
-    #[tactic(auto, using(crate::proofs::Steps::read_text_steps), unfolding(crate::specs::Reading::read_text))]
+    #[tactic(auto, using(crate::proofs::Steps::read_text_steps), unfolding(crate::specs::reading::Reading::read_text))]
     pub(crate) fn read_text(&mut self, below: u64, source: &Source, text: &[u8]) -> Result<(), Stop>
         requires { M.writable ≡ true }
         ensures { Does (λ u. u) M.writable below (λ e. read_text e source.now text.now) result self.old self.new }
@@ -101,7 +111,7 @@ impl<'a, M: Scope, F: Files> Evaluation<'a, M, F> {
     }
 
     #[cycle(evaluate)]
-    #[tactic(auto, using(crate::proofs::Steps::read_page_steps), unfolding(crate::specs::Reading::read_sheet))]
+    #[tactic(auto, using(crate::proofs::Steps::read_page_steps), unfolding(crate::specs::reading::Reading::read_sheet))]
     pub(crate) fn read_page(&mut self, below: u64, page: &Page<'_>) -> Result<(), Stop>
         requires { M.writable ≡ true }
         ensures { Does (λ u. u) M.writable below (λ e. read_sheet e page.now) result self.old self.new }
@@ -112,7 +122,7 @@ impl<'a, M: Scope, F: Files> Evaluation<'a, M, F> {
     }
 
     #[cycle(evaluate)]
-    #[tactic(auto, unfolding(crate::specs::Reading::read_items))]
+    #[tactic(auto, unfolding(crate::specs::reading::Reading::read_items))]
     pub(crate) fn read_items(&mut self, below: u64, page: &Page<'_>) -> Result<(), Stop>
         requires { M.writable ≡ true }
         ensures { Does (λ u. u) M.writable below
@@ -127,7 +137,7 @@ impl<'a, M: Scope, F: Files> Evaluation<'a, M, F> {
 
     // Reads the line of a place, or tests a conditional, and gives the place to go on from.
     #[cycle(evaluate)]
-    #[tactic(auto, using(crate::proofs::Steps::read_items_goes), unfolding(crate::specs::Reading::read_items))]
+    #[tactic(auto, using(crate::proofs::Steps::read_items_goes), unfolding(crate::specs::reading::Reading::read_items))]
     pub(crate) fn read_step(
         &mut self,
         below: u64,
@@ -155,12 +165,12 @@ impl<'a, M: Scope, F: Files> Evaluation<'a, M, F> {
             Step::Line => {
                 let line = self.at_line(page, place)?;
                 self.read_line(below, line)?;
-                Ok(page.behind(place))
+                Ok(page.past(place))
             }
-            Step::Body | Step::Endef | Step::Endif => Ok(page.behind(place)),
+            Step::Body | Step::Endef | Step::Endif => Ok(page.past(place)),
             Step::Define { end } => {
                 let line = self.at_line(page, place)?;
-                let body = page.body(self.alloc, page.behind(place), end)?;
+                let body = page.body(self.alloc, page.past(place), end)?;
                 self.read_define(below, line.text, &body)?;
                 Ok(end)
             }
@@ -177,7 +187,7 @@ impl<'a, M: Scope, F: Files> Evaluation<'a, M, F> {
 
     // Finds the branch of a conditional that is read.
     #[cycle(evaluate)]
-    #[tactic(auto, using(crate::proofs::ReadingLemmas::branch_steps))]
+    #[tactic(auto, using(crate::proofs::lemmas::reading::ReadingLemmas::branch_steps))]
     pub(crate) fn read_conditional(
         &mut self,
         below: u64,
@@ -201,12 +211,12 @@ impl<'a, M: Scope, F: Files> Evaluation<'a, M, F> {
         ensures blames { Blames result (files_of self.old) (files_of self.new) }
     {
         if self.branch_holds(below, page, place, true)? {
-            return Ok(page.behind(place));
+            return Ok(page.past(place));
         }
         let mut at = next;
         'branches: while let Some((condition, next)) = page.branch(at, after) {
             if self.branch_holds(below, page, at, condition)? {
-                return Ok(page.behind(at));
+                return Ok(page.past(at));
             }
             at = next;
         }
@@ -214,7 +224,7 @@ impl<'a, M: Scope, F: Files> Evaluation<'a, M, F> {
     }
 
     #[cycle(evaluate)]
-    #[tactic(auto, using(crate::proofs::Steps::branch_holds_goes), unfolding(crate::specs::Reading::branch_holds))]
+    #[tactic(auto, using(crate::proofs::Steps::branch_holds_goes), unfolding(crate::specs::reading::Reading::branch_holds))]
     pub(crate) fn branch_holds(
         &mut self,
         below: u64,
@@ -232,10 +242,10 @@ impl<'a, M: Scope, F: Files> Evaluation<'a, M, F> {
     }
 
     #[cycle(evaluate)]
-    #[tactic(auto, using(crate::proofs::Steps::read_kind_goes), unfolding(crate::specs::Reading::read_line))]
+    #[tactic(auto, using(crate::proofs::Steps::read_kind_goes), unfolding(crate::specs::reading::Reading::read_line))]
     pub(crate) fn read_line(&mut self, below: u64, line: RawLine<'_>) -> Result<(), Stop>
         requires { M.writable ≡ true }
-        ensures { Does (λ u. u) M.writable below (λ e. read_line e (raw_told line.entry)) result self.old self.new }
+        ensures { Does (λ u. u) M.writable below (λ e. read_line e (raw_view line.entry)) result self.old self.new }
     {
         if line.tab {
             return self.read_tab(below, line.text);
@@ -246,7 +256,7 @@ impl<'a, M: Scope, F: Files> Evaluation<'a, M, F> {
 
     // A line that begins with a tab is one of the open rule's recipe, if there is one.
     #[cycle(evaluate)]
-    #[tactic(auto, unfolding(crate::specs::Reading::read_tab))]
+    #[tactic(auto, unfolding(crate::specs::reading::Reading::read_tab))]
     pub(crate) fn read_tab(&mut self, below: u64, text: &[u8]) -> Result<(), Stop>
         requires { M.writable ≡ true }
         ensures { Does (λ u. u) M.writable below (λ e. read_tab e text.now) result self.old self.new }
@@ -270,11 +280,11 @@ impl<'a, M: Scope, F: Files> Evaluation<'a, M, F> {
     }
 
     #[cycle(evaluate)]
-    #[tactic(auto, unfolding(crate::specs::Reading::read_bare_tab))]
+    #[tactic(auto, unfolding(crate::specs::reading::Reading::read_bare_tab))]
     pub(crate) fn read_bare_form(&mut self, below: u64, form: Form<'_>) -> Result<(), Stop>
         requires { M.writable ≡ true }
         ensures { Does (λ u. u) M.writable below
-            (λ e. read_bare_tab e (kind_told form.entry)) result self.old self.new }
+            (λ e. read_bare_tab e (kind_view form.entry)) result self.old self.new }
     {
         match form {
             Form::Blank => Ok(()),
@@ -305,7 +315,7 @@ impl<'a, M: Scope, F: Files> Evaluation<'a, M, F> {
 
     // A line by its kind; an assignment, an include and a rule line close the rule that is open.
     #[cycle(evaluate)]
-    #[tactic(auto, using(crate::proofs::Steps::read_kind_steps), unfolding(crate::specs::Reading::read_kind))]
+    #[tactic(auto, using(crate::proofs::Steps::read_kind_steps), unfolding(crate::specs::reading::Reading::read_kind))]
     pub(crate) fn read_kind(
         &mut self,
         below: u64,
@@ -314,7 +324,7 @@ impl<'a, M: Scope, F: Files> Evaluation<'a, M, F> {
     ) -> Result<(), Stop>
         requires { M.writable ≡ true }
         ensures { Does (λ u. u) M.writable below
-            (λ e. read_kind e line.now (kind_told form.entry)) result self.old self.new }
+            (λ e. read_kind e line.now (kind_view form.entry)) result self.old self.new }
     {
         match form {
             Form::Blank => Ok(()),
@@ -336,7 +346,7 @@ impl<'a, M: Scope, F: Files> Evaluation<'a, M, F> {
     }
 
     #[cycle(evaluate)]
-    #[tactic(auto, using(crate::proofs::Steps::include_line_goes), unfolding(crate::specs::Reading::read_include))]
+    #[tactic(auto, using(crate::proofs::Steps::include_line_goes), unfolding(crate::specs::reading::Reading::read_include))]
     pub(crate) fn read_include(
         &mut self,
         below: u64,
@@ -364,7 +374,7 @@ impl<'a, M: Scope, F: Files> Evaluation<'a, M, F> {
     }
 
     #[cycle(evaluate)]
-    #[tactic(auto, using(crate::proofs::Steps::define_goes), unfolding(crate::specs::Reading::read_define))]
+    #[tactic(auto, using(crate::proofs::Steps::define_goes), unfolding(crate::specs::reading::Reading::read_define))]
     pub(crate) fn read_define_form(
         &mut self,
         below: u64,
@@ -373,7 +383,7 @@ impl<'a, M: Scope, F: Files> Evaluation<'a, M, F> {
     ) -> Result<(), Stop>
         requires { M.writable ≡ true }
         ensures { Does (λ u. u) M.writable below
-            (λ e. read_define e (kind_told form.entry) body.now) result self.old self.new }
+            (λ e. read_define e (kind_view form.entry) body.now) result self.old self.new }
     {
         match form {
             Form::Directive(Directive::Define, rest) => {
@@ -385,7 +395,7 @@ impl<'a, M: Scope, F: Files> Evaluation<'a, M, F> {
     }
 
     #[cycle(evaluate)]
-    #[tactic(auto, unfolding(crate::specs::Rules::rule_line, crate::specs::Rules::rule_of_parts))]
+    #[tactic(auto, unfolding(crate::specs::reading::Rules::rule_line, crate::specs::reading::Rules::rule_of_parts))]
     pub(crate) fn rule_line(&mut self, below: u64, line: &LineText<'_>) -> Result<(), Stop>
         requires { M.writable ≡ true }
         ensures { Does (λ u. u) M.writable below (λ e. rule_line e line.now) result self.old self.new }
@@ -401,7 +411,7 @@ impl<'a, M: Scope, F: Files> Evaluation<'a, M, F> {
 
     // A rule line by its parts.
     #[cycle(evaluate)]
-    #[tactic(auto, using(crate::proofs::Steps::read_rule_steps), unfolding(crate::specs::Rules::rule_of_parts))]
+    #[tactic(auto, using(crate::proofs::Steps::read_rule_steps), unfolding(crate::specs::reading::Rules::rule_of_parts))]
     pub(crate) fn read_rule(
         &mut self,
         below: u64,

@@ -11,6 +11,16 @@ pub struct Found {
     pub value: Shared<u8>,
 }
 
+/// What is left of a term, once what needs no level of its own is put.
+#[derive(Debug, Drop)]
+pub(crate) enum Left {
+    Nothing,
+    /// A value that has to be expanded.
+    Value(Shared<u8>),
+    /// All of it.
+    Whole,
+}
+
 /// A binding of `foreach` or `call` (GNU make manual, "The foreach Function" and "The call Function").
 #[derive(Debug, Drop)]
 pub enum Frame {

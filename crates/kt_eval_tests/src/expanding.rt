@@ -6,6 +6,8 @@ use kt_testing::{Random, put};
 use std::alloc::{AllocError, Global};
 use std::test::Fail;
 
+mod levels;
+
 fn table(alloc: Global, rows: &[(&str, Flavour, &str)]) -> Result<Macros, AllocError> {
     let mut macros = Macros::new(alloc);
     for (name, flavour, value) in rows {

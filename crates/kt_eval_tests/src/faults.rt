@@ -5,7 +5,7 @@ use kt_rules_doubles::place_of;
 use std::alloc::{AllocError, Global};
 use std::test::Fail;
 
-/// A kind, a name, and a line of the file `m` or 0; number, words, and what is told.
+/// A kind, a name, and a line of the file `m` or 0; number, words, and what is reported.
 type Row = (
     FaultKind,
     &'static [u8],

@@ -2,7 +2,7 @@
 use kati_doubles::{files_of, put_messages, put_stop};
 use kt_eval::{Files, Flavour, Machine, Macro, Macros, MemFiles, Origin, Reading, Stop};
 use kt_list::Shared;
-use kt_rules::{Book, Name, RecipeLine};
+use kt_rules::{Book, NeededNames, RecipeLine};
 use kt_testing::put;
 use std::alloc::{AllocError, Global};
 use std::process::Abort;
@@ -54,10 +54,13 @@ fn put_asked(out: &mut Vec<u8>, names: &[String]) {
     }
 }
 
-fn put_names(out: &mut Vec<u8>, names: &[Name]) {
+fn put_names(alloc: Global, out: &mut Vec<u8>, names: NeededNames) {
     for name in names {
         put(out, b" ");
-        put(out, name.as_slice());
+        match name.text(alloc) {
+            Ok(text) => put(out, text.as_slice()),
+            Err(_refused) => put(out, b"no memory"),
+        }
     }
 }
 
@@ -70,23 +73,23 @@ fn put_recipe(out: &mut Vec<u8>, lines: &[RecipeLine]) {
 }
 
 /// The rules of a goal, much as a makefile has them.
-fn put_rules(out: &mut Vec<u8>, book: &Book, goal: &[u8]) {
+fn put_rules(alloc: Global, out: &mut Vec<u8>, book: &Book, goal: &[u8]) {
     for rule in book.explicit(goal) {
-        let needs = rule.entry.needs(rule.target);
+        let needs = rule.needs();
         put(out, goal);
         put(out, b":");
-        put_names(out, needs.prerequisites.as_slice());
+        put_names(alloc, out, needs.prerequisites());
         put(out, b" |");
-        put_names(out, needs.order_only.as_slice());
+        put_names(alloc, out, needs.order_only());
         put(out, b"\n");
         put_recipe(out, rule.entry.recipe().unwrap_or(&[]));
     }
 }
 
 /// The rules of the first goal, or what stopped the reading.
-fn put_end(out: &mut Vec<u8>, book: &Book, outcome: &Result<(), Stop>) {
+fn put_end(alloc: Global, out: &mut Vec<u8>, book: &Book, outcome: &Result<(), Stop>) {
     match outcome {
-        Ok(()) => put_rules(out, book, book.first_goal().unwrap_or(b"")),
+        Ok(()) => put_rules(alloc, out, book, book.first_goal().unwrap_or(b"")),
         Err(stop) => put_stop(out, stop),
     }
 }
@@ -108,14 +111,20 @@ fn machine_of(alloc: Global, start: Start<'_>) -> Result<Machine, AllocError> {
 }
 
 /// The messages of a reading, the names asked for after `makefile` and `Makefile`, and how it ended.
-fn put_told(out: &mut Vec<u8>, reading: &Reading, asked: &[String], outcome: &Result<(), Stop>) {
+fn put_told(
+    alloc: Global,
+    out: &mut Vec<u8>,
+    reading: &Reading,
+    asked: &[String],
+    outcome: &Result<(), Stop>,
+) {
     put_messages(out, reading.messages.as_slice());
     put_asked(out, asked.get(2..).unwrap_or(&[]));
-    put_end(out, &reading.book, outcome);
+    put_end(alloc, out, &reading.book, outcome);
 }
 
-/// What is told of reading `Makefile`. It is cut into small parts, since each value that an early end drops is dear
-/// to prove.
+/// What is reported of reading `Makefile`. It is cut into small parts, since each value that an
+/// early end drops is dear to prove.
 fn told(alloc: Global, start: Start<'_>, makefile: &[u8]) -> Result<Vec<u8>, AllocError> {
     let files = files_with(alloc, start, makefile)?;
     let machine = machine_of(alloc, start)?;
@@ -127,7 +136,7 @@ fn told_by(alloc: Global, machine: Machine, files: MemFiles) -> Vec<u8> {
     let outcome = read(&mut machine, &mut files, &["makefile", "Makefile"]);
     let mut out = Vec::new(alloc);
     let reading = machine.finish();
-    put_told(&mut out, &reading, files.asked(), &outcome);
+    put_told(alloc, &mut out, &reading, files.asked(), &outcome);
     out
 }
 

@@ -1,13 +1,8 @@
 pub mod Known
-pub mod Candidates
-pub mod Search
-pub mod Node
+pub mod search
+pub mod nodes
 pub mod Goals
-pub mod Paths
+pub mod faults
 pub mod Reach
-pub mod Resolution
-pub mod Groups
-pub mod Faults
-pub mod Views
 pub mod Rows
 pub mod inner

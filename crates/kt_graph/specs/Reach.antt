@@ -10,9 +10,9 @@ use Rattle.std.specs.declared.cmp.Ordering.TheVariants.{Less}
 use Rattle.kt_text.specs.Words.{Text}
 use Rattle.kt_rules.specs.Names.{is_among}
 use Rattle.kt_rules.specs.Entry.{Rule}
-use Rattle.kt_graph.specs.declared.node.NodeKind.TheVariants.{Implicit}
-use Rattle.kt_graph.specs.Node.{Instance, Node, node_of, is_leaf, all_inputs}
-use Rattle.kt_graph.specs.Paths.{canon_of, is_reserved}
+use Rattle.kt_graph.specs.declared.nodes.node.NodeKind.TheVariants.{Implicit}
+use Rattle.kt_graph.specs.nodes.Node.{Instance, Node, node_of, is_leaf, all_inputs}
+use Rattle.kt_graph.specs.faults.Paths.{canon_of, is_reserved}
 
 -- ---- paths
 
@@ -139,7 +139,7 @@ ComesFirst rules known goals None = IsSound rules known goals
 pub record IsGraph (rules : List Rule) (known goals : List Text) (nodes : List Node) : Type 0 where
   pub rises : IsStrictlySortedBy (slice_cmp nat_cmp) (map (λ node. node.name) nodes)
   pub reached : (name : Text) → Contains (map (λ node. node.name) nodes) name ↔ IsReached rules known goals name
-  pub settled : nodes ≡ map (node_of rules known) (map (λ node. node.name) nodes)
+  pub stored : nodes ≡ map (node_of rules known) (map (λ node. node.name) nodes)
 
 -- whether one of the nodes is that of a name, and a rule makes it
 abbrev pub is_made_among : List Node → Text → Bool

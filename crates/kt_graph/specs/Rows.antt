@@ -6,12 +6,12 @@ use Rattle.kt_rules.specs.declared.entry.Kind.TheVariants.{SingleColon, Terminal
 use Rattle.kt_rules.specs.Entry.{Rule}
 use Rattle.kt_rules.specs.Suffixes.{all_needs}
 use Rattle.kt_rules.specs.BookRows.{rule, made, needing, pattern}
-use Rattle.kt_graph.specs.declared.node.NodeKind.TheVariants as kinds
+use Rattle.kt_graph.specs.declared.nodes.node.NodeKind.TheVariants as kinds
 use Rattle.kt_graph.specs.Known.{known_names, listed_names}
-use Rattle.kt_graph.specs.Search.{asked_after, choice_of}
-use Rattle.kt_graph.specs.Node.{node_of, inputs_of, order_only_of}
+use Rattle.kt_graph.specs.search.Search.{asked_after, choice_of}
+use Rattle.kt_graph.specs.nodes.Node.{node_of, inputs_of, order_only_of}
 use Rattle.kt_graph.specs.Goals.{goals_of}
-use Rattle.kt_graph.specs.Paths.{canon_of, is_reserved}
+use Rattle.kt_graph.specs.faults.Paths.{canon_of, is_reserved}
 
 -- spellings of files
 pub record RowsOfPaths : Type 0 where

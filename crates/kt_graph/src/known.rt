@@ -2,11 +2,12 @@
 ghost use Rattle.std.specs.Prelude.{◌≡◌, [], codes, flat_map, fold, option_map, IfOk, OnOk};
 ghost use Rattle.kt_rules.specs.Names.{is_among, with_name};
 ghost use Rattle.kt_rules.specs.Suffixes.{all_needs, special_needs, suffixes_of};
+ghost use Rattle.kt_rules.specs.Targets.{names_view, needs_view};
 ghost use Rattle.kt_graph.specs.Known.{known_names, listed_names, named_by, named_with};
 
 use bstr::ByteSlice;
 use kt_list::Names;
-use kt_rules::{Book, Entry, Name, Needs, TargetRule, without_dots};
+use kt_rules::{Book, Entry, NeededNames, NeedsView, TargetRule, without_dots};
 use std::alloc::{AllocError, Global};
 use std::marker::Model;
 
@@ -15,6 +16,7 @@ use std::marker::Model;
 /// A known name needs no rule where a pattern rule needs it.
 #[derive(Drop)]
 pub struct Known {
+    alloc: Global,
     names: Names,
 }
 
@@ -52,6 +54,7 @@ impl Known {
         ensures { result ≡ [] }
     {
         Known {
+            alloc,
             names: Names::new(alloc),
         }
     }
@@ -87,25 +90,26 @@ impl Known {
     {
         for target in entry.targets() {
             if book.is_explicit(TargetRule { entry, target }) {
-                self.add(target.name.as_slice())?;
+                self.add(target.name)?;
                 self.add_needs(entry.needs(target))?;
             }
         }
         Ok(())
     }
 
-    fn add_needs(&mut self, needs: &Needs) -> Result<(), AllocError>
-        ensures { OnOk result (self.new ≡ fold with_name self.old (all_needs needs.now)) }
+    fn add_needs(&mut self, needs: NeedsView<'_>) -> Result<(), AllocError>
+        ensures { OnOk result (self.new ≡ fold with_name self.old (all_needs (needs_view needs.entry))) }
     {
-        self.add_all(needs.prerequisites.as_slice())?;
-        self.add_all(needs.order_only.as_slice())
+        self.add_all(needs.prerequisites())?;
+        self.add_all(needs.order_only())
     }
 
-    fn add_all(&mut self, names: &[Name]) -> Result<(), AllocError>
-        ensures { OnOk result (self.new ≡ fold with_name self.old names.now) }
+    fn add_all(&mut self, names: NeededNames<'_>) -> Result<(), AllocError>
+        ensures { OnOk result (self.new ≡ fold with_name self.old (names_view names.entry)) }
     {
         for name in names {
-            self.add(name.as_slice())?;
+            let text = name.text(self.alloc)?;
+            self.add(text.as_slice())?;
         }
         Ok(())
     }
@@ -119,12 +123,13 @@ impl Known {
 }
 
 // What the entry's `.PHONY` needs.
-fn phony_needs(entry: &Entry) -> Option<&Needs>
-    ensures { option_map (λ needs. all_needs needs.now) result ≡ special_needs (codes ".PHONY") entry.now }
+fn phony_needs(entry: &Entry) -> Option<NeedsView<'_>>
+    ensures { option_map (λ needs. all_needs (needs_view needs)) result ≡ special_needs (codes ".PHONY") entry.now }
 {
-    let target = entry
-        .targets()
-        .iter()
-        .find(|target| target.name.as_slice() == b".PHONY".as_slice())?;
-    Some(entry.needs(target))
+    for target in entry.targets() {
+        if target.name == b".PHONY".as_slice() {
+            return Some(entry.needs(target));
+        }
+    }
+    None
 }

@@ -2,14 +2,14 @@
 ghost use Rattle.std.specs.Prelude.{List};
 ghost use Rattle.kt_text.specs.Words.{Text};
 ghost use Rattle.kt_rules.specs.Entry.{Rule};
-ghost use Rattle.kt_graph.specs.Faults.{TellsFirst};
-ghost use Rattle.kt_graph.specs.Groups.{AreGroups, groups_of};
-ghost use Rattle.kt_graph.specs.Node.{Node};
+ghost use Rattle.kt_graph.specs.faults.Faults.{ReportsFirst};
+ghost use Rattle.kt_graph.specs.nodes.Groups.{AreGroups, groups_of};
+ghost use Rattle.kt_graph.specs.nodes.Node.{Node};
 ghost use Rattle.kt_graph.specs.Reach.{IsGraph};
-ghost use Rattle.kt_graph.specs.Resolution.{IsResolution};
+ghost use Rattle.kt_graph.specs.faults.Resolution.{IsResolution};
 ghost use Rattle.kt_graph.specs.Rows.{RowsOfChoices, RowsOfGoals, RowsOfKnown, RowsOfNodes, RowsOfPaths};
 ghost use Rattle.kt_graph.specs.Rows.{RowsOfQuestions};
-ghost use Rattle.kt_graph.specs.declared.fault.GraphFault.TheVariants.{Memory};
+ghost use Rattle.kt_graph.specs.declared.faults.fault.GraphFault.TheVariants.{Memory};
 
 /// Worked known names.
 pub fn rows_of_known()
@@ -43,7 +43,7 @@ pub fn rows_of_paths()
 
 /// Want of memory is excused, whatever is wrong.
 pub fn memory_is_excused()
-    ensures { (rules : List Rule) (known goals : List Text) → TellsFirst rules known goals Memory }
+    ensures { (rules : List Rule) (known goals : List Text) → ReportsFirst rules known goals Memory }
 {}
 
 /// The groups of a graph are those of the names that one making makes: each made node stands in

@@ -1,17 +1,32 @@
 //! The search for a pattern rule that makes a name.
+//!
+//! In go the pattern rules of a book, the known names and a name. Out comes the rule that makes it,
+//! with its directory and stem, or that none does; what was asked on the way is kept, so that
+//! nothing is asked twice.
 ghost use Rattle.std.specs.Prelude.{◌≡◌, [], map, option_map, IfOk, OnErr, OnOk};
 ghost use Rattle.std.specs.List.{IsDistinct};
 ghost use Rattle.kt_rules.specs.Book.{patterns_of};
-ghost use Rattle.kt_graph.specs.Search.{IsFoundByTrees, asked_after, asked_eq, choice_of};
-ghost use Rattle.kt_graph.specs.Views.{asked_told, choice_told};
+ghost use Rattle.kt_graph.specs.search.Search.{IsFoundByTrees, asked_after, asked_eq, choice_of};
+ghost use Rattle.kt_graph.specs.search.Views.{question_view, choice_view};
 
-use crate::chains::Chains;
-use crate::choice::Choice;
+mod candidate;
+mod candidates;
+mod chains;
+pub(crate) mod choice;
+mod ends;
+mod knowing;
+mod patterns;
+mod question;
+pub(crate) mod stemming;
+mod tried;
+
 use crate::known::Known;
-use crate::patterns::Patterns;
-use crate::question::Question;
-use crate::tried::Tried;
+use crate::search::chains::Chains;
+use crate::search::patterns::Patterns;
+use crate::search::tried::Tried;
+pub use choice::{Choice, Chosen};
 use kt_rules::{Book, Pattern};
+pub use question::{Question, Used};
 use std::alloc::{AllocError, Global};
 use std::marker::Model;
 
@@ -27,18 +42,18 @@ pub struct Search<'a> {
 }
 
 impl<'a> Model for Search<'a> {
-    ghost use Rattle.kt_graph.specs.Search.{Searching};
+    ghost use Rattle.kt_graph.specs.search.Search.{Searching};
 
     ghost Value = { Searching };
 
     ghost use Rattle.std.specs.Prelude.{map};
-    ghost use Rattle.kt_graph.specs.inner.Chaining.{IsRight};
-    ghost use Rattle.kt_graph.specs.Views.{asked_told};
+    ghost use Rattle.kt_graph.specs.inner.search.Chains.{IsRight};
+    ghost use Rattle.kt_graph.specs.search.Views.{question_view};
 
     ghost view = { λ search. record {
       rules = search.chains.patterns;
       known = search.chains.known.now;
-      asked = map asked_told search.tried.questions.keys;
+      asked = map question_view search.tried.questions.keys;
     } };
 
     ghost invariant = { λ search. IsRight search.chains.patterns search.chains.known.now search.tried.questions.keys
@@ -46,7 +61,7 @@ impl<'a> Model for Search<'a> {
 }
 
 impl<'a> Search<'a> {
-    ghost use Rattle.kt_graph.specs.Search.{Searching};
+    ghost use Rattle.kt_graph.specs.search.Search.{Searching};
 
     /// A search that was asked nothing yet.
     pub fn new(alloc: Global, book: &'a Book, known: &'a Known) -> Result<Search<'a>, AllocError>
@@ -70,7 +85,7 @@ impl<'a> Search<'a> {
     /// the search is as it was.
     pub fn choose(&mut self, name: &[u8]) -> Result<Choice, AllocError>
         ensures chosen { IfOk result (λ choice. choice
-            ≡ option_map choice_told (choice_of self.old.rules self.old.known name.now)) }
+            ≡ option_map choice_view (choice_of self.old.rules self.old.known name.now)) }
         ensures trees { IfOk result (IsFoundByTrees self.old.rules self.old.known name.now) }
         ensures asked { OnOk result (self.new
             ≡ record self.old { asked = asked_after self.old.rules self.old.known self.old.asked name.now }) }
@@ -86,7 +101,7 @@ impl<'a> Search<'a> {
 
     /// The questions that were put so far, each once and in this order. Takes no memory.
     pub fn tried(&self) -> &[Question]
-        ensures asked { map asked_told result.now ≡ self.now.asked }
+        ensures asked { map question_view result.now ≡ self.now.asked }
         ensures once { IsDistinct asked_eq self.now.asked }
     {
         self.tried.questions()

@@ -1,4 +1,4 @@
-//! Graphs of rules, a line each with a recipe after the first `;`, and what is told of them.
+//! Graphs of rules, a line each with a recipe after the first `;`, and what is reported of them.
 use crate::reading::{names, takes_all};
 use crate::telling::{put_fault, put_graph, put_inputs, put_kind, put_number};
 use kt_graph::{Graph, GraphFault, Instance, Known, Node, graph};
@@ -22,7 +22,7 @@ pub(crate) struct Asked<'a> {
     pub(crate) question: Question<'a>,
 }
 
-/// What is told where the words of a text are the goals.
+/// What is reported where the words of a text are the goals.
 pub(crate) fn told(alloc: Global, asked: Asked, goals: &[u8]) -> Result<Vec<u8>, AllocError> {
     let mut told = Vec::new(alloc);
     put_told_of(&mut told, alloc, asked, goals)?;
@@ -39,7 +39,7 @@ fn put_told_of(
     put_told(told, alloc, asked, goals.as_slice())
 }
 
-/// What is told, or what is wrong.
+/// What is reported, or what is wrong.
 pub(crate) fn put_told(
     told: &mut Vec<u8>,
     alloc: Global,
@@ -63,20 +63,30 @@ fn put_by_book(
     goals: &[Name],
 ) -> Result<(), AllocError> {
     let known = Known::of(alloc, book, asked.files)?;
-    put_outcome(told, graph(alloc, book, &known, goals), asked.question);
+    put_outcome(
+        told,
+        alloc,
+        graph(alloc, book, &known, goals),
+        asked.question,
+    );
     Ok(())
 }
 
-fn put_outcome(told: &mut Vec<u8>, outcome: Result<Graph, GraphFault>, question: Question) {
+fn put_outcome(
+    told: &mut Vec<u8>,
+    alloc: Global,
+    outcome: Result<Graph, GraphFault>,
+    question: Question,
+) {
     match outcome {
-        Ok(graph) => put_answer(told, &graph, question),
+        Ok(graph) => put_answer(told, alloc, &graph, question),
         Err(fault) => put_fault(told, &fault),
     }
 }
 
-fn put_answer(told: &mut Vec<u8>, graph: &Graph, question: Question) {
+fn put_answer(told: &mut Vec<u8>, alloc: Global, graph: &Graph, question: Question) {
     match question {
-        Question::Statements => put_graph(told, graph),
+        Question::Statements => put_graph(told, alloc, graph),
         Question::Node(name) => match graph.node(name) {
             Some(node) => put_node(told, node),
             None => put(told, b"not reached"),

@@ -54,7 +54,7 @@ fn put_choices(
     Ok(())
 }
 
-/// Rules, list of files, names, and what is told.
+/// Rules, list of files, names, and what is reported.
 type Row<'a> = (&'a [u8], &'a [u8], &'a [u8], &'a [u8]);
 
 fn put_told(
@@ -179,7 +179,7 @@ fn ends_of_targets(rt: HostRuntime) -> Result<(), Fail> {
     Ok(())
 }
 
-/// What is told where a prerequisite of so many bytes stands after the rules.
+/// What is reported where a prerequisite of a given number of bytes stands after the rules.
 fn put_with(told: &mut Vec<u8>, alloc: Global, rules: &[u8], len: usize) -> Result<(), AllocError> {
     let name = vec![in alloc; b'y'; len]?;
     put_with_name(told, alloc, rules, name.as_slice())
@@ -198,7 +198,7 @@ fn put_with_name(
     put_told(told, alloc, (text.as_slice(), name, b"x.o", b""), false)
 }
 
-/// A prerequisite of so many bytes is no candidate's, or is.
+/// A prerequisite of a given number of bytes is no candidate's, or is.
 #[test]
 fn long_names(rt: HostRuntime) -> Result<(), Fail> {
     const ROWS: &[(&[u8], usize, &[u8])] = &[

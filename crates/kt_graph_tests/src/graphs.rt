@@ -4,7 +4,7 @@ use std::alloc::{AllocError, Global};
 use std::process::Abort;
 use std::test::Fail;
 
-/// Rules, list of files, goals, and what is told of the graph.
+/// Rules, list of files, goals, and what is reported of the graph.
 pub(crate) type Row<'a> = (&'a [u8], &'a [u8], &'a [u8], &'a [u8]);
 
 /// Each row's graph is as it says.

@@ -4,7 +4,7 @@ use std::alloc::{AllocError, Global};
 use std::process::Abort;
 use std::test::Fail;
 
-/// Rules, list of files, goal, a name, and what is told of its node.
+/// Rules, list of files, goal, a name, and what is reported of its node.
 type Row<'a> = (&'a [u8], &'a [u8], &'a [u8], &'a [u8], &'a [u8]);
 
 fn tells(rt: &impl Abort, alloc: Global, rows: &[Row]) -> Result<(), AllocError> {

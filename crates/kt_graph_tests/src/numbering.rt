@@ -108,7 +108,7 @@ fn put_statement(told: &mut Vec<u8>, alloc: Global, rule: &Rule) {
     put(told, if rule.has_recipe { b" ;x\n" } else { b"\n" });
 }
 
-/// What is told of the graph of `a`.
+/// What is reported of the graph of `a`.
 fn told_by_names(alloc: Global, rules: &[Rule]) -> Vec<u8> {
     let mut told = Vec::new(alloc);
     let names = reached(alloc, rules, b"a");

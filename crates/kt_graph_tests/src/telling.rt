@@ -1,6 +1,7 @@
 //! What the tests compare: answers as texts.
-use kt_graph::{Graph, GraphFault, Inputs, Node, NodeKind};
+use kt_graph::{Graph, GraphFault, Groups, Inputs, Node, NodeKind};
 use kt_testing::put;
+use std::alloc::Global;
 
 /// A number of one digit, the last.
 pub(crate) fn put_digit(told: &mut Vec<u8>, number: usize) {
@@ -27,14 +28,29 @@ pub(crate) fn put_inputs(told: &mut Vec<u8>, inputs: Inputs) {
 
 /// The made names of a graph as statements, a line each: the names that one making makes, what they need, and
 /// after a semicolon the recipe of the first.
-pub(crate) fn put_graph(told: &mut Vec<u8>, graph: &Graph) {
-    let Ok(groups) = graph.groups() else {
-        put(told, b"memory");
-        return;
-    };
-    for group in &groups {
-        put_group(told, group.as_slice());
-        put(told, b"\n");
+pub(crate) fn put_graph(told: &mut Vec<u8>, alloc: Global, graph: &Graph) {
+    match graph.groups() {
+        Ok(groups) => put_groups(told, alloc, graph, groups),
+        Err(_) => put(told, b"memory"),
+    }
+}
+
+// There are no more groups than nodes.
+fn put_groups<'g>(told: &mut Vec<u8>, alloc: Global, graph: &'g Graph, groups: Groups<'g>) {
+    let mut groups = groups;
+    let mut group = Vec::new(alloc);
+    for _ in graph.nodes() {
+        match groups.next_into(&mut group) {
+            Ok(true) => {
+                put_group(told, group.as_slice());
+                put(told, b"\n");
+            }
+            Ok(false) => return,
+            Err(_) => {
+                put(told, b"memory");
+                return;
+            }
+        }
     }
 }
 

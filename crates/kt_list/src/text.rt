@@ -20,7 +20,8 @@ pub struct Text {
     form: Form,
 }
 
-// A text of so many bytes is short: as many as lie beside a size and a tag in the room of a vector and a tag.
+// A text of a given number of bytes is short: as many as lie beside a size and a tag in the room of
+// a vector and a tag.
 pub(crate) const SHORT: usize = 30;
 
 #[derive(Debug, Drop)]

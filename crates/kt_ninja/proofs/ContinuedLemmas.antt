@@ -290,20 +290,20 @@ dollar_cut : (pending : Bool) (bytes : Text) → ends_in_dollar pending bytes �
     ((front : Text) × (bytes ≡ front ++ 36 ∷ []) × (ends_in_dollar pending front ≡ false))
 unfolding ends_in_dollar
 dollar_cut pending [] h = inl (refl, h)
-dollar_cut pending (b ∷ bs) h = behind (dollar_cut (not pending && b == 36) bs h)
+dollar_cut pending (b ∷ bs) h = past (dollar_cut (not pending && b == 36) bs h)
   where
     no_pending : (p : Bool) → not p ≡ true → p ≡ false
     no_pending true e = sym e
     no_pending false e = refl
 
-    behind : ((bs ≡ []) × ((not pending && b == 36) ≡ true)) ⊎
+    past : ((bs ≡ []) × ((not pending && b == 36) ≡ true)) ⊎
         ((front : Text) × (bs ≡ front ++ 36 ∷ []) × (ends_in_dollar (not pending && b == 36) front ≡ false))
         → ((b ∷ bs ≡ []) × (pending ≡ true)) ⊎
         ((front : Text) × (b ∷ bs ≡ front ++ 36 ∷ []) × (ends_in_dollar pending front ≡ false))
-    behind (inl found) =
+    past (inl found) =
         let both = and_parts (not pending) (b == 36) found.1 in
         inr ([], rw found.0 (ap (λ (c : ℕ). c ∷ []) (eqb-true b 36 both.1)), no_pending pending both.0)
-    behind (inr found) = inr (b ∷ found.0, ap (λ (t : Text). b ∷ t) found.1, found.2)
+    past (inr found) = inr (b ∷ found.0, ap (λ (t : Text). b ∷ t) found.1, found.2)
 
 last_dollar : (bytes : Text) → ends_in_dollar false bytes ≡ true
     → (front : Text) × (bytes ≡ front ++ 36 ∷ []) × (ends_in_dollar false front ≡ false)

@@ -14,7 +14,7 @@ use Rattle.kt_ninja.specs.declared.plan.Statement.{Statement}
 use Rattle.kt_ninja.specs.declared.checking.Unwritable.{Unwritable}
 use Rattle.kt_ninja.specs.Plan.{names_of, outputs}
 use Rattle.kt_list.specs.Names.{is_among}
-use Rattle.kt_ninja.specs.Writable.{HasWritableTexts, IsWritable, Trouble, no_output, bad_name, bad_command, repeated, not_an_output, first_trouble, is_empty, is_made, is_name, not_made, repeated_after, trouble_in, trouble_of_statement, trouble_of_statements}
+use Rattle.kt_ninja.specs.Writable.{HasWritableTexts, IsWritable, Obstacle, no_output, bad_name, bad_command, repeated, not_an_output, first_obstacle, is_empty, is_made, is_name, not_made, repeated_after, obstacle_in, obstacle_of_statement, obstacle_of_statements}
 
 -- ---- a list all of whose elements pass has no first that fails
 
@@ -85,39 +85,39 @@ map_none : {A B : Type 0} (f : A → B) (o : Option A) → option_map f o ≡ No
 map_none f None e = refl
 map_none f (Some x) e = absurd (cc e)
 
-made_true : (b : Bool) (t : Trouble) → (if b then None else Some t) ≡ None → b ≡ true
+made_true : (b : Bool) (t : Obstacle) → (if b then None else Some t) ≡ None → b ≡ true
 made_true true t e = refl
 made_true false t e = absurd (cc e)
 
-made_none : (b : Bool) (t : Trouble) → b ≡ true → (if b then None else Some t) ≡ None
+made_none : (b : Bool) (t : Obstacle) → b ≡ true → (if b then None else Some t) ≡ None
 made_none b t e = ap (λ x. if x then None else Some t) e
 
 abbrev fine : Statement → Bool
 fine s = list_all is_name (names_of s) && is_made s.made
 
-fine_from_none : (n : ℕ) (s : Statement) → trouble_of_statement n s ≡ None → fine s ≡ true
+fine_from_none : (n : ℕ) (s : Statement) → obstacle_of_statement n s ≡ None → fine s ≡ true
 fine_from_none n s e =
     let names = find (λ x. not (is_name x)) (names_of s) in
     both_true (list_all is_name (names_of s)) (is_made s.made)
     (pass_from_find is_name (names_of s) (map_none bad_name names (or_first (option_map bad_name names) _ e)))
     (made_true (is_made s.made) (bad_command n) (or_second (option_map bad_name names) _ e))
 
-none_from_fine : (n : ℕ) (s : Statement) → fine s ≡ true → trouble_of_statement n s ≡ None
+none_from_fine : (n : ℕ) (s : Statement) → fine s ≡ true → obstacle_of_statement n s ≡ None
 none_from_fine n s e =
     or_none _ _ (ap (option_map bad_name) (find_from_pass is_name (names_of s) (first_true (list_all is_name (names_of s)) (is_made s.made) e)))
     (made_none (is_made s.made) (bad_command n) (second_true (list_all is_name (names_of s)) (is_made s.made) e))
 
-all_fine : (n : ℕ) (ss : List Statement) → trouble_of_statements n ss ≡ None → list_all fine ss ≡ true
+all_fine : (n : ℕ) (ss : List Statement) → obstacle_of_statements n ss ≡ None → list_all fine ss ≡ true
 all_fine n [] e = refl
 all_fine n (s ∷ ss) e =
-    both_true (fine s) (list_all fine ss) (fine_from_none n s (or_first (trouble_of_statement n s) _ e))
-    (all_fine (n + 1) ss (or_second (trouble_of_statement n s) _ e))
+    both_true (fine s) (list_all fine ss) (fine_from_none n s (or_first (obstacle_of_statement n s) _ e))
+    (all_fine (n + 1) ss (or_second (obstacle_of_statement n s) _ e))
 
-no_trouble : (n : ℕ) (ss : List Statement) → list_all fine ss ≡ true → trouble_of_statements n ss ≡ None
-no_trouble n [] e = refl
-no_trouble n (s ∷ ss) e =
-    or_none (trouble_of_statement n s) _ (none_from_fine n s (first_true (fine s) (list_all fine ss) e))
-    (no_trouble (n + 1) ss (second_true (fine s) (list_all fine ss) e))
+no_obstacle : (n : ℕ) (ss : List Statement) → list_all fine ss ≡ true → obstacle_of_statements n ss ≡ None
+no_obstacle n [] e = refl
+no_obstacle n (s ∷ ss) e =
+    or_none (obstacle_of_statement n s) _ (none_from_fine n s (first_true (fine s) (list_all fine ss) e))
+    (no_obstacle (n + 1) ss (second_true (fine s) (list_all fine ss) e))
 
 -- ---- outputs
 
@@ -131,7 +131,7 @@ names_decide a b = decided (pointwise nat_eq a b) a b (same_text a b) (other_tex
 
 flip_false : (r : Bool) (a b : List ℕ) → Decides r (a ≡ b) → pointwise nat_eq b a ≡ false → r ≡ false
 flip_false true a b same differ =
-    let again = (names_decide b a).1 (sym (same.0 refl)) in absurd (cc (sym again ∙ differ))
+    let copy = (names_decide b a).1 (sym (same.0 refl)) in absurd (cc (sym copy ∙ differ))
 flip_false false a b same differ = refl
 
 other_way : (a b : List ℕ) → pointwise nat_eq b a ≡ false → pointwise nat_eq a b ≡ false
@@ -238,11 +238,11 @@ pass_from_all outs (n ∷ ns) all =
 
 -- ---- the plan
 
-writable_from_none : (plan : Plan) → first_trouble plan ≡ None → IsWritable plan
+writable_from_none : (plan : Plan) → first_obstacle plan ≡ None → IsWritable plan
 writable_from_none plan e =
     let outs = outputs plan.statements in
     let none = option_map no_output (position_from (λ s. is_empty s.outs) 0 plan.statements) in
-    let texts = trouble_of_statements 0 plan.statements in
+    let texts = obstacle_of_statements 0 plan.statements in
     let twice = option_map repeated (repeated_after [] outs) in
     let defaults = option_map not_an_output (not_made outs plan.defaults) in
     let after_none = or_second none (option_or texts (option_or twice defaults)) e in
@@ -257,23 +257,23 @@ writable_from_none plan e =
           (pass_from_find (is_among outs) plan.defaults (map_none not_an_output _ (or_second twice defaults after_texts)));
     }
 
-pub none_from_writable : (plan : Plan) → IsWritable plan → first_trouble plan ≡ None
+pub none_from_writable : (plan : Plan) → IsWritable plan → first_obstacle plan ≡ None
 none_from_writable plan w =
     let outs = outputs plan.statements in
     or_none _ _ (ap (option_map no_output) (position_from_pass (λ s. is_empty s.outs) 0 plan.statements w.made))
-    (or_none _ _ (no_trouble 0 plan.statements w.texts)
+    (or_none _ _ (no_obstacle 0 plan.statements w.texts)
     (or_none _ _ (ap (option_map repeated) (none_from_distinct [] outs (apart_from_none outs) (IsDistinct-from_AllPairs names_decide outs w.different)))
     (ap (option_map not_an_output) (find_from_pass (is_among outs) plan.defaults (pass_from_all outs plan.defaults w.defaults)))))
 
-ok_exactly : (r : Result (Unit {0}) Unwritable) → (IsOk r → trouble_in r ≡ None) × (trouble_in r ≡ None → IsOk r)
+ok_exactly : (r : Result (Unit {0}) Unwritable) → (IsOk r → obstacle_in r ≡ None) × (obstacle_in r ≡ None → IsOk r)
 ok_exactly (Ok x) = (λ _. refl, λ _. refl)
 ok_exactly (Err e) = (λ ok. absurd (cc ok), λ none. absurd (cc none))
 
-pub writable_exactly : (plan : Plan) (r : Result (Unit {0}) Unwritable) → trouble_in r ≡ first_trouble plan → IsOk r ↔ IsWritable plan
+pub writable_exactly : (plan : Plan) (r : Result (Unit {0}) Unwritable) → obstacle_in r ≡ first_obstacle plan → IsOk r ↔ IsWritable plan
 writable_exactly plan r is =
     (λ ok. writable_from_none plan (sym is ∙ (ok_exactly r).0 ok), λ w. (ok_exactly r).1 (is ∙ none_from_writable plan w))
 
-pub texts_exactly : (plan : Plan) (r : Result (Unit {0}) Unwritable) → trouble_in r ≡ trouble_of_statements 0 plan.statements
+pub texts_exactly : (plan : Plan) (r : Result (Unit {0}) Unwritable) → obstacle_in r ≡ obstacle_of_statements 0 plan.statements
     → IsOk r ↔ HasWritableTexts plan
 texts_exactly plan r is =
-    (λ ok. all_fine 0 plan.statements (sym is ∙ (ok_exactly r).0 ok), λ texts. (ok_exactly r).1 (is ∙ no_trouble 0 plan.statements texts))
+    (λ ok. all_fine 0 plan.statements (sym is ∙ (ok_exactly r).0 ok), λ texts. (ok_exactly r).1 (is ∙ no_obstacle 0 plan.statements texts))

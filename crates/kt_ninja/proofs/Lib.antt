@@ -1,6 +1,8 @@
 pub mod Stripping
 pub mod Growth
+pub mod Places
 pub mod Putting
+pub mod ViewLemmas
 pub mod Escaping
 pub mod Marks
 pub mod Troubles

@@ -6,7 +6,7 @@ use Rattle.std.specs.Option.{option_and_then}
 use Rattle.std.specs.List.{list_any, position_or_len, slice_split, before_first, after_first}
 use Rattle.kt_ninja.specs.Pieces.{Plain}
 use Rattle.kt_ninja.specs.JoinedLines.{Text}
-use Rattle.kt_ninja.specs.Forms.{Inputs, Pieces, begins_with_at, binding_of, bound_to, build_behind, build_cut, build_of, defaults_of, inputs_of, is_keyword, is_plain, name_in, paths_of, rule_of, without_lead, words_of}
+use Rattle.kt_ninja.specs.Forms.{Inputs, Pieces, begins_with_at, binding_of, bound_to, build_after, build_cut, build_of, defaults_of, inputs_of, is_keyword, is_plain, name_in, paths_of, rule_of, without_lead, words_of}
 use Rattle.kt_ninja.specs.inner.Wording.{bars_cut, key_of, not_keyword, two_of}
 
 -- names, by the words
@@ -119,13 +119,13 @@ unfolding build_of
 build_none ps sides cut h = ap build_cut (sym cut) ∙ sides_none sides h
 
 pub build_sides : (ps outs rest : Pieces) (sides : List Pieces) → sides ≡ slice_split (is_plain 58) ps → sides ≡ outs ∷ rest ∷ []
-    → build_of ps ≡ option_and_then (λ paths. build_behind paths (slice_split (is_plain 124) rest)) (paths_of outs)
+    → build_of ps ≡ option_and_then (λ paths. build_after paths (slice_split (is_plain 124) rest)) (paths_of outs)
 unfolding build_of
 build_sides ps outs rest sides cut is = ap build_cut (sym cut ∙ is)
 
 pub sides_refused : (ps outs rest : Pieces) (sides : List Pieces) → sides ≡ slice_split (is_plain 58) ps → sides ≡ outs ∷ rest ∷ [] → paths_of outs ≡ None → build_of ps ≡ None
-sides_refused ps outs rest sides cut is none = build_sides ps outs rest sides cut is ∙ ap (option_and_then (λ paths. build_behind paths (slice_split (is_plain 124) rest))) none
+sides_refused ps outs rest sides cut is none = build_sides ps outs rest sides cut is ∙ ap (option_and_then (λ paths. build_after paths (slice_split (is_plain 124) rest))) none
 
 pub sides_read : (ps outs rest : Pieces) (sides paths : List Pieces) → sides ≡ slice_split (is_plain 58) ps → sides ≡ outs ∷ rest ∷ [] → paths_of outs ≡ Some paths
-    → build_of ps ≡ build_behind paths (slice_split (is_plain 124) rest)
-sides_read ps outs rest sides paths cut is some = build_sides ps outs rest sides cut is ∙ ap (option_and_then (λ paths. build_behind paths (slice_split (is_plain 124) rest))) some
+    → build_of ps ≡ build_after paths (slice_split (is_plain 124) rest)
+sides_read ps outs rest sides paths cut is some = build_sides ps outs rest sides cut is ∙ ap (option_and_then (λ paths. build_after paths (slice_split (is_plain 124) rest))) some

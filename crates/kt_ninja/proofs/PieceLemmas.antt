@@ -9,7 +9,7 @@ use Rattle.kt_ninja.specs.declared.read_fault.Fault.{Fault}
 use Rattle.kt_ninja.specs.declared.read_fault.Fault.TheVariants.{NoReading, Memory}
 use Rattle.kt_ninja.specs.JoinedLines.{Text}
 use Rattle.kt_ninja.specs.Writable.{is_empty}
-use Rattle.kt_ninja.specs.Pieces.{Piece, Plain, Escaped, Variable, Where, behind_dollar, in_braces, in_name, is_escapable, is_long_name_byte, is_short_name_byte, outer_step, outside, pieces_from}
+use Rattle.kt_ninja.specs.Pieces.{Piece, Plain, Escaped, Variable, Where, after_dollar, in_braces, in_name, is_escapable, is_long_name_byte, is_short_name_byte, outer_step, outside, pieces_from}
 use Rattle.kt_ninja.specs.inner.Cutting.{CutsOff, CutsShort, begins_short, dollar_piece}
 use Rattle.kt_ninja.specs.inner.Refusals.{Refuses}
 
@@ -32,31 +32,31 @@ pub map_none : (front : List Piece) (found : Option (List Piece)) → found ≡ 
 map_none front found h = ap (option_map (λ later. front ++ later)) h
 
 -- after a dollar
-pub escape-escapable : (b : ℕ) (bs : Text) → is_escapable b ≡ true → pieces_from behind_dollar (b ∷ bs) ≡ option_map (λ later. Escaped b ∷ later) (pieces_from outside bs)
+pub escape-escapable : (b : ℕ) (bs : Text) → is_escapable b ≡ true → pieces_from after_dollar (b ∷ bs) ≡ option_map (λ later. Escaped b ∷ later) (pieces_from outside bs)
 unfolding pieces_from
 escape-escapable b bs h = rw h refl
 
-pub escape-brace : (b : ℕ) (bs : Text) → is_escapable b ≡ false → (b == 123) ≡ true → pieces_from behind_dollar (b ∷ bs) ≡ pieces_from (in_braces []) bs
+pub escape-brace : (b : ℕ) (bs : Text) → is_escapable b ≡ false → (b == 123) ≡ true → pieces_from after_dollar (b ∷ bs) ≡ pieces_from (in_braces []) bs
 unfolding pieces_from
 escape-brace b bs h i = rw (h, i) (none_before (pieces_from (in_braces []) bs))
 
 pub escape-short : (b : ℕ) (bs : Text) → is_escapable b ≡ false → (b == 123) ≡ false → is_short_name_byte b ≡ true
-    → pieces_from behind_dollar (b ∷ bs) ≡ pieces_from (in_name []) (b ∷ bs)
+    → pieces_from after_dollar (b ∷ bs) ≡ pieces_from (in_name []) (b ∷ bs)
 unfolding pieces_from
 escape-short b bs h i j = rw (h, i, j) refl
 
-pub escape-none : (b : ℕ) (bs : Text) → is_escapable b ≡ false → (b == 123) ≡ false → is_short_name_byte b ≡ false → pieces_from behind_dollar (b ∷ bs) ≡ None
+pub escape-none : (b : ℕ) (bs : Text) → is_escapable b ≡ false → (b == 123) ≡ false → is_short_name_byte b ≡ false → pieces_from after_dollar (b ∷ bs) ≡ None
 unfolding pieces_from
 escape-none b bs h i j = rw (h, i, j) refl
 
-pub escape-nil : pieces_from behind_dollar [] ≡ None
+pub escape-nil : pieces_from after_dollar [] ≡ None
 unfolding pieces_from
 escape-nil = refl
 
 -- outside of escapes
-pub outside-dollar : (b : ℕ) (bs : Text) → (b == 36) ≡ true → pieces_from outside (b ∷ bs) ≡ pieces_from behind_dollar bs
+pub outside-dollar : (b : ℕ) (bs : Text) → (b == 36) ≡ true → pieces_from outside (b ∷ bs) ≡ pieces_from after_dollar bs
 unfolding pieces_from
-outside-dollar b bs h = rw h (none_before (pieces_from behind_dollar bs))
+outside-dollar b bs h = rw h (none_before (pieces_from after_dollar bs))
 
 pub outside-plain : (b : ℕ) (bs : Text) → (b == 36) ≡ false → pieces_from outside (b ∷ bs) ≡ option_map (λ later. Plain b ∷ later) (pieces_from outside bs)
 unfolding pieces_from
@@ -70,7 +70,7 @@ outside-nil = refl
 name_ended : (name : Text) (b : ℕ) (bs : Text) (dollar : Bool) → (b == 36) ≡ dollar
     → option_and_then (λ s. option_map (λ later. s.done ++ later) (pieces_from s.next bs)) (Some (outer_step (Variable name ∷ []) b))
     ≡ option_map (λ later. Variable name ∷ later) (option_and_then (λ s. option_map (λ later. s.done ++ later) (pieces_from s.next bs)) (Some (outer_step [] b)))
-name_ended name b bs true h = rw h (ap (option_map (λ later. Variable name ∷ later)) (sym (none_before (pieces_from behind_dollar bs))))
+name_ended name b bs true h = rw h (ap (option_map (λ later. Variable name ∷ later)) (sym (none_before (pieces_from after_dollar bs))))
 name_ended name b bs false h = rw h (sym (map_twice (Variable name ∷ []) (Plain b ∷ []) (pieces_from outside bs)))
 
 take_one : (n b : ℕ) (bs : Text) → take (1 + n) (b ∷ bs) ≡ b ∷ take n bs
@@ -196,12 +196,12 @@ cuts_too old new text longer cut same more h =
     record { first = same ∙ h.first; less = omega (arith, more, h.less) }
 
 -- a name without braces, after its dollar
-pub short_of : (text : Text) (b : ℕ) (bs : Text) (cut : Cut) → text ≡ b ∷ bs → is_escapable b ≡ false → (b == 123) ≡ false → CutsShort text cut → CutsOff behind_dollar text cut
+pub short_of : (text : Text) (b : ℕ) (bs : Text) (cut : Cut) → text ≡ b ∷ bs → is_escapable b ≡ false → (b == 123) ≡ false → CutsShort text cut → CutsOff after_dollar text cut
 short_of text b bs cut is escapable brace h =
     let short : is_short_name_byte b ≡ true = ap begins_short (sym is) ∙ h.0 in
-    cuts_too (in_name []) behind_dollar text text cut (rw is (escape-short b bs escapable brace short)) (omega arith) h.1
+    cuts_too (in_name []) after_dollar text text cut (rw is (escape-short b bs escapable brace short)) (omega arith) h.1
 
-pub no_short_of : (text : Text) (b : ℕ) (bs : Text) → text ≡ b ∷ bs → is_escapable b ≡ false → (b == 123) ≡ false → begins_short text ≡ false → pieces_from behind_dollar text ≡ None
+pub no_short_of : (text : Text) (b : ℕ) (bs : Text) → text ≡ b ∷ bs → is_escapable b ≡ false → (b == 123) ≡ false → begins_short text ≡ false → pieces_from after_dollar text ≡ None
 no_short_of text b bs is escapable brace h =
     let short : is_short_name_byte b ≡ false = ap begins_short (sym is) ∙ h in rw is (escape-none b bs escapable brace short)
 

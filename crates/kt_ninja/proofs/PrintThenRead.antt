@@ -14,15 +14,15 @@ use Rattle.kt_ninja.specs.declared.plan.Plan.{Plan}
 use Rattle.kt_ninja.specs.JoinedLines.{Line, Text, ends_in_dollar, file_lines, is_comment, joined_from, joined_lines}
 use Rattle.kt_ninja.specs.Forms.{Pieces}
 use Rattle.kt_ninja.specs.Scopes.{Table, command_value, find_in, put_in}
-use Rattle.kt_ninja.specs.NinjaRead.{Making, Part, Stated, all_parts, and_then_parts, are_new, block_from, by_nothing, by_rule, cut_lines, cut_with, made_of, making_of, nothing_read, ninja_read, outs_of, plan_in, plan_of, read_part, read_parts, statement_of}
+use Rattle.kt_ninja.specs.NinjaRead.{Making, Part, PendingStatement, all_parts, and_then_parts, are_new, block_from, by_nothing, by_rule, cut_lines, cut_with, made_of, making_of, nothing_read, ninja_read, outs_of, plan_in, plan_of, read_part, read_parts, statement_of}
 use Rattle.kt_ninja.specs.Plan.{names_of, outputs}
 use Rattle.kt_ninja.specs.Text.{defaults_text, number_text, plan_text, rule_count, rule_name_text, statements_text}
 use Rattle.kt_list.specs.Names.{is_among}
 use Rattle.kt_ninja.specs.Writable.{IsWritable, is_empty, is_made, is_name, repeated_after}
 use Rattle.kt_ninja.proofs.PrintedPieces.{all_both, all_implies, either_case}
 use Rattle.kt_ninja.proofs.PrintedNames.{command_expanded, command_pieces, number_once}
-use Rattle.kt_ninja.proofs.PrintedLines.{Named, build_line, default_parts, from_parts, line_behind, lines_at, named_from, part, plan_cut, plan_parts, statement_parts}
-use Rattle.kt_ninja.proofs.PrintedParts.{build_read, defaults_read, rule_read, stated_as, state_with}
+use Rattle.kt_ninja.proofs.PrintedLines.{Named, build_line, default_parts, from_parts, line_after, lines_at, named_from, part, plan_cut, plan_parts, statement_parts}
+use Rattle.kt_ninja.proofs.PrintedParts.{build_read, defaults_read, rule_read, pending_as, state_with}
 use Rattle.kt_ninja.proofs.Deciding.{apart_from_none, names_decide, none_from_distinct, pass_from_all}
 
 -- ---- rules
@@ -88,15 +88,15 @@ abbrev Fresh : ℕ → Table Pieces → Type 0
 Fresh number table = (m : ℕ) → number ≤ m → find_in table (rule_named m) ≡ None
 
 -- the rules after a statement made so
-abbrev table_behind : ℕ → Made → Table Pieces → Table Pieces
-table_behind number (Command c) table = put_in table (rule_named number) (command_pieces c)
-table_behind number Phony table = table
+abbrev table_after : ℕ → Made → Table Pieces → Table Pieces
+table_after number (Command c) table = put_in table (rule_named number) (command_pieces c)
+table_after number Phony table = table
 
 -- after a statement the next number is free again
-fresh_behind : (number : ℕ) (made : Made) (table : Table Pieces) → Fresh number table → Fresh (number + rule_count made) (table_behind number made table)
-fresh_behind number (Command c) table fresh m h =
+fresh_past : (number : ℕ) (made : Made) (table : Table Pieces) → Fresh number table → Fresh (number + rule_count made) (table_after number made table)
+fresh_past number (Command c) table fresh m h =
     still_absent table (rule_named number) (rule_named m) (command_pieces c) (names_differ m number (omega arith)) (fresh m (omega arith))
-fresh_behind number Phony table fresh m h = fresh m (omega arith)
+fresh_past number Phony table fresh m h = fresh m (omega arith)
 
 -- how a printed statement is read to be made
 abbrev making_as : Made → Making
@@ -104,27 +104,27 @@ making_as (Command c) = by_rule (command_pieces c) []
 making_as Phony = by_nothing
 
 -- the rule of a command is found
-command_making : (number : ℕ) (c : Text) (table : Table Pieces) (so_far : List Stated)
-    → making_of (state_with (table_behind number (Command c) table) so_far) (rule_named number) [] ≡ Some (making_as (Command c))
+command_making : (number : ℕ) (c : Text) (table : Table Pieces) (so_far : List PendingStatement)
+    → making_of (state_with (table_after number (Command c) table) so_far) (rule_named number) [] ≡ Some (making_as (Command c))
 unfolding making_of find_in
 command_making number c table so_far =
     ap (option_map (λ command. by_rule command [])) (found table (rule_named number) (command_pieces c))
 
 -- `phony` is known
-phony_making : (table : Table Pieces) (so_far : List Stated) → making_of (state_with table so_far) (codes "phony") [] ≡ Some by_nothing
+phony_making : (table : Table Pieces) (so_far : List PendingStatement) → making_of (state_with table so_far) (codes "phony") [] ≡ Some by_nothing
 unfolding making_of
 phony_making table so_far = refl
 
 -- ---- statements
 
 -- the parts of a statement add it to what was read
-statement_read : (number at : ℕ) (s : Statement) (made : Made) (later : List Part) (table : Table Pieces) (so_far : List Stated)
+statement_read : (number at : ℕ) (s : Statement) (made : Made) (later : List Part) (table : Table Pieces) (so_far : List PendingStatement)
     → Fresh number table → not (is_empty s.outs) ≡ true → Named s → is_made made ≡ true → are_new (outs_of so_far) s.outs ≡ true
     → read_parts (state_with table so_far) (statement_parts number at s made later)
-    ≡ read_parts (state_with (table_behind number made table) (so_far ++ stated_as (making_as made) s ∷ [])) later
+    ≡ read_parts (state_with (table_after number made table) (so_far ++ pending_as (making_as made) s ∷ [])) later
 unfolding read_parts
 statement_read number at s (Command c) later table so_far fresh some named can new =
-    let next = table_behind number (Command c) table in
+    let next = table_after number (Command c) table in
     ap (λ o. and_then_parts at o (λ state. read_parts state (part (at + 1 + 1) (build_line (rule_named number) s) [] ∷ later)))
     (rule_read number at c table so_far can (fresh number (omega arith)))
     ∙ ap (λ o. and_then_parts (at + 1 + 1) o (λ state. read_parts state later))
@@ -134,16 +134,16 @@ statement_read number at s Phony later table so_far fresh some named can new =
     (build_read number at Phony by_nothing s table so_far some named (phony_making table so_far) new)
 
 -- it is made as it was
-made_again : (s : Stated) (made : Made) → made_of [] s (making_as made) ≡ made
+made_again : (s : PendingStatement) (made : Made) → made_of [] s (making_as made) ≡ made
 unfolding made_of
 made_again s (Command c) = ap Command (command_expanded (command_value s.inputs s.outs [] []) c)
 made_again s Phony = refl
 
 -- it is the statement that was printed
-statement_again : (s : Statement) → statement_of [] (stated_as (making_as s.made) s) ≡ s
+statement_again : (s : Statement) → statement_of [] (pending_as (making_as s.made) s) ≡ s
 unfolding statement_of
 statement_again s =
-    ap (λ m. record { outs = s.outs; made = m; inputs = s.inputs; implicit = s.implicit; order_only = s.order_only }) (made_again (stated_as (making_as s.made) s) s.made)
+    ap (λ m. record { outs = s.outs; made = m; inputs = s.inputs; implicit = s.implicit; order_only = s.order_only }) (made_again (pending_as (making_as s.made) s) s.made)
 
 -- ---- outputs
 
@@ -157,8 +157,8 @@ new_split before (x ∷ xs) b e =
     (and_from (not (is_among before x)) (are_new (before ++ x ∷ []) xs) both.0 later.0, ap (λ l. are_new l b) (sym (append_assoc before (x ∷ []) xs)) ∙ later.1)
 
 -- the outputs with those of one more statement
-outs_more : (so_far : List Stated) (s : Stated) → outs_of (so_far ++ s ∷ []) ≡ outs_of so_far ++ s.outs
-outs_more so_far s = flat_map-append (λ (t : Stated). t.outs) so_far (s ∷ []) ∙ ap (λ l. outs_of so_far ++ l) (append-nil s.outs)
+outs_more : (so_far : List PendingStatement) (s : PendingStatement) → outs_of (so_far ++ s ∷ []) ≡ outs_of so_far ++ s.outs
+outs_more so_far s = flat_map-append (λ (t : PendingStatement). t.outs) so_far (s ∷ []) ∙ ap (λ l. outs_of so_far ++ l) (append-nil s.outs)
 
 -- one output before others
 new_case : (here : Bool) (x : Text) (later : Option Text) (rest : Bool) → (if here then Some x else later) ≡ None → (later ≡ None → rest ≡ true)
@@ -193,11 +193,11 @@ outputs_named (s ∷ ss) e =
 -- ---- the plan
 
 -- what was read, and these statements and default targets
-abbrev plan_with : List Stated → List Statement → List Text → Plan
+abbrev plan_with : List PendingStatement → List Statement → List Text → Plan
 plan_with so_far ss defaults = record { statements = map (statement_of []) so_far ++ ss; defaults = defaults }
 
 -- the default targets end the plan
-defaults_end : (at : ℕ) (defaults : List Text) (table : Table Pieces) (so_far : List Stated)
+defaults_end : (at : ℕ) (defaults : List Text) (table : Table Pieces) (so_far : List PendingStatement)
     → list_all is_name defaults ≡ true → list_all (is_among (outs_of so_far)) defaults ≡ true
     → plan_in (read_parts (state_with table so_far) (default_parts at defaults)) ≡ Ok (plan_with so_far [] defaults)
 unfolding read_parts plan_of
@@ -212,7 +212,7 @@ map_more f [] y ys = refl
 map_more f (x ∷ xs) y ys = ap (λ l. f x ∷ l) (map_more f xs y ys)
 
 -- statements and default targets are read in turn
-plan_read : (number at : ℕ) (ss : List Statement) (defaults : List Text) (table : Table Pieces) (so_far : List Stated) → Fresh number table
+plan_read : (number at : ℕ) (ss : List Statement) (defaults : List Text) (table : Table Pieces) (so_far : List PendingStatement) → Fresh number table
     → list_all (λ s. not (is_empty s.outs)) ss ≡ true → list_all (λ s. list_all is_name (names_of s) && is_made s.made) ss ≡ true
     → are_new (outs_of so_far) (outputs ss) ≡ true → list_all is_name defaults ≡ true → list_all (is_among (outs_of so_far ++ outputs ss)) defaults ≡ true
     → plan_in (read_parts (state_with table so_far) (plan_parts number at ss defaults)) ≡ Ok (plan_with so_far ss defaults)
@@ -223,12 +223,12 @@ plan_read number at (s ∷ ss) defaults table so_far fresh some texts new named 
     let both = and_parts (list_all is_name (names_of s) && is_made s.made) (list_all (λ x. list_all is_name (names_of x) && is_made x.made) ss) texts in
     let here = and_parts (list_all is_name (names_of s)) (is_made s.made) both.0 in
     let apart = new_split (outs_of so_far) s.outs (outputs ss) new in
-    let t = stated_as (making_as s.made) s in
+    let t = pending_as (making_as s.made) s in
     let more = outs_more so_far t in
-    let later = plan_parts (number + rule_count s.made) (line_behind s.made at) ss defaults in
+    let later = plan_parts (number + rule_count s.made) (line_after s.made at) ss defaults in
     ap plan_in (statement_read number at s s.made later table so_far fresh outs.0 (named_from s here.0) here.1 apart.0)
-    ∙ plan_read (number + rule_count s.made) (line_behind s.made at) ss defaults (table_behind number s.made table) (so_far ++ t ∷ [])
-    (fresh_behind number s.made table fresh) outs.1 both.1 (ap (λ l. are_new l (outputs ss)) more ∙ apart.1) named
+    ∙ plan_read (number + rule_count s.made) (line_after s.made at) ss defaults (table_after number s.made table) (so_far ++ t ∷ [])
+    (fresh_past number s.made table fresh) outs.1 both.1 (ap (λ l. are_new l (outputs ss)) more ∙ apart.1) named
     (ap (λ l. list_all (is_among l) defaults) (ap (λ l. l ++ outputs ss) more ∙ append_assoc (outs_of so_far) s.outs (outputs ss)) ∙ among)
     ∙ ap (λ l. Ok (record { statements = l; defaults = defaults }))
     (map_more (statement_of []) so_far t ss ∙ ap (λ x. map (statement_of []) so_far ++ (x ∷ ss)) (statement_again s))

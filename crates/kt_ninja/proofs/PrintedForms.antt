@@ -7,7 +7,7 @@ use Rattle.std.proofs.lemmas.Bool.{and_from, and_parts, not-true}
 use Rattle.std.proofs.lemmas.List.Elements.{filter-append}
 use Rattle.kt_ninja.specs.JoinedLines.{Text}
 use Rattle.kt_ninja.specs.Pieces.{Piece, Plain, Escaped, Variable, is_escapable}
-use Rattle.kt_ninja.specs.Forms.{Build, Inputs, Pieces, binding_of, bound_to, build_behind, build_cut, build_of, build_with, defaults_of, inputs_of, is_plain, name_bytes, name_in, paths_of, rule_of, without_lead, words_of}
+use Rattle.kt_ninja.specs.Forms.{Build, Inputs, Pieces, binding_of, bound_to, build_after, build_cut, build_of, build_with, defaults_of, inputs_of, is_plain, name_bytes, name_in, paths_of, rule_of, without_lead, words_of}
 use Rattle.kt_ninja.specs.Writable.{is_empty, is_name_byte}
 use Rattle.kt_ninja.proofs.PrintedPieces.{all_both, all_implies, neither, piece_by}
 use Rattle.kt_ninja.proofs.PrintedNames.{command_pieces, is_name_piece, is_word}
@@ -110,16 +110,16 @@ words_from w ws e =
     ap (filter (λ v. not (is_empty v))) (split_spaced w ws lack.0 lack.1) ∙ kept (w ∷ ws) e
 
 -- words after their spaces, cut there
-split_behind : (ws : List Pieces) → list_all (list_all (lacks 32)) ws ≡ true → slice_split (is_plain 32) (spaced ws) ≡ [] ∷ ws
-split_behind [] e = refl
-split_behind (w ∷ ws) e =
+split_after : (ws : List Pieces) → list_all (list_all (lacks 32)) ws ≡ true → slice_split (is_plain 32) (spaced ws) ≡ [] ∷ ws
+split_after [] e = refl
+split_after (w ∷ ws) e =
     let both = and_parts (list_all (lacks 32) w) (list_all (list_all (lacks 32)) ws) e in
     ap (λ (l : List Pieces). [] ∷ l) (split_spaced w ws both.0 both.1)
 
 -- the words of a list that begins with a space
-pub words_behind : (ws : List Pieces) → list_all is_word ws ≡ true → words_of (spaced ws) ≡ ws
+pub words_after : (ws : List Pieces) → list_all is_word ws ≡ true → words_of (spaced ws) ≡ ws
 unfolding words_of
-words_behind ws e = ap (filter (λ v. not (is_empty v))) (split_behind ws (lack_spaces ws e)) ∙ kept ws e
+words_after ws e = ap (filter (λ v. not (is_empty v))) (split_after ws (lack_spaces ws e)) ∙ kept ws e
 
 -- the words with a space after them
 abbrev pub ended : List Pieces → List Pieces
@@ -133,28 +133,28 @@ ended_pass q ws e = all_both (list_all q) ws ([] ∷ []) e refl
 pub words_ended : (ws : List Pieces) → list_all is_word ws ≡ true → words_of (spaced (ended ws)) ≡ ws
 unfolding words_of
 words_ended ws e =
-    ap (filter (λ v. not (is_empty v))) (split_behind (ended ws) (ended_pass (lacks 32) ws (lack_spaces ws e))) ∙ kept_but_last ws e
+    ap (filter (λ v. not (is_empty v))) (split_after (ended ws) (ended_pass (lacks 32) ws (lack_spaces ws e))) ∙ kept_but_last ws e
 
 -- ---- what stands after the colon of a build line
 
 -- words, and implicit and order-only inputs after their bars
-abbrev pub behind_colon : List Pieces → List Pieces → List Pieces → Pieces
-behind_colon front [] [] = spaced front
-behind_colon front (i ∷ is) [] = spaced (ended front) ++ (Plain 124 ∷ spaced (i ∷ is))
-behind_colon front [] (o ∷ os) = spaced (ended front) ++ (Plain 124 ∷ Plain 124 ∷ spaced (o ∷ os))
-behind_colon front (i ∷ is) (o ∷ os) =
+abbrev pub after_colon : List Pieces → List Pieces → List Pieces → Pieces
+after_colon front [] [] = spaced front
+after_colon front (i ∷ is) [] = spaced (ended front) ++ (Plain 124 ∷ spaced (i ∷ is))
+after_colon front [] (o ∷ os) = spaced (ended front) ++ (Plain 124 ∷ Plain 124 ∷ spaced (o ∷ os))
+after_colon front (i ∷ is) (o ∷ os) =
     spaced (ended front) ++ (Plain 124 ∷ (spaced (ended (i ∷ is)) ++ (Plain 124 ∷ Plain 124 ∷ spaced (o ∷ os))))
 
 -- what spaces, bars and the pieces of words pass, all of it passes
-pub behind_pass : (q : Piece → Bool) → q (Plain 32) ≡ true → q (Plain 124) ≡ true → (front is os : List Pieces)
-    → list_all (list_all q) front ≡ true → list_all (list_all q) is ≡ true → list_all (list_all q) os ≡ true → list_all q (behind_colon front is os) ≡ true
-behind_pass q space bar front [] [] f i o = spaced_pass q space front f
-behind_pass q space bar front (x ∷ xs) [] f i o =
+pub after_pass : (q : Piece → Bool) → q (Plain 32) ≡ true → q (Plain 124) ≡ true → (front is os : List Pieces)
+    → list_all (list_all q) front ≡ true → list_all (list_all q) is ≡ true → list_all (list_all q) os ≡ true → list_all q (after_colon front is os) ≡ true
+after_pass q space bar front [] [] f i o = spaced_pass q space front f
+after_pass q space bar front (x ∷ xs) [] f i o =
     all_both q (spaced (ended front)) _ (spaced_pass q space (ended front) (ended_pass q front f)) (and_from (q (Plain 124)) _ bar (spaced_pass q space (x ∷ xs) i))
-behind_pass q space bar front [] (y ∷ ys) f i o =
+after_pass q space bar front [] (y ∷ ys) f i o =
     all_both q (spaced (ended front)) _ (spaced_pass q space (ended front) (ended_pass q front f))
     (and_from (q (Plain 124)) _ bar (and_from (q (Plain 124)) _ bar (spaced_pass q space (y ∷ ys) o)))
-behind_pass q space bar front (x ∷ xs) (y ∷ ys) f i o =
+after_pass q space bar front (x ∷ xs) (y ∷ ys) f i o =
     all_both q (spaced (ended front)) _ (spaced_pass q space (ended front) (ended_pass q front f))
     (and_from (q (Plain 124)) _ bar (all_both q (spaced (ended (x ∷ xs))) _ (spaced_pass q space (ended (x ∷ xs)) (ended_pass q (x ∷ xs) i))
     (and_from (q (Plain 124)) _ bar (and_from (q (Plain 124)) _ bar (spaced_pass q space (y ∷ ys) o)))))
@@ -184,7 +184,7 @@ parts_of front (i ∷ is) (o ∷ os) = spaced (ended front) ∷ spaced (ended (i
 
 -- what stands after the colon, cut at its bars
 cut_at_bars : (front is os : List Pieces) → list_all is_word front ≡ true → list_all is_word is ≡ true → list_all is_word os ≡ true
-    → slice_split (is_plain 124) (behind_colon front is os) ≡ parts_of front is os
+    → slice_split (is_plain 124) (after_colon front is os) ≡ parts_of front is os
 cut_at_bars front [] [] f i o = uncut 124 (spaced front) (no_bar front f)
 cut_at_bars front (x ∷ xs) [] f i o =
     cut_here 124 (spaced (ended front)) (spaced (x ∷ xs)) (no_bar_ended front f)
@@ -207,7 +207,7 @@ built outs name inputs = record { outs = outs; rule_name = name; inputs = inputs
 
 -- a build line by its parts
 with_parts : (outs : List Pieces) (name : Text) (rule : Pieces) (ins parts : List Pieces) (front : Pieces) (inputs : Inputs) → words_of front ≡ rule ∷ ins
-    → name_bytes rule ≡ Some name → inputs_of ins parts ≡ Some inputs → build_behind outs (front ∷ parts) ≡ Some (built outs name inputs)
+    → name_bytes rule ≡ Some name → inputs_of ins parts ≡ Some inputs → build_after outs (front ∷ parts) ≡ Some (built outs name inputs)
 with_parts outs name rule ins parts front inputs words named are =
     ap (λ ws. build_with outs ws parts) words
     ∙ ap (option_and_then (λ n. option_map (built outs n) (inputs_of ins parts))) named
@@ -216,19 +216,19 @@ with_parts outs name rule ins parts front inputs words named are =
 -- these parts say the inputs
 parts_say : (outs : List Pieces) (name : Text) (rule : Pieces) (ins is os : List Pieces) → name_bytes rule ≡ Some name
     → list_all is_word (rule ∷ ins) ≡ true → list_all is_word is ≡ true → list_all is_word os ≡ true
-    → build_behind outs (parts_of (rule ∷ ins) is os) ≡ Some (built outs name (inputs_are ins is os))
+    → build_after outs (parts_of (rule ∷ ins) is os) ≡ Some (built outs name (inputs_are ins is os))
 parts_say outs name rule ins [] [] named f i o =
-    with_parts outs name rule ins [] (spaced (rule ∷ ins)) (inputs_are ins [] []) (words_behind (rule ∷ ins) f) named refl
+    with_parts outs name rule ins [] (spaced (rule ∷ ins)) (inputs_are ins [] []) (words_after (rule ∷ ins) f) named refl
 parts_say outs name rule ins (x ∷ xs) [] named f i o =
     with_parts outs name rule ins (spaced (x ∷ xs) ∷ []) (spaced (ended (rule ∷ ins))) (inputs_are ins (x ∷ xs) []) (words_ended (rule ∷ ins) f) named
-    (ap (λ ws. Some (inputs_are ins ws [])) (words_behind (x ∷ xs) i))
+    (ap (λ ws. Some (inputs_are ins ws [])) (words_after (x ∷ xs) i))
 parts_say outs name rule ins [] (y ∷ ys) named f i o =
     with_parts outs name rule ins ([] ∷ spaced (y ∷ ys) ∷ []) (spaced (ended (rule ∷ ins))) (inputs_are ins [] (y ∷ ys)) (words_ended (rule ∷ ins) f) named
-    (ap (λ ws. Some (inputs_are ins [] ws)) (words_behind (y ∷ ys) o))
+    (ap (λ ws. Some (inputs_are ins [] ws)) (words_after (y ∷ ys) o))
 parts_say outs name rule ins (x ∷ xs) (y ∷ ys) named f i o =
     with_parts outs name rule ins (spaced (ended (x ∷ xs)) ∷ [] ∷ spaced (y ∷ ys) ∷ []) (spaced (ended (rule ∷ ins))) (inputs_are ins (x ∷ xs) (y ∷ ys))
     (words_ended (rule ∷ ins) f) named
-    (ap₂ (λ v w. Some (inputs_are ins v w)) (words_ended (x ∷ xs) i) (words_behind (y ∷ ys) o))
+    (ap₂ (λ v w. Some (inputs_are ins v w)) (words_ended (x ∷ xs) i) (words_after (y ∷ ys) o))
 
 -- ---- whole lines
 
@@ -239,21 +239,21 @@ paths_printed o os e =
     rw (bars, words_from o os e) refl
 
 -- what stands after `build `
-abbrev pub behind_build : Pieces → List Pieces → List Pieces → List Pieces → List Pieces → Pieces
-behind_build o os front is ord = (o ++ spaced os) ++ (Plain 58 ∷ behind_colon front is ord)
+abbrev pub after_build : Pieces → List Pieces → List Pieces → List Pieces → List Pieces → Pieces
+after_build o os front is ord = (o ++ spaced os) ++ (Plain 58 ∷ after_colon front is ord)
 
 -- a build line that it writes is read
 pub build_printed : (o : Pieces) (os : List Pieces) (name : Text) (rule : Pieces) (ins is ord : List Pieces) → name_bytes rule ≡ Some name
     → list_all is_word (o ∷ os) ≡ true → list_all is_word (rule ∷ ins) ≡ true → list_all is_word is ≡ true → list_all is_word ord ≡ true
-    → build_of (behind_build o os (rule ∷ ins) is ord) ≡ Some (built (o ∷ os) name (inputs_are ins is ord))
+    → build_of (after_build o os (rule ∷ ins) is ord) ≡ Some (built (o ∷ os) name (inputs_are ins is ord))
 unfolding build_of
 build_printed o os name rule ins is ord named outs front i order =
-    let behind = behind_colon (rule ∷ ins) is ord in
+    let past = after_colon (rule ∷ ins) is ord in
     let before = spaced_pass (lacks 58) refl (o ∷ os) (lack_colons (o ∷ os) outs) in
-    let colons = behind_pass (lacks 58) refl refl (rule ∷ ins) is ord (lack_colons (rule ∷ ins) front) (lack_colons is i) (lack_colons ord order) in
-    ap build_cut (cut_here 58 (o ++ spaced os) behind before ∙ ap (λ (l : List Pieces). (o ++ spaced os) ∷ l) (uncut 58 behind colons))
-    ∙ ap (option_and_then (λ paths. build_behind paths (slice_split (is_plain 124) behind))) (paths_printed o os outs)
-    ∙ ap (build_behind (o ∷ os)) (cut_at_bars (rule ∷ ins) is ord front i order)
+    let colons = after_pass (lacks 58) refl refl (rule ∷ ins) is ord (lack_colons (rule ∷ ins) front) (lack_colons is i) (lack_colons ord order) in
+    ap build_cut (cut_here 58 (o ++ spaced os) past before ∙ ap (λ (l : List Pieces). (o ++ spaced os) ∷ l) (uncut 58 past colons))
+    ∙ ap (option_and_then (λ paths. build_after paths (slice_split (is_plain 124) past))) (paths_printed o os outs)
+    ∙ ap (build_after (o ∷ os)) (cut_at_bars (rule ∷ ins) is ord front i order)
     ∙ parts_say (o ∷ os) name rule ins is ord named front i order
 
 -- so are default targets

@@ -17,7 +17,7 @@ use Rattle.kt_ninja.specs.Text.{command_text, defaults_text, is_special_in_name,
 use Rattle.kt_ninja.specs.Writable.{is_command_byte, is_empty, is_made, is_name}
 use Rattle.kt_ninja.proofs.PrintedPieces.{all_both, all_implies, command_bytes, is_printed, neither, nothing_open, written, written_append, written_by}
 use Rattle.kt_ninja.proofs.PrintedNames.{command_pieces, command_printed, command_written, is_name_piece, name_pieces, name_printed, names_are_words, plain_pieces, rule_name_bytes, written_plain}
-use Rattle.kt_ninja.proofs.PrintedForms.{behind_colon, behind_pass, ended, spaced, spaced_pass, words_pass}
+use Rattle.kt_ninja.proofs.PrintedForms.{after_colon, after_pass, ended, spaced, spaced_pass, words_pass}
 
 -- ---- texts
 
@@ -51,22 +51,22 @@ front_then rule ins t =
     ∙ ap (λ x. 32 ∷ x) (append_assoc rule (names_text ins) (32 ∷ t))
 
 -- all that stands after the colon
-behind_written : (rule : Text) (ins is os : List Text)
-    → written (behind_colon (front_pieces rule ins) (map name_pieces is) (map name_pieces os))
+after_written : (rule : Text) (ins is os : List Text)
+    → written (after_colon (front_pieces rule ins) (map name_pieces is) (map name_pieces os))
     ≡ 32 ∷ (rule ++ (names_text ins ++ (marked_text (codes " |") is ++ marked_text (codes " ||") os)))
-behind_written rule ins [] [] = front_written rule ins ∙ ap (λ x. 32 ∷ (rule ++ x)) (sym (append-nil (names_text ins)))
-behind_written rule ins (i ∷ is) [] =
+after_written rule ins [] [] = front_written rule ins ∙ ap (λ x. 32 ∷ (rule ++ x)) (sym (append-nil (names_text ins)))
+after_written rule ins (i ∷ is) [] =
     let front = spaced (ended (front_pieces rule ins)) in
     written_append front (Plain 124 ∷ spaced (map name_pieces (i ∷ is)))
     ∙ ap (λ t. written front ++ (124 ∷ t)) (names_written (i ∷ is))
     ∙ front_then rule ins (124 ∷ names_text (i ∷ is))
     ∙ ap (λ t. 32 ∷ (rule ++ (names_text ins ++ t))) (sym (append-nil (32 ∷ 124 ∷ names_text (i ∷ is))))
-behind_written rule ins [] (o ∷ os) =
+after_written rule ins [] (o ∷ os) =
     let front = spaced (ended (front_pieces rule ins)) in
     written_append front (Plain 124 ∷ Plain 124 ∷ spaced (map name_pieces (o ∷ os)))
     ∙ ap (λ t. written front ++ (124 ∷ 124 ∷ t)) (names_written (o ∷ os))
     ∙ front_then rule ins (124 ∷ 124 ∷ names_text (o ∷ os))
-behind_written rule ins (i ∷ is) (o ∷ os) =
+after_written rule ins (i ∷ is) (o ∷ os) =
     let front = spaced (ended (front_pieces rule ins)) in
     let middle = spaced (ended (map name_pieces (i ∷ is))) in
     let last = Plain 124 ∷ Plain 124 ∷ spaced (map name_pieces (o ∷ os)) in
@@ -88,7 +88,7 @@ command_line c = map Plain (codes " command = ") ++ command_pieces c
 abbrev pub build_line : Text → Statement → Pieces
 build_line rule s =
     map Plain (codes "build") ++ (spaced (map name_pieces s.outs)
-    ++ (Plain 58 ∷ behind_colon (front_pieces rule s.inputs) (map name_pieces s.implicit) (map name_pieces s.order_only)))
+    ++ (Plain 58 ∷ after_colon (front_pieces rule s.inputs) (map name_pieces s.implicit) (map name_pieces s.order_only)))
 
 -- the line of the default targets
 abbrev pub default_line : List Text → Pieces
@@ -110,8 +110,8 @@ pub build_written : (rule : Text) (s : Statement) (rest : Text) → build_named 
 build_written rule s rest =
     ap (λ t. codes "build" ++ t) (regrouped (names_text s.outs) rule (names_text s.inputs) (marked_text (codes " |") s.implicit) (marked_text (codes " ||") s.order_only) rest)
     ∙ sym (ap (λ t. (codes "build" ++ t) ++ (10 ∷ rest)) (
-    written_append (spaced (map name_pieces s.outs)) (Plain 58 ∷ behind_colon (front_pieces rule s.inputs) (map name_pieces s.implicit) (map name_pieces s.order_only))
-    ∙ ap₂ (λ a b. a ++ (58 ∷ b)) (names_written s.outs) (behind_written rule s.inputs s.implicit s.order_only)))
+    written_append (spaced (map name_pieces s.outs)) (Plain 58 ∷ after_colon (front_pieces rule s.inputs) (map name_pieces s.implicit) (map name_pieces s.order_only))
+    ∙ ap₂ (λ a b. a ++ (58 ∷ b)) (names_written s.outs) (after_written rule s.inputs s.implicit s.order_only)))
 
 -- the rule's two lines as pieces, with their newlines
 pub rule_written : (number : ℕ) (c : Text) (rest : Text)
@@ -169,7 +169,7 @@ command_line_printed c e = command_printed c e
 pub build_line_printed : (number : ℕ) (made : Made) (s : Statement) → Named s → list_all is_printed (build_line (rule_name_text number made) s) ≡ true
 build_line_printed number made s named =
     all_both is_printed (spaced (map name_pieces s.outs)) _ (spaced_pass is_printed refl (map name_pieces s.outs) (names_printed s.outs named.outs))
-    (behind_pass is_printed refl refl (front_pieces (rule_name_text number made) s.inputs) (map name_pieces s.implicit) (map name_pieces s.order_only)
+    (after_pass is_printed refl refl (front_pieces (rule_name_text number made) s.inputs) (map name_pieces s.implicit) (map name_pieces s.order_only)
     (and_from _ _ (rule_pieces_printed number made) (names_printed s.inputs named.inputs)) (names_printed s.implicit named.implicit) (names_printed s.order_only named.order_only))
 
 -- of the line of default targets
@@ -219,9 +219,9 @@ abbrev pub from_parts : List Part → Cut
 from_parts parts = record { before = []; parts = parts }
 
 -- the line after a statement that begins at this line
-abbrev pub line_behind : Made → ℕ → ℕ
-line_behind (Command c) at = at + 1 + 1 + 1
-line_behind Phony at = at + 1
+abbrev pub line_after : Made → ℕ → ℕ
+line_after (Command c) at = at + 1 + 1 + 1
+line_after Phony at = at + 1
 
 -- the parts of a statement, and those after it
 abbrev pub statement_parts : ℕ → ℕ → Statement → Made → List Part → List Part
@@ -239,7 +239,7 @@ default_parts at (n ∷ ns) = part at (default_line (n ∷ ns)) [] ∷ []
 abbrev pub plan_parts : ℕ → ℕ → List Statement → List Text → List Part
 plan_parts number at [] defaults = default_parts at defaults
 plan_parts number at (s ∷ ss) defaults =
-    statement_parts number at s s.made (plan_parts (number + rule_count s.made) (line_behind s.made at) ss defaults)
+    statement_parts number at s s.made (plan_parts (number + rule_count s.made) (line_after s.made at) ss defaults)
 
 -- a build line before the others
 build_cut : (number at : ℕ) (made : Made) (s : Statement) (rest : Text) (later : List Part) → Named s
@@ -253,7 +253,7 @@ build_cut number at made s rest later named more =
 
 -- a statement before the others
 statement_cut : (number at : ℕ) (s : Statement) (made : Made) (rest : Text) (later : List Part) → is_made made ≡ true → Named s
-    → cut_lines (lines_at (line_behind made at) rest) ≡ from_parts later
+    → cut_lines (lines_at (line_after made at) rest) ≡ from_parts later
     → cut_lines (lines_at at ((rule_text number made ++ build_named (rule_name_text number made) s) ++ rest)) ≡ from_parts (statement_parts number at s made later)
 statement_cut number at s (Command c) rest later can named more =
     let rule = rule_name_text number (Command c) in
@@ -282,7 +282,7 @@ plan_cut number at (s ∷ ss) defaults e d =
     let both = and_parts (list_all is_name (names_of s) && is_made s.made) (list_all (λ x. list_all is_name (names_of x) && is_made x.made) ss) e in
     let here = and_parts (list_all is_name (names_of s)) (is_made s.made) both.0 in
     let rest = statements_text (number + rule_count s.made) ss ++ defaults_text defaults in
-    let later = plan_parts (number + rule_count s.made) (line_behind s.made at) ss defaults in
+    let later = plan_parts (number + rule_count s.made) (line_after s.made at) ss defaults in
     ap (λ t. cut_lines (lines_at at t)) (append_assoc (rule_text number s.made ++ build_named (rule_name_text number s.made) s) (statements_text (number + rule_count s.made) ss) (defaults_text defaults))
     ∙ statement_cut number at s s.made rest later here.1 (named_from s here.0)
-    (plan_cut (number + rule_count s.made) (line_behind s.made at) ss defaults both.1 d)
+    (plan_cut (number + rule_count s.made) (line_after s.made at) ss defaults both.1 d)

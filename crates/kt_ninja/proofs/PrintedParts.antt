@@ -12,13 +12,13 @@ use Rattle.kt_ninja.specs.JoinedLines.{Line, Text, is_comment}
 use Rattle.kt_ninja.specs.Pieces.{Plain, pieces}
 use Rattle.kt_ninja.specs.Forms.{Binding, Build, Form, Pieces, binding_of, build_form, build_of, default_form, defaults_of, form_of, rule_form, rule_of}
 use Rattle.kt_ninja.specs.Scopes.{Table, find_in, put_in, value_in, value_within}
-use Rattle.kt_ninja.specs.NinjaRead.{Making, State, Stated, add_defaults, add_statement, are_new, block_from, block_of, block_scope, is_file_byte, is_sound, making_of, outs_of, paths_in, read_build, read_default, read_form, read_head, read_part, read_rule, rule_command, stated_with}
+use Rattle.kt_ninja.specs.NinjaRead.{Making, State, PendingStatement, add_defaults, add_statement, are_new, block_from, block_of, block_scope, is_file_byte, is_sound, making_of, outs_of, paths_in, read_build, read_default, read_form, read_head, read_part, read_rule, rule_command, pending_with}
 use Rattle.kt_ninja.specs.Text.{is_special_in_name, rule_name_text}
 use Rattle.kt_list.specs.Names.{is_among}
 use Rattle.kt_ninja.specs.Writable.{is_command, is_command_byte, is_empty, is_name}
 use Rattle.kt_ninja.proofs.PrintedPieces.{all_implies, command_bytes, expanded_by, is_printed, neither, pieces_from_written, written}
 use Rattle.kt_ninja.proofs.PrintedNames.{command_alone, command_pieces, is_word, name_bytes_plain, name_pieces, names_are_words, plain_pieces, rule_name_bytes}
-use Rattle.kt_ninja.proofs.PrintedForms.{behind_build, behind_colon, binding_printed, build_printed, built, defaults_printed, inputs_are, rule_printed, spaced}
+use Rattle.kt_ninja.proofs.PrintedForms.{after_build, after_colon, binding_printed, build_printed, built, defaults_printed, inputs_are, rule_printed, spaced}
 use Rattle.kt_ninja.proofs.PrintedLines.{Named, build_line, build_line_printed, command_line, command_line_printed, default_line, default_line_printed, line, part, rule_line, rule_line_printed}
 
 -- ---- lines
@@ -71,7 +71,7 @@ build_of_names rule outs ins is order = built (map name_pieces outs) rule (input
 -- its pieces after `build`
 abbrev pieces_of_names : Text → List Text → List Text → List Text → List Text → Pieces
 pieces_of_names rule outs ins is order =
-    spaced (map name_pieces outs) ++ (Plain 58 ∷ behind_colon (map Plain rule ∷ map name_pieces ins) (map name_pieces is) (map name_pieces order))
+    spaced (map name_pieces outs) ++ (Plain 58 ∷ after_colon (map Plain rule ∷ map name_pieces ins) (map name_pieces is) (map name_pieces order))
 
 -- the form of a build line
 build_form_is : (number : ℕ) (made : Made) (outs ins is order : List Text) → not (is_empty outs) ≡ true
@@ -84,7 +84,7 @@ build_form_is number made [] ins is order some a b c d e = absurd (cc some)
 build_form_is number made (o ∷ os) ins is order some a b c d e =
     let rule = rule_name_text number made in
     let front = map Plain rule ∷ map name_pieces ins in
-    let ps = behind_build (name_pieces o) (map name_pieces os) front (map name_pieces is) (map name_pieces order) in
+    let ps = after_build (name_pieces o) (map name_pieces os) front (map name_pieces is) (map name_pieces order) in
     ap (option_and_then (λ qs. option_map build_form (build_of qs))) (pieces_written ps e)
     ∙ ap (option_map build_form) (build_printed (name_pieces o) (map name_pieces os) rule (map Plain rule) (map name_pieces ins) (map name_pieces is) (map name_pieces order)
     (name_bytes_plain rule (rule_name_bytes number made)) (names_are_words (o ∷ os) a)
@@ -121,8 +121,8 @@ part_read state number ps body form bindings e is whole block =
     ∙ ap (option_and_then (λ f. read_form state f bindings)) is
 
 -- what was read of a printed plan before its default targets: rules and statements
-abbrev pub state_with : Table Pieces → List Stated → State
-state_with table so_far = record { file = []; rules = table; stated = so_far; defaults = [] }
+abbrev pub state_with : Table Pieces → List PendingStatement → State
+state_with table so_far = record { file = []; rules = table; pending = so_far; defaults = [] }
 
 -- the command of the rule's block
 command_is : (c : Text) → is_command c ≡ true → rule_command (bound c ∷ []) ≡ Some (command_pieces c)
@@ -131,7 +131,7 @@ command_is (b ∷ bs) e =
     ap (λ t. if not t then Some (command_pieces (b ∷ bs)) else None) (command_alone (bytes_eq (codes "command")) (b ∷ bs))
 
 -- a rule is read
-pub rule_read : (number at : ℕ) (c : Text) (table : Table Pieces) (so_far : List Stated) → is_command c ≡ true
+pub rule_read : (number at : ℕ) (c : Text) (table : Table Pieces) (so_far : List PendingStatement) → is_command c ≡ true
     → find_in table (rule_name_text number (Command c)) ≡ None
     → read_part (state_with table so_far) (part at (rule_line (rule_name_text number (Command c))) (line (at + 1) (command_line c) ∷ []))
     ≡ Some (state_with (put_in table (rule_name_text number (Command c)) (command_pieces c)) so_far)
@@ -160,12 +160,12 @@ paths_read value_of (n ∷ ns) e =
     rw (expanded_by value_of is_special_in_name n, some_name n both.0, paths_read value_of ns both.1) refl
 
 -- a statement as it is read, made so
-abbrev pub stated_as : Making → Statement → Stated
-stated_as making s = record { outs = s.outs; making = making; inputs = s.inputs; implicit = s.implicit; order_only = s.order_only }
+abbrev pub pending_as : Making → Statement → PendingStatement
+pending_as making s = record { outs = s.outs; making = making; inputs = s.inputs; implicit = s.implicit; order_only = s.order_only }
 
 -- a statement by its lists of paths
-abbrev stated_of : Making → Option (List Text) → Option (List Text) → Option (List Text) → Option (List Text) → Option Stated
-stated_of making a b c d =
+abbrev pending_of : Making → Option (List Text) → Option (List Text) → Option (List Text) → Option (List Text) → Option PendingStatement
+pending_of making a b c d =
     option_and_then (λ outs.
     option_and_then (λ inputs.
     option_and_then (λ implicit.
@@ -173,39 +173,39 @@ stated_of making a b c d =
     d) c) b) a
 
 -- and so is the statement
-stated_is : (value_of : Text → Text) (making : Making) (rule : Text) (s : Statement) → Named s
-    → stated_with value_of making (build_of_names rule s.outs s.inputs s.implicit s.order_only) ≡ Some (stated_as making s)
-stated_is value_of making rule s named =
+pending_is : (value_of : Text → Text) (making : Making) (rule : Text) (s : Statement) → Named s
+    → pending_with value_of making (build_of_names rule s.outs s.inputs s.implicit s.order_only) ≡ Some (pending_as making s)
+pending_is value_of making rule s named =
     let read = λ (names : List Text). paths_in value_of (map name_pieces names) in
-    ap (λ o. stated_of making o (read s.inputs) (read s.implicit) (read s.order_only)) (paths_read value_of s.outs named.outs)
-    ∙ ap (λ o. stated_of making (Some s.outs) o (read s.implicit) (read s.order_only)) (paths_read value_of s.inputs named.inputs)
-    ∙ ap (λ o. stated_of making (Some s.outs) (Some s.inputs) o (read s.order_only)) (paths_read value_of s.implicit named.implicit)
-    ∙ ap (λ o. stated_of making (Some s.outs) (Some s.inputs) (Some s.implicit) o) (paths_read value_of s.order_only named.order_only)
+    ap (λ o. pending_of making o (read s.inputs) (read s.implicit) (read s.order_only)) (paths_read value_of s.outs named.outs)
+    ∙ ap (λ o. pending_of making (Some s.outs) o (read s.implicit) (read s.order_only)) (paths_read value_of s.inputs named.inputs)
+    ∙ ap (λ o. pending_of making (Some s.outs) (Some s.inputs) o (read s.order_only)) (paths_read value_of s.implicit named.implicit)
+    ∙ ap (λ o. pending_of making (Some s.outs) (Some s.inputs) (Some s.implicit) o) (paths_read value_of s.order_only named.order_only)
 
 -- a build line is read
-pub build_read : (number at : ℕ) (made : Made) (making : Making) (s : Statement) (table : Table Pieces) (so_far : List Stated)
+pub build_read : (number at : ℕ) (made : Made) (making : Making) (s : Statement) (table : Table Pieces) (so_far : List PendingStatement)
     → not (is_empty s.outs) ≡ true → Named s → making_of (state_with table so_far) (rule_name_text number made) [] ≡ Some making
     → are_new (outs_of so_far) s.outs ≡ true
     → read_part (state_with table so_far) (part at (build_line (rule_name_text number made) s) [])
-    ≡ Some (state_with table (so_far ++ stated_as making s ∷ []))
+    ≡ Some (state_with table (so_far ++ pending_as making s ∷ []))
 unfolding block_from read_build block_scope
 build_read number at made making s table so_far some named is new =
     let rule = rule_name_text number made in
     let state = state_with table so_far in
     let b = build_of_names rule s.outs s.inputs s.implicit s.order_only in
     part_read state at (build_line rule s) [] (build_form b) [] (build_line_printed number made s named) (build_line_form number made s some named) refl refl
-    ∙ ap (option_and_then (λ m. option_and_then (add_statement state) (stated_with (value_within [] []) m b))) is
-    ∙ ap (option_and_then (add_statement state)) (stated_is (value_within [] []) making rule s named)
-    ∙ ap (λ t. if t then Some (state_with table (so_far ++ stated_as making s ∷ [])) else None) new
+    ∙ ap (option_and_then (λ m. option_and_then (add_statement state) (pending_with (value_within [] []) m b))) is
+    ∙ ap (option_and_then (add_statement state)) (pending_is (value_within [] []) making rule s named)
+    ∙ ap (λ t. if t then Some (state_with table (so_far ++ pending_as making s ∷ [])) else None) new
 
 -- default targets are read
-pub defaults_read : (at : ℕ) (n : Text) (ns : List Text) (table : Table Pieces) (so_far : List Stated)
+pub defaults_read : (at : ℕ) (n : Text) (ns : List Text) (table : Table Pieces) (so_far : List PendingStatement)
     → list_all is_name (n ∷ ns) ≡ true → list_all (is_among (outs_of so_far)) (n ∷ ns) ≡ true
     → read_part (state_with table so_far) (part at (default_line (n ∷ ns)) [])
-    ≡ Some (record { file = []; rules = table; stated = so_far; defaults = n ∷ ns })
+    ≡ Some (record { file = []; rules = table; pending = so_far; defaults = n ∷ ns })
 unfolding block_from read_default
 defaults_read at n ns table so_far named among =
     let state = state_with table so_far in
     part_read state at (default_line (n ∷ ns)) [] (default_form (map name_pieces (n ∷ ns))) [] (default_line_printed (n ∷ ns) named) (default_line_form n ns named) refl refl
     ∙ ap (option_and_then (add_defaults state)) (paths_read (value_in []) (n ∷ ns) named)
-    ∙ ap (λ t. if t then Some (record { file = []; rules = table; stated = so_far; defaults = n ∷ ns }) else None) among
+    ∙ ap (λ t. if t then Some (record { file = []; rules = table; pending = so_far; defaults = n ∷ ns }) else None) among

@@ -1,8 +1,7 @@
 -- How texts that are put into a block follow one another.
-use Rattle.std.proofs.Common.{◌≡◌, ℕ, ◌+◌, List, [], ◌++◌, refl, sym, ap, subst, ◌∙◌, append_assoc, append-nil, arith, ◌<◌, ◌≤◌, ◌*◌, ◌⊎◌, inl, inr, ◌∷◌, length, drop, get_or, add-one}
+use Rattle.std.proofs.Common.{◌≡◌, ℕ, ◌+◌, List, [], ◌++◌, refl, sym, ap, subst, ◌∙◌, append_assoc, append-nil, arith, ◌<◌, ◌≤◌, ◌*◌, ◌⊎◌, inl, inr, length}
 use Rattle.std.proofs.lemmas.List.{length-append}
 use Rattle.kt_list.specs.Counters.{Rises}
-use Rattle.std.proofs.Math.Seq.{drop-cons}
 use Rattle.std.specs.Prelude.{Bool, true, false}
 use Rattle.kt_ninja.specs.declared.block.Block.{Block}
 use Rattle.kt_ninja.specs.Written.{GrowsByFront, SinkSeen, appended}
@@ -118,6 +117,10 @@ pub record PutsUpTo {S : Type 0} (seen : S → SinkSeen) (old new : Block S) (wh
   pub cut : whole ≡ done ++ left
   pub puts : Puts seen old new done
 
+-- none is put yet
+pub up_to_start : {S : Type 0} {seen : S → SinkSeen} (way : Block S) (whole : List ℕ) → PutsUpTo seen way way whole whole
+up_to_start way whole = record { done = []; cut = refl; puts = puts_none way }
+
 -- the next text of those that are left is put
 pub up_to_more : {S : Type 0} {seen : S → SinkSeen} {old middle new : Block S} {whole : List ℕ} (left next rest : List ℕ)
     → left ≡ next ++ rest → PutsUpTo seen old middle whole left → Puts seen middle new next
@@ -140,10 +143,6 @@ pub up_to_end : {S : Type 0} {seen : S → SinkSeen} {old new : Block S} {whole 
 up_to_end {S} {seen} {old} {new} {whole} left none so =
     let P : List ℕ → Type 0 = λ t. Puts seen old new t in
     subst P (sym (so.cut ∙ ap (λ t. so.done ++ t) none ∙ append-nil so.done)) so.puts
-
--- the list from i on is the item at i, and the list from the next on
-pub drop_next : {A : Type 0} (xs : List A) (i : ℕ) (d : A) → i < length xs → drop i xs ≡ get_or xs i d ∷ drop (i + 1) xs
-drop_next xs i d below = drop-cons xs i d below ∙ rw add-one refl
 
 by_end : (failed : Bool) (old new : SinkSeen) (text : List ℕ) → PutsBy false failed old [] new [] text → PrintsBy failed old new text
 by_end false old new text moves = moves.grown ∙ ap (λ t. appended old.written t) (sym (moves.cut ∙ append-nil moves.front))

@@ -125,8 +125,8 @@ parts_cut head after rest body later is none front back =
     ∙ ap (λ b. part_of head b ∷ (cut_lines after).parts) (before_is after ∙ sym front)
     ∙ ap (λ ps. part_of head body ∷ ps) (parts_are after ∙ ap (λ l. (cut_lines l).parts) (sym back))
 
-pub left_behind : (head : Line) (after lines : List Line) (from n : ℕ) → drop from lines ≡ head ∷ after → drop (from + 1 + n) lines ≡ drop n after
-left_behind head after lines from n is =
+pub left_after : (head : Line) (after lines : List Line) (from n : ℕ) → drop from lines ≡ head ∷ after → drop (from + 1 + n) lines ≡ drop n after
+left_after head after lines from n is =
     let same : from + 1 + n ≡ from + suc n = omega arith in
     ap (λ k. drop k lines) same ∙ sym (drop-drop (suc n) from lines) ∙ ap (drop (suc n)) is
 
@@ -193,10 +193,10 @@ pub misread : (parts : Result State ℕ) (whole : Result Plan ℕ) → plan_in p
 misread parts whole h (NotNinja number) e = sym h ∙ ap plan_in e
 misread parts whole h MemoryRefused refused = tt
 
-pub again : (r : Result Plan ReadFault) (text : Text) → MatchResult r (λ plan. ninja_read text ≡ Ok plan) (Misreads (ninja_read text))
+pub copy : (r : Result Plan ReadFault) (text : Text) → MatchResult r (λ plan. ninja_read text ≡ Ok plan) (Misreads (ninja_read text))
     → (plan : Plan) → IsWritable plan → text ≡ plan_text plan → MatchResult r (λ read. read ≡ plan) (λ fault. fault ≡ MemoryRefused)
-again (Ok read) text h plan writable is =
+copy (Ok read) text h plan writable is =
     let both : Ok read ≡ Ok plan = sym h ∙ ap ninja_read is ∙ printed_is_read plan writable in cc both
-again (Err (NotNinja number)) text h plan writable is =
+copy (Err (NotNinja number)) text h plan writable is =
     let both : Err number ≡ Ok plan = sym h ∙ ap ninja_read is ∙ printed_is_read plan writable in absurd (cc both)
-again (Err MemoryRefused) text h plan writable is = refl
+copy (Err MemoryRefused) text h plan writable is = refl

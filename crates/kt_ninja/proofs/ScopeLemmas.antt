@@ -5,7 +5,7 @@ use Rattle.std.specs.List.{flat_map, join_with_byte, list_any}
 use Rattle.kt_ninja.specs.JoinedLines.{Text}
 use Rattle.kt_ninja.specs.Pieces.{Piece, Plain}
 use Rattle.kt_ninja.specs.Scopes.{expanded, piece_text, shell_word, shell_words}
-use Rattle.kt_ninja.proofs.SpelledParts.{expanded_behind}
+use Rattle.kt_ninja.proofs.SpelledParts.{expanded_after}
 
 joined_words : (between : ℕ) (path : Text) (paths : List Text)
     → join_with_byte between (map shell_word (path ∷ paths)) ≡ shell_word path ++ flat_map (λ q. between ∷ shell_word q) paths
@@ -40,7 +40,7 @@ pub expanded_run : (value_of : Text → Text) (text more now plain : Text) (p : 
     → now ≡ more ++ piece_text value_of p → text ++ expanded value_of rest ≡ expanded value_of whole → now ++ expanded value_of after ≡ expanded value_of whole
 expanded_run value_of text more now plain p after rest whole is one two h =
     let out : expanded value_of rest ≡ plain ++ (piece_text value_of p ++ expanded value_of after) =
-    ap (expanded value_of) is ∙ expanded_behind value_of plain (p ∷ after) ∙ ap (λ l. plain ++ l) (expanded_one value_of p after) in
+    ap (expanded value_of) is ∙ expanded_after value_of plain (p ∷ after) ∙ ap (λ l. plain ++ l) (expanded_one value_of p after) in
     ap (λ l. l ++ expanded value_of after) (two ∙ ap (λ l. l ++ piece_text value_of p) one)
     ∙ append_assoc (text ++ plain) (piece_text value_of p) (expanded value_of after)
     ∙ append_assoc text plain (piece_text value_of p ++ expanded value_of after)
@@ -50,7 +50,7 @@ pub expanded_end : (value_of : Text → Text) (text more plain : Text) (after re
     → text ++ expanded value_of rest ≡ expanded value_of whole → more ≡ expanded value_of whole
 expanded_end value_of text more plain after rest whole is end one h =
     let out : expanded value_of rest ≡ plain =
-    ap (expanded value_of) (is ∙ ap (λ l. map Plain plain ++ l) end) ∙ expanded_behind value_of plain [] ∙ ap (λ l. plain ++ l) (expanded_none value_of) ∙ append-nil plain in
+    ap (expanded value_of) (is ∙ ap (λ l. map Plain plain ++ l) end) ∙ expanded_after value_of plain [] ∙ ap (λ l. plain ++ l) (expanded_none value_of) ∙ append-nil plain in
     one ∙ ap (λ l. text ++ l) (sym out) ∙ h
 
 -- a test of borrowed names is one of what they hold

@@ -7,7 +7,7 @@ use Rattle.std.specs.List.{list_any, position_or_len}
 use Rattle.memchr.specs.Find.{IsFirstByte, is_byte2}
 use Rattle.kt_ninja.specs.declared.spelling.Cut.{Cut}
 use Rattle.kt_ninja.specs.JoinedLines.{Text}
-use Rattle.kt_ninja.specs.Pieces.{Piece, Plain, Variable, Where, Step, behind_dollar, in_braces, in_name, is_escapable, is_long_name_byte, is_short_name_byte, last_pieces, outside, pieces, pieces_from, step}
+use Rattle.kt_ninja.specs.Pieces.{Piece, Plain, Variable, Where, Step, after_dollar, in_braces, in_name, is_escapable, is_long_name_byte, is_short_name_byte, last_pieces, outside, pieces, pieces_from, step}
 use Rattle.kt_ninja.specs.inner.Spelled.{is_spelled, pieces_in}
 use Rattle.kt_ninja.specs.Forms.{is_plain}
 use Rattle.kt_ninja.specs.Writable.{is_empty}
@@ -69,7 +69,7 @@ step_is from b bs h = by (step from b) h
 -- not directly after a dollar
 abbrev pub is_ready : Where → Bool
 is_ready outside = true
-is_ready behind_dollar = false
+is_ready after_dollar = false
 is_ready (in_name name) = true
 is_ready (in_braces name) = true
 
@@ -79,7 +79,7 @@ Fits mark s = (is_ready s.next ≡ true) × (list_any (is_plain mark) s.done ≡
 -- a byte that is neither a dollar nor the mark
 plain_step : (mark : ℕ) (from : Where) (b : ℕ) → is_ready from ≡ true → (b == 36) ≡ false → (b == mark) ≡ false → IfSome (step from b) (Fits mark)
 plain_step mark outside b ready h m = rw h (refl, rw m refl)
-plain_step mark behind_dollar b ready h m = absurd (false≢true ready)
+plain_step mark after_dollar b ready h m = absurd (false≢true ready)
 plain_step mark (in_name name) b ready h m = ⊎_elim (λ d. rw d (refl, refl)) (λ d. rw d (rw h (refl, rw m refl))) (cases_Bool (is_short_name_byte b))
 plain_step mark (in_braces name) b ready h m =
     ⊎_elim
@@ -88,14 +88,14 @@ plain_step mark (in_braces name) b ready h m =
     (cases_Bool (b == 125))
 
 -- a dollar
-ready_dollar : (mark : ℕ) (from : Where) → is_ready from ≡ true → IfSome (step from 36) (λ s. (s.next ≡ behind_dollar) × (list_any (is_plain mark) s.done ≡ false))
+ready_dollar : (mark : ℕ) (from : Where) → is_ready from ≡ true → IfSome (step from 36) (λ s. (s.next ≡ after_dollar) × (list_any (is_plain mark) s.done ≡ false))
 ready_dollar mark outside ready = (refl, refl)
-ready_dollar mark behind_dollar ready = absurd (false≢true ready)
+ready_dollar mark after_dollar ready = absurd (false≢true ready)
 ready_dollar mark (in_name name) ready = (refl, refl)
 ready_dollar mark (in_braces name) ready = tt
 
-behind_step : (mark b : ℕ) → IfSome (step behind_dollar b) (Fits mark)
-behind_step mark b =
+after_step : (mark b : ℕ) → IfSome (step after_dollar b) (Fits mark)
+after_step mark b =
     ⊎_elim
     (λ d. rw d (refl, refl))
     (λ d. rw d (⊎_elim (λ e. rw e (refl, refl)) (λ e. rw e (⊎_elim (λ f. rw f (refl, refl)) (λ f. rw f tt) (cases_Bool (is_short_name_byte b)))) (cases_Bool (b == 123))))
@@ -158,15 +158,15 @@ pass_run mark from (b ∷ bs) t ready free some =
 pub pass_dollar : (mark : ℕ) (from : Where) (b : ℕ) (bs : Text) → is_ready from ≡ true → is_some (pieces_from from (36 ∷ b ∷ bs)) ≡ true → Passed mark from (36 ∷ b ∷ [])
 pass_dollar mark from b bs ready some =
     let one = step_is from 36 (b ∷ bs) some in
-    let dollar : (one.0.next ≡ behind_dollar) × (list_any (is_plain mark) one.0.done ≡ false) = rw one.1 at (ready_dollar mark from ready) in
+    let dollar : (one.0.next ≡ after_dollar) × (list_any (is_plain mark) one.0.done ≡ false) = rw one.1 at (ready_dollar mark from ready) in
     let over = over_step from 36 one.0 one.1 in
-    let later : is_some (pieces_from behind_dollar (b ∷ bs)) ≡ true = rw dollar.0 at (some_after from one.0.next (36 ∷ []) (b ∷ bs) one.0.done over some) in
-    let two = step_is behind_dollar b bs later in
-    let fits : Fits mark two.0 = rw two.1 at (behind_step mark b) in
+    let later : is_some (pieces_from after_dollar (b ∷ bs)) ≡ true = rw dollar.0 at (some_after from one.0.next (36 ∷ []) (b ∷ bs) one.0.done over some) in
+    let two = step_is after_dollar b bs later in
+    let fits : Fits mark two.0 = rw two.1 at (after_step mark b) in
     record {
       done = one.0.done ++ two.0.done;
       to = two.0.next;
-      over = over_both from behind_dollar two.0.next (36 ∷ []) (b ∷ []) one.0.done two.0.done (rw dollar.0 at over) (over_step behind_dollar b two.0 two.1);
+      over = over_both from after_dollar two.0.next (36 ∷ []) (b ∷ []) one.0.done two.0.done (rw dollar.0 at over) (over_step after_dollar b two.0 two.1);
       ready = fits.0;
       free = any_none mark one.0.done two.0.done dollar.1 fits.1;
     }
@@ -174,7 +174,7 @@ pass_dollar mark from b bs ready some =
 pub dollar_goes_on : (from : Where) → is_ready from ≡ true → is_some (pieces_from from (36 ∷ [])) ≡ true → ⊥
 unfolding pieces_from
 dollar_goes_on outside ready some = false≢true some
-dollar_goes_on behind_dollar ready some = false≢true ready
+dollar_goes_on after_dollar ready some = false≢true ready
 dollar_goes_on (in_name name) ready some = false≢true some
 dollar_goes_on (in_braces name) ready some = false≢true some
 
@@ -264,7 +264,7 @@ scan_no_end mark text stop after d is is_after dollar spelled s =
 -- the mark, where the search has found it
 last_free : (mark : ℕ) (to : Where) → is_ready to ≡ true → IfSome (last_pieces to) (λ ps. list_any (is_plain mark) ps ≡ false)
 last_free mark outside ready = refl
-last_free mark behind_dollar ready = tt
+last_free mark after_dollar ready = tt
 last_free mark (in_name name) ready = refl
 last_free mark (in_braces name) ready = tt
 
@@ -288,7 +288,7 @@ not_short b h = ⊎_elim (λ d. absurd (false≢true (sym h ∙ rw d refl))) (λ
 
 mark_step : (mark : ℕ) (to : Where) → is_mark mark ≡ true → is_ready to ≡ true → IfSome (step to mark) (Ended mark to)
 mark_step mark outside h ready = rw (mark_facts mark h).0 (record { last = []; is = refl; done = refl; next = refl })
-mark_step mark behind_dollar h ready = absurd (false≢true ready)
+mark_step mark after_dollar h ready = absurd (false≢true ready)
 mark_step mark (in_name name) h ready =
     rw (not_short mark (mark_facts mark h).2) (rw (mark_facts mark h).0 (record { last = Variable name ∷ []; is = refl; done = refl; next = refl }))
 mark_step mark (in_braces name) h ready = rw (mark_facts mark h).1 (rw (mark_facts mark h).2 tt)
@@ -326,7 +326,7 @@ scan_found mark text stop after b is same mark_is spelled s =
 last_is : (to : Where) → is_some (pieces_from to []) ≡ true → (l : List Piece) × ((pieces_from to [] ≡ Some l) × (last_pieces to ≡ Some l))
 unfolding pieces_from
 last_is outside some = ([], (refl, refl))
-last_is behind_dollar some = absurd (false≢true some)
+last_is after_dollar some = absurd (false≢true some)
 last_is (in_name name) some = (Variable name ∷ [], (refl, refl))
 last_is (in_braces name) some = absurd (false≢true some)
 
@@ -376,14 +376,14 @@ unfolding pieces pieces_from
 spelled_end rest run stop whole is free = ap is_spelled whole ∙ ap is_some (plain_run run stop free) ∙ some_map (map Plain run) (pieces_from outside stop) ∙ rw is refl
 
 spelled_dollar : (rest run stop after : Text) (d : ℕ) → rest ≡ run ++ stop → stop ≡ d ∷ after → is_byte2 36 36 d ≡ true → list_any (is_byte2 36 36) run ≡ false
-    → is_spelled rest ≡ is_some (pieces_from behind_dollar after)
+    → is_spelled rest ≡ is_some (pieces_from after_dollar after)
 unfolding pieces
 spelled_dollar rest run stop after d whole is dollar free =
     ap is_spelled whole ∙ ap is_some (plain_run run stop free) ∙ some_map (map Plain run) (pieces_from outside stop)
     ∙ ap (λ l. is_some (pieces_from outside l)) is ∙ ap is_some (outside-dollar d after (eq-eqb d 36 (is_dollar d dollar)))
 
 pub spelled_none : (rest run stop after : Text) (d : ℕ) → rest ≡ run ++ stop → stop ≡ d ∷ after → is_byte2 36 36 d ≡ true → list_any (is_byte2 36 36) run ≡ false
-    → pieces_from behind_dollar after ≡ None → is_spelled rest ≡ false
+    → pieces_from after_dollar after ≡ None → is_spelled rest ≡ false
 spelled_none rest run stop after d whole is dollar free none = spelled_dollar rest run stop after d whole is dollar free ∙ ap is_some none
 
 some_cons : (p : Piece) (found : Option (List Piece)) → is_some (option_map (λ later. p ∷ later) found) ≡ is_some found
@@ -391,7 +391,7 @@ some_cons p None = refl
 some_cons p (Some ps) = refl
 
 pub spelled_more : (rest run stop after : Text) (d : ℕ) (cut : Cut) → rest ≡ run ++ stop → stop ≡ d ∷ after → is_byte2 36 36 d ≡ true → list_any (is_byte2 36 36) run ≡ false
-    → CutsOff behind_dollar after cut → is_spelled rest ≡ is_spelled cut.after.now
+    → CutsOff after_dollar after cut → is_spelled rest ≡ is_spelled cut.after.now
 unfolding pieces
 spelled_more rest run stop after d cut whole is dollar free h =
     spelled_dollar rest run stop after d whole is dollar free ∙ ap is_some h.first ∙ some_cons (dollar_piece cut.dollar) (pieces_from outside cut.after.now)
@@ -413,10 +413,10 @@ run_read text plain stop whole free spelled =
     let left : is_spelled stop ≡ true = sym (some_map (map Plain plain) (pieces stop)) ∙ sym (ap is_some cut) ∙ spelled in
     (left, ap (λ found. unwrap_or found []) (cut ∙ ap (option_map (λ later. map Plain plain ++ later)) (spelled_some stop left)))
 
-pub next_none : (text after : Text) (d : ℕ) → text ≡ d ∷ after → is_byte2 36 36 d ≡ true → is_spelled text ≡ true → pieces_from behind_dollar after ≡ None → ⊥
+pub next_none : (text after : Text) (d : ℕ) → text ≡ d ∷ after → is_byte2 36 36 d ≡ true → is_spelled text ≡ true → pieces_from after_dollar after ≡ None → ⊥
 next_none text after d is dollar spelled none = false≢true (sym (spelled_none text [] text after d refl is dollar refl none) ∙ spelled)
 
-pub next_read : (text after : Text) (d : ℕ) (cut : Cut) → text ≡ d ∷ after → is_byte2 36 36 d ≡ true → is_spelled text ≡ true → CutsOff behind_dollar after cut
+pub next_read : (text after : Text) (d : ℕ) (cut : Cut) → text ≡ d ∷ after → is_byte2 36 36 d ≡ true → is_spelled text ≡ true → CutsOff after_dollar after cut
     → (is_spelled cut.after.now ≡ true) × (pieces_in text ≡ dollar_piece cut.dollar ∷ pieces_in cut.after.now)
 unfolding pieces
 next_read text after d cut is dollar spelled h =

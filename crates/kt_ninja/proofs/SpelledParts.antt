@@ -5,7 +5,7 @@ use Rattle.std.specs.Borrow.{Bor}
 use Rattle.std.specs.List.{list_any, prefix_len, slice_split, onto_first}
 use Rattle.std.proofs.lemmas.List.Splits.{slice_split-cons_no}
 use Rattle.kt_ninja.specs.JoinedLines.{Text}
-use Rattle.kt_ninja.specs.Pieces.{Piece, Plain, Escaped, Variable, behind_dollar, is_escapable, is_long_name_byte, is_short_name_byte, outside, pieces, pieces_from}
+use Rattle.kt_ninja.specs.Pieces.{Piece, Plain, Escaped, Variable, after_dollar, is_escapable, is_long_name_byte, is_short_name_byte, outside, pieces, pieces_from}
 use Rattle.kt_ninja.specs.inner.Spelled.{is_spelled, pieces_in}
 use Rattle.kt_ninja.specs.Forms.{begins_with_at, is_plain, name_bytes, without_lead}
 use Rattle.kt_ninja.specs.Scopes.{expanded, refers_to}
@@ -34,9 +34,9 @@ escaped_first : (b : ℕ) (found : Option (List Piece)) → IfSome (option_map (
 escaped_first b None = tt
 escaped_first b (Some ps) = refl
 
-behind_first : (text : Text) → IfSome (pieces_from behind_dollar text) (λ ps. begins_escaped ps ≡ true)
-behind_first [] = rw escape-nil tt
-behind_first (b ∷ bs) =
+after_first : (text : Text) → IfSome (pieces_from after_dollar text) (λ ps. begins_escaped ps ≡ true)
+after_first [] = rw escape-nil tt
+after_first (b ∷ bs) =
     ⊎_elim
     (λ d. rw (escape-escapable b bs d) (escaped_first b (pieces_from outside bs)))
     (λ d. ⊎_elim
@@ -50,7 +50,7 @@ behind_first (b ∷ bs) =
 
 -- a spelling by its first byte: a dollar begins no plain piece, and each other byte is one
 pub dollar_first : (b : ℕ) (bs : Text) → is_spelled (b ∷ bs) ≡ true → (b == 36) ≡ true → begins_escaped (pieces_in (b ∷ bs)) ≡ true
-dollar_first b bs spelled d = rw (outside_some (b ∷ bs) spelled) at (rw (sym (outside-dollar b bs d)) at (behind_first bs))
+dollar_first b bs spelled d = rw (outside_some (b ∷ bs) spelled) at (rw (sym (outside-dollar b bs d)) at (after_first bs))
 
 some_tail : (p : Piece) (found : Option (List Piece)) → is_some (option_map (λ later. p ∷ later) found) ≡ is_some found
 some_tail p None = refl
@@ -199,15 +199,15 @@ name_not (b ∷ bs) n is other spelled =
     (cases_Bool (is_long_name_byte b))
 
 -- plain bytes name no variable, and stand for themselves
-pub names_behind : (plain : Text) (ps : List Piece) → variable_names (map Plain plain ++ ps) ≡ variable_names ps
+pub names_after : (plain : Text) (ps : List Piece) → variable_names (map Plain plain ++ ps) ≡ variable_names ps
 unfolding variable_names
-names_behind [] ps = refl
-names_behind (b ∷ bs) ps = names_behind bs ps
+names_after [] ps = refl
+names_after (b ∷ bs) ps = names_after bs ps
 
-pub expanded_behind : (value_of : Text → Text) (plain : Text) (ps : List Piece) → expanded value_of (map Plain plain ++ ps) ≡ plain ++ expanded value_of ps
+pub expanded_after : (value_of : Text → Text) (plain : Text) (ps : List Piece) → expanded value_of (map Plain plain ++ ps) ≡ plain ++ expanded value_of ps
 unfolding expanded
-expanded_behind value_of [] ps = refl
-expanded_behind value_of (b ∷ bs) ps = ap (λ l. b ∷ l) (expanded_behind value_of bs ps)
+expanded_after value_of [] ps = refl
+expanded_after value_of (b ∷ bs) ps = ap (λ l. b ∷ l) (expanded_after value_of bs ps)
 
 -- whether a variable is referred to, by the names
 pub refers_by_names : (test : Text → Bool) (ps : List Piece) → refers_to test ps ≡ list_any test (variable_names ps)
@@ -229,7 +229,7 @@ byte_names names b = sym (append-nil (map (λ n. n.now) names))
 -- the names of what a run begins with
 pub names_from : (plain : Text) (p : Piece) (ps whole : List Piece) → whole ≡ map Plain plain ++ p ∷ ps → variable_names whole ≡ variable_names (p ∷ []) ++ variable_names ps
 unfolding variable_names
-names_from plain p ps whole is = ap variable_names is ∙ names_behind plain (p ∷ ps) ∙ one p
+names_from plain p ps whole is = ap variable_names is ∙ names_after plain (p ∷ ps) ∙ one p
   where
     one : (first : Piece) → variable_names (first ∷ ps) ≡ variable_names (first ∷ []) ++ variable_names ps
     one (Plain b) = refl
@@ -238,7 +238,7 @@ names_from plain p ps whole is = ap variable_names is ∙ names_behind plain (p 
 
 pub names_end : (plain : Text) (whole : List Piece) → whole ≡ map Plain plain ++ [] → variable_names whole ≡ []
 unfolding variable_names
-names_end plain whole is = ap variable_names is ∙ names_behind plain []
+names_end plain whole is = ap variable_names is ∙ names_after plain []
 
 pub shorter_run : (plain : Text) (p : Piece) (ps whole : List Piece) → whole ≡ map Plain plain ++ p ∷ ps → length ps < length whole
 shorter_run plain p ps whole is = rw is (longer plain)

@@ -7,7 +7,7 @@ use Rattle.std.specs.List.{concat, list_all}
 use Rattle.std.specs.Option.{option_and_then}
 use Rattle.kt_ninja.specs.JoinedLines.{Text}
 use Rattle.kt_ninja.specs.Writable.{is_empty}
-use Rattle.kt_ninja.specs.Pieces.{Piece, Plain, Escaped, Variable, Where, behind_dollar, in_braces, in_name, is_escapable, is_long_name_byte, is_short_name_byte, outer_step, outside, pieces, pieces_from}
+use Rattle.kt_ninja.specs.Pieces.{Piece, Plain, Escaped, Variable, Where, after_dollar, in_braces, in_name, is_escapable, is_long_name_byte, is_short_name_byte, outer_step, outside, pieces, pieces_from}
 use Rattle.kt_ninja.specs.Spellings.{AreSpelled, IsName, IsSpelled, PieceLaw, name_goes_on}
 use Rattle.kt_ninja.proofs.PieceLemmas.{none_before, escape-brace, escape-escapable, escape-nil, escape-none, escape-short, map_twice, outside-dollar, outside-nil, outside-plain}
 
@@ -36,7 +36,7 @@ name_ended : (name : Text) (b : ℕ) (bs : Text) (dollar : Bool) → (b == 36) �
     (option_and_then (λ s. option_map (λ later. s.done ++ later) (pieces_from s.next bs))
     (Some (outer_step [] b)))
 name_ended name b bs true h =
-    rw h (ap (option_map (λ later. Variable name ∷ later)) (sym (none_before (pieces_from behind_dollar bs))))
+    rw h (ap (option_map (λ later. Variable name ∷ later)) (sym (none_before (pieces_from after_dollar bs))))
 name_ended name b bs false h = rw h (sym (map_twice (Variable name ∷ []) (Plain b ∷ []) (pieces_from outside bs)))
 
 name_run : (bs before after : Text) → list_all is_short_name_byte bs ≡ true → name_goes_on after ≡ false
@@ -110,26 +110,26 @@ second_byte (b ∷ []) = 0
 second_byte (b ∷ c ∷ text) = c
 
 -- a name without braces isn't one with them
-no_both : {P : Type 0} (name other after behind : Text) → IsName is_short_name_byte name
-    → (36 ∷ name) ++ after ≡ (36 ∷ 123 ∷ other) ++ behind → P
-no_both [] other after behind h e = absurd (false≢true (sym h.0))
-no_both (b ∷ bs) other after behind h e =
+no_both : {P : Type 0} (name other after past : Text) → IsName is_short_name_byte name
+    → (36 ∷ name) ++ after ≡ (36 ∷ 123 ∷ other) ++ past → P
+no_both [] other after past h e = absurd (false≢true (sym h.0))
+no_both (b ∷ bs) other after past h e =
     let brace : b ≡ 123 = ap second_byte e in
     let short = (and_parts (is_short_name_byte b) (list_all is_short_name_byte bs) h.1).0 in
     absurd (false≢true (subst (λ c. is_short_name_byte c ≡ true) brace short))
 
-one_spelling : (piece : Piece) (one two after behind : Text) → IsSpelled piece one after
-    → IsSpelled piece two behind → one ++ after ≡ two ++ behind → one ≡ two
-one_spelling (Plain b) one two after behind h k e = h.0 ∙ sym k.0
-one_spelling (Escaped b) one two after behind h k e = h.0 ∙ sym k.0
-one_spelling (Variable name) one two after behind (inl h) (inl k) e = h.0 ∙ sym k.0
-one_spelling (Variable name) one two after behind (inr h) (inr k) e = h.0 ∙ sym k.0
-one_spelling (Variable name) one two after behind (inl h) (inr k) e =
-    no_both name (name ++ 125 ∷ []) after behind h.1
-    (ap (λ (t : Text). t ++ after) (sym h.0) ∙ e ∙ ap (λ (t : Text). t ++ behind) k.0)
-one_spelling (Variable name) one two after behind (inr h) (inl k) e =
-    no_both name (name ++ 125 ∷ []) behind after k.1
-    (ap (λ (t : Text). t ++ behind) (sym k.0) ∙ sym e ∙ ap (λ (t : Text). t ++ after) h.0)
+one_spelling : (piece : Piece) (one two after past : Text) → IsSpelled piece one after
+    → IsSpelled piece two past → one ++ after ≡ two ++ past → one ≡ two
+one_spelling (Plain b) one two after past h k e = h.0 ∙ sym k.0
+one_spelling (Escaped b) one two after past h k e = h.0 ∙ sym k.0
+one_spelling (Variable name) one two after past (inl h) (inl k) e = h.0 ∙ sym k.0
+one_spelling (Variable name) one two after past (inr h) (inr k) e = h.0 ∙ sym k.0
+one_spelling (Variable name) one two after past (inl h) (inr k) e =
+    no_both name (name ++ 125 ∷ []) after past h.1
+    (ap (λ (t : Text). t ++ after) (sym h.0) ∙ e ∙ ap (λ (t : Text). t ++ past) k.0)
+one_spelling (Variable name) one two after past (inr h) (inl k) e =
+    no_both name (name ++ 125 ∷ []) past after k.1
+    (ap (λ (t : Text). t ++ past) (sym k.0) ∙ sym e ∙ ap (λ (t : Text). t ++ after) h.0)
 
 same_spellings : (found : List Piece) (spellings others : List Text) → AreSpelled found spellings
     → AreSpelled found others
@@ -188,13 +188,13 @@ read_more piece spelling after found h by e =
 -- what stands in front of a place, of what isn't a piece yet
 abbrev begun : Where → Text
 begun outside = []
-begun behind_dollar = 36 ∷ []
+begun after_dollar = 36 ∷ []
 begun (in_name name) = 36 ∷ name
 begun (in_braces name) = 36 ∷ 123 ∷ name
 
 abbrev IsPlace : Where → Type 0
 IsPlace outside = Unit {0}
-IsPlace behind_dollar = Unit {0}
+IsPlace after_dollar = Unit {0}
 IsPlace (in_name name) = IsName is_short_name_byte name
 IsPlace (in_braces name) = list_all is_long_name_byte name ≡ true
 
@@ -207,17 +207,17 @@ from_outside : (b : ℕ) (bs : Text) → Reads bs → (found : List Piece) → p
 from_outside b bs later found e =
     ⊎_elim
     (λ h. subst (λ c. HasSpellings (c ∷ bs) found) (sym (eqb-true b 36 h))
-    (later behind_dollar found tt (sym (outside-dollar b bs h) ∙ e)))
+    (later after_dollar found tt (sym (outside-dollar b bs h) ∙ e)))
     (λ h. read_more (Plain b) (b ∷ []) bs found (refl, h) (λ f. later outside f tt) (sym (outside-plain b bs h) ∙ e))
     (cases_Bool (b == 36))
 
 short_begins : (b : ℕ) (bs : Text) → is_escapable b ≡ false → (b == 123) ≡ false → is_short_name_byte b ≡ true
-    → pieces_from behind_dollar (b ∷ bs) ≡ pieces_from (in_name (b ∷ [])) bs
+    → pieces_from after_dollar (b ∷ bs) ≡ pieces_from (in_name (b ∷ [])) bs
 unfolding pieces_from
 short_begins b bs h i j = rw (h, i, j) (none_before (pieces_from (in_name (b ∷ [])) bs))
 
 from_dollar : (b : ℕ) (bs : Text) → Reads bs → (found : List Piece)
-    → pieces_from behind_dollar (b ∷ bs) ≡ Some found → HasSpellings (36 ∷ b ∷ bs) found
+    → pieces_from after_dollar (b ∷ bs) ≡ Some found → HasSpellings (36 ∷ b ∷ bs) found
 from_dollar b bs later found e =
     ⊎_elim
     (λ h. read_more (Escaped b) (36 ∷ b ∷ []) bs found (refl, h) (λ f. later outside f tt)
@@ -315,7 +315,7 @@ outside_end found e = let some = sym outside-nil ∙ e in let same : [] ≡ foun
 
 at_end : Reads []
 at_end outside found h e = outside_end found e
-at_end behind_dollar found h e = let none = sym escape-nil ∙ e in absurd (cc none)
+at_end after_dollar found h e = let none = sym escape-nil ∙ e in absurd (cc none)
 at_end (in_name name) found h e =
     read_more (Variable name) (36 ∷ name) [] found (inl (refl, h, refl)) outside_end
     (sym (name_ends name [] refl) ∙ e)
@@ -323,7 +323,7 @@ at_end (in_braces name) found h e = let none = sym (brace_nil name) ∙ e in abs
 
 by_first : (b : ℕ) (bs : Text) → Reads bs → Reads (b ∷ bs)
 by_first b bs later outside found h e = from_outside b bs later found e
-by_first b bs later behind_dollar found h e = from_dollar b bs later found e
+by_first b bs later after_dollar found h e = from_dollar b bs later found e
 by_first b bs later (in_name name) found h e = from_name name b bs later found h e
 by_first b bs later (in_braces name) found h e = from_braces name b bs later found h e
 

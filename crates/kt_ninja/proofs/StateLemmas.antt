@@ -4,12 +4,12 @@ use Rattle.std.proofs.lemmas.List.{drop_more}
 use Rattle.std.specs.List.{list_all}
 use Rattle.kt_ninja.specs.declared.plan.Made.{Made}
 use Rattle.kt_ninja.specs.declared.read_fault.Fault.{Fault}
-use Rattle.kt_ninja.specs.declared.stated.Making.{Making as HeldMaking}
-use Rattle.kt_ninja.specs.declared.stated.Making.TheVariants.{ByNothing, ByOwn, ByRule}
+use Rattle.kt_ninja.specs.declared.pending_statement.Making.{Making as HeldMaking}
+use Rattle.kt_ninja.specs.declared.pending_statement.Making.TheVariants.{ByNothing, ByOwn, ByRule}
 use Rattle.kt_ninja.specs.JoinedLines.{Text}
 use Rattle.kt_ninja.specs.Forms.{Binding, Build, Pieces}
 use Rattle.kt_ninja.specs.Scopes.{Scope, expanded, find_in, put_in, refers_to, value_in, value_within}
-use Rattle.kt_ninja.specs.NinjaRead.{Making, State, Stated, add_defaults, are_new, block_scope, made_of, outs_of, paths_in, stated_with, statement_of}
+use Rattle.kt_ninja.specs.NinjaRead.{Making, State, PendingStatement, add_defaults, are_new, block_scope, made_of, outs_of, paths_in, pending_with, statement_of}
 use Rattle.kt_list.specs.Names.{is_among, with_name}
 use Rattle.kt_ninja.specs.Writable.{is_empty}
 use Rattle.kt_ninja.specs.inner.Refusals.{Refuses}
@@ -95,13 +95,13 @@ unfolding are_new
 new_end names = refl
 
 -- how a statement is made
-pub made_told : (file : Scope) (s : Stated) (block : Scope) (making : HeldMaking) → made_as s.inputs s.outs block file making ≡ made_of file s (making_as block making)
+pub made_told : (file : Scope) (s : PendingStatement) (block : Scope) (making : HeldMaking) → made_as s.inputs s.outs block file making ≡ made_of file s (making_as block making)
 unfolding made_of
 made_told file s block ByNothing = refl
 made_told file s block (ByOwn command) = refl
 made_told file s block (ByRule command) = refl
 
-pub statement_told : (file : Scope) (s : Stated) (block : Scope) (making : HeldMaking) (made : Made) → s.making ≡ making_as block making
+pub statement_told : (file : Scope) (s : PendingStatement) (block : Scope) (making : HeldMaking) (made : Made) → s.making ≡ making_as block making
     → made ≡ made_as s.inputs s.outs block file making
     → record { outs = s.outs; made = made; inputs = s.inputs; implicit = s.implicit; order_only = s.order_only } ≡ statement_of file s
 unfolding statement_of
@@ -115,16 +115,16 @@ carried {X} old new r same h = let P : Option X → Type 0 = λ o. MatchResult r
 
 -- a build line without all of its paths
 pub no_inputs : (value_of : Text → Text) (making : Making) (b : Build) (outs : List Text) → paths_in value_of b.outs ≡ Some outs
-    → paths_in value_of b.inputs.explicit ≡ None → stated_with value_of making b ≡ None
+    → paths_in value_of b.inputs.explicit ≡ None → pending_with value_of making b ≡ None
 no_inputs value_of making b outs h i = rw (h, i) refl
 
 pub no_implicit : (value_of : Text → Text) (making : Making) (b : Build) (outs inputs : List Text) → paths_in value_of b.outs ≡ Some outs
-    → paths_in value_of b.inputs.explicit ≡ Some inputs → paths_in value_of b.inputs.implicit ≡ None → stated_with value_of making b ≡ None
+    → paths_in value_of b.inputs.explicit ≡ Some inputs → paths_in value_of b.inputs.implicit ≡ None → pending_with value_of making b ≡ None
 no_implicit value_of making b outs inputs h i j = rw (h, i, j) refl
 
 pub no_order_only : (value_of : Text → Text) (making : Making) (b : Build) (outs inputs implicit : List Text) → paths_in value_of b.outs ≡ Some outs
     → paths_in value_of b.inputs.explicit ≡ Some inputs → paths_in value_of b.inputs.implicit ≡ Some implicit
-    → paths_in value_of b.inputs.order_only ≡ None → stated_with value_of making b ≡ None
+    → paths_in value_of b.inputs.order_only ≡ None → pending_with value_of making b ≡ None
 no_order_only value_of making b outs inputs implicit h i j k = rw (h, i, j, k) refl
 
 -- no block hides nothing
@@ -133,6 +133,6 @@ unfolding find_in
 within_none none file h = ap (λ block. value_within block file) h
 
 -- default targets, put after those above
-pub defaults_added : (state : State) (names all : List Text) → list_all (is_among (outs_of state.stated)) names ≡ true → all ≡ state.defaults ++ names
+pub defaults_added : (state : State) (names all : List Text) → list_all (is_among (outs_of state.pending)) names ≡ true → all ≡ state.defaults ++ names
     → add_defaults state names ≡ Some (record state { defaults = all })
 defaults_added state names all outs is = rw outs (ap (λ d. Some (record state { defaults = d })) (sym is))

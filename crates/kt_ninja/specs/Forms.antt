@@ -105,9 +105,9 @@ build_with outs (rule_word ∷ explicit) parts =
     (name_bytes rule_word)
 
 -- the same by all parts between its bars
-abbrev pub build_behind : List Pieces → List Pieces → Option Build
-build_behind outs [] = None
-build_behind outs (front ∷ parts) = build_with outs (words_of front) parts
+abbrev pub build_after : List Pieces → List Pieces → Option Build
+build_after outs [] = None
+build_after outs (front ∷ parts) = build_with outs (words_of front) parts
 
 -- outputs: one path or more, without a bar
 abbrev pub paths_of : Pieces → Option (List Pieces)
@@ -116,7 +116,7 @@ paths_of ps = if list_any (is_plain 124) ps || is_empty (words_of ps) then None 
 -- a build line by what stands between its colons, of which there is one
 abbrev pub build_cut : List Pieces → Option Build
 build_cut (outs ∷ rest ∷ []) = option_and_then
-    (λ paths. build_behind paths (slice_split (is_plain 124) rest)) (paths_of outs)
+    (λ paths. build_after paths (slice_split (is_plain 124) rest)) (paths_of outs)
 build_cut _ = None
 
 -- what stands after `build`

@@ -1,4 +1,5 @@
 pub mod Plan
+pub mod View
 pub mod Text
 pub mod Writable
 pub mod Written

@@ -19,7 +19,7 @@ seen_of m = record { written = Some m.bytes; failed = m.failures }
 abbrev pub taken_of : Memory → List ℕ → ℕ
 taken_of m piece = min (min (length piece) m.step) (m.room - length m.bytes)
 
--- what a call leaves, of which so many bytes were taken and which counts so many failures
+-- what a call leaves, of which a given number of bytes were taken and which counts a given number of failures
 abbrev pub called : Memory → List ℕ → ℕ → Memory
 called m bytes failures = record {
   bytes = m.bytes ++ bytes;

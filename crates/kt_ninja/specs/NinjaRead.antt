@@ -85,7 +85,7 @@ pub data Making : Type 0 where
   by_rule : Pieces → Scope → Making
 
 -- a statement whose command may not be known yet: it looks up variables as the file leaves them
-pub record Stated : Type 0 where
+pub record PendingStatement : Type 0 where
   pub outs : List Text
   pub making : Making
   pub inputs : List Text
@@ -96,12 +96,12 @@ pub record Stated : Type 0 where
 pub record State : Type 0 where
   pub file : Scope
   pub rules : Table Pieces
-  pub stated : List Stated
+  pub pending : List PendingStatement
   pub defaults : List Text
 
 -- the outputs of statements
-abbrev pub outs_of : List Stated → List Text
-outs_of stated = flat_map (λ s. s.outs) stated
+abbrev pub outs_of : List PendingStatement → List Text
+outs_of pending = flat_map (λ s. s.outs) pending
 
 -- a variable at the margin: its value is expanded at once, and replaces an earlier one
 unfoldable pub bind : State → Binding → State
@@ -157,8 +157,8 @@ are_new before [] = true
 are_new before (out ∷ outs) = not (is_among before out) && are_new (before ++ out ∷ []) outs
 
 -- a statement by the values of its paths' variables
-abbrev pub stated_with : (Text → Text) → Making → Build → Option Stated
-stated_with value_of making b =
+abbrev pub pending_with : (Text → Text) → Making → Build → Option PendingStatement
+pending_with value_of making b =
     option_and_then (λ outs.
     option_and_then (λ inputs.
     option_and_then (λ implicit.
@@ -175,22 +175,22 @@ stated_with value_of making b =
     (paths_in value_of b.outs)
 
 -- one more statement, if its outputs are new
-abbrev pub add_statement : State → Stated → Option State
+abbrev pub add_statement : State → PendingStatement → Option State
 add_statement state s =
-    if are_new (outs_of state.stated) s.outs then Some (record state { stated = state.stated ++ s ∷ [] }) else None
+    if are_new (outs_of state.pending) s.outs then Some (record state { pending = state.pending ++ s ∷ [] }) else None
 
 unfoldable pub read_build : State → Build → List Binding → Option State
 read_build state b bindings =
     option_and_then (λ block.
     option_and_then (λ making.
-    option_and_then (add_statement state) (stated_with (value_within block state.file) making b))
+    option_and_then (add_statement state) (pending_with (value_within block state.file) making b))
     (making_of state b.rule_name block))
     (block_scope state.file [] bindings)
 
 -- more default targets, each an output of a statement above
 abbrev pub add_defaults : State → List Text → Option State
 add_defaults state names =
-    if list_all (is_among (outs_of state.stated)) names
+    if list_all (is_among (outs_of state.pending)) names
     then Some (record state { defaults = state.defaults ++ names }) else None
 
 unfoldable pub read_default : State → List Pieces → Option State
@@ -225,15 +225,15 @@ read_parts state (p ∷ ps) = and_then_parts p.number (read_part state p) (λ s.
 
 -- nothing read
 abbrev pub nothing_read : State
-nothing_read = record { file = []; rules = []; stated = []; defaults = [] }
+nothing_read = record { file = []; rules = []; pending = []; defaults = [] }
 
 -- the command of a statement, by the variables that the file leaves
-unfoldable pub made_of : Scope → Stated → Making → Made
+unfoldable pub made_of : Scope → PendingStatement → Making → Made
 made_of file s by_nothing = Phony
 made_of file s (by_own command) = Command command
 made_of file s (by_rule command block) = Command (expanded (command_value s.inputs s.outs block file) command)
 
-unfoldable pub statement_of : Scope → Stated → Statement
+unfoldable pub statement_of : Scope → PendingStatement → Statement
 statement_of file s =
     record {
       outs = s.outs;
@@ -245,7 +245,7 @@ statement_of file s =
 
 -- what was read as a plan
 unfoldable pub plan_of : State → Plan
-plan_of state = record { statements = map (statement_of state.file) state.stated; defaults = state.defaults }
+plan_of state = record { statements = map (statement_of state.file) state.pending; defaults = state.defaults }
 
 -- the same, if all was read
 abbrev pub plan_in : Result State ℕ → Result Plan ℕ

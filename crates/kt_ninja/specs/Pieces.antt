@@ -31,7 +31,7 @@ is_escapable b = b == 36 || (b == 32 || b == 58)
 -- which these bytes stand before it
 pub data Where : Type 0 where
   outside : Where
-  behind_dollar : Where
+  after_dollar : Where
   in_name : Text → Where
   in_braces : Text → Where
 
@@ -43,7 +43,7 @@ pub record Step : Type 0 where
 -- a byte outside of all escapes, after these pieces
 abbrev pub outer_step : List Piece → ℕ → Step
 outer_step before b =
-    if b == 36 then record { done = before; next = behind_dollar }
+    if b == 36 then record { done = before; next = after_dollar }
     else record { done = before ++ Plain b ∷ []; next = outside }
 
 -- the byte after a dollar; none where it escapes nothing
@@ -62,7 +62,7 @@ brace_step name b =
 -- any byte; a name without braces is as long as can be
 abbrev pub step : Where → ℕ → Option Step
 step outside b = Some (outer_step [] b)
-step behind_dollar b = dollar_step b
+step after_dollar b = dollar_step b
 step (in_name name) b =
     if is_short_name_byte b then Some (record { done = []; next = in_name (name ++ b ∷ []) })
     else Some (outer_step (Variable name ∷ []) b)
@@ -71,7 +71,7 @@ step (in_braces name) b = brace_step name b
 -- what the end of the text ends; none where something must follow
 abbrev pub last_pieces : Where → Option (List Piece)
 last_pieces outside = Some []
-last_pieces behind_dollar = None
+last_pieces after_dollar = None
 last_pieces (in_name name) = Some (Variable name ∷ [])
 last_pieces (in_braces name) = None
 

@@ -31,7 +31,7 @@ pub record RowsOfPlans : Type 0 where
       ≡ plan (statement (codes "t" ∷ []) Phony [] [] [] ∷ []) (codes "t" ∷ [])
   pub joined_comment : ninja_read (codes "build t: phony\n$\n # c $\ndefault t\n")
       ≡ plan (statement (codes "t" ∷ []) Phony [] [] [] ∷ []) (codes "t" ∷ [])
-  pub at_behind_two_bars : ninja_read (codes "build t: phony ||@b\ndefault t\n")
+  pub at_after_two_bars : ninja_read (codes "build t: phony ||@b\ndefault t\n")
       ≡ plan (statement (codes "t" ∷ []) Phony [] [] (codes "@b" ∷ []) ∷ []) (codes "t" ∷ [])
   pub all_inputs : ninja_read (codes "build t:phony a|b||c\n")
       ≡ plan (statement (codes "t" ∷ []) Phony (codes "a" ∷ []) (codes "b" ∷ []) (codes "c" ∷ []) ∷ []) []
@@ -60,11 +60,11 @@ pub record RowsOfFaults : Type 0 where
   pub goes_on_at_end : ninja_read (codes "build t: phony\ndefault t\n$\n") ≡ Err 2
   pub goes_on_alone : ninja_read (codes "$\n") ≡ Err 1
   pub dollar_at_end : ninja_read (codes "build t: phony\n$") ≡ Err 2
-  pub at_behind_a_bar : ninja_read (codes "build t: phony |@b\ndefault t\n") ≡ Err 1
+  pub at_after_a_bar : ninja_read (codes "build t: phony |@b\ndefault t\n") ≡ Err 1
   pub keyword_as_key : ninja_read (codes "build t: phony\n pool = x\ndefault t\n") ≡ Err 1
   pub fault_of_its_part : ninja_read (codes "# c\n\nbuild a: phony\nrule r\nbuild b: phony\n") ≡ Err 4
   pub headless : ninja_read (codes "# c\n x = 1\n") ≡ Err 1
-  pub behind_a_blank_line : ninja_read (codes "build a: phony\n\n x = 1\n") ≡ Err 1
+  pub after_a_blank_line : ninja_read (codes "build a: phony\n\n x = 1\n") ≡ Err 1
   pub carriage_return : ninja_read (codes "build a: phony\nbuild b\r: phony\n") ≡ Err 2
   pub return_in_comment : ninja_read (codes "build a: phony\n# \r\n") ≡ Err 1
   pub default_stays_keyword : ninja_read (codes "default = 3\n") ≡ Err 1

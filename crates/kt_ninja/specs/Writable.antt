@@ -1,8 +1,7 @@
 -- Which plans can be written (Ninja manual, "Lexical syntax", and for defaults "Default target statements"; which bytes
 -- are refused, and that no output stands twice, is kati's own).
-use Rattle.std.specs.Prelude.{◌≡◌, ◌≢◌, ℕ, ◌+◌, Bool, true, false, not, ◌==◌, ◌&&◌, ◌||◌, List, [], ◌∷◌, ◌++◌}
-use Rattle.std.specs.Prelude.{All, AllPairs, Contains, Option, Some, None, option_map, Result, Ok, Err, find}
-use Rattle.std.specs.Prelude.{if◌then◌else◌}
+use Rattle.std.specs.Prelude.{◌≡◌, ◌≢◌, ℕ, ◌+◌, Bool, true, false, not, ◌==◌, ◌&&◌, ◌||◌, List, [], ◌∷◌, ◌++◌, All}
+use Rattle.std.specs.Prelude.{AllPairs, Contains, Option, Some, None, option_map, Result, Ok, Err, find, if◌then◌else◌}
 use Rattle.std.specs.List.{list_all, position_from}
 use Rattle.std.specs.Option.{option_or}
 use Rattle.kt_list.specs.Names.{is_among}
@@ -49,24 +48,24 @@ pub record IsWritable (plan : Plan) : Type 0 where
   pub defaults : All (λ d. Contains (outputs plan.statements) d) plan.defaults
 
 -- what keeps a plan from being written; numbers are those of statements, from 0
-pub data Trouble : Type 0 where
-  no_output : ℕ → Trouble
-  bad_name : List ℕ → Trouble
-  bad_command : ℕ → Trouble
-  repeated : List ℕ → Trouble
-  not_an_output : List ℕ → Trouble
+pub data Obstacle : Type 0 where
+  no_output : ℕ → Obstacle
+  bad_name : List ℕ → Obstacle
+  bad_command : ℕ → Obstacle
+  repeated : List ℕ → Obstacle
+  not_an_output : List ℕ → Obstacle
 
 -- of a statement: its first name that can't be written, or its command
-abbrev pub trouble_of_statement : ℕ → Statement → Option Trouble
-trouble_of_statement number s =
+abbrev pub obstacle_of_statement : ℕ → Statement → Option Obstacle
+obstacle_of_statement number s =
     option_or (option_map bad_name (find (λ n. not (is_name n)) (names_of s))) (if is_made s.made then None
     else Some (bad_command number))
 
 -- of statements in order, the first of which has this number
-abbrev pub trouble_of_statements : ℕ → List Statement → Option Trouble
-trouble_of_statements number [] = None
-trouble_of_statements number (s ∷ ss) = option_or (trouble_of_statement number s)
-    (trouble_of_statements (number + 1) ss)
+abbrev pub obstacle_of_statements : ℕ → List Statement → Option Obstacle
+obstacle_of_statements number [] = None
+obstacle_of_statements number (s ∷ ss) = option_or (obstacle_of_statement number s)
+    (obstacle_of_statements (number + 1) ss)
 
 -- the first name of a list that is among those before it, or among these
 abbrev pub repeated_after : List (List ℕ) → List (List ℕ) → Option (List ℕ)
@@ -77,23 +76,23 @@ repeated_after before (n ∷ ns) = if is_among before n then Some n else repeate
 abbrev pub not_made : List (List ℕ) → List (List ℕ) → Option (List ℕ)
 not_made outs defaults = find (λ d. not (is_among outs d)) defaults
 
--- the first trouble of a plan: a statement without output, then names and commands, statement by statement, then an
--- output that stands twice, then a default target that is no output
-abbrev pub first_trouble : Plan → Option Trouble
-first_trouble plan =
+-- what first keeps a plan from being written: a statement without output, then names and commands, statement by
+-- statement, then an output that stands twice, then a default target that is no output
+abbrev pub first_obstacle : Plan → Option Obstacle
+first_obstacle plan =
     option_or (option_map no_output (position_from (λ s. is_empty s.outs) 0 plan.statements))
-    (option_or (trouble_of_statements 0 plan.statements)
+    (option_or (obstacle_of_statements 0 plan.statements)
     (option_or (option_map repeated (repeated_after [] (outputs plan.statements)))
     (option_map not_an_output (not_made (outputs plan.statements) plan.defaults))))
 
 -- what an answer tells
-abbrev pub told_trouble : Unwritable → Trouble
-told_trouble (told.NoOutput number) = no_output number
-told_trouble (told.BadName name) = bad_name name.now
-told_trouble (told.BadCommand number) = bad_command number
-told_trouble (told.Repeated name) = repeated name.now
-told_trouble (told.NotAnOutput name) = not_an_output name.now
+abbrev pub told_obstacle : Unwritable → Obstacle
+told_obstacle (told.NoOutput number) = no_output number
+told_obstacle (told.BadName name) = bad_name name.now
+told_obstacle (told.BadCommand number) = bad_command number
+told_obstacle (told.Repeated name) = repeated name.now
+told_obstacle (told.NotAnOutput name) = not_an_output name.now
 
-abbrev pub trouble_in : Result (Unit {0}) Unwritable → Option Trouble
-trouble_in (Ok _) = None
-trouble_in (Err e) = Some (told_trouble e)
+abbrev pub obstacle_in : Result (Unit {0}) Unwritable → Option Obstacle
+obstacle_in (Ok _) = None
+obstacle_in (Err e) = Some (told_obstacle e)

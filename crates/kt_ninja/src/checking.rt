@@ -1,14 +1,16 @@
 //! Which plans can be written.
-ghost use Rattle.std.specs.Prelude.{◌≡◌, ◌↔◌, [], not, find, IsOk};
+ghost use Rattle.std.specs.Prelude.{◌≡◌, ◌≤◌, ◌↔◌, ◌||◌, [], length, not, find, option_map, slice_get, take, IsOk};
 ghost use Rattle.std.specs.List.{list_all, list_any, position_from};
-ghost use Rattle.std.specs.Option.{option_copied};
 ghost use Rattle.kt_ninja.specs.Plan.{names_of, outputs};
 ghost use Rattle.kt_list.specs.Names.{is_among};
-ghost use Rattle.kt_ninja.specs.Writable.{HasWritableTexts, IsWritable, first_trouble, is_command_byte};
-ghost use Rattle.kt_ninja.specs.Writable.{is_empty, is_made, is_name, is_name_byte, not_made, repeated_after};
-ghost use Rattle.kt_ninja.specs.Writable.{trouble_in, trouble_of_statement, trouble_of_statements};
+ghost use Rattle.kt_ninja.specs.View.{made_by, names_at, names_listed, obstacle_at};
+ghost use Rattle.kt_ninja.specs.declared.view.Listed.TheVariants.{Outputs};
+ghost use Rattle.kt_ninja.specs.Writable.{HasWritableTexts, IsWritable, first_obstacle, is_command_byte, is_empty};
+ghost use Rattle.kt_ninja.specs.Writable.{is_made, is_name, is_name_byte, not_made, repeated_after, obstacle_in};
+ghost use Rattle.kt_ninja.specs.Writable.{obstacle_of_statements};
 
-use crate::plan::{Made, Name, Plan, Statement};
+use crate::plan::Plan;
+use crate::view::{Listed, PlanView};
 use thiserror::Error;
 
 /// What keeps a plan from being written. Numbers are those of the plan's statements, from 0.
@@ -58,169 +60,222 @@ fn has_no_bytes(bytes: &[u8]) -> bool
     matches!(bytes, [])
 }
 
-fn is_written_name(name: &Name) -> bool
+fn is_written_name(name: &[u8]) -> bool
     ensures { result ≡ is_name name.now }
 {
-    !has_no_bytes(name.as_slice()) && all_name_bytes(name.as_slice())
+    !has_no_bytes(name) && all_name_bytes(name)
 }
 
-fn is_written_command(made: &Made) -> bool
-    ensures { result ≡ is_made made.now }
+fn is_written_command(command: Option<&[u8]>) -> bool
+    ensures { result ≡ is_made (made_by (option_map (λ text. text.now) command.entry)) }
 {
-    match made {
-        Made::Command(command) => {
-            !has_no_bytes(command.as_slice()) && all_command_bytes(command.as_slice())
-        }
-        Made::Phony => true,
+    match command {
+        Some(command) => !has_no_bytes(command) && all_command_bytes(command),
+        None => true,
     }
 }
 
-fn first_bad_name(names: &[Name]) -> Option<&Name>
-    ensures { option_copied result ≡ find (λ n. not (is_name n)) names.now }
+/// The first name of a list that can't be written.
+fn first_bad_name<V: PlanView>(view: &V, list: Listed) -> Option<&[u8]>
+    ensures { option_map (λ name. name.now) result ≡ find (λ n. not (is_name n)) (names_listed (V.plan view.now) list) }
 {
-    names.iter().find(|name| !is_written_name(name))
+    for place in 0..view.name_count(list) {
+        let name = view.name(list, place);
+        if !is_written_name(name) {
+            return Some(name);
+        }
+    }
+    None
 }
 
-fn makes_nothing(statement: &Statement) -> bool
-    ensures { result ≡ is_empty statement.now.outs }
+fn first_without_output<V: PlanView>(view: &V) -> Option<usize>
+    ensures { result ≡ position_from (λ s. is_empty s.outs) 0 (V.plan view.now).statements }
 {
-    matches!(statement.outs.as_slice(), [])
+    for statement in 0..view.statement_count() {
+        if view.name_count(Listed::Outputs(statement)) == 0 {
+            return Some(statement);
+        }
+    }
+    None
 }
 
-fn first_without_output(statements: &[Statement]) -> Option<usize>
-    ensures { result ≡ position_from (λ s. is_empty s.outs) 0 statements.now }
+/// Whether the name is among so many of a list.
+fn holds<V: PlanView>(view: &V, list: Listed, count: usize, name: &[u8]) -> bool
+    requires { count ≤ length (names_listed (V.plan view.now) list) }
+    ensures { result ≡ is_among (take count (names_listed (V.plan view.now) list)) name.now }
 {
-    statements
-        .iter()
-        .position(|statement| makes_nothing(statement))
+    for place in 0..count {
+        if name == view.name(list, place) {
+            return true;
+        }
+    }
+    false
 }
 
-fn holds(names: &[Name], name: &[u8]) -> bool
-    ensures { result ≡ is_among names.now name.now }
+/// Whether the name is an output of a statement.
+fn is_made_at<V: PlanView>(view: &V, statement: usize, name: &[u8]) -> bool
+    ensures { result ≡ is_among (names_listed (V.plan view.now) (Outputs statement)) name.now }
 {
-    names.iter().any(|other| name == other.as_slice())
+    let outs = Listed::Outputs(statement);
+    holds(view, outs, view.name_count(outs), name)
 }
 
-/// Whether one of the statements makes the name.
-fn is_made_by(statements: &[Statement], name: &[u8]) -> bool
-    ensures { result ≡ list_any (λ s. is_among s.outs name.now) statements.now }
+/// Whether one of so many statements makes the name.
+fn is_made_by<V: PlanView>(view: &V, count: usize, name: &[u8]) -> bool
+    requires { count ≤ length (V.plan view.now).statements }
+    ensures { result ≡ list_any (λ s. is_among s.outs name.now) (take count (V.plan view.now).statements) }
 {
-    statements
-        .iter()
-        .any(|statement| holds(statement.outs.as_slice(), name))
+    for statement in 0..count {
+        if is_made_at(view, statement, name) {
+            return true;
+        }
+    }
+    false
 }
 
-fn is_output(statements: &[Statement], name: &[u8]) -> bool
-    ensures { result ≡ is_among (outputs statements.now) name.now }
+fn is_output<V: PlanView>(view: &V, count: usize, name: &[u8]) -> bool
+    requires { count ≤ length (V.plan view.now).statements }
+    ensures { result ≡ is_among (outputs (take count (V.plan view.now).statements)) name.now }
 {
-    is_made_by(statements, name)
+    is_made_by(view, count, name)
 }
 
 /// The first name of the statement that can't be written.
-#[tactic(auto, using(crate::proofs::Troubles::find_in_names))]
-fn bad_name_of(statement: &Statement) -> Option<&Name>
-    ensures { option_copied result ≡ find (λ n. not (is_name n)) (names_of statement.now) }
+#[tactic(auto, using(crate::proofs::Troubles::find_in_found))]
+fn bad_name_of<V: PlanView>(view: &V, statement: usize) -> Option<&[u8]>
+    ensures { option_map (λ name. name.now) result
+        ≡ find (λ n. not (is_name n)) (names_at names_of (slice_get (V.plan view.now).statements statement)) }
 {
-    if let Some(name) = first_bad_name(statement.outs.as_slice()) {
+    if let Some(name) = first_bad_name(view, Listed::Outputs(statement)) {
         return Some(name);
     }
-    if let Some(name) = first_bad_name(statement.inputs.as_slice()) {
+    if let Some(name) = first_bad_name(view, Listed::Inputs(statement)) {
         return Some(name);
     }
-    if let Some(name) = first_bad_name(statement.implicit.as_slice()) {
+    if let Some(name) = first_bad_name(view, Listed::Implicit(statement)) {
         return Some(name);
     }
-    first_bad_name(statement.order_only.as_slice())
+    first_bad_name(view, Listed::OrderOnly(statement))
 }
 
-fn statement_can_be_written(number: usize, statement: &Statement) -> Result<(), Unwritable<'_>>
-    ensures { trouble_in result ≡ trouble_of_statement number statement.now }
+fn statement_can_be_written<V: PlanView>(view: &V, statement: usize) -> Result<(), Unwritable<'_>>
+    ensures { obstacle_in result ≡ obstacle_at statement (slice_get (V.plan view.now).statements statement) }
 {
-    if let Some(name) = bad_name_of(statement) {
-        return Err(Unwritable::BadName(name.as_slice()));
+    if let Some(name) = bad_name_of(view, statement) {
+        return Err(Unwritable::BadName(name));
     }
-    if is_written_command(&statement.made) {
+    if is_written_command(view.command(statement)) {
         Ok(())
     } else {
-        Err(Unwritable::BadCommand(number))
+        Err(Unwritable::BadCommand(statement))
     }
-}
-
-fn first_bad_text(statements: &[Statement]) -> Result<(), Unwritable<'_>>
-    ensures { trouble_in result ≡ trouble_of_statements 0 statements.now }
-{
-    for (number, statement) in statements.iter().enumerate() {
-        statement_can_be_written(number, statement)?;
-    }
-    Ok(())
 }
 
 /// Whether each name and each command of the plan can be written, and else the first that can't, statement by
 /// statement, names first: `BadName` or `BadCommand`. Looks at each byte at most once, at no other part of the plan,
 /// and takes no memory.
-pub fn texts_can_be_written(plan: &Plan) -> Result<(), Unwritable<'_>>
-    ensures trouble { trouble_in result ≡ trouble_of_statements 0 plan.now.statements }
-    ensures writable { IsOk result ↔ HasWritableTexts plan.now }
+pub fn texts_can_be_written<V: PlanView>(view: &V) -> Result<(), Unwritable<'_>>
+    ensures obstacle { obstacle_in result ≡ obstacle_of_statements 0 (V.plan view.now).statements }
+    ensures writable { IsOk result ↔ HasWritableTexts (V.plan view.now) }
 {
-    first_bad_text(plan.statements.as_slice())
+    first_bad_text(view)
 }
 
-/// The first name that stands among the earlier statements' outputs, or before it in the list.
-fn repeated_in<'a>(earlier: &[Statement], outs: &'a [Name]) -> Option<&'a Name>
-    ensures { option_copied result ≡ repeated_after (outputs earlier.now) outs.now }
+fn first_bad_text<V: PlanView>(view: &V) -> Result<(), Unwritable<'_>>
+    ensures { obstacle_in result ≡ obstacle_of_statements 0 (V.plan view.now).statements }
 {
-    for (place, out) in outs.iter().enumerate() {
-        if is_output(earlier, out.as_slice()) || holds(&outs[..place], out.as_slice()) {
+    for statement in 0..view.statement_count() {
+        if let Err(obstacle) = statement_can_be_written(view, statement) {
+            return Err(obstacle);
+        }
+    }
+    Ok(())
+}
+
+/// Whether the name is an output of an earlier statement, or among so many of the statement's own.
+fn is_repeated<V: PlanView>(view: &V, statement: usize, count: usize, name: &[u8]) -> bool
+    requires statement { statement ≤ length (V.plan view.now).statements }
+    requires count { count ≤ length (names_listed (V.plan view.now) (Outputs statement)) }
+    ensures { result ≡ (is_among (outputs (take statement (V.plan view.now).statements)) name.now
+        || is_among (take count (names_listed (V.plan view.now) (Outputs statement))) name.now) }
+{
+    is_output(view, statement, name) || holds(view, Listed::Outputs(statement), count, name)
+}
+
+/// The first output of a statement that stands among those of the earlier ones, or before it in its own.
+fn repeated_in<V: PlanView>(view: &V, statement: usize) -> Option<&[u8]>
+    requires { statement ≤ length (V.plan view.now).statements }
+    ensures { option_map (λ name. name.now) result
+        ≡ repeated_after (outputs (take statement (V.plan view.now).statements))
+        (names_listed (V.plan view.now) (Outputs statement)) }
+{
+    let outs = Listed::Outputs(statement);
+    for place in 0..view.name_count(outs) {
+        let out = view.name(outs, place);
+        if is_repeated(view, statement, place, out) {
             return Some(out);
         }
     }
     None
 }
 
-fn first_repeated(statements: &[Statement]) -> Option<&Name>
-    ensures { option_copied result ≡ repeated_after [] (outputs statements.now) }
+fn first_repeated<V: PlanView>(view: &V) -> Option<&[u8]>
+    ensures { option_map (λ name. name.now) result ≡ repeated_after [] (outputs (V.plan view.now).statements) }
 {
-    for (place, statement) in statements.iter().enumerate() {
-        if let Some(out) = repeated_in(&statements[..place], statement.outs.as_slice()) {
+    for statement in 0..view.statement_count() {
+        if let Some(out) = repeated_in(view, statement) {
             return Some(out);
         }
     }
     None
 }
 
-fn first_not_made<'a>(statements: &[Statement], defaults: &'a [Name]) -> Option<&'a Name>
-    ensures { option_copied result ≡ not_made (outputs statements.now) defaults.now }
+fn first_not_made<V: PlanView>(view: &V) -> Option<&[u8]>
+    ensures { option_map (λ name. name.now) result
+        ≡ not_made (outputs (V.plan view.now).statements) (V.plan view.now).defaults }
 {
-    defaults
-        .iter()
-        .find(|name| !is_output(statements, name.as_slice()))
+    let statements = view.statement_count();
+    for place in 0..view.name_count(Listed::Defaults) {
+        let name = view.name(Listed::Defaults, place);
+        if !is_output(view, statements, name) {
+            return Some(name);
+        }
+    }
+    None
 }
 
-fn first_trouble_in(plan: &Plan) -> Result<(), Unwritable<'_>>
-    ensures { trouble_in result ≡ first_trouble plan.now }
+fn first_obstacle_in<V: PlanView>(view: &V) -> Result<(), Unwritable<'_>>
+    ensures { obstacle_in result ≡ first_obstacle (V.plan view.now) }
 {
-    let statements = plan.statements.as_slice();
-    if let Some(number) = first_without_output(statements) {
+    if let Some(number) = first_without_output(view) {
         return Err(Unwritable::NoOutput(number));
     }
-    texts_can_be_written(plan)?;
-    if let Some(name) = first_repeated(statements) {
-        return Err(Unwritable::Repeated(name.as_slice()));
+    first_bad_text(view)?;
+    if let Some(name) = first_repeated(view) {
+        return Err(Unwritable::Repeated(name));
     }
-    match first_not_made(statements, plan.defaults.as_slice()) {
-        Some(name) => Err(Unwritable::NotAnOutput(name.as_slice())),
+    match first_not_made(view) {
+        Some(name) => Err(Unwritable::NotAnOutput(name)),
         None => Ok(()),
     }
 }
 
-/// Whether the plan can be written as a Ninja file, and else the first that keeps it from that: a statement without
-/// output; then names and commands, statement by statement; then an output that stands twice; then a default
-/// target that is no output.
+/// Whether the plan that a view shows can be written as a Ninja file, and else the first that keeps it from that: a
+/// statement without output; then names and commands, statement by statement; then an output that stands twice; then
+/// a default target that is no output.
 ///
 /// Takes no memory, and so compares outputs pair by pair: its time grows with the square of their number.
+pub fn writable_view<V: PlanView>(view: &V) -> Result<(), Unwritable<'_>>
+    ensures obstacle { obstacle_in result ≡ first_obstacle (V.plan view.now) }
+    ensures writable { IsOk result ↔ IsWritable (V.plan view.now) }
+{
+    first_obstacle_in(view)
+}
+
+/// Whether the plan can be written as a Ninja file, and else what keeps it from that, as `writable_view` tells it.
 pub fn writable(plan: &Plan) -> Result<(), Unwritable<'_>>
-    ensures trouble { trouble_in result ≡ first_trouble plan.now }
+    ensures obstacle { obstacle_in result ≡ first_obstacle plan.now }
     ensures writable { IsOk result ↔ IsWritable plan.now }
 {
-    first_trouble_in(plan)
+    writable_view(plan)
 }

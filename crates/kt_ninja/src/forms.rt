@@ -1,10 +1,10 @@
 //! The forms of a line.
 ghost use Rattle.std.specs.Prelude.{◌≡◌, ◌++◌, ◌∷◌, [], IfOk, OnOk, MatchOption, Some, None};
 ghost use Rattle.std.specs.List.{list_any, slice_split};
-ghost use Rattle.kt_ninja.specs.Forms.{binding_of, build_behind, build_of, build_with, defaults_of, inputs_of};
+ghost use Rattle.kt_ninja.specs.Forms.{binding_of, build_after, build_of, build_with, defaults_of, inputs_of};
 ghost use Rattle.kt_ninja.specs.Forms.{is_keyword, is_plain, name_in, paths_of, rule_of, words_of};
 ghost use Rattle.kt_ninja.specs.inner.Cutting.{is_mark};
-ghost use Rattle.kt_ninja.specs.inner.Wording.{bars_cut, binding_told, build_told, inputs_told, key_of, some_word};
+ghost use Rattle.kt_ninja.specs.inner.Wording.{bars_cut, binding_view, build_view, inputs_view, key_of, some_word};
 ghost use Rattle.kt_ninja.specs.inner.Wording.{two_bars, two_of};
 ghost use Rattle.kt_ninja.specs.inner.Refusals.{Reads, ReadsAs};
 ghost use Rattle.std.specs.Prelude.{true};
@@ -19,7 +19,7 @@ fn parts<'t>(alloc: Global, mark: u8, line: &Spelling<'t>) -> Result<Vec<Spellin
     ensures { IfOk result (λ parts. parts.items ≡ slice_split (is_plain mark) line.now) }
 {
     let mut parts = Vec::new(alloc);
-    let mut rest = line.again();
+    let mut rest = line.copy();
     while let Some((part, after)) = rest.split(mark) {
         parts.push(part)?;
         rest = after;
@@ -43,7 +43,7 @@ fn words<'t>(alloc: Global, line: &Spelling<'t>) -> Result<Vec<Spelling<'t>>, Al
     ensures { IfOk result (λ words. words.items ≡ words_of line.now) }
 {
     let mut words = Vec::new(alloc);
-    let mut rest = line.again();
+    let mut rest = line.copy();
     while let Some((word, after)) = rest.split(b' ') {
         add_word(&mut words, word)?;
         rest = after;
@@ -114,7 +114,7 @@ fn key<'t>(alloc: Global, front: &Spelling<'t>) -> Result<&'t [u8], Fault>
 
 /// The binding of a key to what stands after the first `=`.
 pub(crate) fn binding_of<'t>(alloc: Global, line: &Spelling<'t>) -> Result<Binding<'t>, Fault>
-    ensures { ReadsAs binding_told result (binding_of line.now) }
+    ensures { ReadsAs binding_view result (binding_of line.now) }
 {
     let Some((front, value)) = line.split(b'=') else {
         return Err(Fault::NoReading);
@@ -157,13 +157,13 @@ fn two<'t>(parts: &[Spelling<'t>]) -> Option<(Spelling<'t>, Spelling<'t>)>
     ensures { MatchOption result (two_of parts.now ≡ None) (λ both. parts.now ≡ both.0 ∷ both.1 ∷ []) }
 {
     match parts {
-        [first, second] => Some((first.again(), second.again())),
+        [first, second] => Some((first.copy(), second.copy())),
         _ => None,
     }
 }
 
 // What stands after two bars, by what stands between them, which is nothing, and after them.
-fn behind_two_bars<'t>(parts: &[Spelling<'t>]) -> Result<Spelling<'t>, Fault>
+fn after_two_bars<'t>(parts: &[Spelling<'t>]) -> Result<Spelling<'t>, Fault>
     ensures { Reads result (two_bars parts.now) }
 {
     match two(parts) {
@@ -173,7 +173,7 @@ fn behind_two_bars<'t>(parts: &[Spelling<'t>]) -> Result<Spelling<'t>, Fault>
 }
 
 // What stands after one bar and after two, by the parts between the bars.
-fn behind_bars<'t>(bars: &[Spelling<'t>]) -> Result<(Spelling<'t>, Spelling<'t>), Fault>
+fn after_bars<'t>(bars: &[Spelling<'t>]) -> Result<(Spelling<'t>, Spelling<'t>), Fault>
     ensures { ReadsAs (λ cut. (cut.0, cut.1)) result (bars_cut bars.now) }
 {
     let Some((implicit, later)) = bars.split_first() else {
@@ -183,21 +183,21 @@ fn behind_bars<'t>(bars: &[Spelling<'t>]) -> Result<(Spelling<'t>, Spelling<'t>)
         return Err(Fault::NoReading);
     }
     if later.is_empty() {
-        return Ok((implicit.again(), Spelling::empty()));
+        return Ok((implicit.copy(), Spelling::empty()));
     }
     if implicit.is_empty() {
-        return Ok((Spelling::empty(), behind_two_bars(bars)?));
+        return Ok((Spelling::empty(), after_two_bars(bars)?));
     }
-    Ok((implicit.again(), behind_two_bars(later)?))
+    Ok((implicit.copy(), after_two_bars(later)?))
 }
 
 // Copies of spellings.
-fn again<'t>(alloc: Global, words: &[Spelling<'t>]) -> Result<Vec<Spelling<'t>>, AllocError>
+fn copy<'t>(alloc: Global, words: &[Spelling<'t>]) -> Result<Vec<Spelling<'t>>, AllocError>
     ensures { IfOk result (λ copies. copies.items ≡ words.now) }
 {
     let mut copies = Vec::with_capacity(alloc, words.len())?;
     for word in words {
-        copies.push(word.again())?;
+        copies.push(word.copy())?;
     }
     Ok(copies)
 }
@@ -208,11 +208,11 @@ fn inputs_of<'t>(
     explicit: &[Spelling<'t>],
     bars: &[Spelling<'t>],
 ) -> Result<Inputs<'t>, Fault>
-    ensures { ReadsAs inputs_told result (inputs_of explicit.now bars.now) }
+    ensures { ReadsAs inputs_view result (inputs_of explicit.now bars.now) }
 {
-    let (implicit, order_only) = behind_bars(bars)?;
+    let (implicit, order_only) = after_bars(bars)?;
     Ok(Inputs {
-        explicit: again(alloc, explicit)?,
+        explicit: copy(alloc, explicit)?,
         implicit: words(alloc, &implicit)?,
         order_only: words(alloc, &order_only)?,
     })
@@ -225,7 +225,7 @@ fn build_with<'t>(
     front: &[Spelling<'t>],
     bars: &[Spelling<'t>],
 ) -> Result<Build<'t>, Fault>
-    ensures { ReadsAs build_told result (build_with outs.entry.items front.now bars.now) }
+    ensures { ReadsAs build_view result (build_with outs.entry.items front.now bars.now) }
 {
     let Some((rule, explicit)) = front.split_first() else {
         return Err(Fault::NoReading);
@@ -238,31 +238,31 @@ fn build_with<'t>(
 }
 
 // The same by all that stands after the colon.
-fn build_behind<'t>(
+fn build_after<'t>(
     alloc: Global,
     outs: Vec<Spelling<'t>>,
     rest: &Spelling<'t>,
 ) -> Result<Build<'t>, Fault>
-    ensures { ReadsAs build_told result (build_behind outs.entry.items (slice_split (is_plain 124) rest.now)) }
+    ensures { ReadsAs build_view result (build_after outs.entry.items (slice_split (is_plain 124) rest.now)) }
 {
     let bars = parts(alloc, b'|', rest)?;
-    let Some((front, behind)) = bars.as_slice().split_first() else {
+    let Some((front, past)) = bars.as_slice().split_first() else {
         return Err(Fault::NoReading);
     };
     let front = words(alloc, front)?;
-    build_with(alloc, outs, front.as_slice(), behind)
+    build_with(alloc, outs, front.as_slice(), past)
 }
 
 /// What stands after `build`.
 pub(crate) fn build_of<'t>(alloc: Global, line: &Spelling<'t>) -> Result<Build<'t>, Fault>
-    ensures { ReadsAs build_told result (build_of line.now) }
+    ensures { ReadsAs build_view result (build_of line.now) }
 {
     let sides = parts(alloc, b':', line)?;
     let Some((outs, rest)) = two(sides.as_slice()) else {
         return Err(Fault::NoReading);
     };
     let outs = paths(alloc, &outs)?;
-    build_behind(alloc, outs, &rest)
+    build_after(alloc, outs, &rest)
 }
 
 /// What stands after `default`.

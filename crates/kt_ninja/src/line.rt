@@ -101,11 +101,11 @@ struct OtherLine {
 
 impl<'t> Model for Line<'t> {
     ghost use Rattle.kt_ninja.specs.JoinedLines.{Line as JoinedLine};
-    ghost use Rattle.kt_ninja.specs.inner.Joining.{line_told};
+    ghost use Rattle.kt_ninja.specs.inner.Joining.{line_view};
 
     ghost Value = { JoinedLine };
 
-    ghost view = { λ s. line_told s.form };
+    ghost view = { λ s. line_view s.form };
 }
 
 impl<'t> Line<'t> {

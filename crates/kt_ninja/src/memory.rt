@@ -35,8 +35,8 @@ impl Model for MemSink {
 impl MemSink {
     ghost use Rattle.kt_ninja.specs.Memory.{Memory};
 
-    /// A sink with room for so many bytes, reserved at once, of which it takes up to `step` in a call. With a step
-    /// of 0 it returns 0 for every piece.
+    /// A sink with room for a given number of bytes, reserved at once, of which it takes up to
+    /// `step` in a call. With a step of 0 it returns 0 for every piece.
     pub fn new(alloc: Global, room: usize, step: usize) -> Result<MemSink, AllocError>
         ensures { IfOk result (λ s. s ≡ record { bytes = []; room = room; step = step; failures = 0; calls = 0 }) }
     {

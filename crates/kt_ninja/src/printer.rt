@@ -1,47 +1,51 @@
 //! The text of a plan as a Ninja file.
-ghost use Rattle.std.specs.Prelude.{◌≡◌, ◌≤◌, OnOk, OnErr, false};
+ghost use Rattle.std.specs.Prelude.{◌≡◌, ◌≤◌, ◌<◌, OnOk, OnErr, Some, false, length, option_map, slice_get};
 ghost use Rattle.kt_list.specs.Counters.{Rises};
 ghost use Rattle.kt_ninja.specs.Blocks.{Prints, Puts};
 ghost use Rattle.kt_ninja.specs.Text.{build_text, command_text, defaults_text, lead_text, marked_text, names_text};
 ghost use Rattle.kt_ninja.specs.Text.{number_text, plan_text, rule_count, rule_name_text, rule_text, statement_text};
 ghost use Rattle.kt_ninja.specs.Text.{statements_text};
+ghost use Rattle.kt_ninja.specs.View.{made_by, names_listed};
 ghost use Rattle.kt_ninja.specs.Writable.{IsWritable};
 ghost use Rattle.kt_ninja.specs.Written.{GrowsByFront, Takes};
+ghost use Rattle.kt_ninja.specs.declared.plan.Statement.{Statement as StatementSeen};
 
 use crate::block::Block;
 use crate::escapes::Escapes;
-use crate::plan::{Made, Name, Plan, Statement};
+use crate::plan::Plan;
 use crate::sink::{Sink, WriteFault};
+use crate::view::{Listed, PlanView};
 use arrayvec::ArrayVec;
 use itoa::Buffer;
 
-/// How many rules the statement takes.
-fn rules_of(made: &Made) -> usize
-    ensures count { result ≡ rule_count made.now }
+/// How many rules a statement takes that has such a command.
+fn rules_of(command: Option<&[u8]>) -> usize
+    ensures count { result ≡ rule_count (made_by (option_map (λ text. text.now) command.entry)) }
     ensures at_most { result ≤ 1 }
 {
-    match made {
-        Made::Command(_) => 1,
-        Made::Phony => 0,
+    match command {
+        Some(_) => 1,
+        None => 0,
     }
 }
 
 impl<'a, W: Sink> Block<'a, W> {
-    fn put_names(&mut self, names: &[Name])
-        ensures { Puts W.seen self.old self.new (names_text names.now) }
+    fn put_names<V: PlanView>(&mut self, view: &V, list: Listed)
+        ensures { Puts W.seen self.old self.new (names_text (names_listed (V.plan view.now) list)) }
     {
-        for name in names {
+        for place in 0..view.name_count(list) {
             self.put(b" ");
-            self.put_escaped(name.as_slice(), Escapes::InName);
+            self.put_escaped(view.name(list, place), Escapes::InName);
         }
     }
 
-    fn put_marked(&mut self, mark: &[u8], names: &[Name])
-        ensures { Puts W.seen self.old self.new (marked_text mark.now names.now) }
+    fn put_marked<V: PlanView>(&mut self, mark: &[u8], view: &V, list: Listed)
+        ensures { Puts W.seen self.old self.new (marked_text mark.now (names_listed (V.plan view.now) list)) }
     {
-        if !names.is_empty() {
+        let count = view.name_count(list);
+        if count > 0 {
             self.put(mark);
-            self.put_names(names);
+            self.put_names(view, list);
         }
     }
 
@@ -68,89 +72,93 @@ impl<'a, W: Sink> Block<'a, W> {
         self.put_escaped(command, Escapes::InCommand);
     }
 
-    fn put_rule(&mut self, number: usize, made: &Made)
-        ensures { Puts W.seen self.old self.new (rule_text number made.now) }
+    fn put_rule(&mut self, number: usize, command: Option<&[u8]>)
+        ensures { Puts W.seen self.old self.new (rule_text number (made_by (option_map (λ text. text.now) command.entry))) }
     {
-        if let Made::Command(command) = made {
+        if let Some(command) = command {
             self.put(b"rule r");
             self.put_number(number);
             self.put(b"\n command = ");
-            self.put_command(command.as_slice());
+            self.put_command(command);
             self.put(b"\n");
         }
     }
 
-    fn put_rule_name(&mut self, number: usize, made: &Made)
-        ensures { Puts W.seen self.old self.new (rule_name_text number made.now) }
+    fn put_rule_name(&mut self, number: usize, command: Option<&[u8]>)
+        ensures { Puts W.seen self.old self.new
+            (rule_name_text number (made_by (option_map (λ text. text.now) command.entry))) }
     {
-        match made {
-            Made::Command(_) => {
+        match command {
+            Some(_) => {
                 self.put(b"r");
                 self.put_number(number);
             }
-            Made::Phony => self.put(b"phony"),
+            None => self.put(b"phony"),
         }
     }
 
-    fn put_build(&mut self, number: usize, statement: &Statement)
-        ensures { Puts W.seen self.old self.new (build_text number statement.now) }
+    fn put_build<V: PlanView>(&mut self, number: usize, view: &V, statement: usize)
+        ensures { (s : StatementSeen) → slice_get (V.plan view.now).statements statement ≡ Some s
+            → Puts W.seen self.old self.new (build_text number s) }
     {
         self.put(b"build");
-        self.put_names(statement.outs.as_slice());
+        self.put_names(view, Listed::Outputs(statement));
         self.put(b": ");
-        self.put_rule_name(number, &statement.made);
-        self.put_names(statement.inputs.as_slice());
-        self.put_marked(b" |", statement.implicit.as_slice());
-        self.put_marked(b" ||", statement.order_only.as_slice());
+        self.put_rule_name(number, view.command(statement));
+        self.put_names(view, Listed::Inputs(statement));
+        self.put_marked(b" |", view, Listed::Implicit(statement));
+        self.put_marked(b" ||", view, Listed::OrderOnly(statement));
         self.put(b"\n");
     }
 
-    fn put_statement(&mut self, number: usize, statement: &Statement)
-        ensures { Puts W.seen self.old self.new (statement_text number statement.now) }
+    fn put_statement<V: PlanView>(&mut self, number: usize, view: &V, statement: usize)
+        ensures { (s : StatementSeen) → slice_get (V.plan view.now).statements statement ≡ Some s
+            → Puts W.seen self.old self.new (statement_text number s) }
     {
-        self.put_rule(number, &statement.made);
-        self.put_build(number, statement);
+        self.put_rule(number, view.command(statement));
+        self.put_build(number, view, statement);
     }
 
-    fn put_statements(&mut self, statements: &[Statement])
-        ensures { Puts W.seen self.old self.new (statements_text 0 statements.now) }
+    fn put_statements<V: PlanView>(&mut self, view: &V)
+        ensures { Puts W.seen self.old self.new (statements_text 0 (V.plan view.now).statements) }
     {
         let mut number = 0;
-        for statement in statements {
-            self.put_statement(number, statement);
-            number += rules_of(&statement.made);
+        for statement in 0..view.statement_count() {
+            self.put_statement(number, view, statement);
+            number += rules_of(view.command(statement));
         }
     }
 
-    fn put_defaults(&mut self, names: &[Name])
-        ensures { Puts W.seen self.old self.new (defaults_text names.now) }
+    fn put_defaults<V: PlanView>(&mut self, view: &V)
+        ensures { Puts W.seen self.old self.new (defaults_text (V.plan view.now).defaults) }
     {
-        if !names.is_empty() {
+        let count = view.name_count(Listed::Defaults);
+        if count > 0 {
             self.put(b"default");
-            self.put_names(names);
+            self.put_names(view, Listed::Defaults);
             self.put(b"\n");
         }
     }
 
-    fn put_plan(&mut self, plan: &Plan)
-        ensures { Puts W.seen self.old self.new (plan_text plan.now) }
+    fn put_plan<V: PlanView>(&mut self, view: &V)
+        ensures { Puts W.seen self.old self.new (plan_text (V.plan view.now)) }
     {
         self.put(b"# kati\n");
-        self.put_statements(plan.statements.as_slice());
-        self.put_defaults(plan.defaults.as_slice());
+        self.put_statements(view);
+        self.put_defaults(view);
     }
 }
 
 /// Prints the plan, and returns whether a write failed.
-fn print<W: Sink>(plan: &Plan, sink: &mut W) -> bool
-    ensures { Prints W.seen sink.old sink.new result (plan_text plan.now) }
+fn print<V: PlanView, W: Sink>(view: &V, sink: &mut W) -> bool
+    ensures { Prints W.seen sink.old sink.new result (plan_text (V.plan view.now)) }
 {
     let mut block = Block {
         sink,
         waiting: ArrayVec::new(),
         failed: false,
     };
-    block.put_plan(plan);
+    block.put_plan(view);
     block.flush();
     let Block {
         sink,
@@ -162,10 +170,26 @@ fn print<W: Sink>(plan: &Plan, sink: &mut W) -> bool
     failed
 }
 
-/// Writes the plan as a Ninja file (Ninja manual, "Ninja file reference"), statements in the plan's order, through
-/// a block of 4,096 bytes that the sink gets when it is full and at the end. Takes no memory.
+/// Writes the plan that a view shows as a Ninja file (Ninja manual, "Ninja file reference"), statements in the plan's
+/// order, through a block of 4,096 bytes that the sink gets when it is full and at the end. Takes no memory.
 ///
 /// After a fault the sink has taken a prefix of the text.
+pub fn write_view<V: PlanView, W: Sink>(view: &V, sink: &mut W) -> Result<(), WriteFault>
+    requires { IsWritable (V.plan view.now) }
+    ensures ok { OnOk result (Takes (W.seen sink.old) (W.seen sink.new) (plan_text (V.plan view.now))) }
+    ensures fault { OnErr result (GrowsByFront (W.seen sink.old) (W.seen sink.new) (plan_text (V.plan view.now))) }
+    ensures counts { (W.seen sink.old).failed ≤ (W.seen sink.new).failed }
+    ensures failed { OnErr result (Rises (W.seen sink.old).failed (W.seen sink.new).failed) }
+    ensures steady { OnOk result ((W.seen sink.new).failed ≡ (W.seen sink.old).failed) }
+{
+    if print(view, sink) {
+        Err(WriteFault)
+    } else {
+        Ok(())
+    }
+}
+
+/// Writes the plan, as `write_view` does.
 pub fn write_plan<W: Sink>(plan: &Plan, sink: &mut W) -> Result<(), WriteFault>
     requires { IsWritable plan.now }
     ensures ok { OnOk result (Takes (W.seen sink.old) (W.seen sink.new) (plan_text plan.now)) }
@@ -174,9 +198,5 @@ pub fn write_plan<W: Sink>(plan: &Plan, sink: &mut W) -> Result<(), WriteFault>
     ensures failed { OnErr result (Rises (W.seen sink.old).failed (W.seen sink.new).failed) }
     ensures steady { OnOk result ((W.seen sink.new).failed ≡ (W.seen sink.old).failed) }
 {
-    if print(plan, sink) {
-        Err(WriteFault)
-    } else {
-        Ok(())
-    }
+    write_view(plan, sink)
 }

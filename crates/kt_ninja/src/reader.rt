@@ -12,7 +12,7 @@ ghost use Rattle.kt_ninja.specs.inner.Parting.{CutsPart};
 ghost use Rattle.kt_ninja.specs.inner.Refusals.{Reads, ReadsAs};
 ghost use Rattle.kt_ninja.specs.Pieces.{pieces};
 ghost use Rattle.kt_ninja.specs.Text.{plan_text};
-ghost use Rattle.kt_ninja.specs.inner.Wording.{binding_told};
+ghost use Rattle.kt_ninja.specs.inner.Wording.{binding_view};
 ghost use Rattle.kt_ninja.specs.Writable.{IsWritable, is_empty};
 
 use crate::bytes::first_byte;
@@ -61,7 +61,7 @@ fn all_sound(lines: &[Line]) -> bool
 }
 
 fn no_bindings(block: &[Binding]) -> bool
-    ensures { result ≡ is_empty (map binding_told block.now) }
+    ensures { result ≡ is_empty (map binding_view block.now) }
 {
     block.is_empty()
 }
@@ -78,7 +78,7 @@ fn spelling(text: &[u8]) -> Result<Spelling<'_>, Fault>
 
 // The binding that a line is.
 fn line_binding(alloc: Global, text: &[u8]) -> Result<Binding<'_>, Fault>
-    ensures { ReadsAs binding_told result (line_binding text.now) }
+    ensures { ReadsAs binding_view result (line_binding text.now) }
 {
     let line = spelling(text)?;
     binding_of(alloc, &line)
@@ -91,8 +91,8 @@ fn add_line<'t>(
     bindings: &mut Vec<Binding<'t>>,
     line: &'t Line<'t>,
 ) -> Result<bool, Fault>
-    ensures { MatchResult result (λ now. Adds closed (map binding_told bindings.old.items) line.now now
-        (map binding_told bindings.new.items)) (Stops closed line.now) }
+    ensures { MatchResult result (λ now. Adds closed (map binding_view bindings.old.items) line.now now
+        (map binding_view bindings.new.items)) (Stops closed line.now) }
 {
     let text = line.text();
     if is_comment(text) {
@@ -110,7 +110,7 @@ fn add_line<'t>(
 
 // The bindings of a block.
 fn block<'t>(alloc: Global, body: &'t [Line<'t>]) -> Result<Vec<Binding<'t>>, Fault>
-    ensures { ReadsAs (λ block. map binding_told block.items) result (block_of body.now) }
+    ensures { ReadsAs (λ block. map binding_view block.items) result (block_of body.now) }
 {
     let mut bindings = Vec::new(alloc);
     let mut closed = false;
@@ -127,7 +127,7 @@ fn read_rule_line<'t>(
     block: &[Binding<'t>],
     text: &'t [u8],
 ) -> Result<State<'t>, Fault>
-    ensures { Reads result (rule_line state.entry (map binding_told block.now) text.now) }
+    ensures { Reads result (rule_line state.entry (map binding_view block.now) text.now) }
 {
     let line = spelling(text)?;
     let name = rule_name(alloc, &line)?;
@@ -141,7 +141,7 @@ fn read_build_line<'t>(
     block: &[Binding<'t>],
     text: &'t [u8],
 ) -> Result<State<'t>, Fault>
-    ensures { Reads result (build_line state.entry (map binding_told block.now) text.now) }
+    ensures { Reads result (build_line state.entry (map binding_view block.now) text.now) }
 {
     let line = spelling(text)?;
     let build = build_of(alloc, &line)?;
@@ -155,7 +155,7 @@ fn read_default_line<'t>(
     block: &[Binding<'t>],
     text: &'t [u8],
 ) -> Result<State<'t>, Fault>
-    ensures { Reads result (default_line state.entry (map binding_told block.now) text.now) }
+    ensures { Reads result (default_line state.entry (map binding_view block.now) text.now) }
 {
     if !no_bindings(block) {
         return Err(Fault::NoReading);
@@ -172,7 +172,7 @@ fn read_margin_line<'t>(
     block: &[Binding<'t>],
     text: &'t [u8],
 ) -> Result<State<'t>, Fault>
-    ensures { Reads result (margin_line state.entry (map binding_told block.now) text.now) }
+    ensures { Reads result (margin_line state.entry (map binding_view block.now) text.now) }
 {
     if !no_bindings(block) {
         return Err(Fault::NoReading);
@@ -183,7 +183,7 @@ fn read_margin_line<'t>(
 
 // What stands after the keyword, if the text begins with it.
 #[tactic(auto, using(crate::proofs::Stripping::stripped))]
-fn behind<'t>(keyword: &[u8], text: &'t [u8]) -> Option<&'t [u8]>
+fn past<'t>(keyword: &[u8], text: &'t [u8]) -> Option<&'t [u8]>
     ensures { MatchOption result (starts_with nat_eq text.now keyword.now ≡ false)
         (λ rest. (starts_with nat_eq text.now keyword.now ≡ true) × (rest.now ≡ drop (length keyword.now) text.now)) }
 {
@@ -198,15 +198,15 @@ fn read_text<'t>(
     block: &[Binding<'t>],
     text: &'t [u8],
 ) -> Result<State<'t>, Fault>
-    ensures { Reads result (read_text state.entry (map binding_told block.now) text.now) }
+    ensures { Reads result (read_text state.entry (map binding_view block.now) text.now) }
 {
-    if let Some(rest) = behind(b"rule ", text) {
+    if let Some(rest) = past(b"rule ", text) {
         return read_rule_line(alloc, state, block, rest);
     }
-    if let Some(rest) = behind(b"build ", text) {
+    if let Some(rest) = past(b"build ", text) {
         return read_build_line(alloc, state, block, rest);
     }
-    if let Some(rest) = behind(b"default ", text) {
+    if let Some(rest) = past(b"default ", text) {
         return read_default_line(alloc, state, block, rest);
     }
     read_margin_line(alloc, state, block, text)
@@ -352,7 +352,7 @@ fn read(alloc: Global, text: &[u8]) -> Result<Plan, ReadFault>
 pub fn read_plan(alloc: Global, text: &[u8]) -> Result<Plan, ReadFault>
     ensures read { MatchResult result (λ plan. ninja_read text.now ≡ Ok plan) (Misreads (ninja_read text.now)) }
     ensures printed { (plan : PlanRead) → IsWritable plan → text.now ≡ plan_text plan
-        → MatchResult result (λ again. again ≡ plan) (λ fault. fault ≡ MemoryRefused) }
+        → MatchResult result (λ copy. copy ≡ plan) (λ fault. fault ≡ MemoryRefused) }
 {
     read(alloc, text)
 }

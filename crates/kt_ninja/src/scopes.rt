@@ -129,7 +129,7 @@ pub(crate) fn expanded(
         ≡ expanded (value_within scopes.entry.block.now scopes.entry.file.now) spelling.now) }
 {
     let mut text = Vec::new(alloc);
-    let mut rest = spelling.again();
+    let mut rest = spelling.copy();
     loop {
         let run = rest.run();
         text.extend_from_slice(run.plain)?;
@@ -272,7 +272,7 @@ pub(crate) fn command_line(
         scopes.entry.scopes.file.now) command.now) }
 {
     let mut text = Vec::new(alloc);
-    let mut rest = command.again();
+    let mut rest = command.copy();
     loop {
         let run = rest.run();
         text.extend_from_slice(run.plain)?;

@@ -4,7 +4,7 @@ ghost use Rattle.std.specs.Prelude.{MatchOption, None, OnOk, Some};
 ghost use Rattle.std.specs.List.{list_any, prefix_len};
 ghost use Rattle.memchr.specs.Find.{is_byte2};
 ghost use Rattle.kt_ninja.specs.Forms.{begins_with_at, is_plain, name_bytes, without_lead};
-ghost use Rattle.kt_ninja.specs.Pieces.{Plain, behind_dollar, in_braces, is_escapable, is_long_name_byte};
+ghost use Rattle.kt_ninja.specs.Pieces.{Plain, after_dollar, in_braces, is_escapable, is_long_name_byte};
 ghost use Rattle.kt_ninja.specs.Pieces.{is_short_name_byte, pieces, pieces_from};
 ghost use Rattle.kt_ninja.specs.inner.Spelled.{is_spelled, pieces_in};
 ghost use Rattle.kt_ninja.specs.Writable.{is_empty};
@@ -134,7 +134,7 @@ fn short_variable(text: &[u8]) -> Option<Cut<'_>>
 
 // What a dollar begins that stands before the text.
 fn escape(text: &[u8]) -> Option<Cut<'_>>
-    ensures { MatchOption result (pieces_from behind_dollar text.now ≡ None) (CutsOff behind_dollar text.now) }
+    ensures { MatchOption result (pieces_from after_dollar text.now ≡ None) (CutsOff after_dollar text.now) }
 {
     let (byte, after) = first_byte(text)?;
     if is_escapable(byte) {
@@ -217,7 +217,7 @@ impl<'t> Spelling<'t> {
     }
 
     /// The same once more.
-    pub(crate) fn again(&self) -> Spelling<'t>
+    pub(crate) fn copy(&self) -> Spelling<'t>
         ensures { result ≡ self.now }
     {
         Spelling { text: self.text }
@@ -293,7 +293,7 @@ impl<'t> Spelling<'t> {
         ensures { IfOk result (λ names. map (λ name. name.now) names.items ≡ variable_names self.now) }
     {
         let mut names = Vec::new(alloc);
-        let mut rest = self.again();
+        let mut rest = self.copy();
         loop {
             let run = rest.run();
             let Some(dollar) = run.dollar else {

@@ -4,20 +4,20 @@ ghost use Rattle.std.specs.List.{list_all, list_any};
 ghost use Rattle.std.specs.Str.{bytes_eq};
 ghost use Rattle.kt_ninja.specs.NinjaRead.{add_defaults, add_statement, are_new, bind, block_scope, making_of};
 ghost use Rattle.kt_ninja.specs.NinjaRead.{nothing_read, paths_in, plan_of, read_build, read_default, read_rule};
-ghost use Rattle.kt_ninja.specs.NinjaRead.{rule_command, stated_with};
+ghost use Rattle.kt_ninja.specs.NinjaRead.{rule_command, pending_with};
 ghost use Rattle.kt_ninja.specs.Scopes.{expanded, find_in, refers_to, value_in, value_within};
 ghost use Rattle.kt_ninja.specs.inner.Holding.{Fails, block_with, making_as};
-ghost use Rattle.kt_ninja.specs.inner.Wording.{binding_told, build_told};
+ghost use Rattle.kt_ninja.specs.inner.Wording.{binding_view, build_view};
 ghost use Rattle.kt_ninja.specs.inner.Refusals.{Reads, ReadsAs};
 ghost use Rattle.kt_list.specs.Names.{is_among};
 
 use crate::forms::{Binding, Build};
 use crate::paths::paths_of_file;
+use crate::pending_statement::{Making, PendingStatement, PendingStatements};
 use crate::plan::{Name, Plan};
 use crate::read_fault::Fault;
 use crate::scopes::{BlockScope, Scope, Scopes, expanded};
 use crate::spelling::Spelling;
-use crate::stated::{Making, Stated, StatedList};
 use crate::table::{Rules, Table};
 use kt_list::{Names, Sequence};
 use std::alloc::{AllocError, Global};
@@ -30,7 +30,7 @@ pub(crate) struct State<'t> {
     alloc: Global,
     file: Scope,
     rules: Rules<'t>,
-    stated: StatedList<'t>,
+    pending: PendingStatements<'t>,
     outs: Names,
     defaults: Vec<Name>,
 }
@@ -44,11 +44,11 @@ impl<'t> Model for State<'t> {
     ghost view = { λ s. record {
       file = s.file;
       rules = s.rules;
-      stated = s.stated;
+      pending = s.pending;
       defaults = s.defaults.items;
     } };
 
-    ghost invariant = { λ s. s.outs ≡ outs_of s.stated };
+    ghost invariant = { λ s. s.outs ≡ outs_of s.pending };
 }
 
 fn is_command(name: &[u8]) -> bool
@@ -72,7 +72,7 @@ fn refers_to_command(alloc: Global, spelling: &Spelling) -> Result<bool, AllocEr
 
 // The command of a rule's block: its one binding.
 fn rule_command<'t>(alloc: Global, block: &[Binding<'t>]) -> Result<Spelling<'t>, Fault>
-    ensures { Reads result (rule_command (map binding_told block.now)) }
+    ensures { Reads result (rule_command (map binding_view block.now)) }
 {
     let [binding] = block else {
         return Err(Fault::NoReading);
@@ -83,7 +83,7 @@ fn rule_command<'t>(alloc: Global, block: &[Binding<'t>]) -> Result<Spelling<'t>
     if refers_to_command(alloc, &binding.value)? {
         return Err(Fault::NoReading);
     }
-    Ok(binding.value.again())
+    Ok(binding.value.copy())
 }
 
 fn is_any_key(scope: &BlockScope, names: &[&[u8]]) -> bool
@@ -115,7 +115,7 @@ fn add_to_block(
     block: &mut BlockScope,
     binding: &Binding,
 ) -> Result<(), Fault>
-    ensures { ReadsAs (λ _. block.new) result (block_with file.now block.old (binding_told binding.now)) }
+    ensures { ReadsAs (λ _. block.new) result (block_with file.now block.old (binding_view binding.now)) }
 {
     if block.has(binding.key) || refers_to_key(alloc, block, &binding.value)? {
         return Err(Fault::NoReading);
@@ -128,7 +128,7 @@ fn add_to_block(
 
 // The scope of a statement's block.
 fn block_scope(alloc: Global, file: &Scope, bindings: &[Binding]) -> Result<BlockScope, Fault>
-    ensures { Reads result (block_scope file.now [] (map binding_told bindings.now)) }
+    ensures { Reads result (block_scope file.now [] (map binding_view bindings.now)) }
 {
     let mut block = BlockScope::new();
     for binding in bindings {
@@ -175,7 +175,7 @@ impl<'t> State<'t> {
             alloc,
             file: Table::new(alloc),
             rules: Rules::new(alloc),
-            stated: StatedList::new(alloc),
+            pending: PendingStatements::new(alloc),
             outs: Names::new(alloc),
             defaults: Vec::new(alloc),
         }
@@ -184,7 +184,7 @@ impl<'t> State<'t> {
     /// A variable at the margin.
     #[tactic(auto, unfolding(crate::specs::NinjaRead::bind))]
     pub(crate) fn bind(mut self, binding: &Binding) -> Result<State<'t>, AllocError>
-        ensures { IfOk result (λ state. state ≡ bind self.entry (binding_told binding.now)) }
+        ensures { IfOk result (λ state. state ≡ bind self.entry (binding_view binding.now)) }
     {
         let value = value_of(self.alloc, &binding.value, &self.file)?;
         let key = Vec::from_slice(self.alloc, binding.key)?;
@@ -199,7 +199,7 @@ impl<'t> State<'t> {
         name: &'t [u8],
         block: &[Binding<'t>],
     ) -> Result<State<'t>, Fault>
-        ensures { Reads result (read_rule self.entry name.now (map binding_told block.now)) }
+        ensures { Reads result (read_rule self.entry name.now (map binding_view block.now)) }
     {
         if is_phony(name) || self.rules.has(name) {
             return Err(Fault::NoReading);
@@ -224,13 +224,13 @@ impl<'t> State<'t> {
                 let own = Vec::from_slice(self.alloc, own.as_slice())?;
                 Ok(Making::ByOwn(Box::new(self.alloc, Sequence::from(own))?))
             }
-            None => Ok(Making::ByRule(command.again())),
+            None => Ok(Making::ByRule(command.copy())),
         }
     }
 
     // The scope of a block.
     fn block(&self, bindings: &[Binding]) -> Result<BlockScope, Fault>
-        ensures { Reads result (block_scope self.now.file [] (map binding_told bindings.now)) }
+        ensures { Reads result (block_scope self.now.file [] (map binding_view bindings.now)) }
     {
         block_scope(self.alloc, &self.file, bindings)
     }
@@ -241,17 +241,17 @@ impl<'t> State<'t> {
         build: &Build,
         making: Making<'t>,
         block: BlockScope,
-    ) -> Result<Stated<'t>, Fault>
+    ) -> Result<PendingStatement<'t>, Fault>
         ensures { Reads result
-            (stated_with (value_within block self.now.file) (making_as block making.entry) (build_told build.now)) }
+            (pending_with (value_within block self.now.file) (making_as block making.entry) (build_view build.now)) }
     {
-        Stated::of(self.alloc, build, making, block, &self.file)
+        PendingStatement::of(self.alloc, build, making, block, &self.file)
     }
 
     /// A build line with its block.
     #[tactic(auto, unfolding(crate::specs::NinjaRead::read_build))]
     pub(crate) fn read_build(self, build: &Build, block: &[Binding]) -> Result<State<'t>, Fault>
-        ensures { Reads result (read_build self.entry (build_told build.now) (map binding_told block.now)) }
+        ensures { Reads result (read_build self.entry (build_view build.now) (map binding_view block.now)) }
     {
         let block = self.block(block)?;
         let making = self.making(build.rule, &block)?;
@@ -260,24 +260,24 @@ impl<'t> State<'t> {
     }
 
     // One more statement, if its outputs are new.
-    fn with_statement(self, statement: Stated<'t>) -> Result<State<'t>, Fault>
+    fn with_statement(self, statement: PendingStatement<'t>) -> Result<State<'t>, Fault>
         ensures { Reads result (add_statement self.entry statement.entry) }
     {
         let State {
             alloc,
             file,
             rules,
-            mut stated,
+            mut pending,
             mut outs,
             defaults,
         } = self;
         add_outs(&mut outs, statement.outs())?;
-        stated.push(alloc, statement)?;
+        pending.push(alloc, statement)?;
         Ok(State {
             alloc,
             file,
             rules,
-            stated,
+            pending,
             outs,
             defaults,
         })
@@ -320,14 +320,14 @@ impl<'t> State<'t> {
             alloc,
             file,
             rules,
-            stated,
+            pending,
             outs,
             defaults,
         } = self;
         // Given back first, so that the statements are made in their room.
         drop(rules);
         drop(outs);
-        let made = stated.into_statements(alloc, &file)?;
+        let made = pending.into_statements(alloc, &file)?;
         Ok(Plan {
             statements: Sequence::from(made),
             defaults: Sequence::from(defaults),

@@ -1,4 +1,5 @@
 //! Which plans are equal.
+use kt_ninja::copied_plan;
 use kt_ninja_doubles::plan_of;
 
 /// Two plans, and whether they are the same.
@@ -29,5 +30,19 @@ fn plans_are_equal_where_they_are_the_same(rt: HostRuntime) {
         let one = plan_of(rt.alloc(), first);
         let two = plan_of(rt.alloc(), second);
         assert_eq!(rt; one == two, wanted, "{first:?} {second:?}");
+    }
+}
+
+#[test]
+fn a_copy_is_the_plan(rt: HostRuntime) {
+    for (first, second, wanted) in PAIRS {
+        let one = plan_of(rt.alloc(), first);
+        let two = plan_of(rt.alloc(), second);
+        let copy = copied_plan(rt.alloc(), &one).expect(&rt, "memory");
+        assert_eq!(rt;
+            (copy == one, copy == two),
+            (true, wanted),
+            "{first:?} {second:?}"
+        );
     }
 }

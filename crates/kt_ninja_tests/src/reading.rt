@@ -231,7 +231,7 @@ fn each_beginning_of_an_output_is_read_or_has_its_line(rt: HostRuntime) {
     }
 }
 
-/// A text, so many times.
+/// A text, a given number of times.
 fn repeated(alloc: Global, text: &[u8], count: usize) -> Result<Vec<u8>, AllocError> {
     let mut all = Vec::new(alloc);
     for _ in 0..count {

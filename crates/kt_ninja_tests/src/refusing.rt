@@ -1,5 +1,5 @@
 //! Plans that can't be written, and what keeps them from it first.
-use kt_ninja::{Unwritable, texts_can_be_written, writable};
+use kt_ninja::{Unwritable, texts_can_be_written, writable, writable_view};
 use kt_ninja_doubles::plan_of;
 
 /// Plans, and what their trouble is.
@@ -53,6 +53,7 @@ fn refusals_come_in_order(rt: HostRuntime) {
     for (text, trouble) in REFUSED {
         let plan = plan_of(rt.alloc(), text);
         assert_eq!(rt; writable(&plan).err(), Some(trouble), "{text:?}");
+        assert_eq!(rt; writable_view(&plan).err(), Some(trouble), "{text:?}");
     }
 }
 

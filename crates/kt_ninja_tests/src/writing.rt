@@ -1,5 +1,5 @@
 //! The texts of plans, and sinks that take them.
-use kt_ninja::{MemSink, Plan, Sink, put, writable, write_plan};
+use kt_ninja::{MemSink, Plan, Sink, put, writable, write_plan, write_view};
 use kt_ninja_doubles::plan_of;
 use std::alloc::{AllocError, Global};
 use std::process::Abort;
@@ -82,6 +82,23 @@ fn plans_have_their_text(rt: HostRuntime) {
     }
 }
 
+/// Writes what the plan shows as a view, which can be written.
+fn viewed(rt: &impl Abort, alloc: Global, plan: &Plan) -> (bool, MemSink) {
+    assert!(rt; writable(plan).is_ok());
+    let mut sink = MemSink::new(alloc, 1000, 1000).expect(rt, "memory");
+    let is_ok = write_view(plan, &mut sink).is_ok();
+    (is_ok, sink)
+}
+
+#[test]
+fn views_have_their_text(rt: HostRuntime) {
+    for (plan, text) in TEXTS {
+        let plan = plan_of(rt.alloc(), plan);
+        let (is_ok, sink) = viewed(&rt, rt.alloc(), &plan);
+        assert_eq!(rt; (is_ok, sink.as_slice()), (true, text), "of {text:?}");
+    }
+}
+
 const COMPILED: &[u8] = b"a.o,;=cc -c a.c -o a.o;a.c,;;#>a.o,";
 
 const COMPILED_TEXT: &[u8] =
@@ -113,7 +130,7 @@ fn sinks_dawdle(rt: HostRuntime) {
     }
 }
 
-/// Two texts round so many times the same bytes.
+/// Two texts round a given number of times the same bytes.
 fn around(
     alloc: Global,
     front: &[u8],

@@ -6,13 +6,13 @@ use Rattle.std.specs.Option.{option_and_then}
 use Rattle.std.specs.Cmp.Lexicographic.{pointwise}
 use Rattle.std.proofs.lemmas.Bool.{eqb-true}
 use Rattle.kt_text.specs.Words.{Text}
-use Rattle.kt_eval.specs.Files.{Store, look}
-use Rattle.kt_graph.specs.Node.{Node}
+use Rattle.kt_eval.specs.files.Files.{Store, look}
+use Rattle.kt_graph.specs.nodes.Node.{Node}
 use Rattle.kt_recipe.specs.declared.forms.Form.{Form}
 use Rattle.kt_recipe.specs.declared.forms.Form.TheVariants.{Whole, Directory, File}
 use Rattle.kt_recipe.specs.declared.subjects.Subject.{Subject}
 use Rattle.kt_recipe.specs.Forms.{text_of}
-use Rattle.kt_recipe.specs.Auto.{marks, has_parts, endings, names_in, of_mark, automatic_in}
+use Rattle.kt_recipe.specs.Automatic.{marks, has_parts, endings, names_in, of_mark, automatic_in}
 use Rattle.kt_recipe.specs.inner.Asking.{subject_in, subject_of, form_of, parted, asked_by, macro_in}
 
 -- ---- pairs after others
@@ -30,19 +30,19 @@ test_first : (b : Bool) (value : Text) (found other : Option Text)
 test_first true value found other = refl
 test_first false value found other = refl
 
-look_behind : (first others : Store) (name : Text) → look (first ++ others) name ≡ or_else (look first name) (look others name)
-look_behind [] others name = refl
-look_behind (e ∷ es) others name =
-    ap (λ found. if pointwise nat_eq e.0 name then Some e.1 else found) (look_behind es others name)
+look_after : (first others : Store) (name : Text) → look (first ++ others) name ≡ or_else (look first name) (look others name)
+look_after [] others name = refl
+look_after (e ∷ es) others name =
+    ap (λ found. if pointwise nat_eq e.0 name then Some e.1 else found) (look_after es others name)
     ∙ test_first (pointwise nat_eq e.0 name) e.1 (look es name) (look others name)
 
 -- ---- pairs after a mark
 
-abbrev behind : ℕ → Store → Store
-behind mark macros = map (λ macro. (mark ∷ macro.0, macro.1)) macros
+abbrev after : ℕ → Store → Store
+after mark macros = map (λ macro. (mark ∷ macro.0, macro.1)) macros
 
 marked : (first mark : ℕ) (macros : Store) (rest : Text) (b : Bool) → (first == mark) ≡ b
-    → look (behind first macros) (mark ∷ rest) ≡ (if b then look macros rest else None)
+    → look (after first macros) (mark ∷ rest) ≡ (if b then look macros rest else None)
 marked first mark [] rest true is = refl
 marked first mark [] rest false is = refl
 marked first mark (macro ∷ macros) rest true is =
@@ -51,8 +51,8 @@ marked first mark (macro ∷ macros) rest false is = rw is (marked first mark ma
 
 -- ---- the marks, one after the other
 
-abbrev all_behind : Node → ℕ → List (ℕ × Subject) → Store
-all_behind node part known = flat_map (λ mark. map (λ macro. (mark.0 ∷ macro.0, macro.1)) (of_mark node part mark.1)) known
+abbrev all_after : Node → ℕ → List (ℕ × Subject) → Store
+all_after node part known = flat_map (λ mark. map (λ macro. (mark.0 ∷ macro.0, macro.1)) (of_mark node part mark.1)) known
 
 abbrev has_mark : List (ℕ × Subject) → ℕ → Bool
 has_mark known mark = list_any (λ one. one.0 == mark) known
@@ -82,30 +82,30 @@ apart_rest true b is = absurd (true≢false (sym is))
 apart_rest false b is = is
 
 none_there : (node : Node) (part : ℕ) (known : List (ℕ × Subject)) (mark : ℕ) (rest : Text) → has_mark known mark ≡ false
-    → look (all_behind node part known) (mark ∷ rest) ≡ None
+    → look (all_after node part known) (mark ∷ rest) ≡ None
 none_there node part [] mark rest is = refl
 none_there node part (one ∷ known) mark rest is =
-    look_behind (behind one.0 (of_mark node part one.1)) (all_behind node part known) (mark ∷ rest)
-    ∙ ap (λ found. or_else found (look (all_behind node part known) (mark ∷ rest)))
+    look_after (after one.0 (of_mark node part one.1)) (all_after node part known) (mark ∷ rest)
+    ∙ ap (λ found. or_else found (look (all_after node part known) (mark ∷ rest)))
     (marked one.0 mark (of_mark node part one.1) rest false (not_first (one.0 == mark) (has_mark known mark) is))
     ∙ none_there node part known mark rest (not_second (one.0 == mark) (has_mark known mark) is)
 
 -- at the first mark, or after it
 either_mark : (node : Node) (part : ℕ) (one : ℕ × Subject) (known : List (ℕ × Subject)) (mark : ℕ) (rest : Text) (b : Bool) → (one.0 == mark) ≡ b
-    → (b ≡ true → look (all_behind node part known) (mark ∷ rest) ≡ None)
-    → look (all_behind node part known) (mark ∷ rest) ≡ told_by node part rest (subject_in known mark)
-    → or_else (if b then look (of_mark node part one.1) rest else None) (look (all_behind node part known) (mark ∷ rest))
+    → (b ≡ true → look (all_after node part known) (mark ∷ rest) ≡ None)
+    → look (all_after node part known) (mark ∷ rest) ≡ told_by node part rest (subject_in known mark)
+    → or_else (if b then look (of_mark node part one.1) rest else None) (look (all_after node part known) (mark ∷ rest))
     ≡ told_by node part rest (if b then Some one.1 else subject_in known mark)
 either_mark node part one known mark rest true is nothing later =
     ap (or_else (look (of_mark node part one.1) rest)) (nothing refl) ∙ or_none (look (of_mark node part one.1) rest)
 either_mark node part one known mark rest false is nothing later = later
 
 found_there : (node : Node) (part : ℕ) (known : List (ℕ × Subject)) (mark : ℕ) (rest : Text) → differ known ≡ true
-    → look (all_behind node part known) (mark ∷ rest) ≡ told_by node part rest (subject_in known mark)
+    → look (all_after node part known) (mark ∷ rest) ≡ told_by node part rest (subject_in known mark)
 found_there node part [] mark rest is = refl
 found_there node part (one ∷ known) mark rest is =
-    look_behind (behind one.0 (of_mark node part one.1)) (all_behind node part known) (mark ∷ rest)
-    ∙ ap (λ found. or_else found (look (all_behind node part known) (mark ∷ rest)))
+    look_after (after one.0 (of_mark node part one.1)) (all_after node part known) (mark ∷ rest)
+    ∙ ap (λ found. or_else found (look (all_after node part known) (mark ∷ rest)))
     (marked one.0 mark (of_mark node part one.1) rest (one.0 == mark) refl)
     ∙ either_mark node part one known mark rest (one.0 == mark) refl
     (λ same. none_there node part known mark rest
@@ -120,9 +120,9 @@ told node part asked = text_of asked.1 (names_in node part asked.0)
 abbrev of_endings : Node → ℕ → Subject → Bool → Store
 of_endings node part subject parts = map (λ ending. (ending.0, text_of ending.1 (names_in node part subject))) (endings parts)
 
-nothing_behind : (node : Node) (part : ℕ) (subject : Subject) (parts : Bool) → look (of_endings node part subject parts) [] ≡ Some (told node part (subject, Whole))
-nothing_behind node part subject true = refl
-nothing_behind node part subject false = refl
+nothing_after : (node : Node) (part : ℕ) (subject : Subject) (parts : Bool) → look (of_endings node part subject parts) [] ≡ Some (told node part (subject, Whole))
+nothing_after node part subject true = refl
+nothing_after node part subject false = refl
 
 by_letter : (node : Node) (part : ℕ) (subject : Subject) (d f : Bool)
     → (if d && true then Some (told node part (subject, Directory)) else (if f && true then Some (told node part (subject, File)) else None))
@@ -131,11 +131,11 @@ by_letter node part subject true f = refl
 by_letter node part subject false true = refl
 by_letter node part subject false false = refl
 
-letter_behind : (node : Node) (part : ℕ) (subject : Subject) (letter : ℕ) (parts : Bool)
+letter_after : (node : Node) (part : ℕ) (subject : Subject) (letter : ℕ) (parts : Bool)
     → look (of_endings node part subject parts) (letter ∷ [])
     ≡ option_map (told node part) (if parts then option_map (λ form. (subject, form)) (form_of letter) else None)
-letter_behind node part subject letter true = by_letter node part subject (68 == letter) (70 == letter)
-letter_behind node part subject letter false = refl
+letter_after node part subject letter true = by_letter node part subject (68 == letter) (70 == letter)
+letter_after node part subject letter false = refl
 
 never : (d f : Bool) (one other : Option Text) → (if d && false then one else (if f && false then other else None)) ≡ None
 never true true one other = refl
@@ -143,28 +143,28 @@ never true false one other = refl
 never false true one other = refl
 never false false one other = refl
 
-more_behind : (node : Node) (part : ℕ) (subject : Subject) (letter other : ℕ) (more : Text) (parts : Bool)
+more_after : (node : Node) (part : ℕ) (subject : Subject) (letter other : ℕ) (more : Text) (parts : Bool)
     → look (of_endings node part subject parts) (letter ∷ other ∷ more) ≡ None
-more_behind node part subject letter other more true =
+more_after node part subject letter other more true =
     never (68 == letter) (70 == letter) (Some (told node part (subject, Directory))) (Some (told node part (subject, File)))
-more_behind node part subject letter other more false = refl
+more_after node part subject letter other more false = refl
 
 -- ---- names
 
 alone : (node : Node) (part : ℕ) (found : Option Subject)
     → told_by node part [] found ≡ option_map (told node part) (option_map (λ subject. (subject, Whole)) found)
 alone node part None = refl
-alone node part (Some subject) = nothing_behind node part subject (has_parts subject)
+alone node part (Some subject) = nothing_after node part subject (has_parts subject)
 
 with_letter : (node : Node) (part letter : ℕ) (found : Option Subject)
     → told_by node part (letter ∷ []) found ≡ option_map (told node part) (option_and_then (λ subject. parted subject letter) found)
 with_letter node part letter None = refl
-with_letter node part letter (Some subject) = letter_behind node part subject letter (has_parts subject)
+with_letter node part letter (Some subject) = letter_after node part subject letter (has_parts subject)
 
 with_more : (node : Node) (part letter other : ℕ) (more : Text) (found : Option Subject)
     → told_by node part (letter ∷ other ∷ more) found ≡ None
 with_more node part letter other more None = refl
-with_more node part letter other more (Some subject) = more_behind node part subject letter other more (has_parts subject)
+with_more node part letter other more (Some subject) = more_after node part subject letter other more (has_parts subject)
 
 -- what is found among the automatic macros is what is asked for
 pub found_by_name : (node : Node) (part : ℕ) (name : Text) → look (automatic_in node part) name ≡ macro_in node part name

@@ -11,12 +11,12 @@ some_call true shell piece = refl
 some_call false [] piece = refl
 some_call false (byte ∷ shell) piece = refl
 
-behind : (old call : Text) → is_nonempty call ≡ true → command_in (with_joint old ++ call) ≡ Some (joined (command_in old) call)
-behind [] [] some = absurd (true≢false (sym some))
-behind [] (byte ∷ call) some = refl
-behind (first ∷ old) call some = ap Some (append_assoc (first ∷ old) (codes " && ") call)
+after : (old call : Text) → is_nonempty call ≡ true → command_in (with_joint old ++ call) ≡ Some (joined (command_in old) call)
+after [] [] some = absurd (true≢false (sym some))
+after [] (byte ∷ call) some = refl
+after (first ∷ old) call some = ap Some (append_assoc (first ∷ old) (codes " && ") call)
 
 pub call_joined : (marked : Bool) (shell piece old joint new : Text) → joint ≡ with_joint old → new ≡ joint ++ wrapped marked shell piece
     → command_in new ≡ Some (joined (command_in old) (wrapped marked shell piece))
 call_joined marked shell piece old joint new begun is =
-    ap command_in (is ∙ ap (λ front. front ++ wrapped marked shell piece) begun) ∙ behind old (wrapped marked shell piece) (some_call marked shell piece)
+    ap command_in (is ∙ ap (λ front. front ++ wrapped marked shell piece) begun) ∙ after old (wrapped marked shell piece) (some_call marked shell piece)

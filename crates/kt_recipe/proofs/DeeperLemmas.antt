@@ -3,17 +3,17 @@ use Rattle.std.proofs.Common.{◌≡◌, ℕ, suc, Bool, true, false, List, [], 
 use Rattle.std.specs.List.{range_with_len}
 use Rattle.kt_text.specs.Words.{Text, is_nonempty}
 use Rattle.kt_rules.specs.declared.entry.RecipeLine.{RecipeLine}
-use Rattle.kt_eval.specs.Expansion.{expanded}
-use Rattle.kt_eval.specs.Files.{Store}
+use Rattle.kt_eval.specs.expanding.Expansion.{expanded}
+use Rattle.kt_eval.specs.files.Files.{Store}
 use Rattle.kt_eval.specs.Growing.{IsTooDeep, StaysOneDeeper}
-use Rattle.kt_eval.specs.Levels.{evaluator}
+use Rattle.kt_eval.specs.expanding.Levels.{evaluator}
 use Rattle.kt_eval.specs.State.{frozen_world}
 use Rattle.kt_eval.specs.Outcome.{Outcome, Gave, Stopped, StepOver, leaving, then_do, done}
-use Rattle.kt_eval.specs.Table.{Table}
-use Rattle.kt_eval.proofs.GrowingReads.{expanding_stays}
-use Rattle.kt_graph.specs.Node.{Node}
-use Rattle.kt_graph.specs.Views.{part_lines}
-use Rattle.kt_recipe.specs.Auto.{automatic_in}
+use Rattle.kt_eval.specs.macros.Macros.{Table}
+use Rattle.kt_eval.proofs.lemmas.GrowingReads.{expanding_stays}
+use Rattle.kt_graph.specs.nodes.Node.{Node}
+use Rattle.kt_graph.specs.nodes.Views.{part_lines}
+use Rattle.kt_recipe.specs.Automatic.{automatic_in}
 use Rattle.kt_recipe.specs.Lines.{after_run, is_marked, pieces_of}
 use Rattle.kt_recipe.specs.Shell.{Setting, setting_of, shell_text, expansion, put_piece, put_pieces, put_line, put_lines, put_part, put_parts, shell_of}
 

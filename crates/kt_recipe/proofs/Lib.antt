@@ -3,6 +3,8 @@ pub mod SetLemmas
 pub mod AskingLemmas
 pub mod CallLemmas
 pub mod ShellLemmas
+pub mod PieceLemmas
+pub mod FormLemmas
 pub mod LoopLemmas
 pub mod DeeperLemmas
 pub mod TermLemmas

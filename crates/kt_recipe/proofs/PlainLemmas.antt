@@ -9,17 +9,17 @@ use Rattle.kt_rules.specs.Names.{without_repeats}
 use Rattle.kt_eval.specs.declared.macros.Flavour.{Flavour}
 use Rattle.kt_eval.specs.declared.macros.Flavour.TheVariants.{Deferred, Immediate}
 use Rattle.kt_eval.specs.declared.macros.Macro.{Macro}
-use Rattle.kt_eval.specs.Calls.{other_function, function_of, is_refused_function, asked_of, asked_by, naming_of}
-use Rattle.kt_eval.specs.TextFunctions.{text_function}
-use Rattle.kt_eval.specs.Expansion.{Evaluator, flavoured, value_of, body_of, value_named, referred, term_of, each_term, expanded}
-use Rattle.kt_eval.specs.Files.{Store}
-use Rattle.kt_eval.specs.Levels.{above, evaluator}
+use Rattle.kt_eval.specs.expanding.Calls.{other_function, function_of, is_refused_function, asked_of, asked_by, naming_of}
+use Rattle.kt_eval.specs.expanding.TextFunctions.{text_function}
+use Rattle.kt_eval.specs.expanding.Expansion.{Evaluator, flavoured, value_of, body_of, value_named, referred, term_of, each_term, expanded}
+use Rattle.kt_eval.specs.files.Files.{Store}
+use Rattle.kt_eval.specs.expanding.Levels.{above, evaluator}
 use Rattle.kt_eval.specs.State.{World, found_of, seen, innermost, lookup, frozen_world}
 use Rattle.kt_eval.specs.Outcome.{Gave, leaving}
-use Rattle.kt_eval.specs.Table.{Table, find}
-use Rattle.kt_eval.proofs.LiteralLemmas.{stays}
-use Rattle.kt_graph.specs.Node.{Node}
-use Rattle.kt_recipe.specs.Auto.{names_of, automatic_in}
+use Rattle.kt_eval.specs.macros.Macros.{Table, find}
+use Rattle.kt_eval.proofs.lemmas.expanding.LiteralLemmas.{stays}
+use Rattle.kt_graph.specs.nodes.Node.{Node}
+use Rattle.kt_recipe.specs.Automatic.{names_of, automatic_in}
 use Rattle.kt_recipe.specs.Forms.{text_of}
 use Rattle.kt_recipe.specs.Shell.{setting_of, shell_text, expansion}
 use Rattle.kt_recipe.specs.inner.Plain.{is_plain, if_plain, plain_value, spaced, plain_shell}

@@ -4,28 +4,28 @@ use Rattle.kt_text.specs.Words.{Text, is_nonempty}
 use Rattle.kt_rules.specs.declared.entry.RecipeLine.{RecipeLine}
 use Rattle.kt_eval.specs.declared.stop.Stop.{Stop}
 use Rattle.kt_eval.specs.declared.stop.Stop.TheVariants as stops
-use Rattle.kt_eval.specs.Files.{Store}
-use Rattle.kt_eval.specs.Fronts.{IsFront}
+use Rattle.kt_eval.specs.files.Files.{Store}
+use Rattle.kt_eval.specs.Prefixes.{IsPrefix}
 use Rattle.kt_eval.specs.State.{World, frozen_world}
-use Rattle.kt_eval.specs.Expansion.{expanded}
-use Rattle.kt_eval.specs.Levels.{evaluator}
+use Rattle.kt_eval.specs.expanding.Expansion.{expanded}
+use Rattle.kt_eval.specs.expanding.Levels.{evaluator}
 use Rattle.kt_eval.specs.Outcome.{Outcome, Gave, Stopped, StepOver, Fails, IfCutBy, leaving, left_of, then_do, done}
-use Rattle.kt_eval.specs.Pure.{Says}
-use Rattle.kt_eval.specs.Table.{Table}
-use Rattle.kt_eval.proofs.GrowingLemmas.{front_same, front_next}
-use Rattle.kt_eval.proofs.GrowingReads.{expanding_grows}
-use Rattle.kt_graph.specs.Node.{Node}
-use Rattle.kt_graph.specs.Views.{part_lines}
-use Rattle.kt_recipe.specs.Auto.{automatic_in}
+use Rattle.kt_eval.specs.expanding.Pure.{Says}
+use Rattle.kt_eval.specs.macros.Macros.{Table}
+use Rattle.kt_eval.proofs.lemmas.GrowingLemmas.{front_same, front_next}
+use Rattle.kt_eval.proofs.lemmas.GrowingReads.{expanding_grows}
+use Rattle.kt_graph.specs.nodes.Node.{Node}
+use Rattle.kt_graph.specs.nodes.Views.{part_lines}
+use Rattle.kt_recipe.specs.Automatic.{automatic_in}
 use Rattle.kt_recipe.specs.Lines.{after_run, is_marked, pieces_of}
 use Rattle.kt_recipe.specs.Shell.{joined, wrapped, Setting, setting_of, shell_text, expansion, put_piece, put_pieces, put_line, put_lines, put_part, put_parts}
 
 -- the messages before a step are a prefix of those that it leaves
 abbrev pub Keeps : {A : Type 0} → StepOver (List Text) A → Type 0
-Keeps step = (said : List Text) → IsFront said (left_of (step said))
+Keeps step = (said : List Text) → IsPrefix said (left_of (step said))
 
 pub then_front : {A B : Type 0} (said : List Text) (o : Outcome (List Text) A) (next : A → StepOver (List Text) B) → ((x : A) → Keeps (next x))
-    → IsFront said (left_of o) → IsFront said (left_of (then_do o next))
+    → IsPrefix said (left_of o) → IsPrefix said (left_of (then_do o next))
 then_front said (Gave heard x) next more h = front_next said heard (left_of (next x heard)) h (more x heard)
 then_front said (Stopped heard fault) next more h = h
 
@@ -38,7 +38,7 @@ fails_then (stops.Device name) heard o next h = tt
 fails_then stops.Memory heard o next h = tt
 
 cut_then : {A B : Type 0} (stop : Stop) (heard : List Text) (o : Outcome (List Text) A) (next : A → StepOver (List Text) B) → ((x : A) → Keeps (next x))
-    → IfCutBy stop (IsFront heard (left_of o)) → IfCutBy stop (IsFront heard (left_of (then_do o next)))
+    → IfCutBy stop (IsPrefix heard (left_of o)) → IfCutBy stop (IsPrefix heard (left_of (then_do o next)))
 cut_then (stops.Fault fault) heard o next more h = tt
 cut_then (stops.Device name) heard o next more h = then_front heard o next more h
 cut_then stops.Memory heard o next more h = then_front heard o next more h
@@ -46,12 +46,12 @@ cut_then stops.Memory heard o next more h = then_front heard o next more h
 -- a step that is stopped stops the whole, of which so much was done before it
 pub stops_all : {A B C D : Type 0} (see : A → C) (other : B → D) (stop : Stop) (start now new : List Text) (first : StepOver (List Text) C)
     (next : C → StepOver (List Text) D) (whole : StepOver (List Text) D)
-    → ((x : C) → Keeps (next x)) → IsFront start now → then_do (first now) next ≡ whole start
+    → ((x : C) → Keeps (next x)) → IsPrefix start now → then_do (first now) next ≡ whole start
     → Says see first (Err stop) now new → Says other whole (Err stop) start new
 stops_all {D} see other stop start now new first next whole more before is h = record {
   gives = subst (λ (o : Outcome (List Text) D). Fails stop new o) is (fails_then stop new (first now) next h.gives);
   appends = front_next start now new before h.appends;
-  cut = subst (λ (o : Outcome (List Text) D). IfCutBy stop (IsFront new (left_of o))) is (cut_then stop new (first now) next more h.cut);
+  cut = subst (λ (o : Outcome (List Text) D). IfCutBy stop (IsPrefix new (left_of o))) is (cut_then stop new (first now) next more h.cut);
   asks_nothing = h.asks_nothing;
 }
 
@@ -66,7 +66,7 @@ says_nothing see step x said is = record { gives = is; appends = front_same said
 
 -- ---- messages only grow
 
-leaving_front : (said : List Text) (o : Outcome World Text) → IsFront said (left_of o).said → IsFront said (left_of (leaving (λ w. w.said) o))
+leaving_front : (said : List Text) (o : Outcome World Text) → IsPrefix said (left_of o).said → IsPrefix said (left_of (leaving (λ w. w.said) o))
 leaving_front said (Gave w x) h = h
 leaving_front said (Stopped w fault) h = h
 

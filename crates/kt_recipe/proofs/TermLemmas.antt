@@ -4,7 +4,7 @@ use Rattle.std.proofs.Common.{◌≡◌, ℕ, zero, suc, ◌+◌, ◌-◌, Bool,
 use Rattle.std.specs.Prelude.{codes}
 use Rattle.kt_text.specs.Words.{Text}
 use Rattle.kt_syntax.specs.declared.term.Mark.TheVariants.{Parentheses, Braces}
-use Rattle.kt_syntax.specs.Terms.{Piece, literal, dollar, reference, Continuations, dropped, closing, referred, single, behind_dollar, literal_run, first_term, terms_after, terms_of}
+use Rattle.kt_syntax.specs.Terms.{Token, literal, dollar, reference, Continuations, dropped, closing, referred, single, after_dollar, literal_run, first_term, terms_after, terms_of}
 use Rattle.kt_recipe.specs.Shell.{shell_text}
 
 unfoldable pub quick_closing : ℕ → ℕ → ℕ → ℕ → Text → Option ℕ
@@ -34,27 +34,27 @@ closing_is opener closer at depth (byte ∷ text) =
     (either_way (depth == 0) _ _ _ _ refl (closing_is opener closer (at + 1) (depth - 1) text))
     (closing_is opener closer (at + 1) depth text))
 
-unfoldable pub quick_behind : Continuations → Text → Piece × ℕ
-quick_behind continuations [] = (literal [], 0)
-quick_behind continuations (byte ∷ text) =
+unfoldable pub quick_past : Continuations → Text → Token × ℕ
+quick_past continuations [] = (literal [], 0)
+quick_past continuations (byte ∷ text) =
     if byte == 36 then (dollar, 1)
     else (if byte == 40 then referred Parentheses text (quick_closing 40 41 0 0 text)
     else (if byte == 123 then referred Braces text (quick_closing 123 125 0 0 text)
     else single continuations (byte ∷ text)))
 
-behind_is : (continuations : Continuations) (text : Text) → behind_dollar continuations text ≡ quick_behind continuations text
-unfolding behind_dollar quick_behind
-behind_is continuations [] = refl
-behind_is continuations (byte ∷ text) = rw (closing_is 40 41 0 0 text, closing_is 123 125 0 0 text) refl
+after_are : (continuations : Continuations) (text : Text) → after_dollar continuations text ≡ quick_past continuations text
+unfolding after_dollar quick_past
+after_are continuations [] = refl
+after_are continuations (byte ∷ text) = rw (closing_is 40 41 0 0 text, closing_is 123 125 0 0 text) refl
 
-unfoldable pub quick_first : Continuations → ℕ → Text → Piece × ℕ
-quick_first continuations byte text = if byte == 36 then quick_behind continuations text else literal_run byte text
+unfoldable pub quick_first : Continuations → ℕ → Text → Token × ℕ
+quick_first continuations byte text = if byte == 36 then quick_past continuations text else literal_run byte text
 
 first_is : (continuations : Continuations) (byte : ℕ) (text : Text) → first_term continuations byte text ≡ quick_first continuations byte text
 unfolding first_term quick_first
-first_is continuations byte text = rw (behind_is continuations text) refl
+first_is continuations byte text = rw (after_are continuations text) refl
 
-unfoldable pub quick_after : Continuations → ℕ → Text → List Piece
+unfoldable pub quick_after : Continuations → ℕ → Text → List Token
 quick_after continuations skip [] = []
 quick_after continuations (suc skip) (byte ∷ text) = quick_after continuations skip text
 quick_after continuations zero (byte ∷ text) =
@@ -65,10 +65,10 @@ unfolding terms_after quick_after
 after_is continuations skip [] = refl
 after_is continuations (suc skip) (byte ∷ text) = after_is continuations skip text
 after_is continuations zero (byte ∷ text) =
-    ap (λ (term : Piece × ℕ). term.0 ∷ terms_after continuations term.1 text) (first_is continuations byte text)
+    ap (λ (term : Token × ℕ). term.0 ∷ terms_after continuations term.1 text) (first_is continuations byte text)
     ∙ ap (λ terms. (quick_first continuations byte text).0 ∷ terms) (after_is continuations (quick_first continuations byte text).1 text)
 
-unfoldable pub quick_terms : Text → List Piece
+unfoldable pub quick_terms : Text → List Token
 quick_terms text = quick_after dropped 0 text
 
 pub terms_are : (text : Text) → terms_of text ≡ quick_terms text
@@ -79,7 +79,7 @@ terms_are text = after_is dropped 0 text
 
 -- opens the terms of a text
 unfoldable pub splitting : Unit {0}
-unfolding quick_closing quick_behind quick_first quick_after quick_terms
+unfolding quick_closing quick_past quick_first quick_after quick_terms
 splitting = tt
 
 pub shell_terms : terms_of shell_text ≡ reference Parentheses (codes "SHELL") ∷ literal (codes " ") ∷ reference Parentheses (codes ".SHELLFLAGS") ∷ []

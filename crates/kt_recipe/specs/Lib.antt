@@ -1,5 +1,5 @@
 pub mod Forms
-pub mod Auto
+pub mod Automatic
 pub mod Quoting
 pub mod Lines
 pub mod Shell

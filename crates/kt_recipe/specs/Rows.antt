@@ -5,13 +5,13 @@ use Rattle.kt_rules.specs.declared.place.Place.{Place}
 use Rattle.kt_rules.specs.declared.entry.RecipeLine.{RecipeLine}
 use Rattle.kt_eval.specs.declared.macros.Flavour.TheVariants.{Deferred}
 use Rattle.kt_eval.specs.declared.macros.Macro.{Macro}
-use Rattle.kt_eval.specs.Files.{look}
+use Rattle.kt_eval.specs.files.Files.{look}
 use Rattle.kt_eval.specs.Outcome.{Outcome, Gave, Stopped}
 use Rattle.kt_eval.specs.Step.{fault_at}
-use Rattle.kt_eval.specs.Table.{Table, set_by_makefile}
-use Rattle.kt_graph.specs.declared.node.NodeKind.TheVariants.{DoubleColon, Explicit}
-use Rattle.kt_graph.specs.Node.{Node, Part}
-use Rattle.kt_recipe.specs.Auto.{automatic_in}
+use Rattle.kt_eval.specs.macros.Macros.{Table, set_by_makefile}
+use Rattle.kt_graph.specs.declared.nodes.node.NodeKind.TheVariants.{DoubleColon, Explicit}
+use Rattle.kt_graph.specs.nodes.Node.{Node, Part}
+use Rattle.kt_recipe.specs.Automatic.{automatic_in}
 use Rattle.kt_recipe.specs.Shell.{shell_of}
 
 abbrev pub at_m : ℕ → Option Place

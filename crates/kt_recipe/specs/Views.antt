@@ -3,7 +3,7 @@ use Rattle.std.specs.Prelude.{[], ◌∷◌, ◌++◌, Option, Some, None, codes
 use Rattle.kt_text.specs.Words.{Text}
 use Rattle.kt_rules.specs.declared.place.Place.{Place}
 use Rattle.kt_recipe.specs.declared.shell.Shell.{Shell}
-use Rattle.kt_recipe.specs.Auto.{automatic_in}
+use Rattle.kt_recipe.specs.Automatic.{automatic_in}
 use Rattle.kt_recipe.specs.Shell.{Setting, setting_of}
 
 -- a command as it is held: an empty text is none

@@ -1,20 +1,26 @@
 //! The automatic macros of recipes.
-ghost use Rattle.std.specs.Prelude.{◌≡◌, [], ◌∷◌, ◌++◌, IfOk, IfSome, OnOk, filter, map, not, option_map};
+ghost use Rattle.std.specs.Prelude.{◌≡◌, [], ◌∷◌, ◌++◌, IfOk, IfSome, OnOk, filter, map, not, option_map, bytes_eq};
 ghost use Rattle.std.specs.Prelude.{slice_get, take};
+ghost use Rattle.std.specs.Cow.{cow_slice_items};
+ghost use Rattle.std.specs.List.{list_any};
 ghost use Rattle.kt_text.specs.Words.{is_nonempty};
-ghost use Rattle.kt_rules.specs.Names.{is_among, without_repeats};
-ghost use Rattle.kt_graph.specs.Views.{part_needed, part_order_only, part_stem};
+ghost use Rattle.kt_rules.specs.Names.{is_among, with_name, without_repeats};
+ghost use Rattle.kt_graph.specs.nodes.Views.{part_needed, part_order_only, part_stem};
 ghost use Rattle.kt_recipe.specs.inner.Asking.{macro_in};
-ghost use Rattle.kt_recipe.specs.Auto.{names_in};
+ghost use Rattle.kt_recipe.specs.Automatic.{names_in};
 ghost use Rattle.kt_recipe.specs.Forms.{text_of};
 
-use crate::forms::{Form, text};
+use crate::forms::{Form, alone, text};
 use crate::subjects::{Subject, asked_by};
 use indexmap::IndexSet;
 use kt_eval::Automatic;
 use kt_graph::{Inputs, Node};
 use std::alloc::{AllocError, Global};
+use std::borrow::CowSlice;
 use std::marker::Model;
+
+// So many names are a few.
+const FEW: usize = 8;
 
 /// The automatic macros in the recipe of a node's part, each computed when it is asked for (GNU make
 /// manual, "Automatic Variables").
@@ -26,7 +32,7 @@ pub struct PartMacros<'n, 'g> {
 }
 
 impl<'n, 'g> Model for PartMacros<'n, 'g> {
-    ghost use Rattle.kt_recipe.specs.Auto.{MacrosOf};
+    ghost use Rattle.kt_recipe.specs.Automatic.{MacrosOf};
 
     ghost Value = { MacrosOf };
 
@@ -41,11 +47,11 @@ pub fn auto_of<'n, 'g>(alloc: Global, node: &'n Node<'g>, part: usize) -> PartMa
 }
 
 impl<'n, 'g> Automatic for PartMacros<'n, 'g> {
-    ghost use Rattle.kt_recipe.specs.Auto.{automatic_in};
+    ghost use Rattle.kt_recipe.specs.Automatic.{automatic_in};
 
     ghost values = { λ macros. automatic_in macros.node macros.part };
 
-    fn value(&self, name: &[u8]) -> Result<Option<Vec<u8>>, AllocError> {
+    fn value(&self, name: &[u8]) -> Result<Option<CowSlice<'_, u8>>, AllocError> {
         macro_in(self.alloc, self.node, self.part, name)
     }
 }
@@ -57,8 +63,8 @@ fn macro_in<'g>(
     node: &Node<'g>,
     part: usize,
     name: &[u8],
-) -> Result<Option<Vec<u8>>, AllocError>
-    ensures { IfOk result (λ found. option_map (λ value. value.items) found ≡ macro_in node.now part name.now) }
+) -> Result<Option<CowSlice<'g, u8>>, AllocError>
+    ensures { IfOk result (λ found. option_map cow_slice_items found ≡ macro_in node.now part name.now) }
 {
     match asked_by(name) {
         Some((subject, form)) => Ok(Some(told(alloc, node, part, subject, form)?)),
@@ -73,21 +79,20 @@ fn told<'g>(
     part: usize,
     subject: Subject,
     form: Form,
-) -> Result<Vec<u8>, AllocError>
-    ensures { IfOk result (λ told. told.items ≡ text_of form (names_in node.now part subject)) }
+) -> Result<CowSlice<'g, u8>, AllocError>
+    ensures { IfOk result (λ told. cow_slice_items told ≡ text_of form (names_in node.now part subject)) }
 {
     match only_name(node, part, subject) {
-        Some(name) => text(alloc, form, [name].as_slice()),
-        None => text(
-            alloc,
-            form,
-            names_in(alloc, node, part, subject)?.as_slice(),
-        ),
+        Some(name) => Ok(CowSlice::Borrowed(alone(form, name))),
+        None => {
+            let names = names_in(alloc, node, part, subject)?;
+            Ok(CowSlice::Owned(text(alloc, form, names.as_slice())?))
+        }
     }
 }
 
 // The name that a part of a node tells, where it tells one and this is known without a look at others.
-#[tactic(auto, unfolding(crate::specs::Auto::names_of))]
+#[tactic(auto, unfolding(crate::specs::Automatic::names_of))]
 fn only_name<'g>(node: &Node<'g>, part: usize, subject: Subject) -> Option<&'g [u8]>
     ensures { IfSome result (λ name. names_in node.now part subject ≡ name.now ∷ []) }
 {
@@ -99,7 +104,7 @@ fn only_name<'g>(node: &Node<'g>, part: usize, subject: Subject) -> Option<&'g [
 }
 
 // The names that a part of a node tells.
-#[tactic(auto, unfolding(crate::specs::Auto::names_of))]
+#[tactic(auto, unfolding(crate::specs::Automatic::names_of))]
 fn names_in<'g>(
     alloc: Global,
     node: &Node<'g>,
@@ -111,7 +116,7 @@ fn names_in<'g>(
     match subject {
         Subject::Target => one(alloc, node.name()),
         Subject::First => first(alloc, node.prerequisites(part)),
-        Subject::Each => listed(alloc, each(alloc, node.prerequisites(part))?),
+        Subject::Each => each_name(alloc, node.prerequisites(part)),
         Subject::Every => node.prerequisites(part).collect(alloc),
         Subject::OrderOnly => order_only(alloc, node, part),
         Subject::Stem => some(alloc, node.stem(part)),
@@ -156,6 +161,50 @@ fn order_only<'g>(alloc: Global, node: &Node<'g>, part: usize) -> Result<Vec<&'g
     let names = each(alloc, node.order_only_prerequisites(part))?;
     let others = each(alloc, node.prerequisites(part))?;
     without(alloc, names.as_slice(), &others)
+}
+
+// Each of the names once, as a list.
+fn each_name<'g>(alloc: Global, names: Inputs<'g>) -> Result<Vec<&'g [u8]>, AllocError>
+    ensures { IfOk result (λ each. map (λ name. name.now) each.items ≡ without_repeats names.entry) }
+{
+    if names.len() <= FEW {
+        return each_of_few(alloc, names);
+    }
+    listed(alloc, each(alloc, names)?)
+}
+
+// A few names, each once: they are compared with one another, which is cheaper than a set of them.
+#[tactic(auto, unfolding(kt_rules::specs::Names::without_repeats))]
+fn each_of_few<'g>(alloc: Global, names: Inputs<'g>) -> Result<Vec<&'g [u8]>, AllocError>
+    ensures { IfOk result (λ each. map (λ name. name.now) each.items ≡ without_repeats names.entry) }
+{
+    let mut each = Vec::with_capacity(alloc, names.len())?;
+    for name in names {
+        add_if_new(&mut each, name)?;
+    }
+    Ok(each)
+}
+
+fn add_if_new<'g>(names: &mut Vec<&'g [u8]>, name: &'g [u8]) -> Result<(), AllocError>
+    ensures { OnOk result (map (λ name. name.now) names.new.items
+        ≡ with_name (map (λ name. name.now) names.old.items) name.now) }
+{
+    if !is_listed(names.as_slice(), name) {
+        names.push(name)?;
+    }
+    Ok(())
+}
+
+fn is_listed(names: &[&[u8]], name: &[u8]) -> bool
+    ensures { result ≡ is_among (map (λ other. other.now) names.now) name.now }
+{
+    is_one_of(names, name)
+}
+
+fn is_one_of(names: &[&[u8]], name: &[u8]) -> bool
+    ensures { result ≡ list_any (λ other. bytes_eq name.now other.now) names.now }
+{
+    names.iter().any(|other| name == *other)
 }
 
 // Each of the names once.

@@ -6,7 +6,8 @@ ghost use Rattle.kt_recipe.specs.Views.{command_in, with_joint};
 use crate::quoting::put_quoted;
 use std::alloc::AllocError;
 
-// What stands round a shell and a piece takes at most so many bytes: ` && { `, a space, two quotes, ` || :; }`.
+// What stands round a shell and a piece takes at most a given number of bytes: ` && { `, a space,
+// two quotes, ` || :; }`.
 const ROOM: usize = 17;
 
 /// Appends a call of the shell for a piece; where it is marked, its failure is passed over (GNU make

@@ -1,6 +1,6 @@
 //! What the commands of a makefile are made with.
 ghost use Rattle.std.specs.Prelude.{◌≡◌, IfOk, Some, option_map};
-ghost use Rattle.kt_eval.specs.Pure.{Says};
+ghost use Rattle.kt_eval.specs.expanding.Pure.{Says};
 
 use crate::plain::plain_shell;
 use kt_eval::{Automatic, Macros, Stop};
@@ -33,7 +33,7 @@ impl<'m> Model for Commands<'m> {
 }
 
 impl<'m> Commands<'m> {
-    ghost use Rattle.kt_eval.specs.Pure.{expanded_pure};
+    ghost use Rattle.kt_eval.specs.expanding.Pure.{expanded_pure};
     ghost use Rattle.kt_recipe.specs.inner.Plain.{plain_shell};
 
     /// By these macros, and this limit of levels.

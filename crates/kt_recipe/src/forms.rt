@@ -1,5 +1,5 @@
 //! Names as automatic macros list them.
-ghost use Rattle.std.specs.Prelude.{◌≡◌, ◌≤◌, IfOk, OnOk, length, map};
+ghost use Rattle.std.specs.Prelude.{◌≡◌, ◌≤◌, ◌∷◌, [], IfOk, OnOk, length, map};
 ghost use Rattle.std.specs.List.{join_with_byte};
 ghost use Rattle.kt_text.specs.Functions.{name_part, name_place};
 ghost use Rattle.kt_text.specs.Words.{list_text, put_word};
@@ -27,6 +27,18 @@ pub(crate) fn text(alloc: Global, form: Form, names: &[&[u8]]) -> Result<Vec<u8>
         Form::Whole => whole(alloc, names),
         Form::Directory => directories(alloc, names),
         Form::File => files(alloc, names),
+    }
+}
+
+/// One name in this form, lent.
+#[tactic(auto, using(crate::proofs::FormLemmas::list_of_one), unfolding(crate::specs::Forms::text_of))]
+pub(crate) fn alone(form: Form, name: &[u8]) -> &[u8]
+    ensures { result.now ≡ text_of form (name.now ∷ []) }
+{
+    match form {
+        Form::Whole => name,
+        Form::Directory => directory(name),
+        Form::File => file(name),
     }
 }
 

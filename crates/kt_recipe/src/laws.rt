@@ -3,8 +3,8 @@ ghost use Rattle.std.specs.Prelude.{◌≡◌, Some};
 ghost use Rattle.std.specs.List.{join_with_byte};
 ghost use Rattle.kt_text.specs.Words.{Text};
 ghost use Rattle.kt_eval.specs.Growing.{StaysOneDeeper};
-ghost use Rattle.kt_eval.specs.Table.{Table};
-ghost use Rattle.kt_graph.specs.Node.{Node};
+ghost use Rattle.kt_eval.specs.macros.Macros.{Table};
+ghost use Rattle.kt_graph.specs.nodes.Node.{Node};
 ghost use Rattle.kt_recipe.specs.Lines.{pieces_of};
 ghost use Rattle.kt_recipe.specs.Quoting.{quoted, word_of_quotes};
 ghost use Rattle.kt_recipe.specs.Rows.{RowsOfCommands, RowsOfMacros};
@@ -20,7 +20,7 @@ pub fn pieces_are_the_line()
     ensures { (text : Text) → join_with_byte 10 (pieces_of text) ≡ text }
 {}
 
-/// A command that isn't too deep (E08) with so many levels is the same with one more.
+/// A command that isn't too deep (E08) with a given number of levels is the same with one more.
 pub fn one_deeper()
     ensures { (table : Table) (node : Node) → StaysOneDeeper (λ limit. shell_of table limit node) }
 {}

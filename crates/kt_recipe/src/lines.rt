@@ -1,6 +1,6 @@
 //! The lines of a recipe and their pieces.
-ghost use Rattle.std.specs.Prelude.{◌≡◌, ◌≤◌, IfOk, length, map};
-ghost use Rattle.std.specs.List.{prefix_len};
+ghost use Rattle.std.specs.Prelude.{◌≡◌, ◌≤◌, ◌==◌, IfOk, length, map, not};
+ghost use Rattle.std.specs.List.{list_any, prefix_len};
 ghost use Rattle.kt_recipe.specs.Lines.{after_run, is_marked, is_prefix, pieces_of, run_of};
 
 use std::alloc::{AllocError, Global};
@@ -39,6 +39,19 @@ fn is_prefix(byte: u8) -> bool
     ensures { result ≡ is_prefix byte }
 {
     matches!(byte, b' ' | b'\t' | b'@' | b'-' | b'+')
+}
+
+/// Whether a line is one piece: no newline is in it.
+pub(crate) fn is_one_piece(text: &[u8]) -> bool
+    ensures { result ≡ not (list_any (λ byte. byte == 10) text.now) }
+{
+    !has_newline(text)
+}
+
+fn has_newline(text: &[u8]) -> bool
+    ensures { result ≡ list_any (λ byte. byte == 10) text.now }
+{
+    text.iter().any(|byte| *byte == b'\n')
 }
 
 /// The pieces that a line's newlines cut it into (GNU make manual, "Defining Canned Recipes").

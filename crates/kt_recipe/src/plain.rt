@@ -1,7 +1,7 @@
 //! A shell that stands for itself.
 ghost use Rattle.std.specs.Prelude.{◌≡◌, ◌++◌, ◌==◌, IfOk, codes, option_map};
 ghost use Rattle.std.specs.List.{list_any};
-ghost use Rattle.kt_eval.specs.Table.{find};
+ghost use Rattle.kt_eval.specs.macros.Macros.{find};
 ghost use Rattle.kt_recipe.specs.inner.Plain.{is_plain, plain_shell, plain_value};
 
 use kt_eval::{Flavour, Macros};

@@ -26,13 +26,13 @@ fn put_between_quotes(command: &mut Vec<u8>, text: &[u8]) -> Result<(), AllocErr
     while let Some(at) = memchr(b'\'', rest) {
         command.extend_from_slice(&rest[..at])?;
         command.extend_from_slice(b"'\\''")?;
-        rest = behind(rest, at);
+        rest = after(rest, at);
     }
     command.extend_from_slice(rest)
 }
 
 // What stands after a byte.
-fn behind(text: &[u8], at: usize) -> &[u8]
+fn after(text: &[u8], at: usize) -> &[u8]
     requires { at < length text.now }
     ensures { result.now ≡ drop (at + 1) text.now }
 {

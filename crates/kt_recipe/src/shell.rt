@@ -2,9 +2,9 @@
 ghost use Rattle.std.specs.Prelude.{◌≡◌, None, length, map, option_map, unwrap_or, slice_get};
 ghost use Rattle.std.specs.Cow.{cow_slice_items};
 ghost use Rattle.std.specs.List.{range_with_len};
-ghost use Rattle.kt_eval.specs.Pure.{Says};
-ghost use Rattle.kt_graph.specs.Views.{part_lines};
-ghost use Rattle.kt_recipe.specs.Auto.{automatic_in};
+ghost use Rattle.kt_eval.specs.expanding.Pure.{Says};
+ghost use Rattle.kt_graph.specs.nodes.Views.{part_lines};
+ghost use Rattle.kt_recipe.specs.Automatic.{automatic_in};
 ghost use Rattle.kt_recipe.specs.Lines.{pieces_of};
 ghost use Rattle.kt_recipe.specs.Shell.{expansion, put_line, put_lines, put_part, put_parts, put_piece, put_pieces};
 ghost use Rattle.kt_recipe.specs.Shell.{shell_of, shell_text};
@@ -13,7 +13,7 @@ ghost use Rattle.kt_recipe.specs.Views.{command_in, setting_at};
 use crate::automatic::auto_of;
 use crate::calls::put_call;
 use crate::commands::Commands;
-use crate::lines::{after_run, is_marked, pieces};
+use crate::lines::{after_run, is_marked, is_one_piece, pieces};
 use kt_eval::{Macros, Stop};
 use kt_graph::Node;
 use kt_list::Sequence;
@@ -26,7 +26,6 @@ impl<'m> Commands<'m> {
     /// (GNU make manual, "Recipe Execution"). None where no recipe has a piece.
     ///
     /// Messages are appended in order; where memory is refused, a prefix of them.
-    #[tactic(auto, unfolding(crate::specs::Shell::shell_of))]
     pub fn command(
         &self,
         node: &Node,
@@ -37,8 +36,25 @@ impl<'m> Commands<'m> {
             result messages.old.items messages.new.items }
     {
         let mut command = Vec::new(self.alloc());
-        put_parts(self, node, &mut command, messages)?;
+        self.write(node, &mut command, messages)?;
         Ok(some_text(command))
+    }
+
+    /// The same, in place of what a text held, which is empty where no recipe has a piece. So one text can serve for the
+    /// commands of many nodes, one after the other.
+    #[tactic(auto, unfolding(crate::specs::Shell::shell_of))]
+    pub fn write(
+        &self,
+        node: &Node,
+        command: &mut Vec<u8>,
+        messages: &mut Vec<Sequence<u8>>,
+    ) -> Result<(), Stop>
+        ensures { Says (λ _. command_in command.new.items)
+            (shell_of self.now.table self.now.limit node.now)
+            result messages.old.items messages.new.items }
+    {
+        command.clear();
+        put_parts(self, node, command, messages)
     }
 }
 
@@ -163,6 +179,9 @@ impl<'a, 'm, 'g> Shell<'a, 'm, 'g> {
             (put_pieces (setting_at self.now place.now) marked (pieces_of text.now) (command_in command.old.items))
             result messages.old.items messages.new.items }
     {
+        if is_one_piece(text) {
+            return self.put_piece(place, marked, text, command, messages);
+        }
         let pieces = pieces(self.commands.alloc(), text)?;
         self.put_pieces(place, marked, pieces.as_slice(), command, messages)
     }

@@ -1,7 +1,7 @@
 //! What the names of automatic macros ask for.
 ghost use Rattle.std.specs.Prelude.{◌≡◌};
 ghost use Rattle.kt_recipe.specs.inner.Asking.{asked_by, form_of, parted, subject_of};
-ghost use Rattle.kt_recipe.specs.Auto.{has_parts};
+ghost use Rattle.kt_recipe.specs.Automatic.{has_parts};
 
 use crate::forms::Form;
 

@@ -1,5 +1,10 @@
 //! Automatic macros.
 use crate::told::{Asked, Question, Row, tells, told};
+use kt_testing::{Random, put};
+use std::alloc::Global;
+
+/// So many makefiles that look random are tried.
+const COUNT: usize = 400;
 
 #[test]
 fn lists_prerequisites(rt: HostRuntime) {
@@ -15,6 +20,12 @@ fn lists_prerequisites(rt: HostRuntime) {
             "",
             "t",
             "/bin/sh -c 't b b a b a b b a c []'\n",
+        ),
+        (
+            "t: k a b c d e f g h i a k j | a z y z ; $^ - $+ - $? - $|\n",
+            "",
+            "t",
+            "/bin/sh -c 'k a b c d e f g h i j - k a b c d e f g h i a k j - k a b c d e f g h i j - z y'\n",
         ),
         (
             "a: b ; one $^\na: c ; two $^\n",
@@ -36,6 +47,64 @@ fn lists_prerequisites(rt: HostRuntime) {
         ),
     ];
     tells(&rt, rt.alloc(), 100, ROWS);
+}
+
+/// A rule with fewer than so many prerequisites that look random, and what is reported of it.
+fn rule(alloc: Global, random: &mut Random, end: usize) -> (Vec<u8>, Vec<u8>) {
+    let mut seen: Vec<&[u8]> = Vec::new(alloc);
+    let mut makefile = Vec::new(alloc);
+    let mut each = Vec::new(alloc);
+    let mut every = Vec::new(alloc);
+    put(&mut makefile, b"t:");
+    for _ in 0..random.below(end) {
+        let name = random.piece(&PREREQUISITES);
+        put(&mut makefile, b" ");
+        put(&mut makefile, name);
+        put(&mut every, b" ");
+        put(&mut every, name);
+        if !seen.iter().any(|other| *other == name) {
+            put(&mut each, b" ");
+            put(&mut each, name);
+            let _refused = seen.push(name);
+        }
+    }
+    put(&mut makefile, b" ; x $^ - $+ - $?\n");
+    let mut wanted = Vec::new(alloc);
+    put(&mut wanted, b"/bin/sh -c 'x");
+    put_list(&mut wanted, each.as_slice());
+    put(&mut wanted, b" -");
+    put_list(&mut wanted, every.as_slice());
+    put(&mut wanted, b" -");
+    put_list(&mut wanted, each.as_slice());
+    put(&mut wanted, b"'\n");
+    (makefile, wanted)
+}
+
+/// Puts a list after a space, which stands there where the list is empty, too.
+fn put_list(text: &mut Vec<u8>, list: &[u8]) {
+    if list.is_empty() {
+        put(text, b" ");
+    }
+    put(text, list);
+}
+
+const PREREQUISITES: [&[u8]; 12] = [
+    b"a", b"b", b"c", b"d", b"e", b"f", b"g", b"h", b"aa", b"ab", b"d/a", b"d/b",
+];
+
+#[test]
+fn lists_each_as_the_plain_way(rt: HostRuntime) {
+    let asked = Asked {
+        list: b"",
+        goals: b"t",
+        question: Question::Commands(100),
+    };
+    let mut random = Random::new(38);
+    for _ in 0..COUNT {
+        let (makefile, wanted) = rule(rt.alloc(), &mut random, 24);
+        let told = told(&rt, rt.alloc(), makefile.as_slice(), asked);
+        assert_eq!(rt; told.as_slice(), wanted.as_slice(), "of {makefile:?}");
+    }
 }
 
 #[test]

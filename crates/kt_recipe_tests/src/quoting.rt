@@ -42,7 +42,7 @@ fn put_line(recipe: &mut Vec<u8>, command: &mut Vec<u8>, random: &mut Random) {
     put(command, b"y'");
 }
 
-/// A makefile with a recipe, and what is told of it.
+/// A makefile with a recipe, and what is reported of it.
 fn makefile(alloc: Global, random: &mut Random) -> (Vec<u8>, Vec<u8>) {
     let mut makefile = Vec::new(alloc);
     let mut command = Vec::new(alloc);

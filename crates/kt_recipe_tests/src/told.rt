@@ -1,4 +1,5 @@
-//! What is told of a makefile: the messages and commands of its goals, or the automatic macros of one.
+//! What is reported of a makefile: the messages and commands of its goals, or the automatic macros
+//! of one.
 use kati_doubles::{files_of, put_messages, put_stop};
 use kt_eval::{Automatic, Machine, Macros, MemFiles, Reading, Stop};
 use kt_graph::{Graph, Known, Node, graph};
@@ -9,7 +10,7 @@ use kt_testing::put;
 use std::alloc::Global;
 use std::process::Abort;
 
-/// A makefile, a list of files, goals, and what is told.
+/// A makefile, a list of files, goals, and what is reported.
 pub(crate) type Row<'a> = (&'a str, &'a str, &'a str, &'a str);
 
 pub(crate) fn tells(rt: &impl Abort, alloc: Global, limit: u64, rows: &[Row]) {
@@ -41,7 +42,7 @@ pub(crate) struct Asked<'a> {
     pub(crate) question: Question<'a>,
 }
 
-/// What is told of a makefile.
+/// What is reported of a makefile.
 pub(crate) fn told(rt: &impl Abort, alloc: Global, makefile: &[u8], asked: Asked) -> Vec<u8> {
     let mut files = files_of(alloc, &[("Makefile", makefile)], 0).expect(rt, "memory");
     let mut machine = Machine::new(alloc, Macros::new(alloc), limit(asked)).expect(rt, "memory");
@@ -118,9 +119,13 @@ fn put_commands(
 ) {
     let commands = Commands::new(alloc, macros, limit).expect(rt, "memory");
     let mut messages = Vec::new(alloc);
+    let mut text = Vec::new(alloc);
     for node in graph.nodes() {
         if node.is_made() {
             let answer = made(&commands, &node, &mut messages);
+            if !is_same(&answer, &written(alloc, &commands, &node, &mut text)) {
+                put(told, b"written otherwise: ");
+            }
             if !is_same(&answer, &made_alone(alloc, macros, &node, limit)) {
                 put(told, b"alone otherwise: ");
             }
@@ -146,6 +151,21 @@ fn made(
     messages: &mut Vec<Sequence<u8>>,
 ) -> Result<Option<Vec<u8>>, Stop> {
     commands.command(node, messages)
+}
+
+/// The same in a text that serves for all nodes.
+fn written(
+    alloc: Global,
+    commands: &Commands<'_>,
+    node: &Node,
+    text: &mut Vec<u8>,
+) -> Result<Option<Vec<u8>>, Stop> {
+    commands.write(node, text, &mut Vec::new(alloc))?;
+    if text.is_empty() {
+        Ok(None)
+    } else {
+        Ok(Some(Vec::from_slice(alloc, text.as_slice())?))
+    }
 }
 
 /// The command of one node alone.

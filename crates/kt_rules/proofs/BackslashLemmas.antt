@@ -37,16 +37,16 @@ stands_nowhere text none k low high stands =
 pub quotes_no_percent : (text : Text) → list_any is_backslash text ≡ false → quotes_percent text ≡ false
 quotes_no_percent text none = sym (occurs_found text (92 ∷ 37 ∷ []) None (stands_nowhere text none))
 
-uncut : (behind : Bool) (byte : ℕ) (text : Text) → (byte == 58) ≡ false
-    → cut_place Colon behind (byte ∷ text) ≡ suc (cut_place Colon (byte == 92) text)
+uncut : (past : Bool) (byte : ℕ) (text : Text) → (byte == 58) ≡ false
+    → cut_place Colon past (byte ∷ text) ≡ suc (cut_place Colon (byte == 92) text)
 unfolding cut_place
-uncut behind byte text h = rw h refl
+uncut past byte text h = rw h refl
 
-never_cut : (behind : Bool) (text : Text) → list_any (is_byte 58) text ≡ false → cut_place Colon behind text ≡ length text
+never_cut : (past : Bool) (text : Text) → list_any (is_byte 58) text ≡ false → cut_place Colon past text ≡ length text
 unfolding cut_place
-never_cut behind [] none = refl
-never_cut behind (byte ∷ text) none =
-    uncut behind byte text (or_parts (byte == 58) (list_any (is_byte 58) text) none).0
+never_cut past [] none = refl
+never_cut past (byte ∷ text) none =
+    uncut past byte text (or_parts (byte == 58) (list_any (is_byte 58) text) none).0
     ∙ ap (λ n. suc n) (never_cut (byte == 92) text (or_parts (byte == 58) (list_any (is_byte 58) text) none).1)
     ∙ omega arith
 

@@ -18,7 +18,7 @@ use Rattle.kt_rules.specs.Refusals.{bad_group, both_colons, two_recipes}
 use Rattle.kt_rules.specs.Names.{is_among, with_name}
 use Rattle.kt_rules.specs.Suffixes.{suffixes_of, suffixes_after, start_suffixes}
 use Rattle.kt_rules.specs.Book.{AreApart, GroupsStandAlone, is_made, made_targets, target_rules, rules_of, recipes_of, has_recipe, is_double, is_group, phony_of, is_phony, xor, differ_in_colons, is_beside_group, both_colons_in, beside_group_in, two_recipes_in, refusal_of}
-use Rattle.kt_rules.specs.Slots.{spots_at, rules_in, target_rule, spot_rule, found, first_of, spot_at, target_spots, spots_from, spots_for, AreBefore, AreIn, GrewIn, GotSpots, GotRecipes, AreAlike, Tells, IsKept}
+use Rattle.kt_rules.specs.Slots.{spots_at, rules_in, target_rule, spot_rule, found, first_of, spot_at, target_spots, spots_from, spots_for, AreBefore, AreIn, GrewIn, GotSpots, GotRecipes, AreAlike, IsIndexOf, IsKept}
 use Rattle.kt_rules.proofs.FindLemmas.{find_none, or_split, some_none}
 use Rattle.kt_rules.proofs.GroupLemmas.{apart_last}
 use Rattle.kt_rules.proofs.SlotLemmas.{rules_in-none, rules_in-some, found-before, found-in_none, found-append, before_more, before_in, before_append, in_spots_from, first_target, slot_last}
@@ -108,7 +108,7 @@ before_new slots slot spots more h k =
 
 -- an entry that stays out leaves an index as it was, whatever was noted
 pub tells_none : (slots : List (Option Rule)) (old new : Notes) (rules : Text → List (Rule × Target))
-    → Tells slots old rules → GrewIn (length slots) old new → Tells (slots ++ None ∷ []) new rules
+    → IsIndexOf slots old rules → GrewIn (length slots) old new → IsIndexOf (slots ++ None ∷ []) new rules
 tells_none slots old new rules told grew = record {
   all = λ name.
       let more = grew name in
@@ -129,10 +129,10 @@ in_if_spots rule place name false = tt
 
 -- one more rule is told
 pub tells_more : (slots : List (Option Rule)) (rule : Rule) (old new : Notes) (first later : Text → List (Rule × Target)) (b : Bool)
-    → Tells slots old first
+    → IsIndexOf slots old first
     → ((name : Text) → spots_at new name ≡ spots_at old name ++ (if b then spots_for rule (length slots) name else []))
     → ((name : Text) → later name ≡ first name ++ (if b then of_name rule name else []))
-    → Tells (slots ++ Some rule ∷ []) new later
+    → IsIndexOf (slots ++ Some rule ∷ []) new later
 tells_more slots rule old new first later b told got is = record {
   all = λ name.
       ap (found (slots ++ Some rule ∷ [])) (got name)
@@ -310,7 +310,7 @@ pub kept_new : (targets recipes : Notes) → ((name : Text) → spots_at targets
     → IsKept [] targets recipes [] start_suffixes
 unfolding rules_of recipes_of found is_phony
 kept_new targets recipes t r = record {
-  targets_told = record {
+  targets_view = record {
     all = λ name. ap (found []) (t name);
     before = λ name. subst (AreBefore 0) (sym (t name)) tt;
   };
@@ -342,8 +342,8 @@ pub kept_none : (slots : List (Option Rule)) (targets targets' recipes recipes' 
 kept_none slots targets targets' recipes recipes' phony phony' suffixes suffixes' kept t r p s =
     let e = rules_in-none slots in
     record {
-      targets_told = subst (λ rules. Tells (slots ++ None ∷ []) targets' (rules_of rules)) (sym e) (tells_none slots targets targets' _ kept.targets_told t);
-      recipes_told = subst (λ rules. Tells (slots ++ None ∷ []) recipes' (recipes_of rules)) (sym e) (tells_none slots recipes recipes' _ kept.recipes_told r);
+      targets_view = subst (λ rules. IsIndexOf (slots ++ None ∷ []) targets' (rules_of rules)) (sym e) (tells_none slots targets targets' _ kept.targets_view t);
+      recipes_told = subst (λ rules. IsIndexOf (slots ++ None ∷ []) recipes' (recipes_of rules)) (sym e) (tells_none slots recipes recipes' _ kept.recipes_told r);
       phony_told = λ name. ap (λ names. is_among names name) p ∙ kept.phony_told name ∙ sym (ap (λ rules. is_phony rules name) e);
       suffixes_told = s ∙ kept.suffixes_told ∙ sym (ap suffixes_of e);
       colons = λ name. subst (λ rules. AreAlike (λ (made : Rule × Target). is_double made.0.kind) (rules_of rules name)) (sym e) (kept.colons name);
@@ -361,7 +361,7 @@ kept_some slots rule targets targets' recipes recipes' phony phony' suffixes suf
     let e = rules_in-some slots rule in
     let none = refused_none (rules_in slots) rule fine in
     record {
-      targets_told = tells_more slots rule targets targets' _ _ true kept.targets_told t
+      targets_view = tells_more slots rule targets targets' _ _ true kept.targets_view t
           (λ name. ap (λ rules. rules_of rules name) e ∙ rules_of-more (rules_in slots) rule name);
       recipes_told = tells_more slots rule recipes recipes' _ _ (is_some rule.recipe) kept.recipes_told r
           (λ name. ap (λ rules. recipes_of rules name) e ∙ recipes_of-more (rules_in slots) rule name);

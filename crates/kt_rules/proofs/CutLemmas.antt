@@ -142,15 +142,15 @@ cuts_at_first text = subst (FindsColon false text) (sym (placed_open false text)
 -- ---- leading `./`
 
 -- what is left after slashes, where a `./` stands before them, and then after each `./` with its slashes
-record LeftBehind (behind : Bool) (name left : Text) : Type 0 where
+record LeftBehind (past : Bool) (name left : Text) : Type 0 where
   front : Text
   slashes : List Text
   parts : name ≡ front ++ (flat_map dot_slash slashes ++ left)
   front_slashes : list_all is_slash front ≡ true
-  front_behind : behind ≡ false → front ≡ []
+  front_after : past ≡ false → front ≡ []
   are_slashes : list_all (list_all is_slash) slashes ≡ true
   no_dot_slash : begins_with_dot_slash left ≡ false
-  no_slash : ((behind || is_some_text slashes) && begins_with_slash left) ≡ false
+  no_slash : ((past || is_some_text slashes) && begins_with_slash left) ≡ false
 
 and_false : (a : Bool) → (a && false) ≡ false
 and_false true = refl
@@ -161,13 +161,13 @@ or_false true b = refl
 or_false false b = refl
 
 -- a slash after a `./`
-slash_more : (behind : Bool) (byte : ℕ) (text left : Text) → (behind && byte == 47) ≡ true → LeftBehind true text left → LeftBehind behind (byte ∷ text) left
+slash_more : (past : Bool) (byte : ℕ) (text left : Text) → (past && byte == 47) ≡ true → LeftBehind true text left → LeftBehind past (byte ∷ text) left
 slash_more true byte text left h rest = record {
   front = byte ∷ rest.front;
   slashes = rest.slashes;
   parts = ap (λ (xs : Text). byte ∷ xs) rest.parts;
   front_slashes = rw h rest.front_slashes;
-  front_behind = λ e. absurd (true≢false e);
+  front_after = λ e. absurd (true≢false e);
   are_slashes = rest.are_slashes;
   no_dot_slash = rest.no_dot_slash;
   no_slash = rest.no_slash;
@@ -175,16 +175,16 @@ slash_more true byte text left h rest = record {
 slash_more false byte text left h rest = absurd (true≢false (sym h))
 
 -- a `./`
-dots_more : (behind : Bool) (byte next : ℕ) (text left : Text) → (byte == 46 && next == 47) ≡ true → LeftBehind true text left → LeftBehind behind (byte ∷ next ∷ text) left
-dots_more behind byte next text left h rest = record {
+dots_more : (past : Bool) (byte next : ℕ) (text left : Text) → (byte == 46 && next == 47) ≡ true → LeftBehind true text left → LeftBehind past (byte ∷ next ∷ text) left
+dots_more past byte next text left h rest = record {
   front = [];
   slashes = rest.front ∷ rest.slashes;
   parts = two_is byte next text h ∙ ap (λ (xs : Text). 46 ∷ 47 ∷ xs) (rest.parts ∙ sym (append_assoc rest.front (flat_map dot_slash rest.slashes) left));
   front_slashes = refl;
-  front_behind = λ e. refl;
+  front_after = λ e. refl;
   are_slashes = rw rest.front_slashes rest.are_slashes;
   no_dot_slash = rest.no_dot_slash;
-  no_slash = some_left behind (begins_with_slash left) rest.no_slash;
+  no_slash = some_left past (begins_with_slash left) rest.no_slash;
 }
   where
     two_is : (a b : ℕ) (xs : Text) → (a == 46 && b == 47) ≡ true → a ∷ b ∷ xs ≡ 46 ∷ 47 ∷ xs
@@ -200,43 +200,43 @@ dots_more behind byte next text left h rest = record {
     some_left false b e = e
 
 -- a name that begins with neither
-bare_left : (behind : Bool) (name : Text) → begins_with_dot_slash name ≡ false → (behind && begins_with_slash name) ≡ false → LeftBehind behind name name
-bare_left behind name d s = record {
+bare_left : (past : Bool) (name : Text) → begins_with_dot_slash name ≡ false → (past && begins_with_slash name) ≡ false → LeftBehind past name name
+bare_left past name d s = record {
   front = [];
   slashes = [];
   parts = refl;
   front_slashes = refl;
-  front_behind = λ e. refl;
+  front_after = λ e. refl;
   are_slashes = refl;
   no_dot_slash = d;
-  no_slash = or_false behind (begins_with_slash name) ∙ s;
+  no_slash = or_false past (begins_with_slash name) ∙ s;
 }
 
-left_one : (behind : Bool) (byte : ℕ) (b : Bool) → (behind && byte == 47) ≡ b → LeftBehind behind (byte ∷ []) (if b then [] else byte ∷ [])
-left_one behind byte true h = slash_more behind byte [] [] h (bare_left true [] refl refl)
-left_one behind byte false h = bare_left behind (byte ∷ []) (and_false (byte == 46)) h
+left_one : (past : Bool) (byte : ℕ) (b : Bool) → (past && byte == 47) ≡ b → LeftBehind past (byte ∷ []) (if b then [] else byte ∷ [])
+left_one past byte true h = slash_more past byte [] [] h (bare_left true [] refl refl)
+left_one past byte false h = bare_left past (byte ∷ []) (and_false (byte == 46)) h
 
-left_more : (behind : Bool) (byte next : ℕ) (text : Text) (b c : Bool) → (behind && byte == 47) ≡ b → (byte == 46 && next == 47) ≡ c
+left_more : (past : Bool) (byte next : ℕ) (text : Text) (b c : Bool) → (past && byte == 47) ≡ b → (byte == 46 && next == 47) ≡ c
     → LeftBehind true (next ∷ text) (after_dots true (next ∷ text)) → LeftBehind true text (after_dots true text)
-    → LeftBehind behind (byte ∷ next ∷ text) (if b then after_dots true (next ∷ text) else (if c then after_dots true text else byte ∷ next ∷ text))
-left_more behind byte next text true c h g one two = slash_more behind byte (next ∷ text) (after_dots true (next ∷ text)) h one
-left_more behind byte next text false true h g one two = dots_more behind byte next text (after_dots true text) g two
-left_more behind byte next text false false h g one two = bare_left behind (byte ∷ next ∷ text) g h
+    → LeftBehind past (byte ∷ next ∷ text) (if b then after_dots true (next ∷ text) else (if c then after_dots true text else byte ∷ next ∷ text))
+left_more past byte next text true c h g one two = slash_more past byte (next ∷ text) (after_dots true (next ∷ text)) h one
+left_more past byte next text false true h g one two = dots_more past byte next text (after_dots true text) g two
+left_more past byte next text false false h g one two = bare_left past (byte ∷ next ∷ text) g h
 
-left_behind : (behind : Bool) (name : Text) → LeftBehind behind name (after_dots behind name)
+left_after : (past : Bool) (name : Text) → LeftBehind past name (after_dots past name)
 unfolding after_dots
-left_behind behind [] = bare_left behind [] refl (and_false behind)
-left_behind behind (byte ∷ []) = left_one behind byte (behind && byte == 47) refl
-left_behind behind (byte ∷ next ∷ text) =
-    left_more behind byte next text (behind && byte == 47) (byte == 46 && next == 47) refl refl (left_behind true (next ∷ text)) (left_behind true text)
+left_after past [] = bare_left past [] refl (and_false past)
+left_after past (byte ∷ []) = left_one past byte (past && byte == 47) refl
+left_after past (byte ∷ next ∷ text) =
+    left_more past byte next text (past && byte == 47) (byte == 46 && next == 47) refl refl (left_after true (next ∷ text)) (left_after true text)
 
 -- leading `./` go with all slashes after them, and nothing else
 pub drops_dots : (name : Text) → IsLeft name (after_dots false name)
 drops_dots name =
-    let all = left_behind false name in
+    let all = left_after false name in
     record {
       slashes = all.slashes;
-      parts = all.parts ∙ ap (λ (front : Text). front ++ (flat_map dot_slash all.slashes ++ after_dots false name)) (all.front_behind refl);
+      parts = all.parts ∙ ap (λ (front : Text). front ++ (flat_map dot_slash all.slashes ++ after_dots false name)) (all.front_after refl);
       are_slashes = all.are_slashes;
       no_dot_slash = all.no_dot_slash;
       no_slash = all.no_slash;

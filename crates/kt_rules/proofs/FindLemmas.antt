@@ -1,6 +1,6 @@
 -- Searches, and names put after others.
-use Rattle.std.proofs.Common.{◌≡◌, ℕ, ◌+◌, ◌<◌, Bool, true, false, cond, if◌then◌else◌, List, [], ◌∷◌, ◌++◌, fold, find, filter, map, take, drop, length, get_or, ◌≤◌, ◌&&◌, ◌||◌, Option, Some, None, refl, sym, ap, ◌∙◌, true≢false}
-use Rattle.std.proofs.lemmas.List.{append-nil, append_assoc, drop_more, drop_all}
+use Rattle.std.proofs.Common.{◌≡◌, ℕ, ◌+◌, ◌<◌, Bool, true, false, cond, if◌then◌else◌, List, [], ◌∷◌, ◌++◌, fold, find, filter, map, take, drop, length, get_or, ◌&&◌, ◌||◌, Option, Some, None, refl, sym, ap, ◌∙◌, true≢false}
+use Rattle.std.proofs.lemmas.List.{append-nil, append_assoc, drop_more}
 use Rattle.kt_text.specs.Words.{Text}
 use Rattle.kt_rules.specs.Names.{is_among, with_name}
 
@@ -38,29 +38,24 @@ find_at made test xs i x h e =
     by true b f = ap (λ c. cond c (Some x) (find test (filter made (drop (i + 1) xs)))) f
     by false b f = refl
 
--- the same of an item of a slice that is the list, by what the two tests tell of it
-pub find_item : {A : Type 0} (made test : A → Bool) (xs slice : List A) (i : ℕ) (x : A) (b : Bool) → slice ≡ xs → i < length slice → x ≡ get_or slice i x
-    → b ≡ (made x && test x) → find test (filter made (drop i xs)) ≡ cond b (Some x) (find test (filter made (drop (i + 1) xs)))
-find_item made test xs slice i x b items h e is =
-    find_at made test xs i x (rw items at h) (rw items at e)
-    ∙ ap (λ c. cond c (Some x) (find test (filter made (drop (i + 1) xs)))) (sym is)
-
--- and where nothing is left
-pub find_end : {A : Type 0} (made test : A → Bool) (xs : List A) (i : ℕ) → length xs ≤ i → find test (filter made (drop i xs)) ≡ None
-find_end made test xs i h = ap (λ ys. find test (filter made ys)) (drop_all i xs h)
-
--- what the two filters leave of a list, from a place on
-pub filter_at : {A B : Type 0} (made test : A → Bool) (f : A → B) (xs : List A) (i : ℕ) (x : A) → i < length xs → x ≡ get_or xs i x
-    → map f (filter test (filter made (drop i xs))) ≡ (if made x && test x then f x ∷ [] else []) ++ map f (filter test (filter made (drop (i + 1) xs)))
-filter_at made test f xs i x h e =
-    ap (λ ys. map f (filter test (filter made ys))) (drop_more xs i x h)
-    ∙ ap (λ y. map f (filter test (filter made (y ∷ drop (i + 1) xs)))) (sym e)
-    ∙ by (made x) (test x) refl
+-- the same of a list that is left
+pub find_left : {A : Type 0} (made test : A → Bool) (left rest : List A) (x : A) (b : Bool) → left ≡ x ∷ rest → b ≡ (made x && test x)
+    → find test (filter made left) ≡ cond b (Some x) (find test (filter made rest))
+find_left made test left rest x b is told =
+    ap (λ ys. find test (filter made ys)) is ∙ by (made x) (test x) refl ∙ ap (λ c. cond c (Some x) (find test (filter made rest))) (sym told)
   where
-    by : (a b : Bool) → test x ≡ b → map f (filter test (cond a (x ∷ filter made (drop (i + 1) xs)) (filter made (drop (i + 1) xs))))
-        ≡ (if a && b then f x ∷ [] else []) ++ map f (filter test (filter made (drop (i + 1) xs)))
-    by true true g = ap (λ c. map f (cond c (x ∷ filter test (filter made (drop (i + 1) xs))) (filter test (filter made (drop (i + 1) xs))))) g
-    by true false g = ap (λ c. map f (cond c (x ∷ filter test (filter made (drop (i + 1) xs))) (filter test (filter made (drop (i + 1) xs))))) g
+    by : (a c : Bool) → test x ≡ c → find test (cond a (x ∷ filter made rest) (filter made rest)) ≡ cond (a && c) (Some x) (find test (filter made rest))
+    by true c f = ap (λ d. cond d (Some x) (find test (filter made rest))) f
+    by false c f = refl
+
+pub filter_left : {A B : Type 0} (made test : A → Bool) (f : A → B) (left rest : List A) (x : A) → left ≡ x ∷ rest
+    → map f (filter test (filter made left)) ≡ (if made x && test x then f x ∷ [] else []) ++ map f (filter test (filter made rest))
+filter_left made test f left rest x is = ap (λ ys. map f (filter test (filter made ys))) is ∙ by (made x) (test x) refl
+  where
+    by : (a b : Bool) → test x ≡ b → map f (filter test (cond a (x ∷ filter made rest) (filter made rest)))
+        ≡ (if a && b then f x ∷ [] else []) ++ map f (filter test (filter made rest))
+    by true true g = ap (λ c. map f (cond c (x ∷ filter test (filter made rest)) (filter test (filter made rest)))) g
+    by true false g = ap (λ c. map f (cond c (x ∷ filter test (filter made rest)) (filter test (filter made rest)))) g
     by false b g = refl
 
 pub or_split : (a b : Bool) → (a || b) ≡ false → (a ≡ false) × (b ≡ false)

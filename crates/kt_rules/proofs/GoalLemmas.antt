@@ -73,7 +73,7 @@ module _ (slots : List (Option Rule)) (targets recipes : Notes) (phony suffixes 
   pub colons_by_first : first ≡ first_found slots (spots_at targets name)
       → option_map_or (λ (made : Rule × Target). xor (is_double made.0.kind) (is_double rule.kind)) first false ≡ list_any (differ_in_colons rule) (rules_of rules name)
   colons_by_first at =
-      ap (λ o. option_map_or (λ (made : Rule × Target). xor (is_double made.0.kind) (is_double rule.kind)) o false) (at ∙ ap first_of (kept.targets_told.all name))
+      ap (λ o. option_map_or (λ (made : Rule × Target). xor (is_double made.0.kind) (is_double rule.kind)) o false) (at ∙ ap first_of (kept.targets_view.all name))
       ∙ sym (alike_first (λ t. xor t (is_double rule.kind)) (λ (made : Rule × Target). is_double made.0.kind) (rules_of (rules_in slots) name) (kept.colons name))
       ∙ ap (λ rs. list_any (differ_in_colons rule) (rules_of rs name)) view
 
@@ -126,6 +126,6 @@ module _ (slots : List (Option Rule)) (targets recipes : Notes) (phony suffixes 
       ∙ guarded (is_some (suffix_patterns suffixes name)) (list_any (is_bare_at all) spots) (found all spots) (sym (bare_found all spots))
       ∙ ap (λ xs. filter (λ (made : Rule × Target). not (is_bare made && is_some (suffix_patterns suffixes name))) (found xs spots)) one
       ∙ ap (λ xs. filter (λ (made : Rule × Target). not (is_bare made && is_some (suffix_patterns suffixes name))) (found slots xs)) two
-      ∙ ap (filter (λ (made : Rule × Target). not (is_bare made && is_some (suffix_patterns suffixes name)))) (kept.targets_told.all name)
+      ∙ ap (filter (λ (made : Rule × Target). not (is_bare made && is_some (suffix_patterns suffixes name)))) (kept.targets_view.all name)
       ∙ ap (λ names. filter (λ (made : Rule × Target). not (is_bare made && is_some (suffix_patterns names name))) (rules_of (rules_in slots) name)) kept.suffixes_told
       ∙ ap (λ rs. filter (λ (made : Rule × Target). not (is_bare made && is_some (suffix_patterns (suffixes_of rs) name))) (rules_of rs name)) view

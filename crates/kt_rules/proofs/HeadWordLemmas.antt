@@ -97,11 +97,11 @@ unfolding written_words pieces_of
 words_of_parts [] each apart = refl
 words_of_parts (part ∷ []) each apart =
     let one = all_head IsPart part [] each in
-    one_word part.word part.gap [] one.some one.whole one.behind.separators one.behind.unquoted (inr refl)
+    one_word part.word part.gap [] one.some one.whole one.past.separators one.past.unquoted (inr refl)
 words_of_parts (part ∷ next ∷ parts) each apart =
     let one = all_head IsPart part (next ∷ parts) each in
     one_word part.word part.gap (flat_map part_text (next ∷ parts))
-    one.some one.whole one.behind.separators one.behind.unquoted
+    one.some one.whole one.past.separators one.past.unquoted
     (inl (apart_first part next parts apart))
     ∙ ap (λ (words : List Text). part.word ∷ words)
     (words_of_parts (next ∷ parts) (all_tail IsPart part (next ∷ parts) each) (apart_less part next parts apart))
@@ -131,7 +131,7 @@ part_of word gap = record { word = word; gap = gap }
 is_part : (byte : ℕ) (word gap : Text) → HoldsNoSeparator false (byte ∷ word) → AreSeparators gap
     → QuotesNone false (byte ∷ word) gap → IsPart (part_of (byte ∷ word) gap)
 is_part byte word gap holds gaps q =
-    record { some = refl; whole = holds; behind = record { separators = gaps; unquoted = q } }
+    record { some = refl; whole = holds; past = record { separators = gaps; unquoted = q } }
 
 -- a byte that separates, before a word or before separators
 cut_gap : (before : Bool) (byte : ℕ) (text first gap : Text) (parts : List Part) → separates before byte ≡ true

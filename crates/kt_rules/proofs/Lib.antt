@@ -11,6 +11,7 @@ pub mod RefusedLemmas
 pub mod SlotLemmas
 pub mod FindLemmas
 pub mod NoteLemmas
+pub mod TargetLemmas
 pub mod StartLemmas
 pub mod GroupLemmas
 pub mod BookLemmas

@@ -10,17 +10,17 @@ use Rattle.kt_rules.specs.RuleLine.{is_bar, needs_of}
 
 -- what words are needs after some that were read: the bar was met or not
 unfoldable pub needs_from : Bool → List Text → List Text → List Text → Needs
-needs_from behind before after [] = record { prerequisites = before; order_only = after }
+needs_from past before after [] = record { prerequisites = before; order_only = after }
 needs_from true before after (word ∷ words) = needs_from true before (after ++ name_of word ∷ []) words
 needs_from false before after (word ∷ words) =
     if is_bar word then needs_from true before after words else needs_from false (before ++ name_of word ∷ []) after words
 
 -- after the bar all is order-only
-behind_all : (before after words : List Text) → needs_from true before after words ≡ record { prerequisites = before; order_only = after ++ map name_of words }
+after_all : (before after words : List Text) → needs_from true before after words ≡ record { prerequisites = before; order_only = after ++ map name_of words }
 unfolding needs_from
-behind_all before after [] = ap (λ l. record { prerequisites = before; order_only = l }) (sym (append-nil after))
-behind_all before after (word ∷ words) =
-    behind_all before (after ++ name_of word ∷ []) words
+after_all before after [] = ap (λ l. record { prerequisites = before; order_only = l }) (sym (append-nil after))
+after_all before after (word ∷ words) =
+    after_all before (after ++ name_of word ∷ []) words
     ∙ ap (λ l. record { prerequisites = before; order_only = l }) (append_assoc after (name_of word ∷ []) (map name_of words))
 
 -- a word that is no bar stands before it
@@ -36,7 +36,7 @@ before_all : (before words : List Text) → needs_from false before [] words ≡
 unfolding needs_from
 before_all before [] = ap (λ l. record { prerequisites = l; order_only = [] }) (sym (append-nil before))
 before_all before (word ∷ words) =
-    ⊎_elim (λ h. rw h (behind_all before [] words ∙ ap (λ l. record { prerequisites = l; order_only = map name_of words }) (sym (append-nil before))))
+    ⊎_elim (λ h. rw h (after_all before [] words ∙ ap (λ l. record { prerequisites = l; order_only = map name_of words }) (sym (append-nil before))))
     (λ h. rw (before-cons word words h, after-cons word words h) (rw h (before_all (before ++ name_of word ∷ []) words
     ∙ ap (λ l. record { prerequisites = l; order_only = map name_of (after_first is_bar words) }) (append_assoc before (name_of word ∷ []) (map name_of (before_first is_bar words))))))
     (cases_Bool (is_bar word))

@@ -1,11 +1,11 @@
 -- Spots of names, by the names' places in a list.
-use Rattle.std.proofs.Common.{◌≡◌, ℕ, zero, suc, ◌+◌, ◌<◌, ◌≤◌, Bool, true, false, nat_eq, if◌then◌else◌, List, [], ◌∷◌, ◌++◌, length, Option, Some, None, slice_get, get_or, set, drop, refl, sym, ap, ◌∙◌, subst, arith, length-append}
+use Rattle.std.proofs.Common.{◌≡◌, ℕ, zero, suc, ◌+◌, ◌<◌, ◌≤◌, Bool, true, false, nat_eq, if◌then◌else◌, List, [], ◌∷◌, ◌++◌, length, Option, Some, None, slice_get, set, refl, sym, ap, ◌∙◌, subst, arith, length-append}
 use Rattle.std.specs.Str.{bytes_eq}
 use Rattle.std.specs.List.{AllByRecursion, IsDistinct, position_from}
 use Rattle.std.specs.Option.{option_or}
 use Rattle.std.proofs.lemmas.Bool.{eqb-true, eq-eqb}
 use Rattle.std.proofs.lemmas.Cmp.{nat_list_eq_equiv}
-use Rattle.std.proofs.lemmas.List.{append-nil, append_assoc, drop_more, drop_all, get_or_past, get_or-set_same, get_or-set_other}
+use Rattle.std.proofs.lemmas.List.{append-nil, append_assoc, get_or_past, get_or-set_same, get_or-set_other}
 use Rattle.std.proofs.lemmas.Map.Keys.{IsDistinct-head, IsDistinct-tail}
 use Rattle.std.proofs.lemmas.Iterator.Adapters.{position_from-zero}
 use Rattle.std.proofs.lemmas.Slice.Eq.{bytes_eq-Decides}
@@ -17,7 +17,7 @@ use Rattle.kt_rules.specs.declared.book.spot.Spot.{Spot}
 use Rattle.kt_rules.specs.inner.Lists.{Notes, list_at}
 use Rattle.kt_rules.specs.Entry.{Rule}
 use Rattle.kt_rules.specs.Slots.{list_of, spots_at, spot_at, target_spots, spots_from, spots_for, AreIn, GrewIn}
-use Rattle.kt_rules.proofs.SlotLemmas.{spots_step, spots_end, in_append, in_target_spots}
+use Rattle.kt_rules.proofs.SlotLemmas.{in_append, in_target_spots}
 
 -- ---- names in a list
 
@@ -216,38 +216,41 @@ grew_both place old now new first later = λ name.
     let two = later name in
     (one.0 ++ two.0, two.1 ∙ ap (λ xs. xs ++ two.0) one.1 ∙ append_assoc (spots_at old name) one.0 two.0, in_append place one.0 two.0 one.2 two.2)
 
--- the spots of the targets from a number on are still to come, if any are noted
-abbrev pub IsNotedFrom : Bool → Rule → ℕ → ℕ → Notes → Notes → Type 0
-IsNotedFrom b rule place number old now =
-    (name : Text) → spots_at now name ++ (if b then spots_from rule place number (drop number rule.targets) name else [])
+-- the spots of the targets that are left are still to come, if any are noted
+abbrev pub IsNotedFrom : Bool → Rule → ℕ → ℕ → List Target → Notes → Notes → Type 0
+IsNotedFrom b rule place number left old now =
+    (name : Text) → spots_at now name ++ (if b then spots_from rule place number left name else [])
     ≡ spots_at old name ++ (if b then spots_for rule place name else [])
 
-pub noted_start : (b : Bool) (rule : Rule) (place : ℕ) (old now : Notes) → now ≡ old → IsNotedFrom b rule place 0 old now
-noted_start b rule place old now same = λ name. ap (λ notes. spots_at notes name ++ (if b then spots_for rule place name else [])) same
+pub noted_start : (b : Bool) (rule : Rule) (place number : ℕ) (left : List Target) (notes : Notes) → number ≡ 0 → left ≡ rule.targets
+    → IsNotedFrom b rule place number left notes notes
+noted_start b rule place number left notes none all = λ name.
+    ap (λ n. spots_at notes name ++ (if b then spots_from rule place n left name else [])) none
+    ∙ ap (λ ts. spots_at notes name ++ (if b then spots_from rule place 0 ts name else [])) all
 
 -- one target's spots, and then those of the targets after it
-pub noted_step : (b : Bool) (rule : Rule) (place number : ℕ) (target : Target) (old now new : Notes) → number < length rule.targets
-    → target ≡ get_or rule.targets number target
+pub noted_step : (b : Bool) (rule : Rule) (place number next : ℕ) (target : Target) (left rest : List Target) (old now new : Notes)
+    → left ≡ target ∷ rest → next ≡ number + 1
     → ((name : Text) → spots_at new name ≡ spots_at now name ++ (if b then target_spots rule target (spot_at place number) name else []))
-    → IsNotedFrom b rule place number old now → IsNotedFrom b rule place (number + 1) old new
-noted_step true rule place number target old now new within is step before = λ name.
-    let rest = spots_from rule place (number + 1) (drop (number + 1) rule.targets) name in
-    ap (λ xs. xs ++ rest) (step name)
-    ∙ append_assoc (spots_at now name) (target_spots rule target (spot_at place number) name) rest
-    ∙ ap (λ t. spots_at now name ++ (target_spots rule t (spot_at place number) name ++ rest)) is
-    ∙ ap (λ xs. spots_at now name ++ xs) (sym (spots_step rule place number rule.targets name target within))
+    → IsNotedFrom b rule place number left old now → IsNotedFrom b rule place next rest old new
+unfolding spots_from
+noted_step true rule place number next target left rest old now new is more step before = λ name.
+    let past = spots_from rule place (number + 1) rest name in
+    ap (λ n. spots_at new name ++ spots_from rule place n rest name) more
+    ∙ ap (λ xs. xs ++ past) (step name)
+    ∙ append_assoc (spots_at now name) (target_spots rule target (spot_at place number) name) past
+    ∙ sym (ap (λ ts. spots_at now name ++ spots_from rule place number ts name) is)
     ∙ before name
-noted_step false rule place number target old now new within is step before = λ name.
+noted_step false rule place number next target left rest old now new is more step before = λ name.
     ap (λ xs. xs ++ []) (step name ∙ append-nil (spots_at now name)) ∙ before name
 
 -- all spots were noted
-pub noted_end : (b : Bool) (rule : Rule) (place number : ℕ) (old now : Notes) → length rule.targets ≤ number → IsNotedFrom b rule place number old now
+pub noted_end : (b : Bool) (rule : Rule) (place number : ℕ) (left : List Target) (old now : Notes) → left ≡ [] → IsNotedFrom b rule place number left old now
     → (name : Text) → spots_at now name ≡ spots_at old name ++ (if b then spots_for rule place name else [])
-noted_end true rule place number old now all before = λ name.
-    sym (append-nil (spots_at now name))
-    ∙ ap (λ xs. spots_at now name ++ xs) (sym (ap (λ ts. spots_from rule place number ts name) (drop_all number rule.targets all) ∙ spots_end rule place number name))
-    ∙ before name
-noted_end false rule place number old now all before = λ name. sym (append-nil (spots_at now name)) ∙ before name
+unfolding spots_from
+noted_end true rule place number left old now none before = λ name.
+    sym (append-nil (spots_at now name)) ∙ sym (ap (λ ts. spots_at now name ++ spots_from rule place number ts name) none) ∙ before name
+noted_end false rule place number left old now none before = λ name. sym (append-nil (spots_at now name)) ∙ before name
 
 -- what one target's spots add is in the slot
 pub grew_target : (b : Bool) (rule : Rule) (place number : ℕ) (target : Target) (now new : Notes)

@@ -25,6 +25,15 @@ numbers_at {A} test n xs i x h e =
     by true = refl
     by false = refl
 
+-- the same of a list that is left
+pub numbers_left : {A : Type 0} (test : A → Bool) (n : ℕ) (left rest : List A) (x : A) → left ≡ x ∷ rest
+    → map (λ y. n) (filter test left) ≡ (if test x then n ∷ [] else []) ++ map (λ y. n) (filter test rest)
+numbers_left {A} test n left rest x is = ap (λ ys. map (λ (y : A). n) (filter test ys)) is ∙ by (test x)
+  where
+    by : (b : Bool) → map (λ (y : A). n) (cond b (x ∷ filter test rest) (filter test rest)) ≡ (if b then n ∷ [] else []) ++ map (λ (y : A). n) (filter test rest)
+    by true = refl
+    by false = refl
+
 -- all rules are still to come
 pub numbers_start : (rules left : List Rule) (count : ℕ) (name : Text) → left ≡ rules → count ≡ 0
     → flat_map (numbers_in (suffixes_of rules) name) (enumerate_from count left) ≡ explicit_numbers rules name
@@ -120,10 +129,10 @@ rules_from : (suffixes : List Text) (name : Text) (all : List Rule) (n : ℕ) (r
 rules_from suffixes name all n [] at = refl
 rules_from suffixes name all n (rule ∷ rules) at =
     let first : n ≡ n + 0 = omega arith in
-    let behind : (i : ℕ) → slice_get all (n + 1 + i) ≡ slice_get rules i = λ i. let e : n + 1 + i ≡ n + suc i = omega arith in ap (slice_get all) e ∙ at (suc i) in
+    let past : (i : ℕ) → slice_get all (n + 1 + i) ≡ slice_get rules i = λ i. let e : n + 1 + i ≡ n + suc i = omega arith in ap (slice_get all) e ∙ at (suc i) in
     named_append suffixes name (target_rules rule) (flat_map target_rules rules)
     ∙ ap (λ xs. xs ++ map rule_of (named_rules suffixes name (flat_map target_rules rules))) (one_rule suffixes name all n rule (ap (slice_get all) first ∙ at 0))
-    ∙ ap (λ xs. map (slice_get all) (numbers_in suffixes name (n, rule)) ++ xs) (rules_from suffixes name all (n + 1) rules behind)
+    ∙ ap (λ xs. map (slice_get all) (numbers_in suffixes name (n, rule)) ++ xs) (rules_from suffixes name all (n + 1) rules past)
     ∙ sym (map-append (slice_get all) (numbers_in suffixes name (n, rule)) (flat_map (numbers_in suffixes name) (enumerate_from (n + 1) rules)))
 
 pub numbers_tell : NumbersTellRules

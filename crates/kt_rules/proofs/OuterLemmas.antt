@@ -6,6 +6,7 @@ use Rattle.std.proofs.lemmas.Bool.{eqb-true}
 use Rattle.std.proofs.lemmas.List.{get_or-append_right}
 use Rattle.std.proofs.lemmas.List.Sums.{suffix_len_is, AllPass-from_list_all}
 use Rattle.std.proofs.Math.Seq.{get_or-append_seam, take-append_seam}
+use Rattle.kt_text.proofs.CuttingLemmas.{last_of}
 use Rattle.kt_text.proofs.PlaceLemmas.{drop-prefix_len}
 use Rattle.kt_text.specs.Words.{Text, is_separator, stripped_start}
 use Rattle.kt_rules.specs.Names.{end_place, without_outer_separators}
@@ -30,18 +31,6 @@ begun_stripped byte text h = rw h refl
 -- a text with one more byte at its end
 abbrev ending : Text → ℕ → Text
 ending front byte = front ++ byte ∷ []
-
--- the last byte of a text
-record Last (text : Text) : Type 0 where
-  front : Text
-  byte : ℕ
-  together : text ≡ ending front byte
-
-last_of : (byte : ℕ) (text : Text) → Last (byte ∷ text)
-last_of byte [] = record { front = []; byte = byte; together = refl }
-last_of byte (next ∷ text) =
-    let last = last_of next text in
-    record { front = byte ∷ last.front; byte = last.byte; together = ap (λ (xs : Text). byte ∷ xs) last.together }
 
 ends_last : (before : Bool) (front : Text) (byte : ℕ) → ends_in_backslash before (ending front byte) ≡ (byte == 92)
 ends_last before [] byte = refl
@@ -83,9 +72,9 @@ past_last front back =
     at_first (byte ∷ text) = ap (λ i. get_or (byte ∷ text) i 0 == 32) (none (length front))
 
 -- separators after a byte that is none are all at the end
-suffix_behind : (front back : Text) (byte : ℕ) → is_separator byte ≡ false → AreSeparators back
+suffix_after : (front back : Text) (byte : ℕ) → is_separator byte ≡ false → AreSeparators back
     → suffix_len is_separator (ending front byte ++ back) ≡ length (ending front byte ++ back) - (length front + 1)
-suffix_behind front back byte h all =
+suffix_after front back byte h all =
     let one = one_longer front byte in
     let len = all_longer front back byte in
     let at_end : length front + 1 - 1 ≡ length front = omega arith in
@@ -101,7 +90,7 @@ end_suffix : (front back : Text) (byte : ℕ) → is_separator byte ≡ false �
 end_suffix front back byte h all =
     let one = one_longer front byte in
     let len = all_longer front back byte in
-    let suffix = suffix_behind front back byte h all in
+    let suffix = suffix_after front back byte h all in
     omega (arith, len, one, suffix)
 
 -- whether the bytes round a place are a backslash and a space
@@ -125,7 +114,7 @@ test_is front back byte =
 
 -- the place is the end of a text, where separators after it aren't quoted
 abbrev EndsThere : Text → Text → Type 0
-EndsThere text behind = end_place (text ++ behind) ≡ length text
+EndsThere text past = end_place (text ++ past) ≡ length text
 
 -- of a text that ends with no separator, or with one that is quoted
 end_plain : (front back : Text) (byte : ℕ) → is_separator byte ≡ false → AreSeparators back
@@ -147,8 +136,8 @@ end_space : (front back : Text) → ends_in_backslash false front ≡ true → A
 end_space [] back q all = absurd (true≢false (sym q))
 end_space (first ∷ front) back q all =
     let last = last_of first front in
-    let slash = eqb-true last.byte 92 (sym (last_slash false (first ∷ front) last.front last.byte last.together) ∙ q) in
-    subst (λ (xs : Text). EndsThere (ending xs 32) back) (sym (last.together ∙ ap (ending last.front) slash))
+    let slash = eqb-true last.last 92 (sym (last_slash false (first ∷ front) last.front last.last last.whole) ∙ q) in
+    subst (λ (xs : Text). EndsThere (ending xs 32) back) (sym (last.whole ∙ ap (ending last.front) slash))
     (end_quoted last.front back all)
 
 quoted_if : (a b : Bool) → a ≡ true → (a && not b) ≡ false → b ≡ true
@@ -183,9 +172,9 @@ middle_ends : (first : ℕ) (middle trailing : Text) → EndsWithNone false (fir
     → QuotesNone false (first ∷ middle) trailing → EndsThere (first ∷ middle) trailing
 middle_ends first middle trailing end all q =
     let last = last_of first middle in
-    let slash = last_slash false (first ∷ middle) last.front last.byte last.together in
-    subst (λ (xs : Text). EndsThere xs trailing) (sym last.together)
-    (end_of last.front trailing last.byte (end last.front last.byte last.together) all
+    let slash = last_slash false (first ∷ middle) last.front last.last last.whole in
+    subst (λ (xs : Text). EndsThere xs trailing) (sym last.whole)
+    (end_of last.front trailing last.last (end last.front last.last last.whole) all
     (ap (λ b. b && begins_with_space trailing) (sym slash) ∙ q))
 
 middle_left : (middle trailing : Text) → BeginsWithNone middle → EndsWithNone false middle → AreSeparators trailing
@@ -322,7 +311,7 @@ middle_of text leading middle trailing e gap begin end all q =
       trailing = trailing;
       together = e;
       before = record { separators = gap; unquoted = refl };
-      behind = record { separators = all; unquoted = q };
+      past = record { separators = all; unquoted = q };
       begin = begin;
       end = end;
     })
@@ -339,7 +328,7 @@ some_middle text =
 only_middle : (text middle : Text) → IsMiddle text middle → middle ≡ without_outer_separators text
 only_middle text middle is =
     sym (middle_is text is.leading middle is.trailing is.together is.before.separators is.begin is.end
-    is.behind.separators is.behind.unquoted)
+    is.past.separators is.past.unquoted)
 
 pub outer_law : OuterLaw
 outer_law = record { some = some_middle; only = only_middle }

@@ -49,7 +49,7 @@ AreSeparators text = list_all is_separator text ≡ true
 
 -- a backslash at a text's end quotes no space at the begin of the text after it
 abbrev pub QuotesNone : Bool → Text → Text → Type 0
-QuotesNone before text behind = (ends_in_backslash before text && begins_with_space behind) ≡ false
+QuotesNone before text past = (ends_in_backslash before text && begins_with_space past) ≡ false
 
 pub first_is : (byte : ℕ) (text : Text) → AreSeparators (byte ∷ text) → is_separator byte ≡ true
 first_is byte text h = and_left (is_separator byte) (list_all is_separator text) h
@@ -83,24 +83,24 @@ no_backslash byte h = by (byte == 32) (byte == 9) (byte == 10) refl refl refl h
     by false false false e f g k = absurd (true≢false (sym k))
 
 -- words are cut at the bytes that separate
-pub cuts_is : (behind : Bool) (byte : ℕ) → cuts Separator behind byte ≡ separates behind byte
-cuts_is behind byte = by (is_separator byte) refl
+pub cuts_is : (past : Bool) (byte : ℕ) → cuts Separator past byte ≡ separates past byte
+cuts_is past byte = by (is_separator byte) refl
   where
     by : (b : Bool) → is_separator byte ≡ b
-        → (b && not (behind && is_quotable byte)) ≡ (b && not (behind && byte == 32))
-    by true h = ap (λ q. not (behind && q)) (space_only byte h)
+        → (b && not (past && is_quotable byte)) ≡ (b && not (past && byte == 32))
+    by true h = ap (λ q. not (past && q)) (space_only byte h)
     by false h = refl
 
 -- what a byte that separates is
-pub is_one : (behind : Bool) (byte : ℕ) → separates behind byte ≡ true → is_separator byte ≡ true
-is_one behind byte h = and_left (is_separator byte) (not (behind && byte == 32)) h
+pub is_one : (past : Bool) (byte : ℕ) → separates past byte ≡ true → is_separator byte ≡ true
+is_one past byte h = and_left (is_separator byte) (not (past && byte == 32)) h
 
-pub not_quoted : (behind : Bool) (byte : ℕ) → separates behind byte ≡ true → (behind && byte == 32) ≡ false
-not_quoted behind byte h = no_true (behind && byte == 32) (and_right (is_separator byte) (not (behind && byte == 32)) h)
+pub not_quoted : (past : Bool) (byte : ℕ) → separates past byte ≡ true → (past && byte == 32) ≡ false
+not_quoted past byte h = no_true (past && byte == 32) (and_right (is_separator byte) (not (past && byte == 32)) h)
 
-pub separates_too : (behind : Bool) (byte : ℕ) → is_separator byte ≡ true → (behind && byte == 32) ≡ false
-    → separates behind byte ≡ true
-separates_too behind byte h q = both_true (is_separator byte) (not (behind && byte == 32)) h (ap not q)
+pub separates_too : (past : Bool) (byte : ℕ) → is_separator byte ≡ true → (past && byte == 32) ≡ false
+    → separates past byte ≡ true
+separates_too past byte h q = both_true (is_separator byte) (not (past && byte == 32)) h (ap not q)
 
 -- a text that holds none, without its first byte, and with one more
 pub holds_less : (before : Bool) (byte : ℕ) (text : Text) → HoldsNoSeparator before (byte ∷ text)

@@ -43,26 +43,25 @@ one_suffix_rule suffixes rule target rest true = by (suffix_rule_as_pattern suff
     by (Some x) xs = refl
 one_suffix_rule suffixes rule target rest false = refl
 
--- the suffix rules of the targets from a place on
-pub suffix_rules_from : (suffixes : List Text) (rule : Rule) (targets : List Target) (i : ℕ) (target : Target) → i < length targets → target ≡ get_or targets i target
-    → filter_map (suffix_rule_as_pattern suffixes) (map (λ t. (rule, t)) (filter (is_made rule) (drop i targets)))
-    ≡ suffix_rules_at suffixes rule target ++ filter_map (suffix_rule_as_pattern suffixes) (map (λ t. (rule, t)) (filter (is_made rule) (drop (i + 1) targets)))
-suffix_rules_from suffixes rule targets i target h e =
-    ap (λ xs. filter_map (suffix_rule_as_pattern suffixes) (map (λ t. (rule, t)) (filter (is_made rule) xs))) (drop_more targets i target h)
-    ∙ ap (λ x. filter_map (suffix_rule_as_pattern suffixes) (map (λ t. (rule, t)) (filter (is_made rule) (x ∷ drop (i + 1) targets)))) (sym e)
-    ∙ one_suffix_rule suffixes rule target (filter (is_made rule) (drop (i + 1) targets)) (is_made rule target)
+-- the suffix rules of targets that are left
+pub suffix_rules_left : (suffixes : List Text) (rule : Rule) (left rest : List Target) (target : Target) → left ≡ target ∷ rest
+    → filter_map (suffix_rule_as_pattern suffixes) (map (λ t. (rule, t)) (filter (is_made rule) left))
+    ≡ suffix_rules_at suffixes rule target ++ filter_map (suffix_rule_as_pattern suffixes) (map (λ t. (rule, t)) (filter (is_made rule) rest))
+suffix_rules_left suffixes rule left rest target is =
+    ap (λ xs. filter_map (suffix_rule_as_pattern suffixes) (map (λ t. (rule, t)) (filter (is_made rule) xs))) is
+    ∙ one_suffix_rule suffixes rule target (filter (is_made rule) rest) (is_made rule target)
 
 -- ---- those that stay
 
-stay_more : (kept behind : List Rule) (one : Rule) (b : Bool) → reverse kept ≡ unrepeated behind
-    → reverse (kept ++ (if b then one ∷ [] else [])) ≡ (if b then one ∷ unrepeated behind else unrepeated behind)
-stay_more kept behind one true h = reverse-append kept (one ∷ []) ∙ ap (λ xs. one ∷ xs) h
-stay_more kept behind one false h = ap reverse (append-nil kept) ∙ h
+stay_more : (kept past : List Rule) (one : Rule) (b : Bool) → reverse kept ≡ unrepeated past
+    → reverse (kept ++ (if b then one ∷ [] else [])) ≡ (if b then one ∷ unrepeated past else unrepeated past)
+stay_more kept past one true h = reverse-append kept (one ∷ []) ∙ ap (λ xs. one ∷ xs) h
+stay_more kept past one false h = ap reverse (append-nil kept) ∙ h
 
 -- nothing is sorted yet
 pub sorted_none : (all kept : List Rule) (set : PatternSet) → kept ≡ [] → ((rule : Rule) → has_pattern set rule ≡ false) → IsSorted all all kept set
 sorted_none all kept set k none = record {
-  behind = [];
+  past = [];
   whole = append-nil all;
   stay = ap reverse k;
   same = none;
@@ -74,20 +73,20 @@ pub sorted_more : (all left before kept kept' : List Rule) (set set' : PatternSe
     → ((rule : Rule) → has_pattern set' rule ≡ (repeats rule one || has_pattern set rule))
     → IsSorted all left kept' set'
 sorted_more all left before kept kept' set set' one sorted popped k more =
-    let e : stays_before set one ≡ (is_some one.recipe && not (list_any (repeats one) sorted.behind))
+    let e : stays_before set one ≡ (is_some one.recipe && not (list_any (repeats one) sorted.past))
     = ap (λ c. is_some one.recipe && not c) (sorted.same one) in
     record {
-      behind = one ∷ sorted.behind;
-      whole = sym (append_assoc left (one ∷ []) sorted.behind) ∙ ap (λ xs. xs ++ sorted.behind) (sym popped) ∙ sorted.whole;
-      stay = ap reverse k ∙ stay_more kept sorted.behind one (stays_before set one) sorted.stay
-          ∙ ap (λ c. if c then one ∷ unrepeated sorted.behind else unrepeated sorted.behind) e;
+      past = one ∷ sorted.past;
+      whole = sym (append_assoc left (one ∷ []) sorted.past) ∙ ap (λ xs. xs ++ sorted.past) (sym popped) ∙ sorted.whole;
+      stay = ap reverse k ∙ stay_more kept sorted.past one (stays_before set one) sorted.stay
+          ∙ ap (λ c. if c then one ∷ unrepeated sorted.past else unrepeated sorted.past) e;
       same = λ rule. more rule ∙ ap (λ c. repeats rule one || c) (sorted.same rule);
     }
 
 -- all are sorted
 pub sorted_all : (all left kept : List Rule) (set : PatternSet) → IsSorted all left kept set → left ≡ [] → reverse kept ≡ unrepeated all
 sorted_all all left kept set sorted none =
-    sorted.stay ∙ ap unrepeated (sym (ap (λ xs. xs ++ sorted.behind) none) ∙ sorted.whole)
+    sorted.stay ∙ ap unrepeated (sym (ap (λ xs. xs ++ sorted.past) none) ∙ sorted.whole)
 
 -- ---- the keys of a set
 

@@ -1,9 +1,9 @@
 -- Slots and spots as rules are added.
-use Rattle.std.proofs.Common.{◌≡◌, ℕ, ◌+◌, ◌<◌, Bool, true, false, if◌then◌else◌, List, [], ◌∷◌, ◌++◌, length, drop, Option, Some, None, refl, sym, ap, ◌∙◌, subst, arith, slice_get, get_or, zero, suc, set, is_some, Result, Ok, Err, OnErr, rules}
+use Rattle.std.proofs.Common.{◌≡◌, ℕ, ◌+◌, ◌<◌, Bool, true, false, if◌then◌else◌, List, [], ◌∷◌, ◌++◌, length, drop, Option, Some, None, refl, sym, ap, ◌∙◌, subst, arith, slice_get, zero, suc, set, is_some}
 use Rattle.std.specs.Option.{option_and_then}
 use Rattle.std.specs.List.{cons_option}
 use Rattle.std.specs.Str.{bytes_eq}
-use Rattle.std.proofs.lemmas.List.{append-nil, drop_more}
+use Rattle.std.proofs.lemmas.List.{append-nil}
 use Rattle.std.proofs.lemmas.List.Elements.{filter_map-append}
 use Rattle.std.proofs.Math.Seq.{set-append_seam}
 use Rattle.kt_text.specs.Words.{Text}
@@ -90,17 +90,6 @@ in_spots_from rule place number [] name = tt
 in_spots_from rule place number (target ∷ targets) name =
     in_append place _ _ (in_target_spots rule target place number name) (in_spots_from rule place (number + 1) targets name)
 
--- one target's spots, and then those of the targets after it
-pub spots_step : (rule : Rule) (place number : ℕ) (targets : List Target) (name : Text) (d : Target) → number < length targets
-    → spots_from rule place number (drop number targets) name
-    ≡ target_spots rule (get_or targets number d) (spot_at place number) name ++ spots_from rule place (number + 1) (drop (number + 1) targets) name
-unfolding spots_from
-spots_step rule place number targets name d h = ap (λ ts. spots_from rule place number ts name) (drop_more targets number d h)
-
-pub spots_end : (rule : Rule) (place number : ℕ) (name : Text) → spots_from rule place number [] name ≡ []
-unfolding spots_from
-spots_end rule place number name = refl
-
 cons_nil : (target : Target) (rest : List Target) → (target ∷ rest) ≡ [] → ⊥
 cons_nil target rest h = cc
 
@@ -135,8 +124,3 @@ in_spots_if rule place name false = tt
 pub grew_recipes : (rule : Rule) (place : ℕ) (old new : Notes) → GotRecipes rule place old new → GrewIn place old new
 grew_recipes rule place old new got = λ name.
     ((if is_some rule.recipe then spots_for rule place name else []), got name, in_spots_if rule place name (is_some rule.recipe))
-
--- where a call failed, what holds anyway
-pub on_err : {T E P : Type 0} (r : Result T E) → P → OnErr r P
-on_err (Ok x) p = search rules
-on_err (Err e) p = p

@@ -1,5 +1,5 @@
 -- Suffixes in a name, by their lengths.
-use Rattle.std.proofs.Common.{◌≡◌, ℕ, zero, suc, ◌+◌, ◌-◌, ◌<◌, ◌≤◌, Bool, true, false, cond, ◌&&◌, ◌||◌, not, List, [], ◌∷◌, ◌++◌, find, fold, position, length, take, drop, Option, Some, None, IfSome, refl, sym, ap, subst, ◌∙◌, true≢false, arith, get_or, slice_get}
+use Rattle.std.proofs.Common.{◌≡◌, ℕ, zero, suc, ◌+◌, ◌-◌, ◌<◌, ◌≤◌, Bool, true, false, cond, ◌&&◌, ◌||◌, List, [], ◌∷◌, ◌++◌, find, fold, position, length, take, drop, Option, Some, None, IfSome, refl, sym, ap, subst, ◌∙◌, true≢false, arith, get_or, slice_get}
 use Rattle.std.specs.Prelude.{◌≢◌, min, nat_eq, nat_lt, if◌then◌else◌}
 use Rattle.std.specs.Option.{option_and_then}
 use Rattle.std.specs.List.{ends_with, position_from, position_or_len, range_with_len}
@@ -142,6 +142,16 @@ unfolding lengths_with
 lengths_at lengths names i name h e =
     ap (λ (x : Text). lengths_with lengths (x ∷ drop (i + 1) names)) e ∙ ap (lengths_with lengths) (sym (drop_more names i name h))
 
+-- a length of names that are left
+pub lengths_left : (lengths more : List ℕ) (left rest : List Text) (name : Text) → more ≡ with_number lengths (length name) → left ≡ name ∷ rest
+    → lengths_with more rest ≡ lengths_with lengths left
+unfolding lengths_with
+lengths_left lengths more left rest name noted is = ap (λ ls. lengths_with ls rest) noted ∙ sym (ap (lengths_with lengths) is)
+
+pub lengths_none : (lengths : List ℕ) (left : List Text) → left ≡ [] → lengths_with lengths left ≡ lengths
+unfolding lengths_with
+lengths_none lengths left none = ap (lengths_with lengths) none
+
 pub lengths_end : (lengths : List ℕ) (names : List Text) (i : ℕ) → length names ≤ i → lengths_with lengths (drop i names) ≡ lengths
 unfolding lengths_with
 lengths_end lengths names i h = ap (lengths_with lengths) (drop_all i names h)
@@ -186,6 +196,25 @@ earlier_assoc None b c = refl
 earlier_assoc (Some x) None c = refl
 earlier_assoc (Some x) (Some y) None = refl
 earlier_assoc (Some x) (Some y) (Some z) = let e : min (min x y) z ≡ min x (min y z) = omega arith in ap Some e
+
+-- ---- one length after the other
+
+-- a length from a place on is tried, where the lengths are searched one by one
+tried : (search_in : List ℕ → Option ℕ) (search_at : ℕ → Option ℕ) → ((n : ℕ) (ns : List ℕ) → search_in (n ∷ ns) ≡ earlier (search_at n) (search_in ns))
+    → (lengths : List ℕ) (i n : ℕ) (first one next : Option ℕ) → i < length lengths → n ≡ get_or lengths i 0 → one ≡ search_at n → next ≡ earlier first one
+    → earlier next (search_in (drop (i + 1) lengths)) ≡ earlier first (search_in (drop i lengths))
+tried search_in search_at more lengths i n first one next h e at both =
+    ap (λ o. earlier o (search_in (drop (i + 1) lengths))) (both ∙ ap (earlier first) at)
+    ∙ earlier_assoc first (search_at n) (search_in (drop (i + 1) lengths))
+    ∙ ap (earlier first) (sym (more n (drop (i + 1) lengths)))
+    ∙ ap (λ (m : ℕ). earlier first (search_in (m ∷ drop (i + 1) lengths))) e
+    ∙ ap (λ ns. earlier first (search_in ns)) (sym (drop_more lengths i 0 h))
+
+-- nothing is left
+all_tried : (search_in : List ℕ → Option ℕ) → search_in [] ≡ None → (lengths : List ℕ) (i : ℕ) (first : Option ℕ) → length lengths ≤ i
+    → earlier first (search_in (drop i lengths)) ≡ first
+all_tried search_in none lengths i first h =
+    ap (λ ns. earlier first (search_in ns)) (drop_all i lengths h) ∙ ap (earlier first) none ∙ earlier_none first
 
 -- ---- places in a name
 
@@ -306,23 +335,16 @@ unfolding first_cut cut_after
 more_cuts suffixes front lengths name =
     either (λ place. nat_eq place front) (is_number lengths) (is_cut_at suffixes name) (length name) 0
 
--- a length from a place on is tried
+-- the lengths from a place on, and none
 pub cut_at : (suffixes : List Text) (lengths : List ℕ) (i front : ℕ) (name : Text) (first cut next : Option ℕ) → i < length lengths
     → front ≡ get_or lengths i 0 → cut ≡ cut_after suffixes name front → next ≡ earlier first cut
     → earlier next (first_cut suffixes (drop (i + 1) lengths) name) ≡ earlier first (first_cut suffixes (drop i lengths) name)
-cut_at suffixes lengths i front name first cut next h e at both =
-    ap (λ o. earlier o (first_cut suffixes (drop (i + 1) lengths) name)) (both ∙ ap (earlier first) at)
-    ∙ earlier_assoc first (cut_after suffixes name front) (first_cut suffixes (drop (i + 1) lengths) name)
-    ∙ ap (earlier first) (sym (more_cuts suffixes front (drop (i + 1) lengths) name))
-    ∙ ap (λ (n : ℕ). earlier first (first_cut suffixes (n ∷ drop (i + 1) lengths) name)) e
-    ∙ ap (λ ns. earlier first (first_cut suffixes ns name)) (sym (drop_more lengths i 0 h))
+cut_at suffixes lengths i front name =
+    tried (λ ns. first_cut suffixes ns name) (λ n. cut_after suffixes name n) (λ n ns. more_cuts suffixes n ns name) lengths i front
 
--- nothing is left
 pub cut_end : (suffixes : List Text) (lengths : List ℕ) (i : ℕ) (name : Text) (first : Option ℕ) → length lengths ≤ i
     → earlier first (first_cut suffixes (drop i lengths) name) ≡ first
-cut_end suffixes lengths i name first h =
-    ap (λ ns. earlier first (first_cut suffixes ns name)) (drop_all i lengths h)
-    ∙ ap (earlier first) (no_cut suffixes name) ∙ earlier_none first
+cut_end suffixes lengths i name = all_tried (λ ns. first_cut suffixes ns name) (no_cut suffixes name) lengths i
 
 -- a name is cut after a length at one place at most
 pub cut_after_is : (suffixes : List Text) (name : Text) (front : ℕ)
@@ -395,23 +417,16 @@ unfolding first_end end_of_length
 more_ends suffixes len lengths name =
     either_text (λ suffix. nat_eq (length suffix) len) (λ suffix. is_number lengths (length suffix)) (ends_with nat_eq name) suffixes 0
 
--- a length from a place on is tried
+-- the lengths from a place on, and none
 pub end_at : (suffixes : List Text) (lengths : List ℕ) (i len : ℕ) (name : Text) (first one next : Option ℕ) → i < length lengths
     → len ≡ get_or lengths i 0 → one ≡ end_of_length suffixes name len → next ≡ earlier first one
     → earlier next (first_end suffixes (drop (i + 1) lengths) name) ≡ earlier first (first_end suffixes (drop i lengths) name)
-end_at suffixes lengths i len name first one next h e at both =
-    ap (λ o. earlier o (first_end suffixes (drop (i + 1) lengths) name)) (both ∙ ap (earlier first) at)
-    ∙ earlier_assoc first (end_of_length suffixes name len) (first_end suffixes (drop (i + 1) lengths) name)
-    ∙ ap (earlier first) (sym (more_ends suffixes len (drop (i + 1) lengths) name))
-    ∙ ap (λ (n : ℕ). earlier first (first_end suffixes (n ∷ drop (i + 1) lengths) name)) e
-    ∙ ap (λ ns. earlier first (first_end suffixes ns name)) (sym (drop_more lengths i 0 h))
+end_at suffixes lengths i len name =
+    tried (λ ns. first_end suffixes ns name) (λ n. end_of_length suffixes name n) (λ n ns. more_ends suffixes n ns name) lengths i len
 
--- nothing is left
 pub end_end : (suffixes : List Text) (lengths : List ℕ) (i : ℕ) (name : Text) (first : Option ℕ) → length lengths ≤ i
     → earlier first (first_end suffixes (drop i lengths) name) ≡ first
-end_end suffixes lengths i name first h =
-    ap (λ ns. earlier first (first_end suffixes ns name)) (drop_all i lengths h)
-    ∙ ap (earlier first) (no_end suffixes name) ∙ earlier_none first
+end_end suffixes lengths i name = all_tried (λ ns. first_end suffixes ns name) (no_end suffixes name) lengths i
 
 -- a suffix of another length is not the end of that length
 other_length : (name suffix : Text) (len : ℕ) → len ≤ length name → nat_eq (length suffix) len ≡ false → length (drop (length name - len) name) ≢ length suffix

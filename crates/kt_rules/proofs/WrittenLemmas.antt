@@ -10,23 +10,23 @@ use Rattle.kt_rules.specs.declared.cutting.Cut.TheVariants.{Separator}
 use Rattle.kt_rules.specs.Names.{cuts, cut_place, pieces_of, written_words}
 
 -- the pieces after the first
-pieces_behind : Cut → Bool → Text → List Text
-pieces_behind cut behind_backslash [] = []
-pieces_behind cut behind_backslash (byte ∷ text) =
-    if cuts cut behind_backslash byte then pieces_of cut false text else pieces_behind cut (byte == 92) text
+pieces_after : Cut → Bool → Text → List Text
+pieces_after cut after_backslash [] = []
+pieces_after cut after_backslash (byte ∷ text) =
+    if cuts cut after_backslash byte then pieces_of cut false text else pieces_after cut (byte == 92) text
 
 -- the first piece ends at the first cut
-pieces_first : (cut : Cut) (behind : Bool) (text : Text)
-    → pieces_of cut behind text ≡ take (cut_place cut behind text) text ∷ pieces_behind cut behind text
-unfolding pieces_of cut_place pieces_behind
-pieces_first cut behind [] = refl
-pieces_first cut behind (byte ∷ text) =
+pieces_first : (cut : Cut) (past : Bool) (text : Text)
+    → pieces_of cut past text ≡ take (cut_place cut past text) text ∷ pieces_after cut past text
+unfolding pieces_of cut_place pieces_after
+pieces_first cut past [] = refl
+pieces_first cut past (byte ∷ text) =
     ⊎_elim (λ h. rw h refl) (λ h. rw h (ap (onto_first byte) (pieces_first cut (byte == 92) text)))
-    (cases_Bool (cuts cut behind byte))
+    (cases_Bool (cuts cut past byte))
 
 -- a byte that cuts a text into words is a separator
-separator_cuts : (behind : Bool) (byte : ℕ) → cuts Separator behind byte ≡ true → is_separator byte ≡ true
-separator_cuts behind byte h =
+separator_cuts : (past : Bool) (byte : ℕ) → cuts Separator past byte ≡ true → is_separator byte ≡ true
+separator_cuts past byte h =
     ⊎_elim (λ yes. yes) (λ no. absurd (false≢true (rw no at h)))
     (cases_Bool (is_separator byte))
 
@@ -36,14 +36,14 @@ unfolding pieces_of written_words
 written_words-skip byte text h = rw h refl
 
 -- the pieces after the first that have a byte are the words of the text from the first cut on
-behind_first : (behind : Bool) (text : Text)
-    → filter is_nonempty (pieces_behind Separator behind text) ≡ written_words (drop (cut_place Separator behind text) text)
-unfolding pieces_of cut_place pieces_behind written_words
-behind_first behind [] = refl
-behind_first behind (byte ∷ text) =
-    ⊎_elim (λ h. rw h (sym (written_words-skip byte text (separator_cuts behind byte h))))
-    (λ h. rw h (behind_first (byte == 92) text))
-    (cases_Bool (cuts Separator behind byte))
+after_first : (past : Bool) (text : Text)
+    → filter is_nonempty (pieces_after Separator past text) ≡ written_words (drop (cut_place Separator past text) text)
+unfolding pieces_of cut_place pieces_after written_words
+after_first past [] = refl
+after_first past (byte ∷ text) =
+    ⊎_elim (λ h. rw h (sym (written_words-skip byte text (separator_cuts past byte h))))
+    (λ h. rw h (after_first (byte == 92) text))
+    (cases_Bool (cuts Separator past byte))
 
 -- separators in front of a text make no word
 pub written_words-begun : (text : Text) → written_words (stripped_start text) ≡ written_words text
@@ -79,8 +79,8 @@ unfolding written_words
 first_written text words e some =
     let place : 0 < cut_place Separator false words = rw e (begun_place text (rw e at some)) in
     sym (written_words-begun text) ∙ ap written_words (sym e) ∙ ap (filter is_nonempty) (pieces_first Separator false words)
-    ∙ filter_nonempty (take (cut_place Separator false words) words) (pieces_behind Separator false words) (take_some (cut_place Separator false words) words place some)
-    ∙ ap (λ rest. take (cut_place Separator false words) words ∷ rest) (behind_first false words)
+    ∙ filter_nonempty (take (cut_place Separator false words) words) (pieces_after Separator false words) (take_some (cut_place Separator false words) words place some)
+    ∙ ap (λ rest. take (cut_place Separator false words) words ∷ rest) (after_first false words)
 
 -- a text of separators alone has no word
 pub none_written : (text words : Text) → words ≡ stripped_start text → length words ≡ 0 → written_words text ≡ []

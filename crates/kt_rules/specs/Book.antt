@@ -61,7 +61,7 @@ has_recipe made = is_some made.0.recipe
 unfoldable pub recipes_of : List Rule → Text → List (Rule × Target)
 recipes_of rules name = filter has_recipe (rules_of rules name)
 
--- the explicit rules of a target, in order: the suffix rules are told by the suffixes that all rules leave
+-- the explicit rules of a target, in order: the suffix rules are recognised by the suffixes that all rules leave
 unfoldable pub explicit_rules : List Rule → Text → List (Rule × Target)
 explicit_rules rules name = filter (λ made. not (is_suffix_rule (suffixes_of rules) name made)) (rules_of rules name)
 

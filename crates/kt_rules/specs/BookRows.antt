@@ -61,7 +61,7 @@ pub record RowsOfPatternRules : Type 0 where
   pub in_both_lists : patterns_of (rule Pattern (codes "%") (codes "a" ∷ []) (codes "a" ∷ []) true 1 ∷ pattern (codes "%") (codes "a") 2 ∷ [])
       ≡ rule Pattern (codes "%") (codes "a" ∷ []) (codes "a" ∷ []) true 1 ∷ pattern (codes "%") (codes "a") 2 ∷ []
 
--- what is refused of a rule beside others, and what is told of it
+-- what is refused of a rule beside others, and what is reported of it
 pub record RowsOfAdding : Type 0 where
   pub no_recipe : refusal_of [] (rule Group (codes "a") [] [] false 1) ≡ Some bad_group
   pub two_kinds : refusal_of (needing (codes "a") (codes "b") 1 ∷ []) (rule DoubleColon (codes "a") [] [] false 2) ≡ Some (both_colons (codes "a"))

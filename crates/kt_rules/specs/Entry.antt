@@ -93,15 +93,21 @@ shared_needs (Some pattern) needs = no_needs
 abbrev pub recipe_of : Option Text → Place → Option (List RecipeLine)
 recipe_of recipe place = option_map (λ text. record { text = text; place = place } ∷ []) recipe
 
--- the rule of a line
-abbrev pub rule_with : Line → Option Text → Place → Rule
-rule_with line recipe place = record {
-  kind = kind_of line.separator (list_any has_percent line.targets);
-  targets = map (target_of line.pattern line.needs) line.targets;
-  needs = shared_needs line.pattern line.needs;
-  recipe = recipe_of recipe place;
+-- the rule of these names: what a static pattern, if there is one, gives to each target has the stem put in
+abbrev pub rule_by : Kind → List Text → Option Text → Needs → Option (List RecipeLine) → Place → Rule
+rule_by kind targets pattern needs recipe place = record {
+  kind = kind;
+  targets = map (target_of pattern needs) targets;
+  needs = shared_needs pattern needs;
+  recipe = recipe;
   place = place;
 }
+
+-- the rule of a line
+abbrev pub rule_with : Line → Option Text → Place → Rule
+rule_with line recipe place =
+    rule_by (kind_of line.separator (list_any has_percent line.targets)) line.targets line.pattern line.needs
+    (recipe_of recipe place) place
 
 -- a line that names nothing
 abbrev pub empty_line : Line
@@ -121,9 +127,9 @@ abbrev pub tested_line : Line → Result Line Refusal
 tested_line line = line_unless (line_refusal line) line
 
 -- the line of a head that was cut
-abbrev pub line_behind : Result Head Refusal → Result Line Refusal
-line_behind (Ok head) = tested_line (line_of head)
-line_behind (Err refusal) = Err refusal
+abbrev pub line_after : Result Head Refusal → Result Line Refusal
+line_after (Ok head) = tested_line (line_of head)
+line_after (Err refusal) = Err refusal
 
 -- whether there is no word
 abbrev pub is_nil : List Text → Bool
@@ -132,7 +138,7 @@ is_nil (word ∷ words) = false
 
 -- the line that an expanded head is, or what is refused of it; a head without a word names nothing
 unfoldable pub read_line : Text → Result Line Refusal
-read_line text = if is_nil (words_of text) then Ok empty_line else line_behind (head_of text)
+read_line text = if is_nil (words_of text) then Ok empty_line else line_after (head_of text)
 
 -- the rule of a line that was read
 abbrev pub rules_with : Result Line Refusal → Option Text → Place → Result Rule Refusal

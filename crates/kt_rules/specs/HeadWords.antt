@@ -10,7 +10,7 @@ use Rattle.kt_rules.specs.Cuts.{ends_in_backslash}
 
 -- whether a byte separates words: a separator, but no space that a backslash directly before it quotes
 abbrev pub separates : Bool → ℕ → Bool
-separates behind_backslash byte = is_separator byte && not (behind_backslash && byte == 32)
+separates after_backslash byte = is_separator byte && not (after_backslash && byte == 32)
 
 -- no byte of a text separates words; a backslash may stand directly before the text
 abbrev pub HoldsNoSeparator : Bool → Text → Type 0
@@ -41,7 +41,7 @@ part_word part = part.word
 pub record IsPart (part : Part) : Type 0 where
   pub some : is_nonempty part.word ≡ true
   pub whole : HoldsNoSeparator false part.word
-  pub behind : IsGap part.word part.gap
+  pub past : IsGap part.word part.gap
 
 abbrev pub HasGap : Part → Type 0
 HasGap part = is_nonempty part.gap ≡ true
@@ -80,7 +80,7 @@ pub record IsMiddle (text middle : Text) : Type 0 where
   pub trailing : Text
   pub together : text ≡ leading ++ (middle ++ trailing)
   pub before : IsGap [] leading
-  pub behind : IsGap middle trailing
+  pub past : IsGap middle trailing
   pub begin : BeginsWithNone middle
   pub end : EndsWithNone false middle
 

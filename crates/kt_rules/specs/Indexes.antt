@@ -1,5 +1,5 @@
 -- What was noted at names (kati's own).
-use Rattle.std.specs.Prelude.{ℕ, List, [], unwrap_or, option_map, bytes_eq}
+use Rattle.std.specs.Prelude.{List, [], unwrap_or, option_map, bytes_eq}
 use Rattle.std.specs.Map.{lookup}
 use Rattle.std.specs.declared.vec.Vec.{Vec}
 use Rattle.std.specs.declared.alloc.Global.{Global}

@@ -8,6 +8,7 @@ pub mod Rows
 pub mod Suffixes
 pub mod Book
 pub mod Indexes
+pub mod Targets
 pub mod Slots
 pub mod Patterns
 pub mod BookRows

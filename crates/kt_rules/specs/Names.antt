@@ -1,9 +1,8 @@
 -- The names of a rule line: how they are cut, quoted and spelled, and which are refused (POSIX.1-2024 make, "Target
 -- Rules"; GNU make manual, "Using Wildcard Characters in File Names" on quoting).
-use Rattle.std.specs.Prelude.{ℕ, suc, ◌+◌, ◌-◌, Bool, true, false, not, ◌==◌, ◌&&◌, ◌||◌, nat_eq, List, [], ◌∷◌, ◌++◌}
-use Rattle.std.specs.Prelude.{length, take, drop, filter, fold, codes, slice_index, if◌then◌else◌}
+use Rattle.std.specs.Prelude.{ℕ, suc, ◌+◌, ◌-◌, Bool, true, false, not, ◌==◌, ◌&&◌, ◌||◌, nat_eq, List, [], ◌∷◌}
+use Rattle.std.specs.Prelude.{length, take, drop, filter, codes, slice_index, if◌then◌else◌}
 use Rattle.std.specs.List.{list_any, onto_first, suffix_len, starts_with, ends_with}
-use Rattle.std.specs.Cmp.Lexicographic.{pointwise}
 use Rattle.kt_text.specs.Words.{Text, is_nonempty, is_separator, stripped_start}
 use Rattle.kt_text.specs.Functions.{quotes_percent}
 pub use Rattle.kt_list.specs.Names.{is_among, with_name}
@@ -22,19 +21,19 @@ is_cut Separator byte = is_separator byte
 
 -- whether a text is cut at a byte that has a backslash directly before it or not: quoted, it stays
 abbrev pub cuts : Cut → Bool → ℕ → Bool
-cuts cut behind_backslash byte = is_cut cut byte && not (behind_backslash && is_quotable byte)
+cuts cut after_backslash byte = is_cut cut byte && not (after_backslash && is_quotable byte)
 
 -- how many bytes stand before the first cut, or in the text without one; a backslash may stand directly before the text
 unfoldable pub cut_place : Cut → Bool → Text → ℕ
-cut_place cut behind_backslash [] = 0
-cut_place cut behind_backslash (byte ∷ text) =
-    if cuts cut behind_backslash byte then 0 else suc (cut_place cut (byte == 92) text)
+cut_place cut after_backslash [] = 0
+cut_place cut after_backslash (byte ∷ text) =
+    if cuts cut after_backslash byte then 0 else suc (cut_place cut (byte == 92) text)
 
 -- the pieces of a text that is cut
 unfoldable pub pieces_of : Cut → Bool → Text → List Text
-pieces_of cut behind_backslash [] = [] ∷ []
-pieces_of cut behind_backslash (byte ∷ text) =
-    if cuts cut behind_backslash byte then [] ∷ pieces_of cut false text
+pieces_of cut after_backslash [] = [] ∷ []
+pieces_of cut after_backslash (byte ∷ text) =
+    if cuts cut after_backslash byte then [] ∷ pieces_of cut false text
     else onto_first byte (pieces_of cut (byte == 92) text)
 
 -- the words as they are written: the maximal runs without an unquoted separator

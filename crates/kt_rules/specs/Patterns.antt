@@ -8,28 +8,23 @@ use Rattle.kt_text.specs.Words.{Text}
 use Rattle.kt_rules.specs.declared.entry.Kind.{Kind}
 use Rattle.kt_rules.specs.declared.entry.Kind.TheVariants.{SingleColon, DoubleColon, Group, Pattern, TerminalPattern}
 use Rattle.kt_rules.specs.declared.entry.Target.{Target}
-use Rattle.kt_rules.specs.declared.book.pattern.SuffixForm.{SuffixForm}
+use Rattle.kt_rules.specs.declared.book.pattern.PatternForm.{PatternForm}
 use Rattle.kt_rules.specs.Entry.{Rule}
 use Rattle.kt_rules.specs.declared.book.pattern_set.PatternKey.{PatternKey}
 use Rattle.kt_rules.specs.declared.book.pattern_set.PatternSet.{PatternSet}
 use Rattle.kt_rules.specs.Book.{is_made, target_rules, target_names, names_eq, patterns_in, suffix_rule_as_pattern}
 use Rattle.kt_rules.specs.Book.{repeats, unrepeated}
 
--- a suffix rule with what it makes and needs as a pattern rule
-abbrev pub form_told : Rule → SuffixForm → Rule
-form_told rule form =
+-- a rule with what it makes and needs as a pattern rule
+abbrev pub form_view : Rule → PatternForm → Rule
+form_view rule form =
     record {
-      kind = Pattern;
+      kind = form.kind;
       targets = form.targets.items;
       needs = form.needs;
       recipe = rule.recipe;
       place = rule.place;
     }
-
--- an entry, or what a suffix rule makes and needs in its place
-abbrev pub pattern_told : Rule → Option SuffixForm → Rule
-pattern_told rule None = rule
-pattern_told rule (Some form) = form_told rule form
 
 -- the pattern rules that the rule in a slot is
 abbrev pub slot_patterns : List Text → Option Rule → List Rule
@@ -78,11 +73,11 @@ has_pattern set rule = list_any (has_repeated rule) set.keys.keys
 
 -- whether a pattern rule has a recipe, and none of a set repeats it
 abbrev pub stays_before : PatternSet → Rule → Bool
-stays_before behind rule = is_some rule.recipe && not (has_pattern behind rule)
+stays_before past rule = is_some rule.recipe && not (has_pattern past rule)
 
 -- the rules after those that are left: those that stay stand in turn, and the set has them all
 pub record IsSorted (all left kept : List Rule) (set : PatternSet) : Type 0 where
-  pub behind : List Rule
-  pub whole : left ++ behind ≡ all
-  pub stay : reverse kept ≡ unrepeated behind
-  pub same : (rule : Rule) → has_pattern set rule ≡ list_any (repeats rule) behind
+  pub past : List Rule
+  pub whole : left ++ past ≡ all
+  pub stay : reverse kept ≡ unrepeated past
+  pub same : (rule : Rule) → has_pattern set rule ≡ list_any (repeats rule) past

@@ -6,7 +6,7 @@ use Rattle.kt_rules.specs.declared.fault_kind.FaultKind.TheVariants as kind
 use Rattle.kt_rules.specs.declared.place.Place.{Place}
 use Rattle.kt_rules.specs.declared.fault.RuleFault.{RuleFault}
 use Rattle.kt_rules.specs.declared.fault.RuleFault.TheVariants.{Memory, Refused}
-use Rattle.kt_rules.specs.declared.refusal.Refusal.{Refusal as Told}
+use Rattle.kt_rules.specs.declared.refusal.Refusal.{Refusal as HeldRefusal}
 use Rattle.kt_rules.specs.declared.refusal.Refusal.TheVariants as told
 use Rattle.kt_rules.specs.FaultKinds.{number_of, words_with}
 
@@ -21,16 +21,16 @@ pub data Refusal : Type 0 where
   two_recipes : (name : Text) → Refusal
 
 -- what the code tells of it
-abbrev pub refusal_told : Told → Refusal
-refusal_told told.MissingSeparator = missing_separator
-refusal_told (told.RefusedName name) = refused_name name.now
-refusal_told (told.BadStaticPattern name) = bad_static_pattern name.now
-refusal_told (told.RefusedTarget name) = refused_target name.now
-refusal_told told.BadGroup = bad_group
-refusal_told (told.BothColons name) = both_colons name.now
-refusal_told (told.TwoRecipes name) = two_recipes name.now
+abbrev pub refusal_view : HeldRefusal → Refusal
+refusal_view told.MissingSeparator = missing_separator
+refusal_view (told.RefusedName name) = refused_name name.now
+refusal_view (told.BadStaticPattern name) = bad_static_pattern name.now
+refusal_view (told.RefusedTarget name) = refused_target name.now
+refusal_view told.BadGroup = bad_group
+refusal_view (told.BothColons name) = both_colons name.now
+refusal_view (told.TwoRecipes name) = two_recipes name.now
 
--- the kind of its fault, and the name that it is told by, empty where there is none
+-- the kind of its fault, and the name in its words, which is empty where there is none
 abbrev pub kind_and_name : Refusal → FaultKind × Text
 kind_and_name missing_separator = (kind.MissingSeparator, [])
 kind_and_name (refused_name name) = (kind.RefusedName, name)
@@ -58,9 +58,9 @@ faults_at place (Ok value) = Ok value
 faults_at place (Err refusal) = Err (fault_at place refusal)
 
 -- the call returns just this fault; that memory was refused is always excused
-abbrev pub Tells : RuleFault → Fault → Type 0
-Tells Memory fault = Unit {0}
-Tells (Refused number place words) fault = record { number = number; place = place; words = words } ≡ fault
+abbrev pub ReportsFault : RuleFault → Fault → Type 0
+ReportsFault Memory fault = Unit {0}
+ReportsFault (Refused number place words) fault = record { number = number; place = place; words = words } ≡ fault
 
 -- the call returns what is expected: the value, or just the fault
 abbrev pub Answers : {A : Type 0} → Result A RuleFault → Result A Fault → Type 0

@@ -15,7 +15,7 @@ use Rattle.kt_rules.specs.declared.head.Head.{Head as HeadTold}
 use Rattle.kt_rules.specs.declared.line.Line.{Line}
 use Rattle.kt_rules.specs.declared.entry.Needs.{Needs}
 use Rattle.kt_rules.specs.declared.refusal.Refusal.{Refusal as RefusalTold}
-use Rattle.kt_rules.specs.Refusals.{Refusal, refusal_told, missing_separator, refused_name, bad_static_pattern}
+use Rattle.kt_rules.specs.Refusals.{Refusal, refusal_view, missing_separator, refused_name, bad_static_pattern}
 use Rattle.kt_rules.specs.Refusals.{refused_target, bad_group}
 use Rattle.kt_rules.specs.declared.cutting.Cut.TheVariants.{Colon}
 use Rattle.kt_rules.specs.Names.{cut_place, written_words, without_outer_separators, name_of, without_repeats, is_among}
@@ -30,8 +30,8 @@ pub record Head : Type 0 where
   pub needs : Text
 
 -- what the code tells of them
-abbrev pub head_told : HeadTold → Head
-head_told head = record {
+abbrev pub head_view : HeadTold → Head
+head_view head = record {
   separator = head.separator;
   targets = head.targets.now;
   pattern = option_map (λ word. word.now) head.pattern;
@@ -57,14 +57,14 @@ with_pattern separator targets part needs (Some word) =
     Ok (record { separator = separator; targets = targets; pattern = Some word; needs = needs })
 
 -- what stands after the separator: one more unquoted colon divides off a static pattern
-abbrev pub head_behind : Separator → Text → Text → Option (Text × Text) → Result Head Refusal
-head_behind separator targets needs None = Ok (record {
+abbrev pub head_after : Separator → Text → Text → Option (Text × Text) → Result Head Refusal
+head_after separator targets needs None = Ok (record {
   separator = separator;
   targets = targets;
   pattern = None;
   needs = needs;
 })
-head_behind separator targets rest (Some cut) =
+head_after separator targets rest (Some cut) =
     if is_some (colon_cut cut.1) then Err missing_separator
     else with_pattern separator targets cut.0 cut.1 (pattern_word (written_words cut.0))
 
@@ -79,19 +79,19 @@ unfoldable pub group_targets : Text → Option Text
 group_targets before = if ends_with nat_eq before (38 ∷ []) then Some (take (length before - 1) before) else None
 
 -- what stands after a double colon, of which the second follows the first directly
-unfoldable pub behind_double : Text → Option Text
-behind_double after = if starts_with nat_eq after (58 ∷ []) then Some (drop 1 after) else None
+unfoldable pub after_double : Text → Option Text
+after_double after = if starts_with nat_eq after (58 ∷ []) then Some (drop 1 after) else None
 
 -- by what stands before the separator and after its first colon: no double colon makes a group
 abbrev pub head_by : Text → Text → Option Text → Option Text → Result Head Refusal
-head_by before after None None = head_behind Single before after (colon_cut after)
-head_by before after None (Some rest) = head_behind Double before rest (colon_cut rest)
+head_by before after None None = head_after Single before after (colon_cut after)
+head_by before after None (Some rest) = head_after Double before rest (colon_cut rest)
 head_by before after (Some targets) None = group_head targets after
 head_by before after (Some targets) (Some rest) = Err bad_group
 
 -- the head, by what stands before and after its first colon
 abbrev pub head_round : Text → Text → Result Head Refusal
-head_round before after = head_by before after (group_targets before) (behind_double after)
+head_round before after = head_by before after (group_targets before) (after_double after)
 
 -- the head, by the cut at its first colon, if there is one
 abbrev pub head_cut : Option (Text × Text) → Result Head Refusal
@@ -183,10 +183,10 @@ line_refusal line =
     ∷ [])
 
 -- what a cut of a head tells
-abbrev pub heads_told : Result HeadTold RefusalTold → Result Head Refusal
-heads_told (Ok head) = Ok (head_told head)
-heads_told (Err refusal) = Err (refusal_told refusal)
+abbrev pub heads_view : Result HeadTold RefusalTold → Result Head Refusal
+heads_view (Ok head) = Ok (head_view head)
+heads_view (Err refusal) = Err (refusal_view refusal)
 
 -- what an answer tells of a refusal
 abbrev pub refusal_in : Option RefusalTold → Option Refusal
-refusal_in refusal = option_map refusal_told refusal
+refusal_in refusal = option_map refusal_view refusal

@@ -12,15 +12,16 @@ use Rattle.kt_rules.specs.Entry.{Rule}
 use Rattle.kt_rules.specs.Book.{GroupsStandAlone, is_made, goal_in, is_double, is_group, is_phony, rules_of, recipes_of}
 use Rattle.kt_rules.specs.Book.{xor}
 use Rattle.kt_rules.specs.Names.{is_among}
+use Rattle.kt_rules.specs.Targets.{target_view}
 use Rattle.kt_rules.specs.Suffixes.{suffixes_of, is_bare}
 
 -- the rules in the slots
 abbrev pub rules_in : List (Option Rule) → List Rule
 rules_in slots = filter_map (λ slot. slot) slots
 
--- a rule as it is told
-abbrev pub rule_told : TargetRule → Rule × Target
-rule_told rule = (rule.entry.now, rule.target.now)
+-- a rule as definitions have it
+abbrev pub rule_view : TargetRule → Rule × Target
+rule_view rule = (rule.entry.now, target_view rule.target)
 
 -- a rule with its target of this number
 abbrev pub target_rule : Rule → ℕ → Option (Rule × Target)
@@ -122,15 +123,15 @@ abbrev pub AreAlike : {A : Type 0} → (A → Bool) → List A → Type 0
 AreAlike test xs = (b : Bool) × (list_any (λ x. xor (test x) b) xs ≡ false)
 
 -- an index has the rules of each name
-pub record Tells (slots : List (Option Rule)) (index : Notes) (rules : Text → List (Rule × Target)) : Type 0 where
+pub record IsIndexOf (slots : List (Option Rule)) (index : Notes) (rules : Text → List (Rule × Target)) : Type 0 where
   pub all : (name : Text) → found slots (spots_at index name) ≡ rules name
   pub before : (name : Text) → AreBefore (length slots) (spots_at index name)
 
 -- what a book keeps beside its rules is what they say
 pub record IsKept (slots : List (Option Rule)) (targets recipes : Notes) (phony suffixes : List Text)
     : Type 0 where
-  pub targets_told : Tells slots targets (rules_of (rules_in slots))
-  pub recipes_told : Tells slots recipes (recipes_of (rules_in slots))
+  pub targets_view : IsIndexOf slots targets (rules_of (rules_in slots))
+  pub recipes_told : IsIndexOf slots recipes (recipes_of (rules_in slots))
   pub phony_told : (name : Text) → is_among phony name ≡ is_phony (rules_in slots) name
   pub suffixes_told : suffixes ≡ suffixes_of (rules_in slots)
   -- no target has rules with one colon and with two

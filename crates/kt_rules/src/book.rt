@@ -4,7 +4,7 @@ ghost use Rattle.std.specs.List.{ends_with};
 ghost use Rattle.kt_rules.specs.Book.{GroupsStandAlone, added, explicit_rules, first_goal_of, is_explicit, is_phony};
 ghost use Rattle.kt_rules.specs.Book.{override_messages, patterns_of, refusal_of};
 ghost use Rattle.kt_rules.specs.Refusals.{Answers};
-ghost use Rattle.kt_rules.specs.Slots.{rule_told};
+ghost use Rattle.kt_rules.specs.Slots.{rule_view};
 ghost use Rattle.kt_rules.specs.Suffixes.{suffixes_of};
 
 mod entries;
@@ -126,9 +126,9 @@ impl Book {
     /// Whether an entry is an explicit rule for one of its targets, as the present suffixes tell.
     /// Takes no memory.
     pub fn is_explicit(&self, rule: TargetRule) -> bool
-        ensures { result ≡ is_explicit (suffixes_of self.now) (rule_told rule.entry) }
+        ensures { result ≡ is_explicit (suffixes_of self.now) (rule_view rule.entry) }
     {
-        let name = rule.target.name.as_slice();
+        let name = rule.target.name;
         is_made(rule.entry, rule.target) && !(is_bare(rule) && is_suffix_name(&self.suffixes, name))
     }
 

@@ -44,12 +44,12 @@ pub(crate) fn cut_place(text: &[u8], cut: Cut) -> usize
     ensures bound { result ≤ length text.now }
 {
     let mut place = 0;
-    let mut behind_backslash = false;
+    let mut after_backslash = false;
     for byte in text {
-        if is_cut(cut, *byte) && !(behind_backslash && is_quotable(*byte)) {
+        if is_cut(cut, *byte) && !(after_backslash && is_quotable(*byte)) {
             return place;
         }
-        behind_backslash = *byte == b'\\';
+        after_backslash = *byte == b'\\';
         place += 1;
     }
     place

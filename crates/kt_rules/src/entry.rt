@@ -1,8 +1,11 @@
 //! Rules as a makefile states them.
-ghost use Rattle.std.specs.Prelude.{◌≡◌, [], ◌∷◌, option_map, IfOk, OnErr, OnOk};
+ghost use Rattle.std.specs.Prelude.{◌≡◌, ◌<◌, ◌^◌, [], ◌∷◌, length, option_map, IfOk, OnErr, OnOk};
 ghost use Rattle.kt_rules.specs.Entry.{needs_for, no_needs, with_line};
+ghost use Rattle.kt_rules.specs.Targets.{needs_view, target_view, targets_view};
 
+use crate::needs::NeedsView;
 use crate::place::Place;
+use crate::target::{TargetView, Targets};
 use kt_list::{Sequence, Text};
 use std::alloc::{AllocError, Global};
 use std::marker::Model;
@@ -73,54 +76,30 @@ pub struct RecipeLine {
 /// An entry without targets makes nothing. Special targets stand among the others.
 #[derive(Drop)]
 pub struct Entry {
-    alloc: Global,
-    kind: Kind,
-    targets: Vec<Target>,
-    needs: Needs,
-    recipe: Option<Vec<RecipeLine>>,
-    place: Place,
+    pub(crate) alloc: Global,
+    pub(crate) kind: Kind,
+    pub(crate) targets: Sequence<Name>,
+    /// A static pattern.
+    pub(crate) pattern: Option<Name>,
+    /// Where there is a static pattern, without the stem.
+    pub(crate) needs: Needs,
+    pub(crate) recipe: Option<Vec<RecipeLine>>,
+    pub(crate) place: Place,
 }
 
 impl Model for Entry {
     ghost use Rattle.std.specs.Prelude.{option_map};
-    ghost use Rattle.kt_rules.specs.Entry.{Rule};
+    ghost use Rattle.kt_rules.specs.Entry.{Rule, rule_by};
 
     ghost Value = { Rule };
 
-    ghost view = { λ s. record {
-      kind = s.kind;
-      targets = s.targets.items;
-      needs = s.needs;
-      recipe = option_map (λ lines. lines.items) s.recipe;
-      place = s.place;
-    } };
+    ghost view = { λ s. rule_by s.kind s.targets s.pattern s.needs
+        (option_map (λ lines. lines.items) s.recipe) s.place };
 }
 
 impl Entry {
-    pub(crate) fn new(
-        alloc: Global,
-        kind: Kind,
-        targets: Vec<Target>,
-        needs: Needs,
-        recipe: Option<Vec<RecipeLine>>,
-        place: Place,
-    ) -> Entry
-        ensures { result ≡ record {
-          kind = kind;
-          targets = targets.items;
-          needs = needs;
-          recipe = option_map (λ lines. lines.items) recipe;
-          place = place;
-        } }
-    {
-        Entry {
-            alloc,
-            kind,
-            targets,
-            needs,
-            recipe,
-            place,
-        }
+    pub(crate) fn alloc(&self) -> Global {
+        self.alloc
     }
 
     /// How it makes its targets.
@@ -131,27 +110,35 @@ impl Entry {
     }
 
     /// Its targets, in order and without repeats.
-    pub fn targets(&self) -> &[Target]
-        ensures { result.now ≡ self.now.targets }
+    pub fn targets(&self) -> Targets<'_>
+        ensures all { targets_view result ≡ self.now.targets }
+        ensures few { length self.now.targets < 2 ^ 63 }
     {
-        self.targets.as_slice()
+        Targets {
+            names: self.targets.as_slice(),
+            pattern: &self.pattern,
+            needs: &self.needs,
+        }
     }
 
     /// What one of its targets needs.
-    pub fn needs<'a>(&'a self, target: &'a Target) -> &'a Needs
-        ensures { result.now ≡ needs_for self.now target.now }
+    pub fn needs<'a>(&'a self, target: TargetView<'a>) -> NeedsView<'a>
+        ensures { needs_view result ≡ needs_for self.now (target_view target.entry) }
     {
-        match &target.stemmed {
-            Some(stemmed) => &stemmed.needs,
-            None => &self.needs,
+        match target.stem() {
+            Some(stem) => NeedsView::stemmed(target.needs, stem),
+            None => self.shared_needs(),
         }
     }
 
     // What its targets need that no static pattern gives anything.
-    pub(crate) fn shared_needs(&self) -> &Needs
-        ensures { result.now ≡ self.now.needs }
+    pub(crate) fn shared_needs(&self) -> NeedsView<'_>
+        ensures { needs_view result ≡ self.now.needs }
     {
-        &self.needs
+        match &self.pattern {
+            None => NeedsView::of(&self.needs),
+            Some(_) => NeedsView::none(),
+        }
     }
 
     /// The lines of its recipe, if it has one.

@@ -53,7 +53,7 @@ impl FaultKind {
         self.row().0
     }
 
-    /// What the fault line says, before the name that it tells of if it tells of one.
+    /// What the fault line says, before the name that it is about if it is about one.
     pub fn words(self) -> &'static [u8]
         ensures { result.now ≡ wording self }
     {

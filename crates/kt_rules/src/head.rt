@@ -1,8 +1,8 @@
 //! The expanded head of a rule line, cut into its parts.
 ghost use Rattle.std.specs.Prelude.{◌≡◌, List, ℕ, option_map};
 ghost use Rattle.kt_rules.specs.Names.{written_words};
-ghost use Rattle.kt_rules.specs.RuleLine.{behind_double, colon_cut, group_head, group_targets, head_behind, head_of};
-ghost use Rattle.kt_rules.specs.RuleLine.{head_round, heads_told, pattern_word};
+ghost use Rattle.kt_rules.specs.RuleLine.{after_double, colon_cut, group_head, group_targets, head_after, head_of};
+ghost use Rattle.kt_rules.specs.RuleLine.{head_round, heads_view, pattern_word};
 
 use crate::cutting::colon_cut;
 use crate::refusal::Refusal;
@@ -33,7 +33,7 @@ pub(crate) struct Head<'a> {
 // The parts of a head, or what is refused of it.
 #[tactic(auto, unfolding(crate::specs::RuleLine::head_of))]
 pub(crate) fn cut_head(text: &[u8]) -> Result<Head<'_>, Refusal<'_>>
-    ensures { heads_told result ≡ head_of text.now }
+    ensures { heads_view result ≡ head_of text.now }
 {
     match colon_cut(text) {
         None => Err(Refusal::MissingSeparator),
@@ -43,11 +43,11 @@ pub(crate) fn cut_head(text: &[u8]) -> Result<Head<'_>, Refusal<'_>>
 
 // By what stands before the separator and after its first colon.
 fn head_round<'a>(before: &'a [u8], after: &'a [u8]) -> Result<Head<'a>, Refusal<'a>>
-    ensures { heads_told result ≡ head_round before.now after.now }
+    ensures { heads_view result ≡ head_round before.now after.now }
 {
-    match (group_targets(before), behind_double(after)) {
-        (None, None) => head_behind(Separator::Single, before, after),
-        (None, Some(rest)) => head_behind(Separator::Double, before, rest),
+    match (group_targets(before), after_double(after)) {
+        (None, None) => head_after(Separator::Single, before, after),
+        (None, Some(rest)) => head_after(Separator::Double, before, rest),
         (Some(targets), None) => group_head(targets, after),
         (Some(_), Some(_)) => Err(Refusal::BadGroup),
     }
@@ -66,9 +66,9 @@ fn group_targets(before: &[u8]) -> Option<&[u8]>
 }
 
 // What stands after the second colon of two.
-#[tactic(auto, unfolding(crate::specs::RuleLine::behind_double))]
-fn behind_double(after: &[u8]) -> Option<&[u8]>
-    ensures { option_map (λ rest. rest.now) result ≡ behind_double after.now }
+#[tactic(auto, unfolding(crate::specs::RuleLine::after_double))]
+fn after_double(after: &[u8]) -> Option<&[u8]>
+    ensures { option_map (λ rest. rest.now) result ≡ after_double after.now }
 {
     if after.starts_with(b":") {
         Some(&after[1..])
@@ -79,7 +79,7 @@ fn behind_double(after: &[u8]) -> Option<&[u8]>
 
 // A group: no further colon is allowed.
 fn group_head<'a>(targets: &'a [u8], rest: &'a [u8]) -> Result<Head<'a>, Refusal<'a>>
-    ensures { heads_told result ≡ group_head targets.now rest.now }
+    ensures { heads_view result ≡ group_head targets.now rest.now }
 {
     if colon_cut(rest).is_some() {
         return Err(Refusal::BadGroup);
@@ -93,12 +93,12 @@ fn group_head<'a>(targets: &'a [u8], rest: &'a [u8]) -> Result<Head<'a>, Refusal
 }
 
 // By what stands after the separator: one more colon divides off a static pattern.
-fn head_behind<'a>(
+fn head_after<'a>(
     separator: Separator,
     targets: &'a [u8],
     rest: &'a [u8],
 ) -> Result<Head<'a>, Refusal<'a>>
-    ensures { heads_told result ≡ head_behind separator targets.now rest.now (colon_cut rest.now) }
+    ensures { heads_view result ≡ head_after separator targets.now rest.now (colon_cut rest.now) }
 {
     let Some((part, needs)) = colon_cut(rest) else {
         return Ok(Head {

@@ -3,6 +3,7 @@
 
 mod book;
 mod checking;
+mod copying;
 mod cutting;
 mod entry;
 mod fault;
@@ -12,10 +13,12 @@ mod index;
 pub mod laws;
 mod line;
 mod name;
+mod needs;
 mod place;
 mod reading;
 mod refusal;
 mod refused;
+mod target;
 mod written;
 
 pub use book::{Book, Entries, Explicit, Pattern, TargetRule, Warnings};
@@ -24,5 +27,7 @@ pub use fault::RuleFault;
 pub use fault_kind::FaultKind;
 pub use index::Index;
 pub use name::{dotless, without_dots};
+pub use needs::{NeededName, NeededNames, NeedsView};
 pub use place::Place;
 pub use reading::read_rule;
+pub use target::{TargetView, Targets};

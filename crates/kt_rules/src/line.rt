@@ -2,7 +2,7 @@
 ghost use Rattle.std.specs.Prelude.{◌≡◌, ◌≤◌, ◌∷◌, [], length, map, option_map, IfOk, IfSome};
 ghost use Rattle.kt_rules.specs.Names.{name_of, without_repeats, written_words};
 ghost use Rattle.kt_rules.specs.Entry.{empty_line};
-ghost use Rattle.kt_rules.specs.RuleLine.{head_told, is_bar, line_of, needs_of};
+ghost use Rattle.kt_rules.specs.RuleLine.{head_view, is_bar, line_of, needs_of};
 
 use crate::entry::{Name, Needs};
 use crate::head::{Head, Separator};
@@ -40,7 +40,7 @@ impl Line {
 
     /// The names of a head.
     pub(crate) fn of(alloc: Global, head: &Head<'_>) -> Result<Line, AllocError>
-        ensures { IfOk result (λ line. line ≡ line_of (head_told head.now)) }
+        ensures { IfOk result (λ line. line ≡ line_of (head_view head.now)) }
     {
         Ok(Line {
             separator: head.separator,
@@ -113,13 +113,13 @@ fn needs(alloc: Global, text: &[u8]) -> Result<Needs, AllocError>
     // Most words have one space before them: no room is taken for more names than there are.
     let mut prerequisites = Vec::with_capacity(alloc, spaces(text))?;
     let mut order_only = Vec::new(alloc);
-    let mut behind_bar = false;
+    let mut after_bar = false;
     let mut rest = text;
     while let Some((word, after)) = first_word(rest) {
-        if behind_bar {
+        if after_bar {
             order_only.push(named(alloc, word)?)?;
         } else if is_bar(word) {
-            behind_bar = true;
+            after_bar = true;
         } else {
             prerequisites.push(named(alloc, word)?)?;
         }

@@ -15,7 +15,8 @@ pub struct Place {
 }
 
 impl Place {
-    ghost use Rattle.kt_rules.specs.Places.{IsBegun, place_text};
+    ghost use Rattle.kt_text.specs.Begun.{HasBegun};
+    ghost use Rattle.kt_rules.specs.Places.{place_text};
 
     /// The same place; the file's name isn't copied.
     pub fn share(&self) -> Result<Place, AllocError>
@@ -30,7 +31,7 @@ impl Place {
     /// Appends `FILE:LINE`. Where memory is refused, the text holds a prefix of it more.
     pub fn append_to(&self, text: &mut Vec<u8>) -> Result<(), AllocError>
         ensures appended { OnOk result (text.new.items ≡ text.old.items ++ place_text self.now) }
-        ensures refused { OnErr result (IsBegun self.now text.old.items text.new.items) }
+        ensures refused { OnErr result (HasBegun (place_text self.now) text.old.items text.new.items) }
     {
         let mut buffer = Buffer::new();
         text.extend_from_slice(self.file.as_slice())?;

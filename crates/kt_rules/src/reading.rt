@@ -1,19 +1,17 @@
 //! Rule lines read as entries.
-ghost use Rattle.std.specs.Prelude.{◌≡◌, ◌==◌, false, true, map, option_map, IfOk};
+ghost use Rattle.std.specs.Prelude.{◌≡◌, option_map, IfOk};
 ghost use Rattle.kt_text.specs.Words.{words_of};
 ghost use Rattle.kt_rules.specs.Refusals.{Answers};
-ghost use Rattle.kt_rules.specs.Entry.{empty_line, is_nil, kind_of, recipe_of, rule_of, rule_with, shared_needs};
-ghost use Rattle.kt_rules.specs.Entry.{stemmed, stemmed_names, stemmed_of, target_of};
+ghost use Rattle.kt_rules.specs.Entry.{is_nil, kind_of, recipe_of, rule_of, rule_with};
 
 use crate::checking::{any_percent, line_refusal};
-use crate::entry::{Entry, Kind, Name, Needs, RecipeLine, Stemmed, Target, first_line};
+use crate::entry::{Entry, Kind, RecipeLine, first_line};
 use crate::fault::RuleFault;
 use crate::head::{Separator, cut_head};
 use crate::line::Line;
-use crate::name::stemmed_name;
 use crate::place::Place;
 use kt_list::Sequence;
-use kt_text::{match_pattern, words};
+use kt_text::words;
 use std::alloc::{AllocError, Global};
 
 /// The entry of a rule line.
@@ -71,13 +69,19 @@ fn entry(
     let recipe = recipe_of(alloc, recipe, &place)?;
     let Line {
         separator: _,
-        targets: names,
+        targets,
         pattern,
         needs,
     } = line;
-    let targets = targets(alloc, names, &pattern, &needs)?;
-    let shared = shared_needs(alloc, &pattern, needs);
-    Ok(Entry::new(alloc, kind, targets, shared, recipe, place))
+    Ok(Entry {
+        alloc,
+        kind,
+        targets,
+        pattern,
+        needs,
+        recipe,
+        place,
+    })
 }
 
 // How a line makes its targets.
@@ -106,76 +110,4 @@ fn recipe_of(
     };
     let place = place.share()?;
     Ok(Some(first_line(alloc, RecipeLine { text, place })?))
-}
-
-// The targets, with what a static pattern gives them.
-fn targets(
-    alloc: Global,
-    names: Sequence<Name>,
-    pattern: &Option<Name>,
-    needs: &Needs,
-) -> Result<Vec<Target>, AllocError>
-    ensures { IfOk result (λ targets. targets.items ≡ map (target_of pattern.now needs.now) names) }
-{
-    let names = names.into_vec();
-    let mut targets = Vec::with_capacity(alloc, names.len())?;
-    for name in names {
-        let stemmed = stemmed_of(alloc, pattern, needs, name.as_slice())?;
-        targets.push(Target { name, stemmed })?;
-    }
-    Ok(targets)
-}
-
-// What a static pattern, if there is one, gives to a target that it matches.
-#[tactic(auto, unfolding(crate::specs::Entry::stemmed_of))]
-fn stemmed_of(
-    alloc: Global,
-    pattern: &Option<Name>,
-    needs: &Needs,
-    target: &[u8],
-) -> Result<Option<Stemmed>, AllocError>
-    ensures { IfOk result (λ stemmed. stemmed ≡ stemmed_of pattern.now needs.now target.now) }
-{
-    let Some(pattern) = pattern else {
-        return Ok(None);
-    };
-    match match_pattern(pattern.as_slice(), target) {
-        None => Ok(None),
-        Some(stem) => Ok(Some(stemmed(alloc, needs, &target[stem])?)),
-    }
-}
-
-// What a static pattern gives for a stem.
-fn stemmed(alloc: Global, needs: &Needs, stem: &[u8]) -> Result<Stemmed, AllocError>
-    ensures { IfOk result (λ given. given ≡ stemmed needs.now stem.now) }
-{
-    Ok(Stemmed {
-        stem: Name::copied(alloc, stem)?,
-        needs: Needs {
-            prerequisites: stemmed_names(alloc, stem, needs.prerequisites.as_slice())?,
-            order_only: stemmed_names(alloc, stem, needs.order_only.as_slice())?,
-        },
-    })
-}
-
-// The names with the stem put in.
-#[tactic(auto, unfolding(crate::specs::Entry::stemmed_names))]
-fn stemmed_names(alloc: Global, stem: &[u8], names: &[Name]) -> Result<Sequence<Name>, AllocError>
-    ensures { IfOk result (λ list. list ≡ stemmed_names stem.now names.now) }
-{
-    let mut list = Vec::with_capacity(alloc, names.len())?;
-    for name in names {
-        list.push(Name::from(stemmed_name(alloc, name.as_slice(), stem)?))?;
-    }
-    Ok(Sequence::from(list))
-}
-
-// What the targets need that a static pattern gives nothing.
-fn shared_needs(alloc: Global, pattern: &Option<Name>, needs: Needs) -> Needs
-    ensures { result ≡ shared_needs pattern.now needs }
-{
-    match pattern {
-        None => needs,
-        Some(_) => Needs::none(alloc),
-    }
 }

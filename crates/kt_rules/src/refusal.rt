@@ -1,6 +1,6 @@
 //! What is refused of a rule, without memory.
 ghost use Rattle.std.specs.Prelude.{◌≡◌};
-ghost use Rattle.kt_rules.specs.Refusals.{Tells, fault_at, refusal_told, kind_and_name};
+ghost use Rattle.kt_rules.specs.Refusals.{ReportsFault, fault_at, refusal_view, kind_and_name};
 
 use crate::fault::RuleFault;
 use crate::fault_kind::FaultKind;
@@ -8,7 +8,7 @@ use crate::place::Place;
 use kt_list::Sequence;
 use std::alloc::Global;
 
-/// What is wrong with a rule, with the name that it is told by.
+/// What is wrong with a rule, with the name in its words.
 #[derive(Clone, Copy, Debug)]
 pub(crate) enum Refusal<'a> {
     MissingSeparator,
@@ -25,7 +25,7 @@ pub(crate) enum Refusal<'a> {
 impl<'a> Refusal<'a> {
     /// The fault at a place.
     pub(crate) fn at(self, alloc: Global, place: Place) -> RuleFault
-        ensures { Tells result (fault_at place (refusal_told self.entry)) }
+        ensures { ReportsFault result (fault_at place (refusal_view self.entry)) }
     {
         let (kind, name) = self.kind_and_name();
         match kind.words_with(alloc, name) {
@@ -38,9 +38,9 @@ impl<'a> Refusal<'a> {
         }
     }
 
-    // The kind of its fault, and the name that it is told by, empty where there is none.
+    // The kind of its fault, and the name in its words, which is empty where there is none.
     fn kind_and_name(self) -> (FaultKind, &'a [u8])
-        ensures { (result.0, result.1.now) ≡ kind_and_name (refusal_told self.entry) }
+        ensures { (result.0, result.1.now) ≡ kind_and_name (refusal_view self.entry) }
     {
         match self {
             Refusal::MissingSeparator => (FaultKind::MissingSeparator, b""),

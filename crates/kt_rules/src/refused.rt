@@ -33,7 +33,8 @@ fn has_telling_byte(name: &[u8]) -> bool
     false
 }
 
-// The tilde is the last of them: small letters, of which most names are, are told by one comparison.
+// The tilde is the last of them: small letters, of which most names are, are recognised by one
+// comparison.
 #[tactic(auto, using(crate::proofs::RefusedLemmas::last_tells, crate::proofs::RefusedLemmas::others_tell))]
 fn is_telling(byte: u8) -> bool
     ensures { result ≡ is_telling byte }

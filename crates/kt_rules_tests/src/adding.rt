@@ -400,7 +400,7 @@ fn answers_as(
     let mut told = Vec::new(alloc);
     for row in rows {
         told.clear();
-        put_answer_to(&mut told, book, row.0);
+        put_answer_to(alloc, &mut told, book, row.0);
         let answer = if is_taken { row.2 } else { row.1 };
         assert_eq!(rt; told.as_slice(), answer);
     }

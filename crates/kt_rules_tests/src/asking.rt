@@ -1,6 +1,6 @@
 //! What books answer, as texts: their rules are a line each, the head, and a recipe after the first `;`.
 use crate::telling::{put_fault, put_needs, put_place};
-use kt_rules::{Book, Entry, Explicit, Name, Pattern, RuleFault, TargetRule, Warnings};
+use kt_rules::{Book, Entry, Explicit, Name, NeedsView, Pattern, RuleFault, TargetRule, Warnings};
 use kt_rules_doubles::entry_of;
 use kt_testing::put;
 use std::alloc::{AllocError, Global};
@@ -44,7 +44,7 @@ fn put_warnings(told: &mut Vec<u8>, warnings: &Warnings) {
 fn put_explicit(told: &mut Vec<u8>, rules: Explicit) {
     for rule in rules {
         put_place(told, rule.entry.place());
-        put(told, rule.target.name.as_slice());
+        put(told, rule.target.name);
         put(told, b".");
     }
 }
@@ -60,7 +60,7 @@ fn put_entries(told: &mut Vec<u8>, book: &Book) {
 
 fn put_targets(told: &mut Vec<u8>, book: &Book, entry: &Entry) {
     for target in entry.targets() {
-        put(told, target.name.as_slice());
+        put(told, target.name);
         put(
             told,
             if book.is_explicit(TargetRule { entry, target }) {
@@ -79,25 +79,25 @@ fn put_suffixes(told: &mut Vec<u8>, suffixes: &[Name]) {
 }
 
 /// The pattern rules, each with its line and its recipe's text.
-fn put_patterns(told: &mut Vec<u8>, book: &Book) {
+fn put_patterns(alloc: Global, told: &mut Vec<u8>, book: &Book) {
     let Ok(patterns) = book.patterns() else {
         put(told, b"memory");
         return;
     };
     for pattern in patterns.as_slice() {
-        put_pattern(told, pattern);
+        put_pattern(alloc, told, pattern);
         put(told, b".");
     }
 }
 
-fn put_pattern(told: &mut Vec<u8>, pattern: &Pattern) {
+fn put_pattern(alloc: Global, told: &mut Vec<u8>, pattern: &Pattern) {
     put_place(told, pattern.place());
     for target in pattern.targets() {
         put(told, target.name.as_slice());
         put(told, b" ");
     }
     put(told, if pattern.is_terminal() { b":: " } else { b": " });
-    put_needs(told, pattern.needs());
+    put_needs(alloc, told, NeedsView::of(pattern.needs()));
     for line in pattern.recipe().unwrap_or(&[]) {
         put(told, line.text.as_slice());
     }
@@ -117,7 +117,7 @@ pub(crate) enum Question<'a> {
     Patterns,
 }
 
-pub(crate) fn put_answer_to(told: &mut Vec<u8>, book: &Book, question: Question) {
+pub(crate) fn put_answer_to(alloc: Global, told: &mut Vec<u8>, book: &Book, question: Question) {
     match question {
         Question::Messages => {}
         Question::Entries => put_entries(told, book),
@@ -126,7 +126,7 @@ pub(crate) fn put_answer_to(told: &mut Vec<u8>, book: &Book, question: Question)
         Question::Suffixes => put_suffixes(told, book.suffixes()),
         Question::SuffixOf(name) => put(told, book.suffix_of(name).unwrap_or(b"none")),
         Question::Goal => put(told, book.first_goal().unwrap_or(b"none")),
-        Question::Patterns => put_patterns(told, book),
+        Question::Patterns => put_patterns(alloc, told, book),
     }
 }
 
@@ -142,7 +142,7 @@ pub(crate) fn answer(
     if !matches!(question, Question::Messages) {
         told.clear();
     }
-    put_answer_to(&mut told, &book, question);
+    put_answer_to(alloc, &mut told, &book, question);
     Ok(told)
 }
 

@@ -68,7 +68,8 @@ fn put_word(words: &mut Vec<Name>, alloc: Global, word: &[u8]) {
     }
 }
 
-/// What is told of a rule line by the words of its targets, each once, and those of its prerequisites.
+/// What is reported of a rule line by the words of its targets, each once, and those of its
+/// prerequisites.
 pub(crate) fn rule(alloc: Global, targets: &[u8], prerequisites: &[u8]) -> Vec<u8> {
     let mut told = Vec::new(alloc);
     let mut seen = Vec::new(alloc);
@@ -89,7 +90,8 @@ pub(crate) fn rule(alloc: Global, targets: &[u8], prerequisites: &[u8]) -> Vec<u
     told
 }
 
-/// What is told of the pattern rule that the target of line 3 is: a suffix, or the first cut into two suffixes.
+/// What is reported of the pattern rule that the target of line 3 is: a suffix, or the first cut
+/// into two suffixes.
 pub(crate) fn suffix_rule(alloc: Global, suffixes: &[&[u8]], target: &[u8]) -> Vec<u8> {
     if (&*suffixes).contains(&target) {
         return pattern_rule(alloc, b"", target);

@@ -1,6 +1,6 @@
 //! Rule lines by the GNU make manual and by the rows that kati is to read.
 use crate::telling::{put_fault, put_needs, put_place};
-use kt_rules::{Entry, Kind, Target, dotless, without_dots};
+use kt_rules::{Entry, Kind, TargetView, dotless, without_dots};
 use kt_rules_doubles::{place_of, rule_of, text_of};
 use kt_testing::put;
 use std::alloc::{AllocError, Global};
@@ -8,16 +8,16 @@ use std::process::Abort;
 use std::test::Fail;
 
 /// A target with its stem between square brackets, and what it needs between angle brackets.
-fn put_target(told: &mut Vec<u8>, entry: &Entry, target: &Target) {
+fn put_target(alloc: Global, told: &mut Vec<u8>, entry: &Entry, target: TargetView) {
     put(told, b" ");
-    put(told, target.name.as_slice());
-    if let Some(stemmed) = &target.stemmed {
+    put(told, target.name);
+    if let Some(stem) = target.stem() {
         put(told, b"[");
-        put(told, stemmed.stem.as_slice());
+        put(told, stem);
         put(told, b"]");
     }
     put(told, b"<");
-    put_needs(told, entry.needs(target));
+    put_needs(alloc, told, entry.needs(target));
     put(told, b">");
 }
 
@@ -32,10 +32,10 @@ fn kind_word(kind: Kind) -> &'static [u8] {
 }
 
 /// The kind of an entry and its targets.
-fn put_entry(told: &mut Vec<u8>, entry: &Entry) {
+fn put_entry(alloc: Global, told: &mut Vec<u8>, entry: &Entry) {
     put(told, kind_word(entry.kind()));
     for target in entry.targets() {
-        put_target(told, entry, target);
+        put_target(alloc, told, entry, target);
     }
 }
 
@@ -43,7 +43,7 @@ fn put_entry(told: &mut Vec<u8>, entry: &Entry) {
 pub(crate) fn told(alloc: Global, head: &[u8]) -> Vec<u8> {
     let mut told = Vec::new(alloc);
     match rule_of(alloc, head, None, 7) {
-        Ok(entry) => put_entry(&mut told, &entry),
+        Ok(entry) => put_entry(alloc, &mut told, &entry),
         Err(fault) => put_fault(&mut told, &fault),
     }
     told
@@ -263,7 +263,7 @@ fn begins_recipes(rt: HostRuntime) -> Result<(), Fail> {
     push(alloc, &mut entry, b"", 8)?;
     put_recipe(&mut told, &entry);
     assert_eq!(rt; told.as_slice(), b"m:8 ".as_slice());
-    assert!(rt; entry.targets().is_empty());
+    assert!(rt; entry.targets().len() == 0);
     Ok(())
 }
 

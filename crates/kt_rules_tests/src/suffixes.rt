@@ -7,6 +7,9 @@ use std::test::Fail;
 
 const BYTES: &[&[u8]] = &[b".", b"a", b"b"];
 
+/// How many suffixes books have at most: few are compared one by one, and many are looked up.
+const COUNTS: [usize; 2] = [8, 40];
+
 #[test]
 fn finds_the_suffix_of_a_name(rt: HostRuntime) -> Result<(), Fail> {
     answers(
@@ -44,22 +47,24 @@ fn finds_the_suffix_of_a_name(rt: HostRuntime) -> Result<(), Fail> {
 fn agrees_with_a_plain_loop(rt: HostRuntime) -> Result<(), Fail> {
     let alloc = rt.alloc();
     let mut random = Random::new(1);
-    for _ in 0..60 {
-        let book = random_book(alloc, &mut random)?;
-        for _ in 0..20 {
-            let name = random_name(alloc, b"", &mut random);
-            let expected = plain_suffix(book.suffixes(), name.as_slice());
-            assert_eq!(rt; book.suffix_of(name.as_slice()), expected);
+    for count in COUNTS {
+        for _ in 0..40 {
+            let book = random_book(alloc, &mut random, count)?;
+            for _ in 0..20 {
+                let name = random_name(alloc, b"", &mut random);
+                let expected = plain_suffix(book.suffixes(), name.as_slice());
+                assert_eq!(rt; book.suffix_of(name.as_slice()), expected);
+            }
         }
     }
     Ok(())
 }
 
-/// A book with a few suffixes.
-fn random_book(alloc: Global, random: &mut Random) -> Result<Book, RuleFault> {
+/// A book with so many suffixes at most.
+fn random_book(alloc: Global, random: &mut Random, count: usize) -> Result<Book, RuleFault> {
     let mut book = Book::new(alloc)?;
     let _none = add(alloc, &mut book, b".SUFFIXES:", 1)?;
-    for _ in 0..8 {
+    for _ in 0..count {
         let line = random_name(alloc, b".SUFFIXES: ", random);
         let _none = add(alloc, &mut book, line.as_slice(), 2)?;
     }

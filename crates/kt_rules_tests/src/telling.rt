@@ -1,6 +1,7 @@
 //! What the tests compare: answers as texts.
-use kt_rules::{Name, Needs, Place, RuleFault};
+use kt_rules::{NeededNames, NeedsView, Place, RuleFault};
 use kt_testing::put;
+use std::alloc::Global;
 
 pub(crate) fn put_place(told: &mut Vec<u8>, place: &Place) {
     let _refused = place.append_to(told);
@@ -8,18 +9,21 @@ pub(crate) fn put_place(told: &mut Vec<u8>, place: &Place) {
 }
 
 /// Names, a comma after each.
-pub(crate) fn put_names(told: &mut Vec<u8>, names: &[Name]) {
+fn put_names(alloc: Global, told: &mut Vec<u8>, names: NeededNames) {
     for name in names {
-        put(told, name.as_slice());
+        match name.text(alloc) {
+            Ok(text) => put(told, text.as_slice()),
+            Err(_refused) => put(told, b"memory"),
+        }
         put(told, b",");
     }
 }
 
 /// Prerequisites, and after a bar the order-only ones.
-pub(crate) fn put_needs(told: &mut Vec<u8>, needs: &Needs) {
-    put_names(told, needs.prerequisites.as_slice());
+pub(crate) fn put_needs(alloc: Global, told: &mut Vec<u8>, needs: NeedsView) {
+    put_names(alloc, told, needs.prerequisites());
     put(told, b"|");
-    put_names(told, needs.order_only.as_slice());
+    put_names(alloc, told, needs.order_only());
 }
 
 /// A fault as a line.

@@ -150,8 +150,8 @@ front text mask begin size low is =
     there : ends_name (slice_index (drop begin mask) size) (drop size (drop begin text)) ≡ true → ends_name (slice_index mask (begin + size)) (drop (begin + size) text) ≡ true
     there h = sym (ap (λ s. ends_name s (drop size (drop begin text))) (get_or-drop begin mask size 0) ∙ ap (ends_name (slice_index mask (begin + size))) (drop-drop size begin text)) ∙ h
 
-behind : (text mask : List ℕ) (begin size : ℕ) → IsName text mask begin (begin + size) → IsName (drop begin text) (drop begin mask) 0 size
-behind text mask begin size is =
+past : (text mask : List ℕ) (begin size : ℕ) → IsName text mask begin (begin + size) → IsName (drop begin text) (drop begin mask) 0 size
+past text mask begin size is =
     let within = is.within in
     let all = length-drop begin mask in
     record {
@@ -224,7 +224,7 @@ complete text mask begin parts is =
     let size : begin + (parts.name - begin) ≡ parts.name = omega arith in
     let named : name_end begin (drop begin mask) (drop begin text) ≡ Some parts.name =
     name_complete begin (parts.name - begin) (drop begin mask) (drop begin text)
-    (behind text mask begin (parts.name - begin) (subst (λ n. IsName text mask begin n) (sym size) is.named))
+    (past text mask begin (parts.name - begin) (subst (λ n. IsName text mask begin n) (sym size) is.named))
     ∙ ap (λ n. Some n) size in
     let gap : is.place ≡ past_blanks parts.name mask = blanks_only mask parts.name is.place is.gap in
     let value : parts.value ≡ past_blanks (is.place + is.size) (mask_of text) = blanks_only (mask_of text) (is.place + is.size) parts.value is.valued in

@@ -78,71 +78,67 @@ differ opener closer byte ne h =
     ] in
     step (byte == closer) refl
 
+-- what a byte does to the count of what is open: that before it and after it
+abbrev Moves : ℕ → ℕ → ℕ → ℕ → ℕ → Type 0
+Moves opener closer depth deeper byte =
+    (text : Text) → (depth + count_of opener (byte ∷ text)) + count_of closer text ≡ (deeper + count_of opener text) + count_of closer (byte ∷ text)
+
+moves_open : (opener closer depth byte : ℕ) → (byte == opener) ≡ true → (byte == closer) ≡ false → Moves opener closer depth (depth + 1) byte
+moves_open opener closer depth byte h k text = let a = count_yes opener byte text h in let b = count_no closer byte text k in omega arith
+
+moves_close : (opener closer depth byte : ℕ) → (byte == opener) ≡ false → (byte == closer) ≡ true → 0 < depth → Moves opener closer depth (depth - 1) byte
+moves_close opener closer depth byte h k some text = let a = count_no opener byte text h in let b = count_yes closer byte text k in omega arith
+
+moves_other : (opener closer depth byte : ℕ) → (byte == opener) ≡ false → (byte == closer) ≡ false → Moves opener closer depth depth byte
+moves_other opener closer depth byte h k text = let a = count_no opener byte text h in let b = count_no closer byte text k in omega arith
+
 -- a byte before a text that closes, and back
-pub closes-open : (opener closer depth byte : ℕ) (text : Text) → (byte == opener) ≡ true → (byte == closer) ≡ false
-    → Closes opener closer (depth + 1) text → Closes opener closer depth (byte ∷ text)
-closes-open opener closer depth byte text h k c = record {
+closes_before : (opener closer depth deeper byte : ℕ) (text : Text) → Moves opener closer depth deeper byte → Closes opener closer deeper text
+    → Closes opener closer depth (byte ∷ text)
+closes_before opener closer depth deeper byte text moves c = record {
   fronts = λ n. front n;
-  even = let a = count_yes opener byte text h in let b = count_no closer byte text k in let e = c.even in omega arith;
+  even = let m = moves text in let e = c.even in omega arith;
 }
   where
     front : (n : ℕ) → count_of closer (take n (byte ∷ text)) ≤ depth + count_of opener (take n (byte ∷ text))
     front zero = let a = count_nil closer in omega arith
-    front (suc n) =
-        let a = count_yes opener byte (take n text) h in let b = count_no closer byte (take n text) k in let f = c.fronts n in omega arith
+    front (suc n) = let m = moves (take n text) in let f = c.fronts n in omega arith
+
+closes_after : (opener closer depth deeper byte : ℕ) (text : Text) → Moves opener closer depth deeper byte → Closes opener closer depth (byte ∷ text)
+    → Closes opener closer deeper text
+closes_after opener closer depth deeper byte text moves c = record {
+  fronts = λ n. let m = moves (take n text) in let f = c.fronts (suc n) in omega arith;
+  even = let m = moves text in let e = c.even in omega arith;
+}
+
+-- by what the byte is
+pub closes-open : (opener closer depth byte : ℕ) (text : Text) → (byte == opener) ≡ true → (byte == closer) ≡ false
+    → Closes opener closer (depth + 1) text → Closes opener closer depth (byte ∷ text)
+closes-open opener closer depth byte text h k = closes_before opener closer depth (depth + 1) byte text (moves_open opener closer depth byte h k)
 
 pub closes-close : (opener closer depth byte : ℕ) (text : Text) → (byte == opener) ≡ false → (byte == closer) ≡ true → 0 < depth
     → Closes opener closer (depth - 1) text → Closes opener closer depth (byte ∷ text)
-closes-close opener closer depth byte text h k some c = record {
-  fronts = λ n. front n;
-  even = let a = count_no opener byte text h in let b = count_yes closer byte text k in let e = c.even in omega arith;
-}
-  where
-    front : (n : ℕ) → count_of closer (take n (byte ∷ text)) ≤ depth + count_of opener (take n (byte ∷ text))
-    front zero = let a = count_nil closer in omega arith
-    front (suc n) =
-        let a = count_no opener byte (take n text) h in let b = count_yes closer byte (take n text) k in let f = c.fronts n in omega arith
+closes-close opener closer depth byte text h k some =
+    closes_before opener closer depth (depth - 1) byte text (moves_close opener closer depth byte h k some)
 
 pub closes-other : (opener closer depth byte : ℕ) (text : Text) → (byte == opener) ≡ false → (byte == closer) ≡ false
     → Closes opener closer depth text → Closes opener closer depth (byte ∷ text)
-closes-other opener closer depth byte text h k c = record {
-  fronts = λ n. front n;
-  even = let a = count_no opener byte text h in let b = count_no closer byte text k in let e = c.even in omega arith;
-}
-  where
-    front : (n : ℕ) → count_of closer (take n (byte ∷ text)) ≤ depth + count_of opener (take n (byte ∷ text))
-    front zero = let a = count_nil closer in omega arith
-    front (suc n) =
-        let a = count_no opener byte (take n text) h in let b = count_no closer byte (take n text) k in let f = c.fronts n in omega arith
+closes-other opener closer depth byte text h k = closes_before opener closer depth depth byte text (moves_other opener closer depth byte h k)
 
 pub after-open : (opener closer depth byte : ℕ) (text : Text) → (byte == opener) ≡ true → (byte == closer) ≡ false
     → Closes opener closer depth (byte ∷ text) → Closes opener closer (depth + 1) text
-after-open opener closer depth byte text h k c = record {
-  fronts = λ n.
-      let a = count_yes opener byte (take n text) h in let b = count_no closer byte (take n text) k in let f = c.fronts (suc n) in omega arith;
-  even = let a = count_yes opener byte text h in let b = count_no closer byte text k in let e = c.even in omega arith;
-}
+after-open opener closer depth byte text h k = closes_after opener closer depth (depth + 1) byte text (moves_open opener closer depth byte h k)
 
 pub after-close : (opener closer depth byte : ℕ) (text : Text) → (byte == opener) ≡ false → (byte == closer) ≡ true
     → Closes opener closer depth (byte ∷ text) → (0 < depth) × Closes opener closer (depth - 1) text
 after-close opener closer depth byte text h k c =
     let some : 0 < depth =
-    (let a = count_no opener byte [] h in let b = count_yes closer byte [] k in let n = count_nil opener in let f = c.fronts 1 in omega arith) in (
-      some,
-      record {
-        fronts = λ n.
-            let a = count_no opener byte (take n text) h in let b = count_yes closer byte (take n text) k in let f = c.fronts (suc n) in omega arith;
-        even = let a = count_no opener byte text h in let b = count_yes closer byte text k in let e = c.even in omega arith;
-      },
-    )
+    (let a = count_no opener byte [] h in let b = count_yes closer byte [] k in let n = count_nil opener in let f = c.fronts 1 in omega arith) in
+    (some, closes_after opener closer depth (depth - 1) byte text (moves_close opener closer depth byte h k some) c)
 
 pub after-other : (opener closer depth byte : ℕ) (text : Text) → (byte == opener) ≡ false → (byte == closer) ≡ false
     → Closes opener closer depth (byte ∷ text) → Closes opener closer depth text
-after-other opener closer depth byte text h k c = record {
-  fronts = λ n.
-      let a = count_no opener byte (take n text) h in let b = count_no closer byte (take n text) k in let f = c.fronts (suc n) in omega arith;
-  even = let a = count_no opener byte text h in let b = count_no closer byte text k in let e = c.even in omega arith;
-}
+after-other opener closer depth byte text h k = closes_after opener closer depth depth byte text (moves_other opener closer depth byte h k)
 
 -- what the search finds: a front that closes, with a closing mark after it
 pub record Found (opener closer depth : ℕ) (text : Text) (size : ℕ) : Type 0 where

@@ -243,9 +243,9 @@ place_runs run (suc more) mask =
 abbrev symbols_of : (front : Text) (run : ℕ) (back : Text) → IsFirstSign front run back → List ℕ
 symbols_of front run back is = is.before ++ (backslashes run ++ (35 ∷ is.after))
 
-behind_sign : (front : Text) (run : ℕ) (back : Text) → (is : IsFirstSign front run back) → is.after ≡ mask_of back
+after_sign : (front : Text) (run : ℕ) (back : Text) → (is : IsFirstSign front run back) → is.after ≡ mask_of back
 unfolding mask_of
-behind_sign front run back is =
+after_sign front run back is =
     let longer : length (is.before ++ backslashes run) ≡ length (front ++ backslashes run) =
     length-append is.before (backslashes run) ∙ ap (λ n. n + length (backslashes run)) is.size ∙ sym (length-append front (backslashes run)) in
     anew 0 0 false (front ++ backslashes run) back (is.before ++ backslashes run) is.after (λ some. absurd (some refl)) longer
@@ -260,7 +260,7 @@ sign_text front run back is =
     ap (λ m. uncommented 0 m (signed front run back)) is.symbols
     ∙ text_leads 0 is.before front (backslashes run ++ (35 ∷ is.after)) (backslashes run ++ (35 ∷ back)) shown is.first (ends_other 0 is.before (λ e. refl) is.all)
     ∙ ap (λ t. front ++ t) (text_runs 0 run (35 ∷ is.after) (35 ∷ back) ∙ ap (λ r. uncommented r (35 ∷ is.after) (35 ∷ back)) none
-    ∙ ap (λ m. uncommented run (35 ∷ m) (35 ∷ back)) (behind_sign front run back is))
+    ∙ ap (λ m. uncommented run (35 ∷ m) (35 ∷ back)) (after_sign front run back is))
 
 sign_place : (front : Text) (run : ℕ) (back : Text) → (is : IsFirstSign front run back)
     → comment_place (signed front run back) ≡ length front + (run + before_comment (odd_run run) (35 ∷ mask_of back))
@@ -271,7 +271,7 @@ sign_place front run back is =
     ∙ place_leads 0 is.before (backslashes run ++ (35 ∷ is.after)) is.first (ends_other 0 is.before (λ e. refl) is.all)
     ∙ ap (λ n. n + before_comment false (backslashes run ++ (35 ∷ is.after))) is.size
     ∙ ap (λ n. length front + n) (place_runs 0 run (35 ∷ is.after) ∙ ap (λ r. run + before_comment (odd_run r) (35 ∷ is.after)) none
-    ∙ ap (λ m. run + before_comment (odd_run run) (35 ∷ m)) (behind_sign front run back is))
+    ∙ ap (λ m. run + before_comment (odd_run run) (35 ∷ m)) (after_sign front run back is))
 
 unsigned_text : (text : Text) → has_no_sign (mask_of text) ≡ true → uncommented_of text ≡ text
 unfolding uncommented_of

@@ -211,25 +211,11 @@ unfolding has_colon
 colon_after [] tail = refl
 colon_after (byte ∷ word) tail = ⊎_elim (λ (h : (byte == 58) ≡ true). rw h refl) (λ (h : (byte == 58) ≡ false). rw h (colon_after word tail)) (cases_Bool (byte == 58))
 
-unworded : (tab : Bool) (word rest : Text) → has_colon word ≡ true → kind_by_word (directive_of tab word) word rest ≡ rule
-unfolding directive_of block_word include_word is_refused_word has_colon
-unworded tab word rest some =
+no_block : (word : Text) → has_colon word ≡ true → block_word word ≡ None
+unfolding block_word has_colon
+no_block word some =
     let no : (needle : Text) → has_colon needle ≡ false → bytes_eq word needle ≡ false = λ needle none. differs word needle some none in
-    ⊎_elim (λ (h : tab ≡ true). rw (
-      h,
-      no (codes "include") refl,
-      no (codes "-include") refl,
-      no (codes "sinclude") refl,
-      no (codes "override") refl,
-      no (codes "export") refl,
-      no (codes "unexport") refl,
-      no (codes "undefine") refl,
-      no (codes "private") refl,
-      no (codes "vpath") refl,
-      no (codes "load") refl,
-      no (codes "-load") refl,
-    ) refl) (λ (h : tab ≡ false). rw (
-      h,
+    rw (
       no (codes "ifdef") refl,
       no (codes "ifndef") refl,
       no (codes "ifeq") refl,
@@ -238,9 +224,23 @@ unworded tab word rest some =
       no (codes "endif") refl,
       no (codes "define") refl,
       no (codes "endef") refl,
+    ) refl
+
+no_include : (word : Text) → has_colon word ≡ true → include_word word ≡ None
+unfolding include_word has_colon
+no_include word some =
+    let no : (needle : Text) → has_colon needle ≡ false → bytes_eq word needle ≡ false = λ needle none. differs word needle some none in
+    rw (
       no (codes "include") refl,
       no (codes "-include") refl,
       no (codes "sinclude") refl,
+    ) refl
+
+not_refused : (word : Text) → has_colon word ≡ true → is_refused_word word ≡ false
+unfolding is_refused_word has_colon
+not_refused word some =
+    let no : (needle : Text) → has_colon needle ≡ false → bytes_eq word needle ≡ false = λ needle none. differs word needle some none in
+    rw (
       no (codes "override") refl,
       no (codes "export") refl,
       no (codes "unexport") refl,
@@ -249,7 +249,12 @@ unworded tab word rest some =
       no (codes "vpath") refl,
       no (codes "load") refl,
       no (codes "-load") refl,
-    ) refl) (cases_Bool tab)
+    ) refl
+
+unworded : (tab : Bool) (word rest : Text) → has_colon word ≡ true → kind_by_word (directive_of tab word) word rest ≡ rule
+unfolding directive_of
+unworded true word rest some = rw (no_include word some) (rw (not_refused word some) refl)
+unworded false word rest some = rw (no_block word some) (rw (no_include word some) (rw (not_refused word some) refl))
 
 solid_colon : (tail : List ℕ) → prefix_len is_solid (58 ∷ tail) ≡ suc (prefix_len is_solid tail)
 unfolding is_blank

@@ -8,13 +8,13 @@ use Rattle.kt_text.specs.Words.{Text}
 use Rattle.std.proofs.lemmas.List.{append-nil, ext_get_or, length-append, drop_all, take-append-drop}
 use Rattle.std.proofs.Math.Seq.{get_or-append_seam}
 use Rattle.kt_syntax.specs.declared.term.Mark.TheVariants.{Byte, Parentheses, Braces}
-use Rattle.kt_syntax.specs.Terms.{Piece, literal, dollar, reference, unclosed, kept, unit_length, IsTerm, IsSplittingIn, EndsRun, count_of, behind_dollar, first_term, literal_run}
+use Rattle.kt_syntax.specs.Terms.{Token, literal, dollar, reference, unclosed, kept, unit_length, IsTerm, IsSplittingIn, EndsRun, count_of, after_dollar, first_term, literal_run}
 use Rattle.kt_syntax.specs.Mask.{inside, goes_odd, mask_byte, more_masked, mask_from, mask_of}
 use Rattle.kt_syntax.specs.Masked.{IsContinued, IsSymbol, IsMasked, IsMaskOf, MaskLaw, is_outside}
 use Rattle.kt_syntax.proofs.Masking.{mask_from-nil, length-mask_of}
 use Rattle.kt_syntax.proofs.Runs.{run, run_within, run_ends, no_dollar}
 use Rattle.kt_syntax.proofs.Splitting.{first_sound, only_splitting}
-use Rattle.kt_syntax.proofs.MaskRuns.{at_most_or_less, less_or_more, zero_or_more, odd_at, odd-next, unit, at_start, behind_start, continued_within, Fresh, fresh_start, earlier, fresh_next, fresh_behind, mask_at, takes, Run, nothing, alike, joined}
+use Rattle.kt_syntax.proofs.MaskRuns.{at_most_or_less, less_or_more, zero_or_more, odd_at, odd-next, unit, at_start, after_start, continued_within, Fresh, fresh_start, earlier, fresh_next, fresh_past, mask_at, takes, Run, nothing, alike, joined}
 
 -- ---- a literal
 
@@ -69,7 +69,7 @@ one_continuation line place more l e some m fresh c here size =
           ⊎_elim (λ h. omega arith)
           (λ h. ⊎_elim (λ g. g)
           (λ g. absurd (⊎_elim (λ x. let never : 36 ≡ 10 = sym h ∙ x in omega arith) (λ x. let never : 36 ≡ 13 = sym h ∙ x in omega arith)
-          (behind_start line (place + more) end last (omega arith) (omega arith))))
+          (after_start line (place + more) end last (omega arith) (omega arith))))
           (at_most_or_less (place + suc more) end))
           stops;
       run = alike line true place (suc more) 32 (mask_at line place)
@@ -79,7 +79,7 @@ one_continuation line place more l e some m fresh c here size =
             in_continuation = λ g d. refl;
             itself = λ g none. absurd (none (record { start = c.start; odd = c.odd; unit = c.unit; from = omega arith; to = omega arith }));
           })
-          (subst (λ n. Fresh line (place + n)) (sym size) (fresh_behind line place fresh c));
+          (subst (λ n. Fresh line (place + n)) (sym size) (fresh_past line place fresh c));
     }
 
 one_step : (line : Text) (place : ℕ) → place < length line → (get_or line place 0 == 36) ≡ false → Fresh line place → Step line place
@@ -135,7 +135,7 @@ literal_run_masked (suc fuel) line place (suc size) small within free stops fres
 not_covered : (line : Text) (place at byte : ℕ) → (c : IsContinued line place) → c.start ≤ at → at ≤ place → get_or line at 0 ≡ byte
     → (byte ≡ 92 → ⊥) → (byte ≡ 10 → ⊥) → (byte ≡ 13 → ⊥) → ⊥
 not_covered line place at byte c l m e a b d =
-    ⊎_elim (λ h. ⊎_elim (λ x. b (sym e ∙ x)) (λ x. d (sym e ∙ x)) (behind_start line place at c h (let t = c.to in omega arith)))
+    ⊎_elim (λ h. ⊎_elim (λ x. b (sym e ∙ x)) (λ x. d (sym e ∙ x)) (after_start line place at c h (let t = c.to in omega arith)))
     (λ h. let same : at ≡ c.start = omega arith in a (sym e ∙ ap (λ n. get_or line n 0) same ∙ at_start line place c))
     (less_or_more c.start at)
 
@@ -162,7 +162,7 @@ last_mark line body rest place opener closer e =
     ∙ ap (λ t. get_or (36 ∷ opener ∷ t) (suc (suc (length body))) 0) (append_assoc body (closer ∷ []) rest)
     ∙ get_or-append_seam body closer rest 0
 
-record Reference (line : Text) (place : ℕ) (piece : Piece) (spelled rest : Text) : Type 0 where
+record Reference (line : Text) (place : ℕ) (piece : Token) (spelled rest : Text) : Type 0 where
   within : place ≤ length line
   is_spelled : drop place line ≡ spelled ++ rest
   is : IsTerm kept piece spelled rest
@@ -170,7 +170,7 @@ record Reference (line : Text) (place : ℕ) (piece : Piece) (spelled rest : Tex
   begins : get_or line place 0 ≡ 36
 
 -- a continuation after it that began inside it
-overlaps : (line : Text) (place : ℕ) (piece : Piece) (spelled rest : Text) → Reference line place piece spelled rest → (c : IsContinued line (place + length spelled))
+overlaps : (line : Text) (place : ℕ) (piece : Token) (spelled rest : Text) → Reference line place piece spelled rest → (c : IsContinued line (place + length spelled))
     → place < c.start → c.start < place + length spelled → ⊥
 overlaps line place (literal []) spelled rest r c l m =
     let size = length_in line spelled rest place r.within r.is_spelled in
@@ -189,8 +189,8 @@ overlaps line place dollar spelled rest r c l m =
 overlaps line place (reference Byte body) spelled rest r c l m =
     let size : length spelled ≡ suc (length body) = ap length r.is.0 in
     let whole : drop place line ≡ (36 ∷ body) ++ rest = r.is_spelled ∙ ap (λ (t : Text). t ++ rest) r.is.0 in
-    let behind : drop (place + 1) line ≡ body ++ rest = sym (drop-drop 1 place line) ∙ ap (drop 1) whole in
-    let taken : length body ≡ unit_length kept (drop (place + 1) line) = r.is.1.unit ∙ ap (unit_length kept) (sym behind) in
+    let past : drop (place + 1) line ≡ body ++ rest = sym (drop-drop 1 place line) ∙ ap (drop 1) whole in
+    let taken : length body ≡ unit_length kept (drop (place + 1) line) = r.is.1.unit ∙ ap (unit_length kept) (sym past) in
     ⊎_elim (λ h.
     let u = unit (drop (place + 1) line) (omega arith) in
     let there : place + 1 + (c.start - (place + 1)) ≡ c.start = omega arith in
@@ -218,7 +218,7 @@ overlaps line place unclosed spelled rest r c l m =
     let w = continued_within line (place + length spelled) c in
     omega arith
 
-fresh_after : (line : Text) (place : ℕ) (piece : Piece) (spelled rest : Text) → Reference line place piece spelled rest → 0 < length spelled → Fresh line (place + length spelled)
+fresh_after : (line : Text) (place : ℕ) (piece : Token) (spelled rest : Text) → Reference line place piece spelled rest → 0 < length spelled → Fresh line (place + length spelled)
 fresh_after line place piece spelled rest r some c =
     ⊎_elim (λ h. h)
     (λ h. ⊎_elim (λ g. absurd (overlaps line place piece spelled rest r c g h))
@@ -231,7 +231,7 @@ fresh_after line place piece spelled rest r some c =
     (at_most_or_less (place + length spelled) c.start)
 
 -- a term that begins with a dollar is no literal with bytes
-is_inside : (piece : Piece) (tail rest : Text) → IsTerm kept piece (36 ∷ tail) rest → is_outside piece ≡ false
+is_inside : (piece : Token) (tail rest : Text) → IsTerm kept piece (36 ∷ tail) rest → is_outside piece ≡ false
 is_inside (literal []) tail rest is = refl
 is_inside (literal (byte ∷ bytes)) tail rest is = absurd (false≢true (sym (no_dollar 36 tail is.1).0))
 is_inside dollar tail rest is = refl
@@ -245,7 +245,7 @@ inside-symbol line place =
 -- ---- the whole line
 
 record Masked (line : Text) (place : ℕ) : Type 0 where
-  pieces : List Piece
+  pieces : List Token
   are : IsMasked line place pieces (mask_at line place)
 
 first-reference : (line tail : Text) (place : ℕ) → place < length line → get_or line place 0 ≡ 36 → drop (place + 1) line ≡ tail → Fresh line place
@@ -262,7 +262,7 @@ first-reference line tail place l e t fresh =
     let all = ap length (append-nil (36 ∷ tail)) in
     let w = f.within in
     subst (λ o. Run line o place (suc more) (mask_at line place)) (sym (is_inside (first_term kept 36 tail).0 (take more tail) (drop more tail) f.is))
-    (alike line false place (suc more) inside (mask_at line place) (takes line place 36 more l e (ap (λ x. (behind_dollar kept x).1) (sym t)) (omega arith))
+    (alike line false place (suc more) inside (mask_at line place) (takes line place 36 more l e (ap (λ x. (after_dollar kept x).1) (sym t)) (omega arith))
     (λ k m. inside-symbol line (place + k))
     (subst (λ n. Fresh line (place + n)) size
     (fresh_after line place (first_term kept 36 tail).0 spelled (drop more tail) (record { within = omega arith; is_spelled = whole; is = f.is; fresh = fresh; begins = e }) (omega arith))))
@@ -320,7 +320,7 @@ first_run line place l fresh =
     subst (λ b. Run line (is_outside (first_term kept b (drop (place + 1) line)).0) place (suc (first_term kept b (drop (place + 1) line)).1) (mask_at line place)) (sym e)
     (first-reference line (drop (place + 1) line) place l e refl fresh))
     (λ h.
-    subst (λ (x : Piece × ℕ). Run line (is_outside x.0) place (suc x.1) (mask_at line place)) (sym (dollar-first (get_or line place 0) (drop (place + 1) line) h))
+    subst (λ (x : Token × ℕ). Run line (is_outside x.0) place (suc x.1) (mask_at line place)) (sym (dollar-first (get_or line place 0) (drop (place + 1) line) h))
     (first-literal line (drop (place + 1) line) place l h refl fresh))
     (cases_Bool (get_or line place 0 == 36))
 
@@ -402,7 +402,7 @@ one_symbol line false place symbol other a b = a.in_reference refl ∙ sym (b.in
 one_symbol line true place symbol other a b =
     ⊎_elim (λ c. a.in_continuation refl c ∙ sym (b.in_continuation refl c)) (λ none. a.itself refl none ∙ sym (b.itself refl none)) (is_continued_or_not line place)
 
-one_spelling : (piece : Piece) (spelled rest other later : Text) → IsTerm kept piece spelled rest → IsTerm kept piece other later → spelled ++ rest ≡ other ++ later → spelled ≡ other
+one_spelling : (piece : Token) (spelled rest other later : Text) → IsTerm kept piece spelled rest → IsTerm kept piece other later → spelled ++ rest ≡ other ++ later → spelled ≡ other
 one_spelling (literal []) spelled rest other later a b e = a.0 ∙ sym b.0
 one_spelling (literal (byte ∷ bytes)) spelled rest other later a b e = a.0 ∙ sym b.0
 one_spelling dollar spelled rest other later a b e = a ∙ sym b
@@ -412,7 +412,7 @@ one_spelling (reference Braces body) spelled rest other later a b e = a.0 ∙ sy
 one_spelling unclosed spelled rest other later a b e =
     sym (append-nil spelled) ∙ ap (λ (t : Text). spelled ++ t) (sym a.0) ∙ e ∙ ap (λ (t : Text). other ++ t) b.0 ∙ append-nil other
 
-same_symbols : (pieces : List Piece) (line : Text) (place : ℕ) (mask other : List ℕ) → IsMasked line place pieces mask → IsMasked line place pieces other
+same_symbols : (pieces : List Token) (line : Text) (place : ℕ) (mask other : List ℕ) → IsMasked line place pieces mask → IsMasked line place pieces other
     → (k : ℕ) → k < length (drop place line) → slice_index mask k ≡ slice_index other k
 same_symbols [] line place mask other a b k l = let size = length-drop place line in let end = a.0 in absurd (omega arith)
 same_symbols (piece ∷ pieces) line place mask other a b k l =
@@ -430,7 +430,7 @@ same_symbols (piece ∷ pieces) line place mask other a b k l =
     ∙ get_or-drop n other (k - n) 0 ∙ ap (slice_index other) here)
     (less_or_more k n)
 
-splitting_of : (pieces : List Piece) (line : Text) (place : ℕ) (mask : List ℕ) → IsMasked line place pieces mask → IsSplittingIn kept (drop place line) pieces
+splitting_of : (pieces : List Token) (line : Text) (place : ℕ) (mask : List ℕ) → IsMasked line place pieces mask → IsSplittingIn kept (drop place line) pieces
 splitting_of [] line place mask a = drop_all place line (let end = a.0 in omega arith)
 splitting_of (piece ∷ pieces) line place mask a =
     (a.0, a.1, a.2, a.3, subst (λ (t : Text). IsSplittingIn kept t pieces) (after_part line a.0 a.1 place a.2) (splitting_of pieces line (place + length a.0) (drop (length a.0) mask) a.5))
@@ -443,15 +443,15 @@ mask_of-start line = refl
 pub mask_law : MaskLaw
 mask_law = record { some = some; only = only }
   where
-    some : (line : Text) → (pieces : List Piece) × IsMaskOf line pieces (mask_of line)
+    some : (line : Text) → (pieces : List Token) × IsMaskOf line pieces (mask_of line)
     some line =
         let m = some_mask line in
         (m.pieces, record { size = length-mask_of line; symbols = subst (IsMasked line 0 m.pieces) (mask_of-start line) m.are })
 
-    only : (line : Text) (pieces : List Piece) (mask : List ℕ) → IsMaskOf line pieces mask → mask ≡ mask_of line
+    only : (line : Text) (pieces : List Token) (mask : List ℕ) → IsMaskOf line pieces mask → mask ≡ mask_of line
     only line pieces mask m =
         let found = some line in
         let same : found.0 ≡ pieces = only_splitting kept found.0 line (splitting_of found.0 line 0 (mask_of line) found.1.symbols) ∙ sym (only_splitting kept pieces line (splitting_of pieces line 0 mask m.symbols)) in
         let size = m.size in
         ext_get_or 0 mask (mask_of line) (size ∙ sym (length-mask_of line))
-        (λ k l. same_symbols pieces line 0 mask (mask_of line) m.symbols (subst (λ (xs : List Piece). IsMasked line 0 xs (mask_of line)) same found.1.symbols) k (omega arith))
+        (λ k l. same_symbols pieces line 0 mask (mask_of line) m.symbols (subst (λ (xs : List Token). IsMasked line 0 xs (mask_of line)) same found.1.symbols) k (omega arith))

@@ -98,9 +98,9 @@ at_start line place c =
     sym (ap (λ n. get_or line n 0) (add-zero c.start)) ∙ sym (get_or-drop c.start line 0 0) ∙ u.first
 
 -- a place after the first byte
-pub behind_start : (line : Text) (place at : ℕ) → (c : IsContinued line place) → c.start < at → at < c.start + unit_length kept (drop c.start line)
+pub after_start : (line : Text) (place at : ℕ) → (c : IsContinued line place) → c.start < at → at < c.start + unit_length kept (drop c.start line)
     → (get_or line at 0 ≡ 10) ⊎ (get_or line at 0 ≡ 13)
-behind_start line place at c l m =
+after_start line place at c l m =
     let u = unit (drop c.start line) c.unit in
     let here : c.start + (at - c.start) ≡ at = omega arith in
     let same : get_or (drop c.start line) (at - c.start) 0 ≡ get_or line at 0 = get_or-drop c.start line (at - c.start) 0 ∙ ap (λ n. get_or line n 0) here in
@@ -118,7 +118,7 @@ continued_within line place c =
 -- a place after the first byte is no backslash
 not_start : (line : Text) (place at : ℕ) → (c : IsContinued line place) → c.start < at → at < c.start + unit_length kept (drop c.start line) → get_or line at 0 ≡ 92 → ⊥
 not_start line place at c l m e =
-    ⊎_elim (λ g. let never : 92 ≡ 10 = sym e ∙ g in omega arith) (λ g. let never : 92 ≡ 13 = sym e ∙ g in omega arith) (behind_start line place at c l m)
+    ⊎_elim (λ g. let never : 92 ≡ 10 = sym e ∙ g in omega arith) (λ g. let never : 92 ≡ 13 = sym e ∙ g in omega arith) (after_start line place at c l m)
 
 -- ---- places where no continuation is under way
 
@@ -137,8 +137,8 @@ fresh_next line place none c =
     ⊎_elim (λ h. absurd (none (earlier line (place + 1) place c h (omega arith)))) (λ h. omega arith) (at_most_or_less c.start place)
 
 -- after a continuation
-pub fresh_behind : (line : Text) (place : ℕ) → Fresh line place → (c : IsContinued line place) → Fresh line (place + unit_length kept (drop place line))
-fresh_behind line place fresh c d =
+pub fresh_past : (line : Text) (place : ℕ) → Fresh line place → (c : IsContinued line place) → Fresh line (place + unit_length kept (drop place line))
+fresh_past line place fresh c d =
     let size = unit_length kept (drop place line) in
     let low : place ≤ c.start = fresh c in
     let here : c.start ≡ place = (let f = c.from in omega arith) in

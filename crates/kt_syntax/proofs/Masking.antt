@@ -9,7 +9,7 @@ use Rattle.std.specs.List.{starts_with}
 use Rattle.std.specs.Iterator.{YieldsFirst}
 use Rattle.kt_text.specs.Words.{Text, is_blank}
 use Rattle.kt_syntax.specs.Kinds.{past_blanks}
-use Rattle.kt_syntax.specs.Terms.{kept, dropped, behind_dollar}
+use Rattle.kt_syntax.specs.Terms.{kept, dropped, after_dollar}
 use Rattle.kt_syntax.specs.Mask.{goes_odd, mask_byte, more_masked, mask_from, mask_of}
 
 pub mask_from-nil : (skip symbol : ℕ) (odd : Bool) → mask_from skip symbol odd [] ≡ []
@@ -98,21 +98,21 @@ symbol_at before after whole place None y e = ap (λ m. slice_index m 0) (sym y.
 symbol_at before after whole place (Some symbol) y e = ap (λ m. slice_index m 0) (sym y ∙ e) ∙ first_dropped whole place
 
 -- what a dollar takes with it before a continuation
-pub behind-newline : (text : Text) → starts_with nat_eq text (92 ∷ 10 ∷ []) ≡ true → 2 ≡ (behind_dollar kept text).1
-unfolding behind_dollar
-behind-newline text h =
+pub past-newline : (text : Text) → starts_with nat_eq text (92 ∷ 10 ∷ []) ≡ true → 2 ≡ (after_dollar kept text).1
+unfolding after_dollar
+past-newline text h =
     let begins : text ≡ 92 ∷ 10 ∷ drop 2 text = (starts_is Decides-eqb text (92 ∷ 10 ∷ []) true (sym h)).0 refl in
-    sym (ap (λ t. (behind_dollar kept t).1) begins)
+    sym (ap (λ t. (after_dollar kept t).1) begins)
 
-pub behind-return : (text : Text) → starts_with nat_eq text (92 ∷ 13 ∷ 10 ∷ []) ≡ true → 3 ≡ (behind_dollar kept text).1
-unfolding behind_dollar
-behind-return text h =
+pub past-return : (text : Text) → starts_with nat_eq text (92 ∷ 13 ∷ 10 ∷ []) ≡ true → 3 ≡ (after_dollar kept text).1
+unfolding after_dollar
+past-return text h =
     let begins : text ≡ 92 ∷ 13 ∷ 10 ∷ drop 3 text = (starts_is Decides-eqb text (92 ∷ 13 ∷ 10 ∷ []) true (sym h)).0 refl in
-    sym (ap (λ t. (behind_dollar kept t).1) begins)
+    sym (ap (λ t. (after_dollar kept t).1) begins)
 
 -- before none it takes what it takes in a text without any
-pub behind-other : (text : Text) → starts_with nat_eq text (92 ∷ 10 ∷ []) ≡ false → starts_with nat_eq text (92 ∷ 13 ∷ 10 ∷ []) ≡ false
-    → behind_dollar dropped text ≡ behind_dollar kept text
-unfolding behind_dollar
-behind-other [] g h = refl
-behind-other (byte ∷ text) g h = rw (g, h) refl
+pub past-other : (text : Text) → starts_with nat_eq text (92 ∷ 10 ∷ []) ≡ false → starts_with nat_eq text (92 ∷ 13 ∷ 10 ∷ []) ≡ false
+    → after_dollar dropped text ≡ after_dollar kept text
+unfolding after_dollar
+past-other [] g h = refl
+past-other (byte ∷ text) g h = rw (g, h) refl

@@ -12,30 +12,34 @@ use Rattle.kt_syntax.proofs.HeadLemmas.{modifiers_next, modifiers_end}
 pub next_rest : (mask rest : List ℕ) (place symbol : ℕ) → drop place mask ≡ symbol ∷ rest → rest ≡ drop (place + 1) mask
 next_rest mask rest place symbol e = sym (ap (drop 1) e) ∙ drop-drop 1 place mask
 
--- the first place without blanks, seen from a blank and from another symbol
-blanks_here : (mask rest : List ℕ) (place symbol : ℕ) → drop place mask ≡ symbol ∷ rest → is_blank symbol ≡ true → past_blanks place mask ≡ past_blanks (place + 1) mask
-blanks_here mask rest place symbol e h =
-    let first : prefix_len is_blank (drop place mask) ≡ 1 + prefix_len is_blank rest = ap (prefix_len is_blank) e ∙ rw h refl in
-    let later : prefix_len is_blank rest ≡ prefix_len is_blank (drop (place + 1) mask) = ap (prefix_len is_blank) (next_rest mask rest place symbol e) in
+-- a run of symbols that pass a test, seen from its first symbol and from one that fails it
+run_here : (p : ℕ → Bool) (mask rest : List ℕ) (place symbol : ℕ) → drop place mask ≡ symbol ∷ rest → p symbol ≡ true
+    → place + prefix_len p (drop place mask) ≡ (place + 1) + prefix_len p (drop (place + 1) mask)
+run_here p mask rest place symbol e h =
+    let first : prefix_len p (drop place mask) ≡ 1 + prefix_len p rest = ap (prefix_len p) e ∙ rw h refl in
+    let later : prefix_len p rest ≡ prefix_len p (drop (place + 1) mask) = ap (prefix_len p) (next_rest mask rest place symbol e) in
     omega arith
 
+no_run_here : (p : ℕ → Bool) (mask rest : List ℕ) (place symbol : ℕ) → drop place mask ≡ symbol ∷ rest → p symbol ≡ false
+    → place + prefix_len p (drop place mask) ≡ place
+no_run_here p mask rest place symbol e h = let first : prefix_len p (drop place mask) ≡ 0 = ap (prefix_len p) e ∙ rw h refl in omega arith
+
+-- the first place without blanks, seen from a blank and from another symbol
+blanks_here : (mask rest : List ℕ) (place symbol : ℕ) → drop place mask ≡ symbol ∷ rest → is_blank symbol ≡ true → past_blanks place mask ≡ past_blanks (place + 1) mask
+blanks_here = run_here is_blank
+
 no_blanks_here : (mask rest : List ℕ) (place symbol : ℕ) → drop place mask ≡ symbol ∷ rest → is_blank symbol ≡ false → past_blanks place mask ≡ place
-no_blanks_here mask rest place symbol e h =
-    let first : prefix_len is_blank (drop place mask) ≡ 0 = ap (prefix_len is_blank) e ∙ rw h refl in omega arith
+no_blanks_here = no_run_here is_blank
 
 -- the end of a word, seen from a symbol of it and from a blank
 abbrev is_inner : ℕ → Bool
 is_inner symbol = not (is_blank symbol)
 
 word_here : (mask rest : List ℕ) (place symbol : ℕ) → drop place mask ≡ symbol ∷ rest → is_blank symbol ≡ false → past_word place mask ≡ past_word (place + 1) mask
-word_here mask rest place symbol e h =
-    let first : prefix_len is_inner (drop place mask) ≡ 1 + prefix_len is_inner rest = ap (prefix_len is_inner) e ∙ rw h refl in
-    let later : prefix_len is_inner rest ≡ prefix_len is_inner (drop (place + 1) mask) = ap (prefix_len is_inner) (next_rest mask rest place symbol e) in
-    omega arith
+word_here mask rest place symbol e h = run_here is_inner mask rest place symbol e (ap not h)
 
 word_ends : (mask rest : List ℕ) (place symbol : ℕ) → drop place mask ≡ symbol ∷ rest → is_blank symbol ≡ true → past_word place mask ≡ place
-word_ends mask rest place symbol e h =
-    let first : prefix_len is_inner (drop place mask) ≡ 0 = ap (prefix_len is_inner) e ∙ rw h refl in omega arith
+word_ends mask rest place symbol e h = no_run_here is_inner mask rest place symbol e (ap not h)
 
 -- where the scan stands: only blanks from the place found to the begin of the word, and none in the word so far
 pub record Scan (mask : List ℕ) (found begin place : ℕ) : Type 0 where

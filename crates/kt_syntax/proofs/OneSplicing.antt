@@ -11,7 +11,7 @@ use Rattle.kt_text.specs.Lines.{is_continued_text, pieces_of}
 use Rattle.kt_text.specs.Condensing.{FirstStands, HasNoNewline, IsNewline, Spacing, StandsAfter, is_continuation, spelled, space, tab, continuation, returned}
 use Rattle.kt_text.proofs.CuttingLemmas.{FirstNewline, first_newline}
 use Rattle.kt_text.proofs.CuttingLemmas.{no_newline, first_continued, first_ended}
-use Rattle.kt_text.proofs.GapLemmas.{behind, ends_plain, newline_end, shorter, spelling}
+use Rattle.kt_text.proofs.GapLemmas.{past, ends_plain, newline_end, shorter, spelling}
 use Rattle.kt_text.proofs.NewlineLemmas.{IsFree, free_at, free_front}
 use Rattle.kt_text.proofs.OneCondensing.{any_last, first_of_run, less_left, some_left, nothing_ends, spelled_long, trailing}
 use Rattle.kt_text.proofs.TrimLemmas.{AllBlank}
@@ -294,7 +294,7 @@ module _ (one other : List ℕ → Text → Text) (a : Splices one) (b : Splices
   same_by fuel mask text small later (first_ended front mark after whole free is) =
       let end = newline_end front mark is in
       ap (one mask) whole
-      ∙ same_newline mask front mark after free is (later (drop (length (front ++ mark)) mask) after (shorter text (front ++ end.0) after fuel (whole ∙ behind front mark end.0 after end.1) small))
+      ∙ same_newline mask front mark after free is (later (drop (length (front ++ mark)) mask) after (shorter text (front ++ end.0) after fuel (whole ∙ past front mark end.0 after end.1) small))
       ∙ sym (ap (other mask) whole)
 
   same_within : (fuel : ℕ) → Same fuel

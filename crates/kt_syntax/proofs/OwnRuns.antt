@@ -7,7 +7,7 @@ use Rattle.std.specs.List.{position_or_len, prefix_len, slice_range}
 use Rattle.kt_text.specs.Words.{Text, is_blank}
 use Rattle.kt_text.proofs.PlaceLemmas.{differ_turned}
 use Rattle.kt_syntax.proofs.Masking.{mask_from-nil, step-outside}
-use Rattle.kt_syntax.proofs.OwnSymbols.{behind_own, own_byte, run_no, run_yes}
+use Rattle.kt_syntax.proofs.OwnSymbols.{after_own, own_byte, run_no, run_yes}
 use Rattle.kt_syntax.specs.Kinds.{name_end, operator_of, past_blanks, past_word}
 use Rattle.kt_syntax.specs.Mask.{inside, mask_byte, mask_from, mask_of, more_masked}
 use Rattle.kt_syntax.specs.inner.OwnRuns.{begins_operator, ends_own_name, ends_own_word, is_mark}
@@ -146,7 +146,7 @@ name_run (suc count) place symbol (byte ∷ text) =
 symbols_from : (text : Text) (from end : ℕ) → from ≤ length text → position_or_len is_mark (take from text) ≡ from
     → take (end - from) (mask_from 0 0 false (drop from text)) ≡ drop from (take end (mask_of text))
 unfolding mask_of
-symbols_from text from end within free = behind_own text from end from (sym free) within
+symbols_from text from end within free = after_own text from end from (sym free) within
 
 pub blanks_passed : (text : Text) (from end run : ℕ) → from ≤ end → end ≤ length text → position_or_len is_mark (take from text) ≡ from
     → run ≡ prefix_len is_blank (slice_range text from end) → (slice_index (slice_range text from end) run == 92) ≡ false

@@ -52,12 +52,12 @@ drop_take (suc count) (suc most) (x ∷ xs) =
     drop_take count most xs ∙ ap (λ n. take n (drop count xs)) (let same : most - count ≡ suc most - suc count = omega arith in same)
 
 -- the symbols of a line after so many of its own bytes
-pub behind_own : (text : Text) (most end size : ℕ) → size ≡ position_or_len is_mark (take most text) → size ≤ length text
+pub after_own : (text : Text) (most end size : ℕ) → size ≡ position_or_len is_mark (take most text) → size ≤ length text
     → take (end - size) (mask_of (drop size text)) ≡ drop size (take end (mask_of text))
 unfolding mask_of
-behind_own text most end size e within =
+after_own text most end size e within =
     let sizes = length-take-le size text within in
     let tail = mask_from 0 0 false (drop size text) in
-    let behind : drop size (take size text ++ tail) ≡ tail =
+    let past : drop size (take size text ++ tail) ≡ tail =
     ap (λ n. drop n (take size text ++ tail)) (sym sizes) ∙ drop-append_seam (take size text) tail in
-    sym (drop_take size end (mask_from 0 0 false text) ∙ ap (take (end - size)) (ap (drop size) (own_front size most 0 text (omega arith)) ∙ behind))
+    sym (drop_take size end (mask_from 0 0 false text) ∙ ap (take (end - size)) (ap (drop size) (own_front size most 0 text (omega arith)) ∙ past))

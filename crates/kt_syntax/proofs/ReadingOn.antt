@@ -87,7 +87,7 @@ one_more part.Conditional steps ahead levels place here next got a =
         rest = left_of (outer levels);
         left = here ∙ ap (conditional place (innermost levels).items (innermost levels).others) (sym (left-split (outer levels)));
         inside = next ∙ left-split levels ∙ ap (append (innermost levels).items) (sym top.0);
-        behind = top.0;
+        past = top.0;
         tried = top.1;
       };
     }

@@ -13,6 +13,7 @@ use Rattle.kt_text.specs.Lines.{before_backslash, is_continued, is_continued_tex
 use Rattle.kt_text.proofs.NewlineLemmas.{IsFree, free_nil, free_space}
 use Rattle.kt_text.proofs.CondensedLemmas.{one_piece}
 use Rattle.kt_text.proofs.CondensingLemmas.{ArePieces, are_pieces, free_backslash, free_end, free_start, front_content}
+use Rattle.kt_text.proofs.CuttingLemmas.{HasLast, last_of}
 use Rattle.kt_text.proofs.LineTextLemmas.{content_ended}
 use Rattle.kt_syntax.specs.declared.recipe.Joint.{Joint}
 use Rattle.kt_syntax.specs.declared.recipe.Joint.TheVariants.{Edge, Newline, Outside, Inside}
@@ -47,16 +48,6 @@ blank_hidden byte h = rw h refl
 
 shown_before : (front : Text) (byte : ℕ) → is_shown byte ≡ false → shown (front ++ byte ∷ []) ≡ shown front
 shown_before front byte h = shown-append front (byte ∷ []) ∙ ap (λ l. shown front ++ l) (hidden byte [] h) ∙ append-nil (shown front)
-
--- a text by its last byte
-record HasLast (text : Text) : Type 0 where
-  pub front : Text
-  pub last : ℕ
-  pub whole : text ≡ front ++ last ∷ []
-
-last_of : (byte : ℕ) (text : Text) → HasLast (byte ∷ text)
-last_of byte [] = record { front = []; last = byte; whole = refl }
-last_of byte (next ∷ text) = let later = last_of next text in record { front = byte ∷ later.front; last = later.last; whole = ap (λ l. byte ∷ l) later.whole }
 
 suffix-yes : (p : ℕ → Bool) (front : Text) (byte : ℕ) → p byte ≡ true → suffix_len p (front ++ byte ∷ []) ≡ 1 + suffix_len p front
 suffix-yes p front byte h = ap (prefix_len p) (reverse-append front (byte ∷ [])) ∙ rw h refl

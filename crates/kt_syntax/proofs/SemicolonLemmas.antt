@@ -10,7 +10,7 @@ use Rattle.kt_text.specs.Condensing.{Condenses, IsGap, IsNewline, Spacing, is_co
 use Rattle.kt_text.proofs.CondensedLemmas.{condensed_alone}
 use Rattle.kt_text.proofs.CuttingLemmas.{FirstNewline, first_newline}
 use Rattle.kt_text.proofs.CuttingLemmas.{no_newline, first_continued, first_ended}
-use Rattle.kt_text.proofs.GapLemmas.{behind, condenses, newline_end, shorter, spelling}
+use Rattle.kt_text.proofs.GapLemmas.{past, condenses, newline_end, shorter, spelling}
 use Rattle.kt_text.proofs.NewlineLemmas.{IsFree, free_at, free_take}
 use Rattle.kt_text.proofs.OneCondensing.{Around, around, left_of_gap}
 use Rattle.kt_syntax.specs.Kinds.{comment_place}
@@ -100,43 +100,30 @@ go-append state (byte ∷ first) second = go-append (next state byte) first seco
 abbrev settle : State → State
 settle state = next state 32
 
+one_settles : (state : State) (one : Spacing) → (is_clear state (spelled one) ≡ true) × (go state (spelled one) ≡ settle state)
+unfolding is_clear go
+one_settles (plain odd) space = (refl, refl)
+one_settles (plain odd) tab = (refl, refl)
+one_settles (plain odd) continuation = (refl, refl)
+one_settles (plain odd) returned = (refl, refl)
+one_settles dollar space = (refl, refl)
+one_settles dollar tab = (refl, refl)
+one_settles dollar continuation = (refl, refl)
+one_settles dollar returned = (refl, refl)
+one_settles (within false depth) space = (refl, refl)
+one_settles (within false depth) tab = (refl, refl)
+one_settles (within false depth) continuation = (refl, refl)
+one_settles (within false depth) returned = (refl, refl)
+one_settles (within true depth) space = (refl, refl)
+one_settles (within true depth) tab = (refl, refl)
+one_settles (within true depth) continuation = (refl, refl)
+one_settles (within true depth) returned = (refl, refl)
+
 one_clear : (state : State) (one : Spacing) → is_clear state (spelled one) ≡ true
-unfolding is_clear
-one_clear (plain odd) space = refl
-one_clear (plain odd) tab = refl
-one_clear (plain odd) continuation = refl
-one_clear (plain odd) returned = refl
-one_clear dollar space = refl
-one_clear dollar tab = refl
-one_clear dollar continuation = refl
-one_clear dollar returned = refl
-one_clear (within false depth) space = refl
-one_clear (within false depth) tab = refl
-one_clear (within false depth) continuation = refl
-one_clear (within false depth) returned = refl
-one_clear (within true depth) space = refl
-one_clear (within true depth) tab = refl
-one_clear (within true depth) continuation = refl
-one_clear (within true depth) returned = refl
+one_clear state one = (one_settles state one).0
 
 one_goes : (state : State) (one : Spacing) → go state (spelled one) ≡ settle state
-unfolding go
-one_goes (plain odd) space = refl
-one_goes (plain odd) tab = refl
-one_goes (plain odd) continuation = refl
-one_goes (plain odd) returned = refl
-one_goes dollar space = refl
-one_goes dollar tab = refl
-one_goes dollar continuation = refl
-one_goes dollar returned = refl
-one_goes (within false depth) space = refl
-one_goes (within false depth) tab = refl
-one_goes (within false depth) continuation = refl
-one_goes (within false depth) returned = refl
-one_goes (within true depth) space = refl
-one_goes (within true depth) tab = refl
-one_goes (within true depth) continuation = refl
-one_goes (within true depth) returned = refl
+one_goes state one = (one_settles state one).1
 
 settled : (state : State) → settle (settle state) ≡ settle state
 settled (plain odd) = refl
@@ -302,7 +289,7 @@ newline_cut text front mark after whole free is =
       goes = λ state. ⊎_elim (λ e. ap (go state) e ∙ (mark_goes state).1) (λ e. ap (go state) e.0 ∙ (mark_goes state).0) is.form;
       shown = newline_shown;
       moves = newline_moves;
-      left = λ fuel small. shorter text (front ++ end.0) after fuel (whole ∙ behind front mark end.0 after end.1) small;
+      left = λ fuel small. shorter text (front ++ end.0) after fuel (whole ∙ past front mark end.0 after end.1) small;
     }
 
 alike_free : (state : State) (text : Text) → IsFree text → Alike state text

@@ -13,8 +13,8 @@ use Rattle.kt_syntax.proofs.MaskRuns.{less_or_more, odd_at, odd-next}
 at_place : (whole mask : List ℕ) (place symbol : ℕ) → drop place whole ≡ symbol ∷ mask → slice_index whole place ≡ symbol
 at_place whole mask place symbol e = sym (get_or-drop place whole 0 0 ∙ ap (slice_index whole) (add-zero place)) ∙ ap (λ m. slice_index m 0) e
 
-behind_place : (whole mask : List ℕ) (place symbol : ℕ) → drop place whole ≡ symbol ∷ mask → drop (place + 1) whole ≡ mask
-behind_place whole mask place symbol e = sym (drop-drop 1 place whole) ∙ ap (drop 1) e
+after_place : (whole mask : List ℕ) (place symbol : ℕ) → drop place whole ≡ symbol ∷ mask → drop (place + 1) whole ≡ mask
+after_place whole mask place symbol e = sym (drop-drop 1 place whole) ∙ ap (drop 1) e
 
 within : (whole mask : List ℕ) (place symbol : ℕ) → drop place whole ≡ symbol ∷ mask → place < length whole
 within whole mask place symbol e = let size = length-drop place whole in let some = ap length e in omega arith
@@ -28,15 +28,15 @@ one_more P place before here k l = ⊎_elim (λ h. before k h) (λ h. subst P (l
 
 -- ---- the comment
 
-comment-yes : (odd : Bool) (symbol : ℕ) (mask : List ℕ) → (symbol == 35 && not odd) ≡ true → before_comment odd (symbol ∷ mask) ≡ 0
+pub comment-yes : (odd : Bool) (symbol : ℕ) (mask : List ℕ) → (symbol == 35 && not odd) ≡ true → before_comment odd (symbol ∷ mask) ≡ 0
 unfolding before_comment
 comment-yes odd symbol mask h = rw h refl
 
-comment-no : (odd : Bool) (symbol : ℕ) (mask : List ℕ) → (symbol == 35 && not odd) ≡ false → before_comment odd (symbol ∷ mask) ≡ suc (before_comment (goes_odd odd symbol) mask)
+pub comment-no : (odd : Bool) (symbol : ℕ) (mask : List ℕ) → (symbol == 35 && not odd) ≡ false → before_comment odd (symbol ∷ mask) ≡ suc (before_comment (goes_odd odd symbol) mask)
 unfolding before_comment
 comment-no odd symbol mask h = rw h refl
 
-comment-nil : (odd : Bool) → before_comment odd [] ≡ 0
+pub comment-nil : (odd : Bool) → before_comment odd [] ≡ 0
 unfolding before_comment
 comment-nil odd = refl
 
@@ -61,7 +61,7 @@ comment_from (symbol ∷ mask) whole place e low before =
     let next : odd_at whole (place + 1) ≡ goes_odd odd symbol = odd-next whole place symbol room (at_place whole mask place symbol e) in
     let here : ¬ BeginsComment whole place = λ b.
     false≢true (sym h ∙ rw (eq-eqb symbol 35 (sym (at_place whole mask place symbol e) ∙ b.is)) (ap not b.even)) in
-    let found = comment_from mask whole (place + 1) (behind_place whole mask place symbol e) (omega arith) (one_more (λ k. ¬ BeginsComment whole k) place before here) in
+    let found = comment_from mask whole (place + 1) (after_place whole mask place symbol e) (omega arith) (one_more (λ k. ¬ BeginsComment whole k) place before here) in
     let later : place + 1 + before_comment (odd_at whole (place + 1)) mask ≡ place + before_comment odd (symbol ∷ mask) =
     ap (λ o. place + 1 + before_comment o mask) next ∙ shift place (before_comment (goes_odd odd symbol) mask) ∙ ap (λ n. place + n) (sym (comment-no odd symbol mask h)) in
     subst (IsCommentPlace whole) later found)
@@ -126,7 +126,7 @@ colon_from (symbol ∷ mask) whole place previous e before none =
     }))
     (λ h.
     subst (Found whole) (sym (colon-no place previous symbol mask h))
-    (colon_from mask whole (place + 1) symbol (behind_place whole mask place symbol e)
+    (colon_from mask whole (place + 1) symbol (after_place whole mask place symbol e)
     (record { at_begin = λ z. absurd (omega arith); later = λ k s. let same : place ≡ k = omega arith in ap (slice_index whole) (sym same) ∙ here })
     (one_more (λ k. ¬ IsColon whole k) place none (no_colon_here whole place previous symbol before here h))))
     (cases_Bool (symbol == 58 && not (previous == 92)))

@@ -1,5 +1,5 @@
 -- A text has exactly one splitting into terms.
-use Rattle.std.proofs.Common.{◌≡◌, ◌==◌, ◌≤◌, ◌<◌, ◌+◌, not, ℕ, zero, suc, Bool, true, false, ◌&&◌, ◌||◌, List, [], ◌∷◌, ◌++◌, Option, Some, None, length, take, drop, refl, sym, ap, subst, ◌∙◌, arith, ⊎_elim, inl, inr, append_assoc, length-drop}
+use Rattle.std.proofs.Common.{◌≡◌, ◌≢◌, ◌==◌, ◌≤◌, ◌<◌, ◌+◌, not, ℕ, zero, suc, Bool, true, false, ◌&&◌, ◌||◌, List, [], ◌∷◌, ◌++◌, Option, Some, None, length, take, drop, refl, sym, ap, subst, ◌∙◌, arith, ⊎_elim, inl, inr, append_assoc, length-drop}
 use Rattle.std.proofs.lemmas.Bool.Decides.{nat_tests}
 use Rattle.std.proofs.lemmas.Bool.{cases_Bool, eqb-true, false≢true, and_parts}
 use Rattle.std.proofs.lemmas.List.{take-append-drop, take_all, drop_all, take_at, drop_at, length-take-le, take-take, append-nil}
@@ -8,7 +8,7 @@ use Rattle.std.specs.List.{list_all}
 use Rattle.kt_text.specs.Words.{Text}
 use Rattle.kt_syntax.specs.declared.term.Mark.{Mark}
 use Rattle.kt_syntax.specs.declared.term.Mark.TheVariants.{Byte, Parentheses, Braces}
-use Rattle.kt_syntax.specs.Terms.{Piece, Continuations, kept, dropped, literal, dollar, reference, unclosed, count_of, is_special, unit_length, IsBalanced, IsUnclosed, EndsRun, IsSingle, IsTerm, IsSplittingIn, OneSplitting, closing, referred, single, behind_dollar, literal_run, first_term, terms_after, terms_of}
+use Rattle.kt_syntax.specs.Terms.{Token, Continuations, kept, dropped, literal, dollar, reference, unclosed, count_of, is_special, unit_length, IsBalanced, IsUnclosed, EndsRun, IsSingle, IsTerm, IsSplittingIn, OneSplitting, closing, referred, single, after_dollar, literal_run, first_term, terms_after, terms_of}
 use Rattle.kt_syntax.proofs.Closing.{count_no, closed_found, closed_sound, unclosed_sound, unclosed_found}
 use Rattle.kt_syntax.proofs.Runs.{run, run_within, run_free, run_ends, run_length, no_dollar}
 
@@ -26,17 +26,17 @@ terms_of-nil continuations = refl
 
 pub terms_of-cons : (continuations : Continuations) (byte : ℕ) (text : Text) → terms_after continuations 0 (byte ∷ text) ≡ (first_term continuations byte text).0 ∷ terms_after continuations 0 (drop (first_term continuations byte text).1 text)
 unfolding terms_after
-terms_of-cons continuations byte text = ap (λ (later : List Piece). (first_term continuations byte text).0 ∷ later) (terms_after-drop continuations (first_term continuations byte text).1 text)
+terms_of-cons continuations byte text = ap (λ (later : List Token). (first_term continuations byte text).0 ∷ later) (terms_after-drop continuations (first_term continuations byte text).1 text)
 
 cut_taken : (text front rest : Text) (byte n : ℕ) → text ≡ front ++ byte ∷ rest → n ≡ length front + 1 → take n text ≡ front ++ byte ∷ []
 cut_taken text front rest byte n e size = rw (size, e) (take-append-add front (byte ∷ rest) 1)
 
 -- ---- a term is the first
 
-pub terms_first : (continuations : Continuations) (byte : ℕ) (text rest : Text) (piece : Piece) → (first_term continuations byte text).0 ≡ piece → drop (first_term continuations byte text).1 text ≡ rest
+pub terms_first : (continuations : Continuations) (byte : ℕ) (text rest : Text) (piece : Token) → (first_term continuations byte text).0 ≡ piece → drop (first_term continuations byte text).1 text ≡ rest
     → terms_after continuations 0 (byte ∷ text) ≡ piece ∷ terms_after continuations 0 rest
 terms_first continuations byte text rest piece p d =
-    terms_of-cons continuations byte text ∙ ap (λ (x : Piece). x ∷ terms_after continuations 0 (drop (first_term continuations byte text).1 text)) p ∙ ap (λ (x : Text). piece ∷ terms_after continuations 0 x) d
+    terms_of-cons continuations byte text ∙ ap (λ (x : Token). x ∷ terms_after continuations 0 (drop (first_term continuations byte text).1 text)) p ∙ ap (λ (x : Text). piece ∷ terms_after continuations 0 x) d
 
 literal_first : (continuations : Continuations) (byte : ℕ) (bytes rest : Text) → (byte == 36) ≡ false → run (bytes ++ rest) ≡ length bytes → (first_term continuations byte (bytes ++ rest)).0 ≡ literal (byte ∷ bytes)
 unfolding first_term
@@ -56,10 +56,10 @@ from_literal continuations byte bytes rest free ends =
     terms_first continuations byte (bytes ++ rest) rest (literal (byte ∷ bytes)) (literal_first continuations byte bytes rest n.0 size) (literal_after continuations byte bytes rest n.0 size)
 
 -- after a dollar
-terms_behind : (continuations : Continuations) (text rest : Text) (piece : Piece) (n : ℕ) → behind_dollar continuations text ≡ (piece, n) → drop n text ≡ rest → terms_after continuations 0 (36 ∷ text) ≡ piece ∷ terms_after continuations 0 rest
+terms_past : (continuations : Continuations) (text rest : Text) (piece : Token) (n : ℕ) → after_dollar continuations text ≡ (piece, n) → drop n text ≡ rest → terms_after continuations 0 (36 ∷ text) ≡ piece ∷ terms_after continuations 0 rest
 unfolding first_term
-terms_behind continuations text rest piece n e d =
-    terms_first continuations 36 text rest piece (ap (λ (x : Piece × ℕ). x.0) e) (ap (λ (x : Piece × ℕ). drop x.1 text) e ∙ d)
+terms_past continuations text rest piece n e d =
+    terms_first continuations 36 text rest piece (ap (λ (x : Token × ℕ). x.0) e) (ap (λ (x : Token × ℕ). drop x.1 text) e ∙ d)
 
 referred_cut : (mark : Mark) (body rest : Text) (closer : ℕ) → referred mark (body ++ closer ∷ rest) (Some (length body)) ≡ (reference mark body, length body + 2)
 referred_cut mark body rest closer = ap (λ (x : Text). (reference mark x, length body + 2)) (take_at body (closer ∷ rest) (length body) refl)
@@ -72,16 +72,16 @@ after_mark body rest opener closer =
     two_more n = omega arith
 
 from_parentheses : (continuations : Continuations) (body rest : Text) → IsBalanced 40 41 body → terms_after continuations 0 (36 ∷ 40 ∷ (body ++ 41 ∷ rest)) ≡ reference Parentheses body ∷ terms_after continuations 0 rest
-unfolding behind_dollar
+unfolding after_dollar
 from_parentheses continuations body rest b =
-    terms_behind continuations (40 ∷ (body ++ 41 ∷ rest)) rest (reference Parentheses body) (length body + 2)
+    terms_past continuations (40 ∷ (body ++ 41 ∷ rest)) rest (reference Parentheses body) (length body + 2)
     (ap (referred Parentheses (body ++ 41 ∷ rest)) (closed_found 40 41 (λ e. omega arith) (body ++ 41 ∷ rest) body rest refl b) ∙ referred_cut Parentheses body rest 41)
     (after_mark body rest 40 41)
 
 from_braces : (continuations : Continuations) (body rest : Text) → IsBalanced 123 125 body → terms_after continuations 0 (36 ∷ 123 ∷ (body ++ 125 ∷ rest)) ≡ reference Braces body ∷ terms_after continuations 0 rest
-unfolding behind_dollar
+unfolding after_dollar
 from_braces continuations body rest b =
-    terms_behind continuations (123 ∷ (body ++ 125 ∷ rest)) rest (reference Braces body) (length body + 2)
+    terms_past continuations (123 ∷ (body ++ 125 ∷ rest)) rest (reference Braces body) (length body + 2)
     (ap (referred Braces (body ++ 125 ∷ rest)) (closed_found 123 125 (λ e. omega arith) (body ++ 125 ∷ rest) body rest refl b) ∙ referred_cut Braces body rest 125)
     (after_mark body rest 123 125)
 
@@ -89,22 +89,22 @@ past_end : (opener : ℕ) (tail : Text) → drop (1 + length tail) (opener ∷ t
 past_end opener tail = drop_all (1 + length tail) (opener ∷ tail) (omega arith)
 
 from_open_parenthesis : (continuations : Continuations) (tail : Text) → IsUnclosed 40 41 tail → terms_after continuations 0 (36 ∷ 40 ∷ tail) ≡ unclosed ∷ terms_after continuations 0 []
-unfolding behind_dollar
+unfolding after_dollar
 from_open_parenthesis continuations tail lacks =
-    terms_behind continuations (40 ∷ tail) [] unclosed (1 + length tail) (ap (referred Parentheses tail) (unclosed_found 40 41 (λ e. omega arith) tail lacks)) (past_end 40 tail)
+    terms_past continuations (40 ∷ tail) [] unclosed (1 + length tail) (ap (referred Parentheses tail) (unclosed_found 40 41 (λ e. omega arith) tail lacks)) (past_end 40 tail)
 
 from_open_brace : (continuations : Continuations) (tail : Text) → IsUnclosed 123 125 tail → terms_after continuations 0 (36 ∷ 123 ∷ tail) ≡ unclosed ∷ terms_after continuations 0 []
-unfolding behind_dollar
+unfolding after_dollar
 from_open_brace continuations tail lacks =
-    terms_behind continuations (123 ∷ tail) [] unclosed (1 + length tail) (ap (referred Braces tail) (unclosed_found 123 125 (λ e. omega arith) tail lacks)) (past_end 123 tail)
+    terms_past continuations (123 ∷ tail) [] unclosed (1 + length tail) (ap (referred Braces tail) (unclosed_found 123 125 (λ e. omega arith) tail lacks)) (past_end 123 tail)
 
 from_dollar : (continuations : Continuations) (rest : Text) → terms_after continuations 0 (36 ∷ 36 ∷ rest) ≡ dollar ∷ terms_after continuations 0 rest
-unfolding behind_dollar
-from_dollar continuations rest = terms_behind continuations (36 ∷ rest) rest dollar 1 refl refl
+unfolding after_dollar
+from_dollar continuations rest = terms_past continuations (36 ∷ rest) rest dollar 1 refl refl
 
 from_last : (continuations : Continuations) → terms_after continuations 0 (36 ∷ []) ≡ literal [] ∷ terms_after continuations 0 []
-unfolding behind_dollar
-from_last continuations = terms_behind continuations [] [] (literal []) 0 refl refl
+unfolding after_dollar
+from_last continuations = terms_past continuations [] [] (literal []) 0 refl refl
 
 pub record IsPlain (byte : ℕ) : Type 0 where
   pub no_dollar_here : (byte == 36) ≡ false
@@ -131,20 +131,20 @@ plain_byte byte others h =
     three false true c h = absurd (false≢true h)
     three true b c h = absurd (false≢true h)
 
-behind-single : (continuations : Continuations) (byte : ℕ) (text : Text) → IsPlain byte → behind_dollar continuations (byte ∷ text) ≡ single continuations (byte ∷ text)
-unfolding behind_dollar
-behind-single continuations byte text p = rw (p.no_dollar_here, p.no_parenthesis, p.no_brace) refl
+past-single : (continuations : Continuations) (byte : ℕ) (text : Text) → IsPlain byte → after_dollar continuations (byte ∷ text) ≡ single continuations (byte ∷ text)
+unfolding after_dollar
+past-single continuations byte text p = rw (p.no_dollar_here, p.no_parenthesis, p.no_brace) refl
 
 from_single : (continuations : Continuations) (body rest : Text) → IsSingle continuations body rest → terms_after continuations 0 (36 ∷ (body ++ rest)) ≡ reference Byte body ∷ terms_after continuations 0 rest
 from_single continuations [] rest s = let some = s.some in absurd (omega arith)
 from_single continuations (byte ∷ body) rest s =
-    terms_behind continuations (byte ∷ (body ++ rest)) rest (reference Byte (byte ∷ body)) (suc (length body))
-    (behind-single continuations byte (body ++ rest) (plain_byte byte true s.plain)
+    terms_past continuations (byte ∷ (body ++ rest)) rest (reference Byte (byte ∷ body)) (suc (length body))
+    (past-single continuations byte (body ++ rest) (plain_byte byte true s.plain)
     ∙ ap (λ (n : ℕ). (reference Byte (take n (byte ∷ (body ++ rest))), n)) (sym s.unit)
     ∙ ap (λ (x : Text). (reference Byte x, suc (length body))) (take_at (byte ∷ body) rest (suc (length body)) refl))
     (drop_at (byte ∷ body) rest (suc (length body)) refl)
 
-at_text : (continuations : Continuations) (text spelled rest whole : Text) (piece : Piece) → text ≡ spelled ++ rest → spelled ++ rest ≡ whole → terms_after continuations 0 whole ≡ piece ∷ terms_after continuations 0 rest
+at_text : (continuations : Continuations) (text spelled rest whole : Text) (piece : Token) → text ≡ spelled ++ rest → spelled ++ rest ≡ whole → terms_after continuations 0 whole ≡ piece ∷ terms_after continuations 0 rest
     → terms_after continuations 0 text ≡ piece ∷ terms_after continuations 0 rest
 at_text continuations text spelled rest whole piece e w t = ap (terms_after continuations 0) (e ∙ w) ∙ t
 
@@ -152,7 +152,7 @@ joined : (body rest : Text) (closer : ℕ) → (body ++ closer ∷ []) ++ rest �
 joined body rest closer = append_assoc body (closer ∷ []) rest
 
 -- a term that a text begins with is its first one
-pub term_first : (continuations : Continuations) (piece : Piece) (text spelled rest : Text) → text ≡ spelled ++ rest → IsTerm continuations piece spelled rest → terms_after continuations 0 text ≡ piece ∷ terms_after continuations 0 rest
+pub term_first : (continuations : Continuations) (piece : Token) (text spelled rest : Text) → text ≡ spelled ++ rest → IsTerm continuations piece spelled rest → terms_after continuations 0 text ≡ piece ∷ terms_after continuations 0 rest
 term_first continuations (literal []) text spelled rest e is =
     ap (terms_after continuations 0) (e ∙ rw (is.0, is.1) refl) ∙ from_last continuations ∙ ap (λ (x : Text). literal [] ∷ terms_after continuations 0 x) (sym is.1)
 term_first continuations (literal (byte ∷ bytes)) text spelled rest e is =
@@ -174,35 +174,45 @@ term_first continuations unclosed text spelled rest e is =
     open_term ∙ ap (λ (x : Text). unclosed ∷ terms_after continuations 0 x) (sym is.0)
 
 -- a splitting is the one that is computed
-pub only_splitting : (continuations : Continuations) (pieces : List Piece) (text : Text) → IsSplittingIn continuations text pieces → pieces ≡ terms_after continuations 0 text
+pub only_splitting : (continuations : Continuations) (pieces : List Token) (text : Text) → IsSplittingIn continuations text pieces → pieces ≡ terms_after continuations 0 text
 only_splitting continuations [] text e = sym (ap (terms_after continuations 0) e ∙ terms_of-nil continuations)
 only_splitting continuations (piece ∷ pieces) text s =
-    ap (λ (x : List Piece). piece ∷ x) (only_splitting continuations pieces s.1 s.4) ∙ sym (term_first continuations piece text s.0 s.1 s.2 s.3)
+    ap (λ (x : List Token). piece ∷ x) (only_splitting continuations pieces s.1 s.4) ∙ sym (term_first continuations piece text s.0 s.1 s.2 s.3)
 
 -- ---- the first term is one
 
-abbrev Sound : Continuations → Text → Piece × ℕ → Type 0
+abbrev Sound : Continuations → Text → Token × ℕ → Type 0
 Sound continuations text x = (x.1 ≤ length text) × IsTerm continuations x.0 (36 ∷ take x.1 text) (drop x.1 text)
+
+-- a text that its mark closes, or doesn't
+closed_part : (opener closer : ℕ) → opener ≢ closer → (tail : Text) (place : ℕ) → closing opener closer 0 0 tail ≡ Some place
+    → (place + 2 ≤ length (opener ∷ tail)) × ((36 ∷ take (place + 2) (opener ∷ tail) ≡ 36 ∷ opener ∷ (take place tail ++ closer ∷ []))
+    × IsBalanced opener closer (take place tail))
+closed_part opener closer ne tail place e =
+    let s = closed_sound opener closer ne tail place e in
+    let within = s.0 in
+    let size : place + 2 ≡ length (opener ∷ take place tail) + 1 = rw (length-take-le place tail (omega arith)) (omega arith) in
+    let cut = cut_taken (opener ∷ tail) (opener ∷ take place tail) (drop (suc place) tail) closer (place + 2) (ap (λ (x : Text). opener ∷ x) s.1) size in
+    (omega arith, (ap (λ (x : Text). 36 ∷ x) cut, s.2))
+
+open_part : (opener closer : ℕ) → opener ≢ closer → (tail : Text) → closing opener closer 0 0 tail ≡ None
+    → (1 + length tail ≤ length (opener ∷ tail)) × (drop (1 + length tail) (opener ∷ tail) ≡ []) × (36 ∷ take (1 + length tail) (opener ∷ tail) ≡ 36 ∷ opener ∷ tail)
+    × IsUnclosed opener closer tail
+open_part opener closer ne tail e =
+    let whole : take (1 + length tail) (opener ∷ tail) ≡ opener ∷ tail = take_all (1 + length tail) (opener ∷ tail) (omega arith) in
+    (omega arith, past_end opener tail, ap (λ (x : Text). 36 ∷ x) whole, unclosed_sound opener closer ne tail e)
 
 sound_parentheses : (continuations : Continuations) (tail : Text) (found : Option ℕ) → closing 40 41 0 0 tail ≡ found → Sound continuations (40 ∷ tail) (referred Parentheses tail found)
 sound_parentheses continuations tail None e =
-    let whole : take (1 + length tail) (40 ∷ tail) ≡ 40 ∷ tail = take_all (1 + length tail) (40 ∷ tail) (omega arith) in
-    (omega arith, (past_end 40 tail, (tail, inl (ap (λ (x : Text). 36 ∷ x) whole, unclosed_sound 40 41 (λ k. omega arith) tail e))))
-sound_parentheses continuations tail (Some place) e =
-    let s = closed_sound 40 41 (λ k. omega arith) tail place e in
-    let within = s.0 in
-    let size : place + 2 ≡ length (40 ∷ take place tail) + 1 = rw (length-take-le place tail (omega arith)) (omega arith) in
-    (omega arith, (ap (λ (x : Text). 36 ∷ x) (cut_taken (40 ∷ tail) (40 ∷ take place tail) (drop (suc place) tail) 41 (place + 2) (ap (λ (x : Text). 40 ∷ x) s.1) size), s.2))
+    let part = open_part 40 41 (λ k. omega arith) tail e in
+    (part.0, (part.1, (tail, inl (part.2, part.3))))
+sound_parentheses continuations tail (Some place) e = closed_part 40 41 (λ k. omega arith) tail place e
 
 sound_braces : (continuations : Continuations) (tail : Text) (found : Option ℕ) → closing 123 125 0 0 tail ≡ found → Sound continuations (123 ∷ tail) (referred Braces tail found)
 sound_braces continuations tail None e =
-    let whole : take (1 + length tail) (123 ∷ tail) ≡ 123 ∷ tail = take_all (1 + length tail) (123 ∷ tail) (omega arith) in
-    (omega arith, (past_end 123 tail, (tail, inr (ap (λ (x : Text). 36 ∷ x) whole, unclosed_sound 123 125 (λ k. omega arith) tail e))))
-sound_braces continuations tail (Some place) e =
-    let s = closed_sound 123 125 (λ k. omega arith) tail place e in
-    let within = s.0 in
-    let size : place + 2 ≡ length (123 ∷ take place tail) + 1 = rw (length-take-le place tail (omega arith)) (omega arith) in
-    (omega arith, (ap (λ (x : Text). 36 ∷ x) (cut_taken (123 ∷ tail) (123 ∷ take place tail) (drop (suc place) tail) 125 (place + 2) (ap (λ (x : Text). 123 ∷ x) s.1) size), s.2))
+    let part = open_part 123 125 (λ k. omega arith) tail e in
+    (part.0, (part.1, (tail, inr (part.2, part.3))))
+sound_braces continuations tail (Some place) e = closed_part 123 125 (λ k. omega arith) tail place e
 
 unit_within : (continuations : Continuations) (byte : ℕ) (text : Text) → (0 < unit_length continuations (byte ∷ text)) × (unit_length continuations (byte ∷ text) ≤ length (byte ∷ text))
 unit_within kept byte text = (grind arith, grind (arith, nat_tests))
@@ -222,21 +232,21 @@ sound_single continuations byte text p =
     } in
     (within, (refl, is))
 
-behind-dollar : (continuations : Continuations) (byte : ℕ) (text : Text) → (byte == 36) ≡ true → behind_dollar continuations (byte ∷ text) ≡ (dollar, 1)
-unfolding behind_dollar
-behind-dollar continuations byte text h = rw h refl
+past-dollar : (continuations : Continuations) (byte : ℕ) (text : Text) → (byte == 36) ≡ true → after_dollar continuations (byte ∷ text) ≡ (dollar, 1)
+unfolding after_dollar
+past-dollar continuations byte text h = rw h refl
 
-sound_behind : (continuations : Continuations) (text : Text) → Sound continuations text (behind_dollar continuations text)
-unfolding behind_dollar
-sound_behind continuations [] = (omega arith, (refl, refl))
-sound_behind continuations (byte ∷ text) =
-    ⊎_elim (λ h. subst (Sound continuations (byte ∷ text)) (sym (behind-dollar continuations byte text h)) (omega arith, ap (λ (b : ℕ). 36 ∷ b ∷ []) (eqb-true byte 36 h)))
+sound_after : (continuations : Continuations) (text : Text) → Sound continuations text (after_dollar continuations text)
+unfolding after_dollar
+sound_after continuations [] = (omega arith, (refl, refl))
+sound_after continuations (byte ∷ text) =
+    ⊎_elim (λ h. subst (Sound continuations (byte ∷ text)) (sym (past-dollar continuations byte text h)) (omega arith, ap (λ (b : ℕ). 36 ∷ b ∷ []) (eqb-true byte 36 h)))
     (λ h. ⊎_elim (λ k.
-    subst (λ b. Sound continuations (b ∷ text) (behind_dollar continuations (b ∷ text))) (sym (eqb-true byte 40 k)) (sound_parentheses continuations text (closing 40 41 0 0 text) refl))
+    subst (λ b. Sound continuations (b ∷ text) (after_dollar continuations (b ∷ text))) (sym (eqb-true byte 40 k)) (sound_parentheses continuations text (closing 40 41 0 0 text) refl))
     (λ k. ⊎_elim (λ l.
-    subst (λ b. Sound continuations (b ∷ text) (behind_dollar continuations (b ∷ text))) (sym (eqb-true byte 123 l)) (sound_braces continuations text (closing 123 125 0 0 text) refl))
+    subst (λ b. Sound continuations (b ∷ text) (after_dollar continuations (b ∷ text))) (sym (eqb-true byte 123 l)) (sound_braces continuations text (closing 123 125 0 0 text) refl))
     (λ l. let p : IsPlain byte = record { no_dollar_here = h; no_parenthesis = k; no_brace = l } in
-    subst (Sound continuations (byte ∷ text)) (sym (behind-single continuations byte text p)) (sound_single continuations byte text p))
+    subst (Sound continuations (byte ∷ text)) (sym (past-single continuations byte text p)) (sound_single continuations byte text p))
     (cases_Bool (byte == 123)))
     (cases_Bool (byte == 40)))
     (cases_Bool (byte == 36))
@@ -245,10 +255,10 @@ pub record FirstTerm (continuations : Continuations) (byte : ℕ) (text : Text) 
   pub within : (first_term continuations byte text).1 ≤ length text
   pub is : IsTerm continuations (first_term continuations byte text).0 (byte ∷ take (first_term continuations byte text).1 text) (drop (first_term continuations byte text).1 text)
 
-abbrev IsFirst : Continuations → ℕ → Text → Piece × ℕ → Type 0
+abbrev IsFirst : Continuations → ℕ → Text → Token × ℕ → Type 0
 IsFirst continuations byte text x = (x.1 ≤ length text) × IsTerm continuations x.0 (byte ∷ take x.1 text) (drop x.1 text)
 
-dollar-first : (continuations : Continuations) (byte : ℕ) (text : Text) → (byte == 36) ≡ true → first_term continuations byte text ≡ behind_dollar continuations text
+dollar-first : (continuations : Continuations) (byte : ℕ) (text : Text) → (byte == 36) ≡ true → first_term continuations byte text ≡ after_dollar continuations text
 unfolding first_term
 dollar-first continuations byte text h = rw h refl
 
@@ -260,7 +270,7 @@ first_is : (continuations : Continuations) (byte : ℕ) (text : Text) → IsFirs
 unfolding first_term
 first_is continuations byte text =
     ⊎_elim (λ h. subst (IsFirst continuations byte text) (sym (dollar-first continuations byte text h))
-    (subst (λ b. IsFirst continuations b text (behind_dollar continuations text)) (sym (eqb-true byte 36 h)) (sound_behind continuations text)))
+    (subst (λ b. IsFirst continuations b text (after_dollar continuations text)) (sym (eqb-true byte 36 h)) (sound_after continuations text)))
     (λ h. subst (IsFirst continuations byte text) (sym (other-first continuations byte text h))
     (run_within text, (refl, count_no 36 byte (take (run text) text) h ∙ run_free text, run_ends text)))
     (cases_Bool (byte == 36))
@@ -306,7 +316,7 @@ pub text_ends : terms_of [] ≡ []
 unfolding terms_of
 text_ends = terms_of-nil dropped
 
-pub text_first : (byte : ℕ) (text rest : Text) (piece : Piece) → (first_term dropped byte text).0 ≡ piece → drop (first_term dropped byte text).1 text ≡ rest
+pub text_first : (byte : ℕ) (text rest : Text) (piece : Token) → (first_term dropped byte text).0 ≡ piece → drop (first_term dropped byte text).1 text ≡ rest
     → terms_of (byte ∷ text) ≡ piece ∷ terms_of rest
 unfolding terms_of
 text_first byte text rest piece p d = terms_first dropped byte text rest piece p d

@@ -7,7 +7,7 @@ use Rattle.std.proofs.lemmas.Slice.Eq.{starts_is}
 use Rattle.std.specs.Prelude.{nat_eq}
 use Rattle.std.specs.List.{starts_with}
 use Rattle.kt_text.specs.Words.{Text}
-use Rattle.kt_syntax.specs.Terms.{behind_dollar, closing, kept, referred, unit_length}
+use Rattle.kt_syntax.specs.Terms.{after_dollar, closing, kept, referred, unit_length}
 use Rattle.kt_syntax.specs.declared.term.Mark.TheVariants.{Parentheses, Braces}
 use Rattle.kt_syntax.specs.Mask.{goes_odd, inside, mask_byte, mask_from, mask_of, more_masked}
 use Rattle.kt_syntax.proofs.StopPlaces.{IsFound, Stop, found_stop, is_stop, later, stop, stop-nil, stop-no, stop-yes}
@@ -209,12 +209,12 @@ referred_step fuel same told odd braces depth byte text small =
     (cases_Bool (byte == opener braces))
 
 -- what comes after a dollar
-dollar_none : (behind_dollar kept []).1 ≡ 0
-unfolding behind_dollar
+dollar_none : (after_dollar kept []).1 ≡ 0
+unfolding after_dollar
 dollar_none = refl
 
-dollar_dollar : (byte : ℕ) (text : Text) → (byte == 36) ≡ true → (behind_dollar kept (byte ∷ text)).1 ≡ 1
-unfolding behind_dollar
+dollar_dollar : (byte : ℕ) (text : Text) → (byte == 36) ≡ true → (after_dollar kept (byte ∷ text)).1 ≡ 1
+unfolding after_dollar
 dollar_dollar byte text h = rw h refl
 
 referred_long : (found : Option ℕ) (text : Text) → (referred Parentheses text found).1 ≡ suc (skip_of found text)
@@ -227,16 +227,16 @@ unfolding skip_of
 referred_braces None text = omega arith
 referred_braces (Some place) text = omega arith
 
-dollar_parentheses : (byte : ℕ) (text : Text) → (byte == 36) ≡ false → (byte == 40) ≡ true → (behind_dollar kept (byte ∷ text)).1 ≡ suc (skip_at false 0 text)
-unfolding behind_dollar
+dollar_parentheses : (byte : ℕ) (text : Text) → (byte == 36) ≡ false → (byte == 40) ≡ true → (after_dollar kept (byte ∷ text)).1 ≡ suc (skip_at false 0 text)
+unfolding after_dollar
 dollar_parentheses byte text h g = rw (h, g) (referred_long (closing 40 41 0 0 text) text)
 
-dollar_braces : (byte : ℕ) (text : Text) → (byte == 36) ≡ false → (byte == 40) ≡ false → (byte == 123) ≡ true → (behind_dollar kept (byte ∷ text)).1 ≡ suc (skip_at true 0 text)
-unfolding behind_dollar
+dollar_braces : (byte : ℕ) (text : Text) → (byte == 36) ≡ false → (byte == 40) ≡ false → (byte == 123) ≡ true → (after_dollar kept (byte ∷ text)).1 ≡ suc (skip_at true 0 text)
+unfolding after_dollar
 dollar_braces byte text h g f = rw (h, g, f) (referred_braces (closing 123 125 0 0 text) text)
 
-dollar_single : (byte : ℕ) (text : Text) → (byte == 36) ≡ false → (byte == 40) ≡ false → (byte == 123) ≡ false → (behind_dollar kept (byte ∷ text)).1 ≡ unit_length kept (byte ∷ text)
-unfolding behind_dollar
+dollar_single : (byte : ℕ) (text : Text) → (byte == 36) ≡ false → (byte == 40) ≡ false → (byte == 123) ≡ false → (after_dollar kept (byte ∷ text)).1 ≡ unit_length kept (byte ∷ text)
+unfolding after_dollar
 dollar_single byte text h g f = rw (h, g, f) refl
 
 unit_one : (text : Text) → starts_with nat_eq text (92 ∷ 10 ∷ []) ≡ false → starts_with nat_eq text (92 ∷ 13 ∷ 10 ∷ []) ≡ false → unit_length kept text ≡ 1
@@ -258,7 +258,7 @@ single_three : (text : Text) → starts_with nat_eq text (92 ∷ 10 ∷ []) ≡ 
 single_three text h g = rw (h, g) refl
 
 abbrev DollarSame : Bool → Text → Type 0
-DollarSame odd text = stop false (mask_from ((behind_dollar kept text).1) inside odd text) ≡ found_at dollar text
+DollarSame odd text = stop false (mask_from ((after_dollar kept text).1) inside odd text) ≡ found_at dollar text
 
 continued_single : (fuel : ℕ) → Same fuel → (odd : Bool) (text : Text) → length text ≤ fuel → stop false (mask_from 2 inside odd (92 ∷ 10 ∷ text)) ≡ found_at dollar (92 ∷ 10 ∷ text)
 continued_single fuel same odd text small =
@@ -268,7 +268,7 @@ returned_single : (fuel : ℕ) → Same fuel → (odd : Bool) (text : Text) → 
 returned_single fuel same odd text small =
     in_reference false odd 2 92 (13 ∷ 10 ∷ text) dollar (plain false) refl refl (return_inside fuel same (goes_odd odd 92) text small)
 
-dollar_is : (odd : Bool) (n : ℕ) (text : Text) → (behind_dollar kept text).1 ≡ n → stop false (mask_from n inside odd text) ≡ found_at dollar text → DollarSame odd text
+dollar_is : (odd : Bool) (n : ℕ) (text : Text) → (after_dollar kept text).1 ≡ n → stop false (mask_from n inside odd text) ≡ found_at dollar text → DollarSame odd text
 dollar_is odd n text e rest = ap (λ k. stop false (mask_from k inside odd text)) e ∙ rest
 
 single_step : (fuel : ℕ) → Same fuel → (odd : Bool) (byte : ℕ) (text : Text) → length text ≤ fuel → (byte == 36) ≡ false → (byte == 40) ≡ false → (byte == 123) ≡ false → DollarSame odd (byte ∷ text)
@@ -312,7 +312,7 @@ dollar_step fuel same odd (byte ∷ text) small =
     (cases_Bool (byte == 36))
 
 -- a byte outside references
-more_dollar : (odd : Bool) (text : Text) → more_masked odd 36 text ≡ (behind_dollar kept text).1
+more_dollar : (odd : Bool) (text : Text) → more_masked odd 36 text ≡ (after_dollar kept text).1
 unfolding more_masked
 more_dollar odd text = refl
 
@@ -392,7 +392,7 @@ not_so false h = refl
 
 dollar_masked : (fuel : ℕ) → Same fuel → (told odd : Bool) (symbol : ℕ) (text : Text) → length text ≤ fuel → OutsideSame told odd symbol (36 ∷ text)
 dollar_masked fuel same told odd symbol text small =
-    let more : ℕ = (behind_dollar kept text).1 in
+    let more : ℕ = (after_dollar kept text).1 in
     ap (stop told) (mask_new symbol more odd 36 text (more_dollar odd text)) ∙ stop_inside told (mask_from more inside (goes_odd odd 36) text)
     ∙ ap later (dollar_step fuel same (goes_odd odd 36) text small) ∙ sym (at-no (plain told) 36 text refl)
 

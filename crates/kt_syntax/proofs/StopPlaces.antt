@@ -4,6 +4,7 @@ use Rattle.std.proofs.lemmas.Bool.{cases_Bool, eqb-true, false≢true}
 use Rattle.std.specs.List.{position_or_len}
 use Rattle.kt_syntax.specs.Mask.{goes_odd}
 use Rattle.kt_syntax.specs.Kinds.{before_comment}
+use Rattle.kt_syntax.proofs.SignLemmas.{comment-nil, comment-no, comment-yes}
 
 -- a place, and whether a semicolon stands there
 abbrev pub Stop : Type 0
@@ -42,18 +43,6 @@ pub record IsFound (odd : Bool) (mask : List ℕ) (found : Stop) : Type 0 where
   pub place : head odd mask ≡ found.0
   pub semicolon : found.1 ≡ true → found.0 < before_comment odd mask
   pub none : found.1 ≡ false → found.0 ≡ before_comment odd mask
-
-comment-yes : (odd : Bool) (symbol : ℕ) (mask : List ℕ) → (symbol == 35 && not odd) ≡ true → before_comment odd (symbol ∷ mask) ≡ 0
-unfolding before_comment
-comment-yes odd symbol mask h = rw h refl
-
-comment-no : (odd : Bool) (symbol : ℕ) (mask : List ℕ) → (symbol == 35 && not odd) ≡ false → before_comment odd (symbol ∷ mask) ≡ suc (before_comment (goes_odd odd symbol) mask)
-unfolding before_comment
-comment-no odd symbol mask h = rw h refl
-
-comment-nil : (odd : Bool) → before_comment odd [] ≡ 0
-unfolding before_comment
-comment-nil odd = refl
 
 is_sign : (a b : Bool) → (a && b) ≡ true → a ≡ true
 is_sign true b h = refl

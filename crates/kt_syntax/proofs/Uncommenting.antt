@@ -15,6 +15,13 @@ at_place : (text : Text) (run symbol place : ℕ) (mask : List ℕ) → place < 
     → uncommented run (symbol ∷ mask) (drop place text) ≡ uncommented run (symbol ∷ mask) (get_or text place 0 ∷ drop (place + 1) text)
 at_place text run symbol place mask h = ap (uncommented run (symbol ∷ mask)) (drop_more text place 0 h)
 
+-- where a symbol is the next one, its byte stands in the text, and what is to come is the same
+pub at_symbol : (text plain whole : Text) (run symbol place : ℕ) (left mask : List ℕ) → left ≡ symbol ∷ mask → place + length left ≡ length text
+    → plain ++ uncommented run left (drop place text) ≡ whole → (place < length text) × (plain ++ uncommented run (symbol ∷ mask) (drop place text) ≡ whole)
+at_symbol text plain whole run symbol place left mask steps size value =
+    let sizes = ap length steps in
+    (omega arith, ap (λ m. plain ++ uncommented run m (drop place text)) (sym steps) ∙ value)
+
 -- a backslash
 pub uncommented-backslash : (text : Text) (run symbol place : ℕ) (mask : List ℕ) → place < length text → symbol ≡ 92
     → uncommented run (symbol ∷ mask) (drop place text) ≡ uncommented (run + 1) mask (drop (place + 1) text)

@@ -11,7 +11,7 @@ use Rattle.kt_syntax.specs.Comments.{backslashes, uncommented_of}
 abbrev pub has_no_sign : List ℕ → Bool
 has_no_sign symbols = list_all (λ symbol. not (symbol == 35)) symbols
 
--- a text with a number sign after so many backslashes
+-- a text with a number sign after a given number of backslashes
 abbrev pub signed : Text → ℕ → Text → Text
 signed front run back = front ++ (backslashes run ++ (35 ∷ back))
 

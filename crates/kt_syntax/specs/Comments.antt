@@ -9,8 +9,8 @@ use Rattle.kt_syntax.specs.Mask.{mask_of}
 abbrev pub backslashes : ℕ → Text
 backslashes run = replicate run 92
 
--- a text without its comment, with the mask beside it, after so many backslashes outside references: of a run of them
--- before a number sign half stay, and an odd run makes the number sign literal
+-- a text without its comment, with the mask beside it, after a given number of backslashes outside references: of a run
+-- of them before a number sign half stay, and an odd run makes the number sign literal
 unfoldable pub uncommented : ℕ → List ℕ → Text → Text
 uncommented run [] text = backslashes run
 uncommented run (symbol ∷ mask) [] = backslashes run

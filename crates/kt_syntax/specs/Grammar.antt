@@ -45,8 +45,8 @@ depth_after Endef zero = None
 depth_after Endef (suc depth) = Some depth
 depth_after role depth = Some depth
 
--- the next lines are the body of the define whose first line has a number, up to the place `end` of its `endef`,
--- unless the text ends first; so many defines are open in the body, where they nest and nothing else counts
+-- the next lines are the body of the define whose first line has a number, up to the place `end` of its `endef`, unless
+-- the text ends first; a given number of defines are open in the body, where they nest and nothing else counts
 unfoldable pub TakesBody : (number depth end : ℕ) → Option Missing → ℕ → List Head → Rests → Type 0
 TakesBody number depth end found place [] Rest = (end ≡ place) × Rest (or_missing found (missing.Endef number)) place []
 TakesBody number depth end found place (head ∷ heads) Rest =

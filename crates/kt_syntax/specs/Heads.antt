@@ -18,9 +18,9 @@ pub record RuleTexts : Type 0 where
   pub head : Text
   pub recipe : Option Text
 
-abbrev pub texts_told : Result RuleParts TargetSpecific → Option RuleTexts
-texts_told (Ok parts) = Some (record { head = parts.head.now; recipe = option_map (λ recipe. recipe.now) parts.recipe })
-texts_told (Err fault) = None
+abbrev pub texts_view : Result RuleParts TargetSpecific → Option RuleTexts
+texts_view (Ok parts) = Some (record { head = parts.head.now; recipe = option_map (λ recipe. recipe.now) parts.recipe })
+texts_view (Err fault) = None
 
 -- where the head ends: at the first semicolon outside references, or where the comment begins
 unfoldable pub head_end : Text → ℕ
@@ -61,7 +61,7 @@ after_modifiers zero text mask from = from
 after_modifiers (suc most) text mask from = found_or from
     (λ end. after_modifiers most text mask end) (after_modifier text mask from)
 
--- whether what follows so many bytes of a head is of assignment form, with such words before it or not
+-- whether what follows a given number of bytes of a head is of assignment form, with such words before it or not
 abbrev pub assigns_after : Text → List ℕ → Option ℕ → Bool
 assigns_after text mask None = false
 assigns_after text mask (Some colon) =

@@ -24,12 +24,12 @@ pub data Kind : Type 0 where
   refused : (word : Text) → Kind
   rule : Kind
 
-abbrev pub kind_told : Form → Kind
-kind_told told.Blank = blank
-kind_told (told.Assignment name operator value) = assignment name.now operator value.now
-kind_told (told.Directive word rest) = directive word rest.now
-kind_told (told.Refused word) = refused word.now
-kind_told told.Rule = rule
+abbrev pub kind_view : Form → Kind
+kind_view told.Blank = blank
+kind_view (told.Assignment name operator value) = assignment name.now operator value.now
+kind_view (told.Directive word rest) = directive word rest.now
+kind_view (told.Refused word) = refused word.now
+kind_view told.Rule = rule
 
 -- how many symbols stand before the comment, which begins at a number sign after an even number of backslashes (kati's
 -- own; GNU make manual, "What Makefiles Contain")

@@ -4,16 +4,16 @@ use Rattle.std.specs.Prelude.{ℕ, zero, suc, Bool, false, not, ◌==◌, ◌&&�
 use Rattle.std.specs.Prelude.{if◌then◌else◌}
 use Rattle.std.specs.List.{starts_with}
 use Rattle.kt_text.specs.Words.{Text}
-use Rattle.kt_syntax.specs.Terms.{kept, behind_dollar}
+use Rattle.kt_syntax.specs.Terms.{kept, after_dollar}
 
 -- what stands for a byte of a reference: a number that no byte has
 abbrev pub inside : ℕ
 inside = 256
 
 -- what stands at a place as a number: a byte outside references, or else one of a reference
-abbrev pub symbol_told : Option ℕ → ℕ
-symbol_told None = inside
-symbol_told (Some byte) = byte
+abbrev pub symbol_view : Option ℕ → ℕ
+symbol_view None = inside
+symbol_view (Some byte) = byte
 
 -- whether an odd number of backslashes stands before the next byte
 abbrev pub goes_odd : Bool → ℕ → Bool
@@ -22,7 +22,7 @@ goes_odd odd byte = byte == 92 && not odd
 -- how many more bytes a dollar or a backslash takes with it: those of its reference, or of its continuation
 unfoldable pub more_masked : Bool → ℕ → Text → ℕ
 more_masked odd byte text =
-    if byte == 36 then (behind_dollar kept text).1
+    if byte == 36 then (after_dollar kept text).1
     else (if goes_odd odd byte then (if starts_with nat_eq text (10 ∷ []) then 1
     else (if starts_with nat_eq text (13 ∷ 10 ∷ []) then 2 else 0)) else 0)
 
@@ -30,8 +30,8 @@ more_masked odd byte text =
 abbrev pub mask_byte : ℕ → ℕ → ℕ
 mask_byte byte more = if byte == 36 then inside else (if more == 0 then byte else 32)
 
--- the mask of a text, of which so many bytes are still masked by one symbol; the flag says whether an odd number of
--- backslashes stands before the text
+-- the mask of a text, of which a given number of bytes are still masked by one symbol; the flag says whether an odd
+-- number of backslashes stands before the text
 unfoldable pub mask_from : ℕ → ℕ → Bool → Text → List ℕ
 mask_from skip symbol odd [] = []
 mask_from (suc skip) symbol odd (byte ∷ text) = symbol ∷ mask_from skip symbol (goes_odd odd byte) text

@@ -5,7 +5,7 @@ use Rattle.std.specs.Prelude.{◌≡◌, ℕ, ◌+◌, ◌<◌, ◌≤◌, Bool,
 use Rattle.std.specs.Prelude.{slice_index}
 use Rattle.kt_text.specs.Words.{Text}
 use Rattle.kt_text.specs.Lines.{is_continued_text}
-use Rattle.kt_syntax.specs.Terms.{Piece, literal, dollar, reference, unclosed, kept, unit_length, IsTerm}
+use Rattle.kt_syntax.specs.Terms.{Token, literal, dollar, reference, unclosed, kept, unit_length, IsTerm}
 use Rattle.kt_syntax.specs.Mask.{inside, mask_of}
 
 -- a place of a line is one of a continuation: this begins at a backslash at which an odd number of them ends, and
@@ -18,7 +18,7 @@ pub record IsContinued (line : Text) (place : ℕ) : Type 0 where
   pub to : place < start + unit_length kept (drop start line)
 
 -- a literal stands outside references, unless it is the dollar at the end; no other term does
-abbrev pub is_outside : Piece → Bool
+abbrev pub is_outside : Token → Bool
 is_outside (literal []) = false
 is_outside (literal (byte ∷ bytes)) = true
 is_outside dollar = false
@@ -32,7 +32,7 @@ pub record IsSymbol (line : Text) (outside : Bool) (place symbol : ℕ) : Type 0
   pub itself : outside ≡ true → ¬ IsContinued line place → symbol ≡ slice_index line place
 
 -- from a place on a line is the spellings of these terms put together, and their bytes have these symbols
-abbrev pub IsMasked : Text → ℕ → List Piece → List ℕ → Type 0
+abbrev pub IsMasked : Text → ℕ → List Token → List ℕ → Type 0
 IsMasked line place [] mask = (place ≡ length line) × (mask ≡ [])
 IsMasked line place (piece ∷ pieces) mask =
     (spelled : Text) × (rest : Text) × (drop place line ≡ spelled ++ rest) × IsTerm kept piece spelled rest
@@ -40,11 +40,11 @@ IsMasked line place (piece ∷ pieces) mask =
     × IsMasked line (place + length spelled) pieces (drop (length spelled) mask)
 
 -- the mask of a line that consists of these terms: a symbol for each byte
-pub record IsMaskOf (line : Text) (pieces : List Piece) (mask : List ℕ) : Type 0 where
+pub record IsMaskOf (line : Text) (pieces : List Token) (mask : List ℕ) : Type 0 where
   pub size : length mask ≡ length line
   pub symbols : IsMasked line 0 pieces mask
 
 -- the mask that is computed is that of the line's terms, and no other is
 pub record MaskLaw : Type 0 where
-  pub some : (line : Text) → (pieces : List Piece) × IsMaskOf line pieces (mask_of line)
-  pub only : (line : Text) (pieces : List Piece) (mask : List ℕ) → IsMaskOf line pieces mask → mask ≡ mask_of line
+  pub some : (line : Text) → (pieces : List Token) × IsMaskOf line pieces (mask_of line)
+  pub only : (line : Text) (pieces : List Token) (mask : List ℕ) → IsMaskOf line pieces mask → mask ≡ mask_of line

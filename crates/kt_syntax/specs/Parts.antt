@@ -31,7 +31,7 @@ depth_of open_blocks = depth_in open_blocks.define
     depth_in None = 0
     depth_in (Some define) = define.depth
 
--- a line of a define in whose body so many defines are open: its own `endef` ends it, all else is text
+-- a line of a define in whose body a given number of defines are open: its own `endef` ends it, all else is text
 abbrev pub body_part : Role → ℕ → Part
 body_part role.Endef zero = part.Endef
 body_part line depth = part.Body

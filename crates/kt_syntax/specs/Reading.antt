@@ -47,7 +47,7 @@ pub record IsConditional (steps : List Step) (place next after : ℕ) : Type 0 w
   pub rest : Items
   pub left : left_at steps place ≡ conditional place first others rest
   pub inside : left_at steps (place + 1) ≡ append first (left_at steps after)
-  pub behind : left_at steps after ≡ after_branches others rest
+  pub past : left_at steps after ≡ after_branches others rest
   pub tried : AreTried steps others next after
 
 -- what the step at a place says of what is left there

@@ -10,18 +10,18 @@ use Rattle.kt_syntax.specs.declared.term.Term.TheVariants.{Lit, Dollar, Ref}
 use Rattle.kt_syntax.specs.declared.term.Unterminated.{Unterminated}
 
 -- a term: text that stands for itself, one dollar, a reference, or one without its closing mark
-pub data Piece : Type 0 where
-  literal : (bytes : Text) → Piece
-  dollar : Piece
-  reference : (mark : Mark) (body : Text) → Piece
-  unclosed : Piece
+pub data Token : Type 0 where
+  literal : (bytes : Text) → Token
+  dollar : Token
+  reference : (mark : Mark) (body : Text) → Token
+  unclosed : Token
 
 -- what an item says
-abbrev pub piece_of : Result Term Unterminated → Piece
-piece_of (Ok (Lit bytes)) = literal bytes.now
-piece_of (Ok Dollar) = dollar
-piece_of (Ok (Ref mark body)) = reference mark body.now
-piece_of (Err fault) = unclosed
+abbrev pub token_of : Result Term Unterminated → Token
+token_of (Ok (Lit bytes)) = literal bytes.now
+token_of (Ok Dollar) = dollar
+token_of (Ok (Ref mark body)) = reference mark body.now
+token_of (Err fault) = unclosed
 
 -- how often a byte stands in a text
 unfoldable pub count_of : ℕ → Text → ℕ
@@ -68,7 +68,7 @@ pub record IsSingle (continuations : Continuations) (body rest : Text) : Type 0 
 
 -- how a term is spelled before the rest of a text: a literal is a maximal run without dollar, and the one without
 -- bytes is a dollar at the end (kati's own)
-abbrev pub IsTerm : Continuations → Piece → Text → Text → Type 0
+abbrev pub IsTerm : Continuations → Token → Text → Text → Type 0
 IsTerm continuations (literal []) spelled rest = (spelled ≡ 36 ∷ []) × (rest ≡ [])
 IsTerm continuations (literal (byte ∷ bytes)) spelled rest = (spelled ≡ byte ∷ bytes)
     × (count_of 36 spelled ≡ 0) × EndsRun rest
@@ -83,22 +83,22 @@ IsTerm continuations unclosed spelled rest =
     ⊎ ((spelled ≡ 36 ∷ 123 ∷ tail) × IsUnclosed 123 125 tail)))
 
 -- the text is the spellings of these terms put together
-abbrev pub IsSplittingIn : Continuations → Text → List Piece → Type 0
+abbrev pub IsSplittingIn : Continuations → Text → List Token → Type 0
 IsSplittingIn continuations text [] = text ≡ []
 IsSplittingIn continuations text (piece ∷ pieces) =
     (spelled : Text) × (rest : Text) × (text ≡ spelled ++ rest) × IsTerm continuations piece spelled rest
     × IsSplittingIn continuations rest pieces
 
 -- the same for a text without continuations
-abbrev pub IsSplitting : Text → List Piece → Type 0
+abbrev pub IsSplitting : Text → List Token → Type 0
 IsSplitting text pieces = IsSplittingIn dropped text pieces
 
 -- each text has exactly one splitting, which `terms_of` computes
-abbrev pub OneSplitting : (Text → List Piece) → Type 0
+abbrev pub OneSplitting : (Text → List Token) → Type 0
 OneSplitting terms_of = (text : Text) → IsSplitting text (terms_of text)
-    × ((pieces : List Piece) → IsSplitting text pieces → pieces ≡ terms_of text)
+    × ((pieces : List Token) → IsSplitting text pieces → pieces ≡ terms_of text)
 
--- where the mark stands that closes the text, counted from a place on and with so many open
+-- where the mark stands that closes the text, counted from a place on and with a given number open
 unfoldable pub closing : ℕ → ℕ → ℕ → ℕ → Text → Option ℕ
 closing opener closer at depth [] = None
 closing opener closer at depth (byte ∷ text) =
@@ -107,41 +107,41 @@ closing opener closer at depth (byte ∷ text) =
     else closing opener closer (at + 1) depth text)
 
 -- the reference with this body, and how many bytes it takes after the dollar
-abbrev pub referred : Mark → Text → Option ℕ → Piece × ℕ
+abbrev pub referred : Mark → Text → Option ℕ → Token × ℕ
 referred mark text None = (unclosed, 1 + length text)
 referred mark text (Some place) = (reference mark (take place text), place + 2)
 
 -- the one-byte reference, and how many bytes it takes
-abbrev pub single : Continuations → Text → Piece × ℕ
+abbrev pub single : Continuations → Text → Token × ℕ
 single continuations text = (
   reference Byte (take (unit_length continuations text) text),
   unit_length continuations text,
 )
 
 -- the term after a dollar, and how many bytes it takes there
-unfoldable pub behind_dollar : Continuations → Text → Piece × ℕ
-behind_dollar continuations [] = (literal [], 0)
-behind_dollar continuations (byte ∷ text) =
+unfoldable pub after_dollar : Continuations → Text → Token × ℕ
+after_dollar continuations [] = (literal [], 0)
+after_dollar continuations (byte ∷ text) =
     if byte == 36 then (dollar, 1)
     else (if byte == 40 then referred Parentheses text (closing 40 41 0 0 text)
     else (if byte == 123 then referred Braces text (closing 123 125 0 0 text)
     else single continuations (byte ∷ text)))
 
 -- the literal that begins with this byte, and how many more bytes it takes
-abbrev pub literal_run : ℕ → Text → Piece × ℕ
+abbrev pub literal_run : ℕ → Text → Token × ℕ
 literal_run byte text = let more = position_or_len (λ b. b == 36) text in (literal (byte ∷ take more text), more)
 
 -- the first term of a text that begins with this byte, and how many more bytes it takes
-unfoldable pub first_term : Continuations → ℕ → Text → Piece × ℕ
-first_term continuations byte text = if byte == 36 then behind_dollar continuations text else literal_run byte text
+unfoldable pub first_term : Continuations → ℕ → Text → Token × ℕ
+first_term continuations byte text = if byte == 36 then after_dollar continuations text else literal_run byte text
 
--- the terms of what follows so many bytes
-unfoldable pub terms_after : Continuations → ℕ → Text → List Piece
+-- the terms of what follows a given number of bytes
+unfoldable pub terms_after : Continuations → ℕ → Text → List Token
 terms_after continuations skip [] = []
 terms_after continuations (suc skip) (byte ∷ text) = terms_after continuations skip text
 terms_after continuations zero (byte ∷ text) = (first_term continuations byte text).0
     ∷ terms_after continuations (first_term continuations byte text).1 text
 
 -- the terms of a text, from left to right
-unfoldable pub terms_of : Text → List Piece
+unfoldable pub terms_of : Text → List Token
 terms_of text = terms_after dropped 0 text

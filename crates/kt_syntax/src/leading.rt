@@ -1,4 +1,4 @@
-//! Lines that begin with a word of blocks, told by their first bytes alone: most of them are.
+//! Lines that begin with a word of blocks, recognised by their first bytes alone: most of them are.
 ghost use Rattle.std.specs.Prelude.{◌≡◌, IfSome, Some, false};
 ghost use Rattle.kt_syntax.specs.Kinds.{block_word, directive, kind_of};
 ghost use Rattle.kt_syntax.specs.Roles.{first_word};

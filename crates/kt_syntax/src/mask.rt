@@ -3,10 +3,10 @@ ghost use Rattle.std.specs.Prelude.{◌≡◌, ◌<◌, ◌≤◌, ◌∷◌, �
 ghost use Rattle.std.specs.Iterator.{YieldsFirst, item_count};
 ghost use Rattle.std.specs.List.{position_or_len};
 ghost use Rattle.kt_syntax.specs.Mask.{goes_odd, mask_byte, mask_from, mask_of, more_masked};
-ghost use Rattle.kt_syntax.specs.Terms.{behind_dollar, kept};
+ghost use Rattle.kt_syntax.specs.Terms.{after_dollar, kept};
 ghost use Rattle.kt_syntax.specs.inner.OwnRuns.{is_mark};
 
-use crate::next_term::behind_dollar;
+use crate::next_term::after_dollar;
 use crate::symbol::Symbol;
 use memchr::memchr2;
 use std::marker::Model;
@@ -58,7 +58,8 @@ impl<'a> Mask<'a> {
         mask
     }
 
-    // The symbol after so many others, or that of a zero byte past the end; those are taken.
+    // The symbol after a given number of others, or that of a zero byte past the end; those are
+    // taken.
     pub(crate) fn symbol_after(&mut self, count: usize) -> Symbol
         ensures symbol { result ≡ slice_index self.old count }
         ensures rest { self.new ≡ drop (count + 1) self.old }
@@ -86,7 +87,7 @@ impl<'a> Iterator for Mask<'a> {
         let (byte, text) = self.rest.split_first()?;
         let (symbol, skip) = first_symbol(self.skip, &self.symbol, self.odd, *byte, text);
         self.skip = skip;
-        self.symbol = symbol.again();
+        self.symbol = symbol.copy();
         self.odd = goes_odd(self.odd, *byte);
         self.rest = text;
         self.left -= 1;
@@ -101,7 +102,7 @@ fn first_symbol(skip: usize, symbol: &Symbol, odd: bool, byte: u8, text: &[u8]) 
         ∷ mask_from result.1 result.0 (goes_odd odd byte) text.now }
 {
     if skip > 0 {
-        return (symbol.again(), skip - 1);
+        return (symbol.copy(), skip - 1);
     }
     // Nearly every byte is its own symbol.
     if byte != b'$' && byte != b'\\' {
@@ -127,7 +128,7 @@ fn more_masked(odd: bool, byte: u8, text: &[u8]) -> usize
     ensures bound { result ≤ length text.now }
 {
     if byte == b'$' {
-        return behind_mark(text);
+        return after_mark(text);
     }
     if !goes_odd(odd, byte) {
         return 0;
@@ -141,8 +142,8 @@ fn more_masked(odd: bool, byte: u8, text: &[u8]) -> usize
 
 // How many bytes the term after a dollar takes: a continuation counts as one byte there.
 #[inline(never)]
-fn behind_mark(text: &[u8]) -> usize
-    ensures value { result ≡ (behind_dollar kept text.now).1 }
+fn after_mark(text: &[u8]) -> usize
+    ensures value { result ≡ (after_dollar kept text.now).1 }
     ensures bound { result ≤ length text.now }
 {
     if text.starts_with(b"\\\n") {
@@ -150,7 +151,7 @@ fn behind_mark(text: &[u8]) -> usize
     } else if text.starts_with(b"\\\r\n") {
         3
     } else {
-        behind_dollar(text).1
+        after_dollar(text).1
     }
 }
 

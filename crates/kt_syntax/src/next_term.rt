@@ -1,7 +1,7 @@
 //! The first term of a text.
 ghost use Rattle.std.specs.Prelude.{◌≡◌, ◌==◌, ◌+◌, ◌^◌, ◌∷◌, ◌<◌, ◌≤◌, [], length, MatchOption, IfSome};
 ghost use Rattle.std.specs.List.{position_or_len};
-ghost use Rattle.kt_syntax.specs.Terms.{behind_dollar, closing, dropped, first_term, piece_of, referred, terms_of};
+ghost use Rattle.kt_syntax.specs.Terms.{after_dollar, closing, dropped, first_term, token_of, referred, terms_of};
 
 use crate::term::{Mark, Term, Unterminated};
 use memchr::memchr;
@@ -9,7 +9,7 @@ use memchr::memchr;
 /// The first term, and what stands after it.
 pub(crate) fn next_term(text: &[u8]) -> Option<(Result<Term<'_>, Unterminated>, &[u8])>
     ensures { MatchOption result (terms_of text.now ≡ [])
-        (λ cut. terms_of text.now ≡ piece_of cut.0 ∷ terms_of cut.1.now) }
+        (λ cut. terms_of text.now ≡ token_of cut.0 ∷ terms_of cut.1.now) }
 {
     let (first, rest) = text.split_first()?;
     let (term, taken) = first_term(*first, text, rest);
@@ -24,12 +24,12 @@ fn first_term<'a>(
     rest: &'a [u8],
 ) -> (Result<Term<'a>, Unterminated>, usize)
     requires { text.now ≡ first ∷ rest.now }
-    ensures term { piece_of result.0 ≡ (first_term dropped first rest.now).0 }
+    ensures term { token_of result.0 ≡ (first_term dropped first rest.now).0 }
     ensures taken { result.1 ≡ (first_term dropped first rest.now).1 }
     ensures within { result.1 ≤ length rest.now }
 {
     if first == b'$' {
-        return behind_dollar(rest);
+        return after_dollar(rest);
     }
     let run = literal_length(rest);
     (Ok(Term::Lit(&text[..run + 1])), run)
@@ -44,10 +44,10 @@ fn literal_length(text: &[u8]) -> usize
 }
 
 // The term after a dollar, and how many bytes it takes there.
-#[tactic(auto, unfolding(crate::specs::Terms::behind_dollar))]
-pub(crate) fn behind_dollar(text: &[u8]) -> (Result<Term<'_>, Unterminated>, usize)
-    ensures term { piece_of result.0 ≡ (behind_dollar dropped text.now).0 }
-    ensures taken { result.1 ≡ (behind_dollar dropped text.now).1 }
+#[tactic(auto, unfolding(crate::specs::Terms::after_dollar))]
+pub(crate) fn after_dollar(text: &[u8]) -> (Result<Term<'_>, Unterminated>, usize)
+    ensures term { token_of result.0 ≡ (after_dollar dropped text.now).0 }
+    ensures taken { result.1 ≡ (after_dollar dropped text.now).1 }
     ensures within { result.1 ≤ length text.now }
 {
     match text {
@@ -67,7 +67,7 @@ fn reference(
 ) -> (Result<Term<'_>, Unterminated>, usize)
     requires room { length text.now < 2 ^ 63 }
     requires within { IfSome place (λ p. p < length text.now) }
-    ensures term { piece_of result.0 ≡ (referred mark text.now place).0 }
+    ensures term { token_of result.0 ≡ (referred mark text.now place).0 }
     ensures taken { result.1 ≡ (referred mark text.now place).1 }
     ensures within { result.1 ≤ length text.now + 1 }
 {

@@ -4,7 +4,7 @@ ghost use Rattle.std.specs.Prelude.{MatchOption};
 ghost use Rattle.std.specs.List.{position_or_len};
 ghost use Rattle.kt_syntax.specs.Kinds.{comment_place};
 ghost use Rattle.kt_syntax.specs.Heads.{after_colon, after_modifiers, colon_place, first_recipe, head_end, head_text};
-ghost use Rattle.kt_syntax.specs.Heads.{is_modifier, is_target_specific, line_parts, texts_told};
+ghost use Rattle.kt_syntax.specs.Heads.{is_modifier, is_target_specific, line_parts, texts_view};
 ghost use Rattle.kt_syntax.specs.Mask.{mask_of};
 ghost use Rattle.kt_syntax.specs.inner.Places.{first_symbols};
 
@@ -37,7 +37,7 @@ pub struct TargetSpecific;
 /// Values".
 #[tactic(auto, unfolding(crate::specs::Heads::rule_texts))]
 pub fn rule_parts<'t>(line: &'t LineText<'_>) -> Result<RuleParts<'t>, TargetSpecific>
-    ensures { texts_told result ≡ line_parts line.now }
+    ensures { texts_view result ≡ line_parts line.now }
 {
     let text = line.text();
     let comment = comment_place(text);

@@ -1,6 +1,6 @@
 //! What stands at a place of a masked line.
 ghost use Rattle.std.specs.Prelude.{◌≡◌, ◌==◌, ℕ};
-ghost use Rattle.kt_syntax.specs.Mask.{inside, symbol_told};
+ghost use Rattle.kt_syntax.specs.Mask.{inside, symbol_view};
 
 use std::marker::Model;
 
@@ -16,7 +16,7 @@ pub(crate) struct Symbol {
 impl Model for Symbol {
     ghost Value = { ℕ };
 
-    ghost view = { λ symbol. symbol_told symbol.outside };
+    ghost view = { λ symbol. symbol_view symbol.outside };
 }
 
 impl Symbol {
@@ -37,7 +37,7 @@ impl Symbol {
     }
 
     // The same once more.
-    pub(crate) fn again(&self) -> Symbol
+    pub(crate) fn copy(&self) -> Symbol
         ensures { result ≡ self.now }
     {
         Symbol {

@@ -1,7 +1,7 @@
 //! The terms of a text, one after another.
 ghost use Rattle.std.specs.Prelude.{◌≡◌, List};
 ghost use Rattle.std.specs.Iterator.{YieldsFirstBy, item_count};
-ghost use Rattle.kt_syntax.specs.Terms.{Piece, piece_of, terms_of};
+ghost use Rattle.kt_syntax.specs.Terms.{Token, token_of, terms_of};
 
 use crate::next_term::next_term;
 use crate::term::{Term, Unterminated};
@@ -16,7 +16,7 @@ pub struct Terms<'a> {
 }
 
 impl<'a> Model for Terms<'a> {
-    ghost Value = { List Piece };
+    ghost Value = { List Token };
 
     ghost view = { λ terms. terms_of terms.rest.now };
 }
@@ -32,7 +32,7 @@ impl<'a> Terms<'a> {
 impl<'a> Iterator for Terms<'a> {
     type Item = Result<Term<'a>, Unterminated>;
 
-    ghost next_gives = { YieldsFirstBy piece_of (λ rest. rest) };
+    ghost next_gives = { YieldsFirstBy token_of (λ rest. rest) };
 
     ghost remaining = { item_count (λ rest. rest) };
 

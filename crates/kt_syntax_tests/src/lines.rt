@@ -50,7 +50,7 @@ fn cuts_texts(rt: HostRuntime) -> Result<(), Fail> {
 }
 
 /// The kind of a line in one letter, and its parts, each in brackets.
-pub(crate) fn kind_told(line: &LineText<'_>, tab: bool, rt: &HostRuntime) -> Result<Vec<u8>, Fail> {
+pub(crate) fn kind_view(line: &LineText<'_>, tab: bool, rt: &HostRuntime) -> Result<Vec<u8>, Fail> {
     let mut told = Vec::new(rt.alloc());
     let (kind, first, second) = match classify(line, tab) {
         Form::Blank => (b'b', b"".as_slice(), b"".as_slice()),
@@ -137,7 +137,7 @@ fn tells_kinds(rt: HostRuntime) -> Result<(), Fail> {
     ];
     for (text, tab, expected) in rows {
         let line = LineText::new(rt.alloc(), text)?;
-        let found = kind_told(&line, tab, &rt)?;
+        let found = kind_view(&line, tab, &rt)?;
         assert_eq!(rt; found.as_slice(), expected, "of {text:?}");
     }
     Ok(())
@@ -299,7 +299,7 @@ fn joins_references_of_recipe_lines(rt: HostRuntime) -> Result<(), Fail> {
     Ok(())
 }
 
-/// A text of so many equal bytes.
+/// A text of a given number of equal bytes.
 fn repeated(byte: u8, count: usize, rt: &HostRuntime) -> Result<Vec<u8>, Fail> {
     let mut text = Vec::new(rt.alloc());
     for _ in 0..count {

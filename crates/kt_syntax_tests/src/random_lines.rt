@@ -122,7 +122,7 @@ fn before(text: &[u8], place: usize) -> &[u8] {
     }
 }
 
-fn behind(text: &[u8], place: usize) -> &[u8] {
+fn past(text: &[u8], place: usize) -> &[u8] {
     if place <= text.len() {
         &text[place..]
     } else {
@@ -131,7 +131,7 @@ fn behind(text: &[u8], place: usize) -> &[u8] {
 }
 
 fn past_blanks(mask: &[u8], from: usize) -> usize {
-    let run = behind(mask, from)
+    let run = past(mask, from)
         .iter()
         .take_while(|byte| is_blank(**byte))
         .count();
@@ -139,7 +139,7 @@ fn past_blanks(mask: &[u8], from: usize) -> usize {
 }
 
 fn past_word(mask: &[u8], from: usize) -> usize {
-    let run = behind(mask, from)
+    let run = past(mask, from)
         .iter()
         .take_while(|byte| !is_blank(**byte))
         .count();
@@ -171,7 +171,7 @@ fn operator_size(text: &[u8]) -> usize {
 fn name_end(text: &[u8], mask: &[u8], begin: usize) -> usize {
     for (place, symbol) in mask.iter().enumerate() {
         if place >= begin {
-            let signed = *symbol != INSIDE && operator_size(behind(text, place)) > 0;
+            let signed = *symbol != INSIDE && operator_size(past(text, place)) > 0;
             if is_blank(*symbol) || signed {
                 return place;
             }
@@ -203,14 +203,14 @@ fn plainly(line: &Line, tab: bool) -> (u8, &[u8], &[u8]) {
     }
     let name = name_end(text, front, begin);
     let place = past_blanks(front, name);
-    let size = operator_size(behind(text, place));
+    let size = operator_size(past(text, place));
     if size > 0 {
         let value = past_blanks(mask, place.saturating_add(size));
-        return (b'a', behind(before(text, name), begin), behind(text, value));
+        return (b'a', past(before(text, name), begin), past(text, value));
     }
     let after = past_word(front, begin);
-    let word = behind(before(text, after), begin);
-    let rest = behind(text, past_blanks(mask, after));
+    let word = past(before(text, after), begin);
+    let rest = past(text, past_blanks(mask, after));
     if is_among(&BLOCK_WORDS, word) && !tab || is_among(&INCLUDE_WORDS, word) {
         return (b'd', word, rest);
     }

@@ -1,5 +1,5 @@
 //! Scans of many bytes at a time and lines that aren't copied, beside plain ones, on thousands of short texts.
-use crate::lines::{kind_told, told};
+use crate::lines::{kind_view, told};
 use crate::plain_way;
 use kt_syntax::{LineText, plain, recipe_text};
 use kt_testing::Random;
@@ -73,7 +73,7 @@ fn tells_assignments_as_the_plain_way(rt: HostRuntime) -> Result<(), Fail> {
         let text = random.text(rt.alloc(), ASSIGNED, 10);
         let line = LineText::new(rt.alloc(), text.as_slice())?;
         let wanted = plain_way::assignment(rt.alloc(), line.text());
-        let found = kind_told(&line, false, &rt)?;
+        let found = kind_view(&line, false, &rt)?;
         if wanted.is_empty() {
             assert!(rt; !is_assignment(found.as_slice()), "of {text:?}");
         } else {

@@ -38,7 +38,8 @@ impl Random {
         }
     }
 
-    /// Fewer than so many of the pieces, one after the other. Where memory is refused the text comes out short.
+    /// Fewer than a given number of of the pieces, one after the other. Where memory is refused the
+    /// text comes out short.
     pub fn text(&mut self, alloc: Global, pieces: &[&[u8]], end: usize) -> Vec<u8> {
         let mut text = Vec::new(alloc);
         for _ in 0..self.below(end) {

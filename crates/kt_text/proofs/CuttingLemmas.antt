@@ -23,13 +23,13 @@ pub data FirstNewline (text : Text) : Type 0 where
       → is_continued_text front ≡ false → FirstNewline text
   first_ended : (front mark after : Text) → text ≡ front ++ (mark ++ after) → IsFree front → IsNewline front mark → FirstNewline text
 
--- the last byte of a text
-record HasLast (text : Text) : Type 0 where
+-- a text by its last byte
+pub record HasLast (text : Text) : Type 0 where
   pub front : Text
   pub last : ℕ
   pub whole : text ≡ front ++ last ∷ []
 
-last_of : (byte : ℕ) (text : Text) → HasLast (byte ∷ text)
+pub last_of : (byte : ℕ) (text : Text) → HasLast (byte ∷ text)
 last_of byte [] = record { front = []; last = byte; whole = refl }
 last_of byte (next ∷ text) = let later = last_of next text in record { front = byte ∷ later.front; last = later.last; whole = ap (λ l. byte ∷ l) later.whole }
 

@@ -123,49 +123,39 @@ record Split (run : List Spacing) : Type 0 where
   is : is_continuation one ≡ true
   even : (front : Text) → FirstStands front run → is_continued_text (front ++ blanks) ≡ false
 
+-- one blank more
+split_blank : (one : Spacing) (byte : ℕ) (run : List Spacing) → spelled one ≡ byte ∷ [] → is_blank byte ≡ true → (byte == 92) ≡ false → Split run → Split (one ∷ run)
+unfolding AllBlank
+split_blank one byte run is blank other rest = record {
+  blanks = byte ∷ rest.blanks;
+  one = rest.one;
+  others = rest.others;
+  whole = λ back. ap (λ t. (t ++ spelling run) ++ back) is ∙ ap (λ t. byte ∷ t) (rest.whole back);
+  blank = (blank, rest.blank);
+  is = rest.is;
+  even = λ front s. even_past front byte rest.blanks other ∙ even_blanks rest.blanks rest.blank;
+}
+
+-- a continuation
+split_here : (one : Spacing) (run : List Spacing) → is_continuation one ≡ true → Split (one ∷ run)
+unfolding AllBlank
+split_here one run is = record {
+  blanks = [];
+  one = one;
+  others = run;
+  whole = λ back. append_assoc (spelled one) (spelling run) back;
+  blank = tt;
+  is = is;
+  even = λ front s. ap (λ t. is_continued_text t) (append-nil front) ∙ s is;
+}
+
 split : (run : List Spacing) → list_any is_continuation run ≡ true → Split run
-unfolding AllBlank is_blank
+unfolding is_blank
 split [] h = absurd (false≢true h)
-split (space ∷ run) h =
-    let rest = split run h in
-    record {
-      blanks = 32 ∷ rest.blanks;
-      one = rest.one;
-      others = rest.others;
-      whole = λ back. ap (λ t. 32 ∷ t) (rest.whole back);
-      blank = (refl, rest.blank);
-      is = rest.is;
-      even = λ front s. even_past front 32 rest.blanks refl ∙ even_blanks rest.blanks rest.blank;
-    }
-split (tab ∷ run) h =
-    let rest = split run h in
-    record {
-      blanks = 9 ∷ rest.blanks;
-      one = rest.one;
-      others = rest.others;
-      whole = λ back. ap (λ t. 9 ∷ t) (rest.whole back);
-      blank = (refl, rest.blank);
-      is = rest.is;
-      even = λ front s. even_past front 9 rest.blanks refl ∙ even_blanks rest.blanks rest.blank;
-    }
-split (continuation ∷ run) h = record {
-  blanks = [];
-  one = continuation;
-  others = run;
-  whole = λ back. refl;
-  blank = tt;
-  is = refl;
-  even = λ front s. ap (λ t. is_continued_text t) (append-nil front) ∙ s refl;
-}
-split (returned ∷ run) h = record {
-  blanks = [];
-  one = returned;
-  others = run;
-  whole = λ back. refl;
-  blank = tt;
-  is = refl;
-  even = λ front s. ap (λ t. is_continued_text t) (append-nil front) ∙ s refl;
-}
+split (space ∷ run) h = split_blank space 32 run refl refl refl (split run h)
+split (tab ∷ run) h = split_blank tab 9 run refl refl refl (split run h)
+split (continuation ∷ run) h = split_here continuation run refl
+split (returned ∷ run) h = split_here returned run refl
 
 pub ends_plain : (front : Text) → ((text : Text) → front ≢ text ++ 32 ∷ []) → ((text : Text) → front ≢ text ++ 9 ∷ []) → EndsPlain front
 unfolding EndsPlain is_blank
@@ -220,8 +210,8 @@ record Step (text : Text) : Type 0 where
   step : (continued : Bool) (rest : Text) → condensed_from continued (text ++ rest) ≡ made continued ++ condensed_from more (after ++ rest)
   open_end : more ≡ true → after ≡ [] → (before : Text) × (one : Spacing) × StandsAfter before one × (text ≡ before ++ spelled one)
 
-pub behind : (front mark before after : Text) → mark ≡ before ++ 10 ∷ [] → front ++ (mark ++ after) ≡ (front ++ before) ++ (10 ∷ after)
-behind front mark before after e =
+pub past : (front mark before after : Text) → mark ≡ before ++ 10 ∷ [] → front ++ (mark ++ after) ≡ (front ++ before) ++ (10 ∷ after)
+past front mark before after e =
     ap (λ t. front ++ (t ++ after)) e ∙ ap (λ t. front ++ t) (append_assoc before (10 ∷ []) after) ∙ sym (append_assoc front before (10 ∷ after))
 
 three : (front mark after rest : Text) → (front ++ (mark ++ after)) ++ rest ≡ front ++ (mark ++ (after ++ rest))
@@ -235,7 +225,7 @@ step_continued front one after free is even =
       after = after;
       more = true;
       made = λ continued. part continued true front;
-      whole = behind front (spelled one) end.0 after end.1;
+      whole = past front (spelled one) end.0 after end.1;
       step = λ continued rest. ap (condensed_from continued) (three front (spelled one) after rest) ∙ from_continued continued front one (after ++ rest) free is even;
       open_end = λ yes none. (front, one, (λ h. even), ap (λ t. front ++ (spelled one ++ t)) none ∙ ap (λ t. front ++ t) (append-nil (spelled one)));
     }
@@ -248,7 +238,7 @@ step_ended front mark after free is =
       after = after;
       more = false;
       made = λ continued. part continued false front ++ 10 ∷ [];
-      whole = behind front mark end.0 after end.1;
+      whole = past front mark end.0 after end.1;
       step = λ continued rest. ap (condensed_from continued) (three front mark after rest) ∙ from_ended continued front mark (after ++ rest) free is
           ∙ sym (append_assoc (part continued false front) (10 ∷ []) (condensed_from false (after ++ rest)));
       open_end = λ yes. absurd (false≢true yes);

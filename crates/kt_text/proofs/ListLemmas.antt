@@ -14,32 +14,32 @@ join_twice : (front word : Text) (later : List Text) → join_with_byte 32 ((fro
 join_twice front word [] = refl
 join_twice front word (next ∷ later) = append_assoc front (32 ∷ word) (32 ∷ join_with_byte 32 (next ∷ later))
 
-put_behind : (first : ℕ) (list : Text) (later : List Text) → put_words (first ∷ list) later ≡ join_with_byte 32 ((first ∷ list) ∷ filter is_nonempty later)
-put_behind first list [] = refl
-put_behind first list ([] ∷ later) = put_behind first list later
-put_behind first list ((byte ∷ word) ∷ later) = put_behind first (list ++ (32 ∷ byte ∷ word)) later ∙ join_twice (first ∷ list) (byte ∷ word) (filter is_nonempty later)
+put_after : (first : ℕ) (list : Text) (later : List Text) → put_words (first ∷ list) later ≡ join_with_byte 32 ((first ∷ list) ∷ filter is_nonempty later)
+put_after first list [] = refl
+put_after first list ([] ∷ later) = put_after first list later
+put_after first list ((byte ∷ word) ∷ later) = put_after first (list ++ (32 ∷ byte ∷ word)) later ∙ join_twice (first ∷ list) (byte ∷ word) (filter is_nonempty later)
 
 pub put_words_is : (words : List Text) → put_words [] words ≡ list_text words
 unfolding list_text
 put_words_is [] = refl
 put_words_is ([] ∷ later) = put_words_is later
-put_words_is ((byte ∷ word) ∷ later) = put_behind byte word later
+put_words_is ((byte ∷ word) ∷ later) = put_after byte word later
 
 -- the last word of a list, or the text where there is none
-abbrev pub last_behind : Text → List Text → Text
-last_behind text [] = text
-last_behind text (word ∷ later) = last_behind word later
+abbrev pub last_after : Text → List Text → Text
+last_after text [] = text
+last_after text (word ∷ later) = last_after word later
 
-pub last_behind_is : (text : Text) (words : List Text) → last_behind text words ≡ unwrap_or (slice_get (text ∷ words) (length words)) []
-last_behind_is text [] = refl
-last_behind_is text (word ∷ later) = last_behind_is word later
+pub last_after_is : (text : Text) (words : List Text) → last_after text words ≡ unwrap_or (slice_get (text ∷ words) (length words)) []
+last_after_is text [] = refl
+last_after_is text (word ∷ later) = last_after_is word later
 
 by_one : (n : ℕ) → n ≡ suc n - 1
 by_one n = omega arith
 
-pub last_word_is : (words : List Text) → last_behind [] words ≡ word_at words (length words - 1)
+pub last_word_is : (words : List Text) → last_after [] words ≡ word_at words (length words - 1)
 last_word_is [] = refl
-last_word_is (word ∷ later) = last_behind_is word later ∙ ap (λ i. word_at (word ∷ later) i) (by_one (length later))
+last_word_is (word ∷ later) = last_after_is word later ∙ ap (λ i. word_at (word ∷ later) i) (by_one (length later))
 
 -- words between two places, word by word
 no_less : (n : ℕ) → 0 - n ≡ 0

@@ -33,10 +33,10 @@ pattern_parts pattern front back none cut =
     position_or_len_is is_percent pattern (length front) 0 (omega arith)
     (λ k l. ap (λ t. is_percent (get_or t k 0)) cut ∙ ap is_percent (get_or_append_left front (37 ∷ back) 0 k l) ∙ none k 0 l)
     (λ l. ap (λ t. is_percent (get_or t (length front) 0)) cut ∙ ap is_percent (get_or_at front 37 back 0 (length front) refl)) in
-    let behind : front ++ 37 ∷ back ≡ (front ++ 37 ∷ []) ++ back = sym (append_assoc front (37 ∷ []) back) in (
+    let past : front ++ 37 ∷ back ≡ (front ++ 37 ∷ []) ++ back = sym (append_assoc front (37 ∷ []) back) in (
       list_any-place is_percent pattern ∙ lt-ltb _ _ (omega arith),
       ap (λ n. take n pattern) place ∙ ap (take (length front)) cut ∙ take_at front (37 ∷ back) (length front) refl,
-      ap (λ n. drop (n + 1) pattern) place ∙ ap (drop (length front + 1)) (cut ∙ behind)
+      ap (λ n. drop (n + 1) pattern) place ∙ ap (drop (length front + 1)) (cut ∙ past)
           ∙ drop_at (front ++ 37 ∷ []) back (length front + 1) (length-append front (37 ∷ [])),
     )
 

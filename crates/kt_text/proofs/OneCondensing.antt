@@ -14,7 +14,7 @@ use Rattle.kt_text.specs.Condensing.{space, tab, continuation, returned}
 use Rattle.kt_text.proofs.CondensingLemmas.{condensed_once, line_is_free}
 use Rattle.kt_text.proofs.CuttingLemmas.{FirstNewline, first_newline}
 use Rattle.kt_text.proofs.CuttingLemmas.{no_newline, first_continued, first_ended}
-use Rattle.kt_text.proofs.GapLemmas.{BeginsPlain, behind, condenses, newline_end, shorter, spelling}
+use Rattle.kt_text.proofs.GapLemmas.{BeginsPlain, past, condenses, newline_end, shorter, spelling}
 use Rattle.kt_text.proofs.LineTextLemmas.{lines_are}
 use Rattle.kt_text.proofs.NewlineLemmas.{IsFree, free_at, free_front}
 use Rattle.kt_text.proofs.TrimLemmas.{EndsPlain}
@@ -240,7 +240,7 @@ module _ (one other : Text → Text) (a : Condenses one) (b : Condenses other) w
       at_gap text r (later r.back (left_of_gap text r.kept r.run r.back fuel r.whole r.gap.holds small))
   same_by fuel text small later (first_ended front mark after whole free is) =
       let end = newline_end front mark is in
-      at_end text front mark after whole free is (later after (shorter text (front ++ end.0) after fuel (whole ∙ behind front mark end.0 after end.1) small))
+      at_end text front mark after whole free is (later after (shorter text (front ++ end.0) after fuel (whole ∙ past front mark end.0 after end.1) small))
 
   same_within : (fuel : ℕ) (text : Text) → length text ≤ fuel → one text ≡ other text
   same_within zero [] small = a.stays [] (λ k l. absurd (omega arith)) ∙ sym (b.stays [] (λ k l. absurd (omega arith)))

@@ -102,16 +102,16 @@ within size from [] a k d l = absurd (omega arith)
 within size from (line ∷ lines) a zero d l = (a.1, a.2)
 within size from (line ∷ lines) a (suc k) d l = within size line.span.end lines a.3 k d (omega arith)
 
-next_behind : (size from : ℕ) (lines : List Line) → AreFrom size from lines → 0 < length lines → (d : Line) → from ≤ (get_or lines 0 d).span.start
+next_after : (size from : ℕ) (lines : List Line) → AreFrom size from lines → 0 < length lines → (d : Line) → from ≤ (get_or lines 0 d).span.start
 unfolding AreFrom
-next_behind size from [] a l d = absurd (omega arith)
-next_behind size from (line ∷ lines) a l d = a.0
+next_after size from [] a l d = absurd (omega arith)
+next_after size from (line ∷ lines) a l d = a.0
 
 ordered : (size from : ℕ) (lines : List Line) → AreFrom size from lines → (k : ℕ) (d : Line) → suc k < length lines
     → (get_or lines k d).span.end ≤ (get_or lines (suc k) d).span.start
 unfolding AreFrom
 ordered size from [] a k d l = absurd (omega arith)
-ordered size from (line ∷ lines) a zero d l = next_behind size line.span.end lines a.3 (omega arith) d
+ordered size from (line ∷ lines) a zero d l = next_after size line.span.end lines a.3 (omega arith) d
 ordered size from (line ∷ lines) a (suc k) d l = ordered size line.span.end lines a.3 k d (omega arith)
 
 pub lines_in_order : (text : Text) → AreInOrder (length text) (logical_lines_of text)

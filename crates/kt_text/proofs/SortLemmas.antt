@@ -287,7 +287,7 @@ front_number-more n i front text =
     let first = front_number-first n i text in
     omega (arith, power, parts, turned, first)
 
--- so many bytes fit into eight
+-- a given number of bytes fit into eight
 pub front_fits : (front i : ℕ) → front < 256 ^ i → i < 8 → front < 256 ^ 7
 front_fits front i small l =
     let ten : 0 < 256 = omega arith in

@@ -1,5 +1,6 @@
 pub mod Condensing
 pub mod Words
+pub mod Begun
 pub mod Match
 pub mod Lines
 pub mod Functions

@@ -1,8 +1,9 @@
 //! Patterns with a percent sign.
 ghost use Rattle.std.specs.Prelude.{◌≡◌, ◌++◌, ◌+◌, ◌-◌, ◌≤◌, ℕ, false, length, true, IfNone, IfSome, MatchOption};
-ghost use Rattle.std.specs.Prelude.{OnOk, option_map};
+ghost use Rattle.std.specs.Prelude.{OnErr, OnOk, option_map};
 ghost use Rattle.std.specs.List.{slice_range};
 ghost use Rattle.kt_text.specs.Functions.{with_stem};
+ghost use Rattle.kt_text.specs.Begun.{HasBegun};
 ghost use Rattle.kt_text.specs.Words.{Text};
 ghost use Rattle.kt_text.specs.Match.{Match, has_percent, is_between, pattern_back, pattern_front, stem_span};
 
@@ -59,9 +60,11 @@ pub fn has_percent(pattern: &[u8]) -> bool
 }
 
 /// Appends the pattern with the stem in place of its first percent sign; a pattern without one is
-/// appended as it is. GNU make manual, "Introduction to Pattern Rules".
+/// appended as it is. Where memory is refused, the text holds a prefix of it more. GNU make
+/// manual, "Introduction to Pattern Rules".
 pub fn push_with_stem(text: &mut Vec<u8>, pattern: &[u8], stem: &[u8]) -> Result<(), AllocError>
-    ensures { OnOk result (text.new.items ≡ text.old.items ++ with_stem pattern.now stem.now) }
+    ensures appended { OnOk result (text.new.items ≡ text.old.items ++ with_stem pattern.now stem.now) }
+    ensures refused { OnErr result (HasBegun (with_stem pattern.now stem.now) text.old.items text.new.items) }
 {
     match cut_pattern(pattern) {
         Some((front, back)) => {

@@ -89,7 +89,7 @@ impl<'a> Ord for SortKey<'a> {
     }
 }
 
-// A text of so many bytes is held in its key.
+// A text of a given number of bytes is held in its key.
 const HEAD: usize = 16;
 
 // The bytes of a short text, with zeros after them.

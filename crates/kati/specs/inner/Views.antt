@@ -1,6 +1,6 @@
 -- What the code's own types say (kati's own).
 use Rattle.std.specs.Prelude.{ℕ, Bool, true, false, List, Result, Ok, Err}
-use Rattle.kt_ninja.specs.Writable.{Trouble, no_output, bad_name, bad_command, repeated, not_an_output}
+use Rattle.kt_ninja.specs.Writable.{Obstacle, no_output, bad_name, bad_command, repeated, not_an_output}
 use Rattle.kt_text.specs.Words.{Text}
 use Rattle.kt_eval.specs.declared.stop.Stop.{Stop}
 use Rattle.kt_eval.specs.declared.stop.Stop.TheVariants as stops
@@ -8,19 +8,19 @@ use Rattle.kt_ninja.specs.declared.plan.Plan.{Plan}
 use Rattle.kati.specs.declared.faults.RunFault.{RunFault}
 use Rattle.kati.specs.declared.faults.RunFault.TheVariants as faults
 use Rattle.kati.specs.declared.outcome.Outcome.{Outcome as Ended}
-use Rattle.kt_eval.specs.Files.{Store}
-use Rattle.kt_eval.specs.Machines.{Read, Trace, read_of}
+use Rattle.kt_eval.specs.files.Files.{Store}
+use Rattle.kt_eval.specs.reading.Machine.{Read, Trace, read_of}
 use Rattle.kt_eval.specs.Outcome.{Outcome}
 use Rattle.kati_args.specs.declared.args.Args.{Args}
 use Rattle.kati.specs.Meaning.{Means, MeansGoals, Wanted, meaning_of}
-use Rattle.kati.specs.declared.reading.Makefile.{Makefile}
+use Rattle.kt_eval.specs.declared.macros.scope.Makefile.{Makefile}
 use Rattle.kati.specs.declared.translating.Sources.{Sources}
 
-abbrev pub read_told : Makefile → Read
-read_told makefile = read_of makefile.macros makefile.book
+abbrev pub read_view : Makefile → Read
+read_view makefile = read_of makefile.macros makefile.book
 
-abbrev pub wanted_told : Sources → List Text → Wanted
-wanted_told sources goals = record { read = read_told sources.makefile; known = sources.known; goals = goals }
+abbrev pub wanted_view : Sources → List Text → Wanted
+wanted_view sources goals = record { read = read_view sources.makefile; known = sources.known; goals = goals }
 
 -- an end that goals mean, after what was left before them
 abbrev pub GoalsEnd : ℕ → Wanted → Trace → Outcome Trace Plan → Type 0
@@ -38,7 +38,7 @@ outcome_of said (Err (stops.Device name)) = Err (faults.Read name)
 outcome_of said (Err stops.Memory) = Err faults.Memory
 
 -- whether a name or a command is what is wrong
-abbrev pub is_text_trouble : Trouble → Bool
+abbrev pub is_text_trouble : Obstacle → Bool
 is_text_trouble (bad_name name) = true
 is_text_trouble (bad_command number) = true
 is_text_trouble (no_output number) = false

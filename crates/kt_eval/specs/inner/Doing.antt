@@ -4,12 +4,12 @@ use Rattle.kt_syntax.specs.Reading.{left_at}
 use Rattle.kt_eval.specs.declared.stop.Stop.{Stop}
 use Rattle.kt_eval.specs.Outcome.{Gives, IfCut, left_of}
 use Rattle.kt_eval.specs.Step.{AreKnown, Blames, GoesOn, Keeps, Seen, Step, files_of, store_of}
-use Rattle.kt_eval.specs.Expansion.{Evaluator}
-use Rattle.kt_eval.specs.Files.{Store}
-use Rattle.kt_eval.specs.Levels.{evaluator}
-use Rattle.kt_eval.specs.Reading.{Sheet, read_items}
+use Rattle.kt_eval.specs.expanding.Expansion.{Evaluator}
+use Rattle.kt_eval.specs.files.Files.{Store}
+use Rattle.kt_eval.specs.expanding.Levels.{evaluator}
+use Rattle.kt_eval.specs.reading.Reading.{Sheet, read_items}
 
--- The call does the step, with so many levels left below it; what it returned is seen by `see`.
+-- The call does the step, with a given number of levels left below it; what it returned is seen by `see`.
 pub record Does {A B : Type 0} (see : A → B) (writable : Bool) (levels : ℕ) (step : Evaluator → Step B)
     (result : Result A Stop) (old new : Seen) : Type 0 where
   -- where the bytes of the named files are known, the result and the world that it leaves are what the step gives
@@ -20,7 +20,7 @@ pub record Does {A B : Type 0} (see : A → B) (writable : Bool) (levels : ℕ) 
       → IfCut result (GoesOn new.world (left_of (step (evaluator writable (store_of old.known) levels) old.world)))
   -- files, messages and names asked for are kept
   pub kept : Keeps old new
-  -- a device's failure is told as one, and nothing else is
+  -- a device's failure is reported as one, and nothing else is
   pub blames : Blames result (files_of old) (files_of new)
 
 -- what is left of a page from the line of a place on

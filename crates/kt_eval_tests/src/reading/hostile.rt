@@ -86,7 +86,7 @@ fn refuses_large_files(rt: HostRuntime) -> Result<(), Fail> {
     Ok(())
 }
 
-/// A name of so many letters.
+/// A name of a given number of letters.
 fn put_name(text: &mut Vec<u8>, length: usize) -> Result<(), AllocError> {
     for _ in 0..length {
         text.push(b'x')?;

@@ -4,9 +4,9 @@ use Rattle.kt_ninja.specs.declared.read_fault.Fault.{Fault}
 use Rattle.kt_ninja.specs.declared.read_fault.Fault.TheVariants.{NoReading, Memory}
 use Rattle.kt_ninja.specs.declared.plan.Made.{Made}
 use Rattle.kt_ninja.specs.declared.plan.Made.TheVariants.{Command, Phony}
-use Rattle.kt_ninja.specs.declared.stated.More.{More}
-use Rattle.kt_ninja.specs.declared.stated.Making.{Making as HeldMaking}
-use Rattle.kt_ninja.specs.declared.stated.Making.TheVariants.{ByNothing, ByOwn, ByRule}
+use Rattle.kt_ninja.specs.declared.pending_statement.More.{More}
+use Rattle.kt_ninja.specs.declared.pending_statement.Making.{Making as HeldMaking}
+use Rattle.kt_ninja.specs.declared.pending_statement.Making.TheVariants.{ByNothing, ByOwn, ByRule}
 use Rattle.kt_ninja.specs.JoinedLines.{Text}
 use Rattle.kt_ninja.specs.Forms.{Binding, Pieces}
 use Rattle.kt_ninja.specs.Scopes.{Scope, command_value, expanded, find_in, put_in, refers_to, value_in}

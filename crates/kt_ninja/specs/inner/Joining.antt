@@ -7,9 +7,9 @@ use Rattle.kt_ninja.specs.declared.joined.Begun.{Begun as OpenLine}
 use Rattle.kt_ninja.specs.JoinedLines.{Begun, FileLine, Line, Text, goes_on, is_blank, is_comment, without_indent}
 
 -- a line as it is held
-abbrev pub line_told : LineForm → Line
-line_told (Plain number text) = record { number = number; text = text.now; ended = true }
-line_told (Other line) = record { number = line.value.number; text = line.value.text.items; ended = line.value.ended }
+abbrev pub line_view : LineForm → Line
+line_view (Plain number text) = record { number = number; text = text.now; ended = true }
+line_view (Other line) = record { number = line.value.number; text = line.value.text.items; ended = line.value.ended }
 
 -- a line that was cut off
 abbrev pub file_line : CutLine → FileLine

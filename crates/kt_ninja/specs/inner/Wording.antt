@@ -30,28 +30,28 @@ two_bars ([] ∷ order ∷ []) = Some order
 two_bars _ = None
 
 -- what stands after one bar and after two, where the first part is there
-abbrev pub bars_behind : Pieces → List Pieces → Option (Pieces × Pieces)
-bars_behind implicit [] = Some (implicit, [])
-bars_behind [] (part ∷ parts) = option_map (λ order. ([], order)) (two_bars ([] ∷ part ∷ parts))
-bars_behind (p ∷ ps) (part ∷ parts) = option_map (λ order. (p ∷ ps, order)) (two_bars (part ∷ parts))
+abbrev pub bars_after : Pieces → List Pieces → Option (Pieces × Pieces)
+bars_after implicit [] = Some (implicit, [])
+bars_after [] (part ∷ parts) = option_map (λ order. ([], order)) (two_bars ([] ∷ part ∷ parts))
+bars_after (p ∷ ps) (part ∷ parts) = option_map (λ order. (p ∷ ps, order)) (two_bars (part ∷ parts))
 
 -- the same for any parts
 abbrev pub bars_cut : List Pieces → Option (Pieces × Pieces)
 bars_cut [] = Some ([], [])
-bars_cut (implicit ∷ parts) = if begins_with_at implicit then None else bars_behind implicit parts
+bars_cut (implicit ∷ parts) = if begins_with_at implicit then None else bars_after implicit parts
 
 -- the binding that was read
-abbrev pub binding_told : ReadBinding → Binding
-binding_told b = record { key = b.key.now; value = b.value }
+abbrev pub binding_view : ReadBinding → Binding
+binding_view b = record { key = b.key.now; value = b.value }
 
 -- the inputs that were read
-abbrev pub inputs_told : ReadInputs → Inputs
-inputs_told i = record {
+abbrev pub inputs_view : ReadInputs → Inputs
+inputs_view i = record {
   explicit = i.explicit.items;
   implicit = i.implicit.items;
   order_only = i.order_only.items;
 }
 
 -- the build line that was read
-abbrev pub build_told : ReadBuild → Build
-build_told b = record { outs = b.outs.items; rule_name = b.rule.now; inputs = inputs_told b.inputs }
+abbrev pub build_view : ReadBuild → Build
+build_view b = record { outs = b.outs.items; rule_name = b.rule.now; inputs = inputs_view b.inputs }

@@ -2,12 +2,12 @@
 use Rattle.std.specs.Prelude.{ℕ, ◌==◌, List, [], ◌∷◌, Option, Some, None, option_map, if◌then◌else◌}
 use Rattle.std.specs.Option.{option_and_then}
 use Rattle.kt_text.specs.Words.{Text}
-use Rattle.kt_graph.specs.Node.{Node}
+use Rattle.kt_graph.specs.nodes.Node.{Node}
 use Rattle.kt_recipe.specs.declared.forms.Form.{Form}
 use Rattle.kt_recipe.specs.declared.forms.Form.TheVariants.{Whole, Directory, File}
 use Rattle.kt_recipe.specs.declared.subjects.Subject.{Subject}
 use Rattle.kt_recipe.specs.Forms.{text_of}
-use Rattle.kt_recipe.specs.Auto.{marks, has_parts, names_in}
+use Rattle.kt_recipe.specs.Automatic.{marks, has_parts, names_in}
 
 -- the subject of a mark
 abbrev pub subject_in : List (ℕ × Subject) → ℕ → Option Subject

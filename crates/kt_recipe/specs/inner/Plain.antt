@@ -5,7 +5,7 @@ use Rattle.kt_text.specs.Words.{Text}
 use Rattle.kt_eval.specs.declared.macros.Flavour.{Flavour}
 use Rattle.kt_eval.specs.declared.macros.Flavour.TheVariants.{Deferred, Immediate}
 use Rattle.kt_eval.specs.declared.macros.Macro.{Macro}
-use Rattle.kt_eval.specs.Table.{Table, find}
+use Rattle.kt_eval.specs.macros.Macros.{Table, find}
 
 -- whether a value is what it is expanded to: it isn't expanded again, or a level is left and it refers to nothing
 abbrev pub is_plain : ℕ → Flavour → Text → Bool

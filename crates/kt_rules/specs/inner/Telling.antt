@@ -1,4 +1,4 @@
--- Bytes by which names that aren't taken are told (kati's own).
+-- Bytes by which names that aren't taken are recognised (kati's own).
 use Rattle.std.specs.Prelude.{ℕ, Bool, false, ◌==◌, ◌||◌, [], ◌∷◌}
 use Rattle.kt_text.specs.Words.{Text}
 use Rattle.kt_rules.specs.Names.{is_wildcard}

@@ -2,7 +2,7 @@
 ghost use Rattle.std.specs.Prelude.{◌≡◌, ◌&&◌, ◌∷◌, [], MatchOption, is_some, option_map};
 ghost use Rattle.std.specs.Iterator.{YieldsFirstBy, item_count};
 ghost use Rattle.std.specs.List.{list_any};
-ghost use Rattle.kt_rules.specs.Slots.{explicit_left, explicit_rule, rule_told};
+ghost use Rattle.kt_rules.specs.Slots.{explicit_left, explicit_rule, rule_view};
 ghost use Rattle.kt_rules.specs.inner.SuffixCuts.{is_bare_at};
 ghost use Rattle.kt_rules.specs.Suffixes.{suffix_patterns};
 
@@ -53,7 +53,7 @@ impl<'a> Explicit<'a> {
 impl<'a> Iterator for Explicit<'a> {
     type Item = TargetRule<'a>;
 
-    ghost next_gives = { YieldsFirstBy rule_told (λ rules. rules) };
+    ghost next_gives = { YieldsFirstBy rule_view (λ rules. rules) };
 
     ghost remaining = { item_count (λ rules. rules) };
 
@@ -85,7 +85,7 @@ fn first_explicit<'a>(
     skips_bare: bool,
 ) -> Option<(TargetRule<'a>, &'a [Spot])>
     ensures { MatchOption result (explicit_left skips_bare slots.now spots.now ≡ [])
-        (λ cut. explicit_left skips_bare slots.now spots.now ≡ rule_told cut.0
+        (λ cut. explicit_left skips_bare slots.now spots.now ≡ rule_view cut.0
         ∷ explicit_left skips_bare slots.now cut.1.now) }
 {
     let mut left = spots;
@@ -100,7 +100,7 @@ fn first_explicit<'a>(
 
 // The rule that stands at a spot, if it is explicit.
 fn explicit_at(slots: &[Option<Entry>], spot: Spot, skips_bare: bool) -> Option<TargetRule<'_>>
-    ensures { option_map rule_told result ≡ explicit_rule skips_bare slots.now spot }
+    ensures { option_map rule_view result ≡ explicit_rule skips_bare slots.now spot }
 {
     let rule = rule_at(slots, spot)?;
     if is_bare(rule) && skips_bare {

@@ -2,12 +2,12 @@
 ghost use Rattle.std.specs.Prelude.{◌≡◌, ◌&&◌, ◌==◌, not, option_map, find};
 ghost use Rattle.std.specs.List.{list_any};
 ghost use Rattle.kt_rules.specs.Book.{begins_with_dot, first_goal_by, goal_in, is_goal, may_be_goal};
-ghost use Rattle.kt_rules.specs.Slots.{rule_told, rules_in, slot_goal};
+ghost use Rattle.kt_rules.specs.Slots.{rule_view, rules_in, slot_goal};
 
 use super::suffix::is_suffix_name;
 use super::suffixes::Suffixes;
 use super::target_rule::{TargetRule, is_bare, is_made};
-use crate::entry::{Entry, Target};
+use crate::entry::Entry;
 
 /// The first target of an explicit rule that may be the default goal.
 pub(crate) fn first_goal<'a>(suffixes: &Suffixes, slots: &'a [Option<Entry>]) -> Option<&'a [u8]>
@@ -37,16 +37,16 @@ fn goal_in<'a>(suffixes: &Suffixes, entry: &'a Entry) -> Option<&'a [u8]>
 {
     for target in entry.targets() {
         if is_made(entry, target) && is_goal(suffixes, TargetRule { entry, target }) {
-            return Some(target.name.as_slice());
+            return Some(target.name);
         }
     }
     None
 }
 
 fn is_goal(suffixes: &Suffixes, rule: TargetRule) -> bool
-    ensures { result ≡ is_goal suffixes.now (rule_told rule.entry) }
+    ensures { result ≡ is_goal suffixes.now (rule_view rule.entry) }
 {
-    let name = rule.target.name.as_slice();
+    let name = rule.target.name;
     may_be_goal(name) && !(is_bare(rule) && is_suffix_name(suffixes, name))
 }
 

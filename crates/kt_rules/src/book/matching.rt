@@ -2,16 +2,18 @@
 ghost use Rattle.std.specs.Prelude.{◌≡◌, ◌++◌, ◌||◌, ◌∷◌, [], IfOk, OnOk, flat_map, option_map, if◌then◌else◌};
 ghost use Rattle.kt_rules.specs.Book.{pattern_rule, patterns_in, repeats, unrepeated};
 ghost use Rattle.kt_rules.specs.Entry.{Rule};
-ghost use Rattle.kt_rules.specs.Patterns.{form_told, has_pattern, slot_patterns, stays_before, suffix_rules_at};
+ghost use Rattle.kt_rules.specs.Patterns.{form_view, has_pattern, slot_patterns, stays_before, suffix_rules_at};
 ghost use Rattle.kt_rules.specs.Patterns.{suffix_rules_in};
 ghost use Rattle.kt_rules.specs.Slots.{rules_in};
 ghost use Rattle.kt_rules.specs.Suffixes.{percent, suffix_patterns};
+ghost use Rattle.kt_rules.specs.Targets.{target_view};
 
-use super::pattern::{Pattern, SuffixForm};
+use super::pattern::{Pattern, PatternForm};
 use super::pattern_set::PatternSet;
 use super::suffixes::Suffixes;
 use super::target_rule::{TargetRule, is_bare, is_made, is_pattern};
-use crate::entry::{Entry, Name, Needs, Target};
+use crate::copying::{copied_needs, copied_targets};
+use crate::entry::{Entry, Kind, Name, Needs, Target};
 use kt_list::Sequence;
 use std::alloc::{AllocError, Global};
 
@@ -53,7 +55,8 @@ fn add_entry<'a>(
     ensures { OnOk result (patterns.new.items ≡ patterns.old.items ++ patterns_in suffixes.now entry.now) }
 {
     if is_pattern(entry.kind()) {
-        patterns.push(Pattern { entry, form: None })?;
+        let form = own_form(alloc, entry)?;
+        patterns.push(Pattern { entry, form })?;
         return Ok(());
     }
     add_suffix_rules(alloc, suffixes, entry, patterns)
@@ -81,15 +84,15 @@ fn add_suffix_rule<'a>(
     patterns: &mut Vec<Pattern<'a>>,
 ) -> Result<(), AllocError>
     ensures { OnOk result (patterns.new.items ≡ patterns.old.items
-        ++ suffix_rules_at suffixes.now rule.entry.entry.now rule.entry.target.now) }
+        ++ suffix_rules_at suffixes.now rule.entry.entry.now (target_view rule.entry.target)) }
 {
     if !(is_made(rule.entry, rule.target) && is_bare(rule)) {
         return Ok(());
     }
-    if let Some(form) = named_form(alloc, suffixes, rule.target.name.as_slice())? {
+    if let Some(form) = named_form(alloc, suffixes, rule.target.name)? {
         patterns.push(Pattern {
             entry: rule.entry,
-            form: Some(form),
+            form,
         })?;
     }
     Ok(())
@@ -100,8 +103,8 @@ fn named_form(
     alloc: Global,
     suffixes: &Suffixes,
     name: &[u8],
-) -> Result<Option<SuffixForm>, AllocError>
-    ensures { IfOk result (λ form. (rule : Rule) → option_map (form_told rule) form
+) -> Result<Option<PatternForm>, AllocError>
+    ensures { IfOk result (λ form. (rule : Rule) → option_map (form_view rule) form
         ≡ option_map (pattern_rule rule) (suffix_patterns suffixes.now name.now)) }
 {
     if suffixes.contains(name) {
@@ -113,10 +116,23 @@ fn named_form(
     }
 }
 
+// What an entry makes and needs that is a pattern rule.
+fn own_form(alloc: Global, entry: &Entry) -> Result<PatternForm, AllocError>
+    ensures { IfOk result (λ form. form_view entry.now form ≡ entry.now) }
+{
+    let targets = copied_targets(alloc, entry.targets())?;
+    let needs = copied_needs(alloc, entry.shared_needs())?;
+    Ok(PatternForm {
+        kind: entry.kind(),
+        targets,
+        needs,
+    })
+}
+
 // The form of a suffix rule for targets with one suffix that need a name with another.
-fn suffix_form(alloc: Global, made: &[u8], needed: &[u8]) -> Result<SuffixForm, AllocError>
+fn suffix_form(alloc: Global, made: &[u8], needed: &[u8]) -> Result<PatternForm, AllocError>
     ensures { IfOk result (λ form. (rule : Rule)
-        → form_told rule form ≡ pattern_rule rule (percent ++ made.now, percent ++ needed.now)) }
+        → form_view rule form ≡ pattern_rule rule (percent ++ made.now, percent ++ needed.now)) }
 {
     let target = Target {
         name: Name::from(with_percent(alloc, made)?),
@@ -125,7 +141,8 @@ fn suffix_form(alloc: Global, made: &[u8], needed: &[u8]) -> Result<SuffixForm, 
     let prerequisite = Name::from(with_percent(alloc, needed)?);
     let targets = Vec::from_array(alloc, [target])?;
     let prerequisites = Vec::from_array(alloc, [prerequisite])?;
-    Ok(SuffixForm {
+    Ok(PatternForm {
+        kind: Kind::Pattern,
         targets,
         needs: Needs {
             prerequisites: Sequence::from(prerequisites),
@@ -150,10 +167,10 @@ pub(crate) fn unrepeated<'a>(
     ensures { IfOk result (λ kept. kept.items ≡ unrepeated patterns.entry.items) }
 {
     let mut left = patterns;
-    let mut behind = PatternSet::new(alloc);
+    let mut past = PatternSet::new(alloc);
     let mut kept = Vec::new(alloc);
     while let Some(pattern) = left.pop() {
-        sort_in(pattern, &mut kept, &mut behind)?;
+        sort_in(pattern, &mut kept, &mut past)?;
     }
     kept.reverse();
     Ok(kept)
@@ -163,14 +180,14 @@ pub(crate) fn unrepeated<'a>(
 fn sort_in<'a>(
     pattern: Pattern<'a>,
     kept: &mut Vec<Pattern<'a>>,
-    behind: &mut PatternSet,
+    past: &mut PatternSet,
 ) -> Result<(), AllocError>
-    ensures kept { OnOk result (kept.new.items ≡ kept.old.items ++ (if stays_before behind.old pattern.entry
+    ensures kept { OnOk result (kept.new.items ≡ kept.old.items ++ (if stays_before past.old pattern.entry
         then pattern.entry ∷ [] else [])) }
-    ensures behind { OnOk result ((rule : Rule)
-        → has_pattern behind.new rule ≡ (repeats rule pattern.entry || has_pattern behind.old rule)) }
+    ensures past { OnOk result ((rule : Rule)
+        → has_pattern past.new rule ≡ (repeats rule pattern.entry || has_pattern past.old rule)) }
 {
-    let is_last = behind.insert(&pattern)?;
+    let is_last = past.insert(&pattern)?;
     if is_last && pattern.recipe().is_some() {
         kept.push(pattern)?;
     }

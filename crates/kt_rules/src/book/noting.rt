@@ -5,13 +5,15 @@ ghost use Rattle.kt_rules.specs.Book.{phony_of};
 ghost use Rattle.kt_rules.specs.Names.{with_name};
 ghost use Rattle.kt_rules.specs.Slots.{GotRecipes, GotSpots, GrewIn, spots_at, target_spots};
 ghost use Rattle.kt_rules.specs.Suffixes.{suffixes_after};
+ghost use Rattle.kt_rules.specs.Targets.{target_view};
 
 use super::special::{learn_phony, learn_suffixes};
 use super::spot::Spot;
 use super::spots::Spots;
 use super::suffixes::Suffixes;
 use super::target_rule::{has_recipe, is_made};
-use crate::entry::{Entry, Target};
+use crate::entry::Entry;
+use crate::target::TargetView;
 use kt_list::Names;
 use std::alloc::AllocError;
 
@@ -62,7 +64,7 @@ fn note_targets(spots: &mut Spots, entry: &Entry, place: usize) -> Result<(), Al
     ensures targets_refused { OnErr result (GrewIn place spots.old.0 spots.new.0) }
     ensures recipes_refused { OnErr result (GrewIn place spots.old.1 spots.new.1) }
 {
-    for (number, target) in entry.targets().iter().enumerate() {
+    for (number, target) in entry.targets().enumerate() {
         let spot = Spot {
             entry: place,
             target: number,
@@ -76,18 +78,18 @@ fn note_targets(spots: &mut Spots, entry: &Entry, place: usize) -> Result<(), Al
 fn note_target(
     spots: &mut Spots,
     entry: &Entry,
-    target: &Target,
+    target: TargetView<'_>,
     spot: Spot,
 ) -> Result<(), AllocError>
     ensures targets_noted { OnOk result ((name : Text) → spots_at spots.new.0 name ≡ spots_at spots.old.0 name
-        ++ target_spots entry.now target.now spot name) }
+        ++ target_spots entry.now (target_view target.entry) spot name) }
     ensures recipes_noted { OnOk result ((name : Text) → spots_at spots.new.1 name ≡ spots_at spots.old.1 name
-        ++ (if is_some entry.now.recipe then target_spots entry.now target.now spot name else [])) }
+        ++ (if is_some entry.now.recipe then target_spots entry.now (target_view target.entry) spot name else [])) }
     ensures targets_refused { OnErr result (GrewIn spot.entry spots.old.0 spots.new.0) }
     ensures recipes_refused { OnErr result (GrewIn spot.entry spots.old.1 spots.new.1) }
 {
     if !is_made(entry, target) {
         return Ok(());
     }
-    spots.note(target.name.as_slice(), spot, has_recipe(entry))
+    spots.note(target.name, spot, has_recipe(entry))
 }

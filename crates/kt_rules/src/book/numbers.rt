@@ -3,7 +3,7 @@ ghost use Rattle.std.specs.Prelude.{◌≡◌, ◌++◌, ◌&&◌, ◌∷◌, []
 ghost use Rattle.kt_text.specs.Words.{Text};
 ghost use Rattle.kt_rules.specs.Book.{explicit_numbers, is_explicit, numbers_in};
 ghost use Rattle.kt_rules.specs.Indexes.{noted_at};
-ghost use Rattle.kt_rules.specs.Slots.{rule_told};
+ghost use Rattle.kt_rules.specs.Slots.{rule_view};
 ghost use Rattle.kt_rules.specs.Suffixes.{suffixes_of};
 
 use super::target_rule::TargetRule;
@@ -52,12 +52,12 @@ impl Book {
         number: usize,
     ) -> Result<(), AllocError>
         ensures { OnOk result ((name : Text) → noted_at index.new name ≡ noted_at index.old name
-            ++ (if bytes_eq name rule.entry.target.now.name && is_explicit (suffixes_of self.now) (rule_told rule.entry)
+            ++ (if bytes_eq name rule.entry.target.name.now && is_explicit (suffixes_of self.now) (rule_view rule.entry)
             then number ∷ [] else [])) }
     {
         if !self.is_explicit(rule) {
             return Ok(());
         }
-        index.note(rule.target.name.as_slice(), number)
+        index.note(rule.target.name, number)
     }
 }

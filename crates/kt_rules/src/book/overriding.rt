@@ -2,11 +2,13 @@
 ghost use Rattle.std.specs.Prelude.{◌≡◌, ◌++◌, ◌∷◌, ◌&&◌, [], true, IfOk, OnOk, map, if◌then◌else◌};
 ghost use Rattle.std.specs.List.{list_any};
 ghost use Rattle.kt_rules.specs.Book.{is_made, override_message, override_messages, recipes_of, targets_with_recipe};
+ghost use Rattle.kt_rules.specs.Targets.{target_view};
 
 use super::target_rule::{first_rule, has_recipe, is_made, is_single};
 use super::{Book, Warnings};
-use crate::entry::{Entry, Target};
+use crate::entry::Entry;
 use crate::place::Place;
+use crate::target::TargetView;
 use kt_list::Sequence;
 use std::alloc::{AllocError, Global};
 
@@ -36,14 +38,15 @@ impl Book {
     fn warn(
         &self,
         entry: &Entry,
-        target: &Target,
+        target: TargetView<'_>,
         warnings: &mut Vec<Sequence<u8>>,
     ) -> Result<(), AllocError>
         ensures { OnOk result (warnings.new.items ≡ warnings.old.items
-            ++ (if is_made entry.now target.now && list_any (λ earlier. true) (recipes_of self.now target.now.name)
-            then override_message entry.now.place target.now ∷ [] else [])) }
+            ++ (if is_made entry.now (target_view target.entry)
+            && list_any (λ earlier. true) (recipes_of self.now (target_view target.entry).name)
+            then override_message entry.now.place (target_view target.entry) ∷ [] else [])) }
     {
-        if is_made(entry, target) && self.has_recipe(target.name.as_slice()) {
+        if is_made(entry, target) && self.has_recipe(target.name) {
             warnings.push(override_message(self.alloc, entry.place(), target)?)?;
         }
         Ok(())
@@ -60,14 +63,14 @@ impl Book {
 fn override_message(
     alloc: Global,
     place: &Place,
-    target: &Target,
+    target: TargetView<'_>,
 ) -> Result<Sequence<u8>, AllocError>
-    ensures { IfOk result (λ text. text ≡ override_message place.now target.now) }
+    ensures { IfOk result (λ text. text ≡ override_message place.now (target_view target.entry)) }
 {
     let mut text = Vec::new(alloc);
     place.append_to(&mut text)?;
     text.extend_from_slice(b": warning: overriding recipe for target '")?;
-    text.extend_from_slice(target.name.as_slice())?;
+    text.extend_from_slice(target.name)?;
     text.push(b'\'')?;
     Ok(Sequence::from(text))
 }

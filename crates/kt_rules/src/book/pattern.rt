@@ -11,13 +11,14 @@ use std::marker::Model;
 #[derive(Drop)]
 pub struct Pattern<'a> {
     pub(crate) entry: &'a Entry,
-    // What a suffix rule makes and needs.
-    pub(crate) form: Option<SuffixForm>,
+    pub(crate) form: PatternForm,
 }
 
-/// What a suffix rule makes and needs as a pattern rule.
+/// What a pattern rule makes and needs.
 #[derive(Drop)]
-pub(crate) struct SuffixForm {
+pub(crate) struct PatternForm {
+    // A suffix rule isn't of the kind of its entry.
+    pub(crate) kind: Kind,
     pub(crate) targets: Vec<Target>,
     pub(crate) needs: Needs,
 }
@@ -27,9 +28,9 @@ impl<'a> Model for Pattern<'a> {
 
     ghost Value = { Rule };
 
-    ghost use Rattle.kt_rules.specs.Patterns.{pattern_told};
+    ghost use Rattle.kt_rules.specs.Patterns.{form_view};
 
-    ghost view = { λ pattern. pattern_told pattern.entry.now pattern.form };
+    ghost view = { λ pattern. form_view pattern.entry.now pattern.form };
 }
 
 impl<'a> Pattern<'a> {
@@ -37,20 +38,14 @@ impl<'a> Pattern<'a> {
     pub fn targets(&self) -> &[Target]
         ensures { result.now ≡ self.now.targets }
     {
-        match &self.form {
-            Some(form) => form.targets.as_slice(),
-            None => self.entry.targets(),
-        }
+        self.form.targets.as_slice()
     }
 
     /// What the targets need.
     pub fn needs(&self) -> &Needs
         ensures { result.now ≡ self.now.needs }
     {
-        match &self.form {
-            Some(form) => &form.needs,
-            None => self.entry.shared_needs(),
-        }
+        &self.form.needs
     }
 
     /// Whether no rule is searched for that makes its prerequisites (GNU make manual,
@@ -58,10 +53,7 @@ impl<'a> Pattern<'a> {
     pub fn is_terminal(&self) -> bool
         ensures { result ≡ is_terminal self.now.kind }
     {
-        match &self.form {
-            Some(_) => false,
-            None => matches!(self.entry.kind(), Kind::TerminalPattern),
-        }
+        matches!(self.form.kind, Kind::TerminalPattern)
     }
 
     /// The lines of its recipe.

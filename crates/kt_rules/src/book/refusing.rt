@@ -3,37 +3,39 @@ ghost use Rattle.std.specs.Prelude.{◌≡◌, ◌||◌, option_map, is_none, �
 ghost use Rattle.std.specs.List.{list_any};
 ghost use Rattle.kt_rules.specs.Book.{beside_group_in, both_colons_in, differ_in_colons, is_beside_group, is_double};
 ghost use Rattle.kt_rules.specs.Book.{is_group, is_made, recipes_of, refusal_of, rules_of, two_recipes_in, xor};
-ghost use Rattle.kt_rules.specs.Refusals.{Tells, fault_at, refusal_told};
+ghost use Rattle.kt_rules.specs.Refusals.{ReportsFault, fault_at, refusal_view};
+ghost use Rattle.kt_rules.specs.Targets.{target_view};
 
 use super::Book;
 use super::target_rule::{first_rule, has_recipe, is_double, is_group, is_made};
-use crate::entry::{Entry, Target};
+use crate::entry::Entry;
 use crate::fault::RuleFault;
 use crate::place::Place;
 use crate::refusal::Refusal;
+use crate::target::TargetView;
 use std::alloc::Global;
 
 impl Book {
     // What is refused of an entry after those of the book.
     #[tactic(auto, unfolding(crate::specs::Book::refusal_of))]
     pub(crate) fn refusal<'a>(&self, entry: &'a Entry) -> Option<Refusal<'a>>
-        ensures { option_map refusal_told result ≡ refusal_of self.now entry.now }
+        ensures { option_map refusal_view result ≡ refusal_of self.now entry.now }
     {
         if is_group(entry.kind()) && !has_recipe(entry) {
             return Some(Refusal::BadGroup);
         }
         if let Some(target) = self.both_colons(entry) {
-            return Some(Refusal::BothColons(target.name.as_slice()));
+            return Some(Refusal::BothColons(target.name));
         }
         match self.two_recipes(entry) {
-            Some(target) => Some(Refusal::TwoRecipes(target.name.as_slice())),
+            Some(target) => Some(Refusal::TwoRecipes(target.name)),
             None => None,
         }
     }
 
     // The first target that has rules with the other number of colons.
-    fn both_colons<'a>(&self, entry: &'a Entry) -> Option<&'a Target>
-        ensures { option_map (λ target. target.now) result ≡ both_colons_in self.now entry.now }
+    fn both_colons<'a>(&self, entry: &'a Entry) -> Option<TargetView<'a>>
+        ensures { option_map target_view result ≡ both_colons_in self.now entry.now }
     {
         for target in entry.targets() {
             if self.differs(entry, target) {
@@ -44,8 +46,8 @@ impl Book {
     }
 
     // The first target that gets a second recipe, where one of the two is a group's.
-    fn two_recipes<'a>(&self, entry: &'a Entry) -> Option<&'a Target>
-        ensures { option_map (λ target. target.now) result ≡ two_recipes_in self.now entry.now }
+    fn two_recipes<'a>(&self, entry: &'a Entry) -> Option<TargetView<'a>>
+        ensures { option_map target_view result ≡ two_recipes_in self.now entry.now }
     {
         if !has_recipe(entry) {
             return None;
@@ -53,8 +55,8 @@ impl Book {
         self.beside_group(entry)
     }
 
-    fn beside_group<'a>(&self, entry: &'a Entry) -> Option<&'a Target>
-        ensures { option_map (λ target. target.now) result ≡ beside_group_in self.now entry.now }
+    fn beside_group<'a>(&self, entry: &'a Entry) -> Option<TargetView<'a>>
+        ensures { option_map target_view result ≡ beside_group_in self.now entry.now }
     {
         for target in entry.targets() {
             if self.is_beside_group(entry, target) {
@@ -65,19 +67,19 @@ impl Book {
     }
 
     // Whether the entry makes the target, and it has rules with the other number of colons.
-    fn differs(&self, entry: &Entry, target: &Target) -> bool
-        ensures { result ≡ (is_made entry.now target.now
-            && list_any (differ_in_colons entry.now) (rules_of self.now target.now.name)) }
+    fn differs(&self, entry: &Entry, target: TargetView<'_>) -> bool
+        ensures { result ≡ (is_made entry.now (target_view target.entry)
+            && list_any (differ_in_colons entry.now) (rules_of self.now (target_view target.entry).name)) }
     {
-        is_made(entry, target) && self.has_other_colons(entry, target.name.as_slice())
+        is_made(entry, target) && self.has_other_colons(entry, target.name)
     }
 
     // Whether the entry makes the target, and it has a recipe, one of the two a group's.
-    fn is_beside_group(&self, entry: &Entry, target: &Target) -> bool
-        ensures { result ≡ (is_made entry.now target.now
-            && list_any (is_beside_group entry.now) (recipes_of self.now target.now.name)) }
+    fn is_beside_group(&self, entry: &Entry, target: TargetView<'_>) -> bool
+        ensures { result ≡ (is_made entry.now (target_view target.entry)
+            && list_any (is_beside_group entry.now) (recipes_of self.now (target_view target.entry).name)) }
     {
-        is_made(entry, target) && self.has_group(entry, target.name.as_slice())
+        is_made(entry, target) && self.has_group(entry, target.name)
     }
 
     // Whether a target has rules with the other number of colons. All that it has are alike.
@@ -119,7 +121,7 @@ fn either_is_group(entry: &Entry, earlier: &Entry) -> bool
 
 /// The fault of what is refused of the rule at a place.
 pub(crate) fn fault_of(alloc: Global, place: &Place, refusal: Refusal) -> RuleFault
-    ensures { Tells result (fault_at place.now (refusal_told refusal.entry)) }
+    ensures { ReportsFault result (fault_at place.now (refusal_view refusal.entry)) }
 {
     match place.share() {
         Ok(place) => refusal.at(alloc, place),

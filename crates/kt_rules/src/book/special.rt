@@ -4,10 +4,12 @@ ghost use Rattle.kt_text.specs.Words.{Text};
 ghost use Rattle.kt_rules.specs.Book.{phony_of};
 ghost use Rattle.kt_rules.specs.Names.{with_name};
 ghost use Rattle.kt_rules.specs.Suffixes.{all_needs, special_needs, start_suffixes, suffixes_after};
+ghost use Rattle.kt_rules.specs.Targets.{names_view, needs_view, target_view, targets_view};
 
 use super::suffixes::Suffixes;
-use super::target_rule::needs_nothing;
-use crate::entry::{Entry, Name, Needs, Target};
+use crate::entry::Entry;
+use crate::needs::{NeededNames, NeedsView};
+use crate::target::{TargetView, Targets};
 use kt_list::Names;
 use kt_text::words;
 use std::alloc::{AllocError, Global};
@@ -30,7 +32,7 @@ pub(crate) fn learn_phony(phony: &mut Names, entry: &Entry) -> Result<(), AllocE
     ensures refused { OnErr result (phony.new ≡ phony.old) }
 {
     match special_needs(entry, b".PHONY") {
-        Some(needs) => add_needs(phony, needs),
+        Some(needs) => add_needs(entry.alloc(), phony, needs),
         None => Ok(()),
     }
 }
@@ -43,34 +45,44 @@ pub(crate) fn learn_suffixes(suffixes: &mut Suffixes, entry: &Entry) -> Result<(
     let Some(needs) = special_needs(entry, b".SUFFIXES") else {
         return Ok(());
     };
-    if needs_nothing(needs) {
+    if needs.is_empty() {
         suffixes.clear();
         return Ok(());
     }
-    suffixes.add_needs(needs)
+    suffixes.add_needs(entry.alloc(), needs)
 }
 
 // What the entry's special target of this name needs.
-fn special_needs<'a>(entry: &'a Entry, special: &[u8]) -> Option<&'a Needs>
-    ensures { option_map (λ needs. all_needs needs.now) result ≡ special_needs special.now entry.now }
+fn special_needs<'a>(entry: &'a Entry, special: &[u8]) -> Option<NeedsView<'a>>
+    ensures { option_map (λ needs. all_needs (needs_view needs)) result ≡ special_needs special.now entry.now }
 {
     let target = named_target(entry.targets(), special)?;
     Some(entry.needs(target))
 }
 
-fn named_target<'a>(targets: &'a [Target], name: &[u8]) -> Option<&'a Target>
-    ensures { option_map (λ target. target.now) result ≡ find (λ target. bytes_eq target.name name.now) targets.now }
+fn named_target<'a>(targets: Targets<'a>, name: &[u8]) -> Option<TargetView<'a>>
+    ensures { option_map target_view result
+        ≡ find (λ target. bytes_eq target.name name.now) (targets_view targets.entry) }
 {
-    targets.iter().find(|target| target.name.as_slice() == name)
+    for target in targets {
+        if target.name == name {
+            return Some(target);
+        }
+    }
+    None
 }
 
 /// Adds all names that are needed, or none where memory is refused.
-pub(crate) fn add_needs(names: &mut Names, needs: &Needs) -> Result<(), AllocError>
-    ensures added { OnOk result (names.new ≡ fold with_name names.old (all_needs needs.now)) }
+pub(crate) fn add_needs(
+    alloc: Global,
+    names: &mut Names,
+    needs: NeedsView<'_>,
+) -> Result<(), AllocError>
+    ensures added { OnOk result (names.new ≡ fold with_name names.old (all_needs (needs_view needs.entry))) }
     ensures refused { OnErr result (names.new ≡ names.old) }
 {
     let len = names.len();
-    let added = add_some_needs(names, needs);
+    let added = add_some_needs(alloc, names, needs);
     if added.is_err() {
         names.truncate(len);
     }
@@ -78,21 +90,22 @@ pub(crate) fn add_needs(names: &mut Names, needs: &Needs) -> Result<(), AllocErr
 }
 
 // Adds all names that are needed, or some of them where memory is refused.
-fn add_some_needs(names: &mut Names, needs: &Needs) -> Result<(), AllocError>
-    ensures added { OnOk result (names.new ≡ fold with_name names.old (all_needs needs.now)) }
+fn add_some_needs(alloc: Global, names: &mut Names, needs: NeedsView<'_>) -> Result<(), AllocError>
+    ensures added { OnOk result (names.new ≡ fold with_name names.old (all_needs (needs_view needs.entry))) }
     ensures refused { OnErr result ((more : List Text) × (names.new ≡ names.old ++ more)) }
 {
-    add_all(names, needs.prerequisites.as_slice())?;
-    add_all(names, needs.order_only.as_slice())
+    add_all(alloc, names, needs.prerequisites())?;
+    add_all(alloc, names, needs.order_only())
 }
 
 // Adds names in turn. Where memory is refused, some of them may be added.
-fn add_all(names: &mut Names, more: &[Name]) -> Result<(), AllocError>
-    ensures added { OnOk result (names.new ≡ fold with_name names.old more.now) }
+fn add_all(alloc: Global, names: &mut Names, more: NeededNames<'_>) -> Result<(), AllocError>
+    ensures added { OnOk result (names.new ≡ fold with_name names.old (names_view more.entry)) }
     ensures refused { OnErr result ((added : List Text) × (names.new ≡ names.old ++ added)) }
 {
     for name in more {
-        names.add(name.as_slice())?;
+        let text = name.text(alloc)?;
+        names.add(text.as_slice())?;
     }
     Ok(())
 }

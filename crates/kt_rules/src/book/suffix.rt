@@ -14,6 +14,7 @@ pub(crate) fn is_suffix_name(suffixes: &Suffixes, name: &[u8]) -> bool
 }
 
 /// The first place of one of the lengths at which the name is cut into two suffixes.
+#[tactic(auto, using(crate::proofs::SuffixLemmas::cut_at, crate::proofs::SuffixLemmas::cut_end))]
 pub(crate) fn first_cut(suffixes: &Names, lengths: &[usize], name: &[u8]) -> Option<usize>
     ensures { result ≡ first_cut suffixes.now lengths.now name.now }
 {
@@ -51,6 +52,7 @@ fn is_cut_at(suffixes: &Names, name: &[u8], place: usize) -> bool
 }
 
 /// The number of the first suffix of one of the lengths that the name ends with.
+#[tactic(auto, using(crate::proofs::SuffixLemmas::end_at, crate::proofs::SuffixLemmas::end_end))]
 pub(crate) fn first_end(suffixes: &Names, lengths: &[usize], name: &[u8]) -> Option<usize>
     ensures { result ≡ first_end suffixes.now lengths.now name.now }
 {

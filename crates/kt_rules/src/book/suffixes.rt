@@ -4,18 +4,24 @@ ghost use Rattle.std.specs.List.{ends_with};
 ghost use Rattle.kt_rules.specs.Names.{is_among, with_name};
 ghost use Rattle.kt_rules.specs.inner.SuffixCuts.{KeepLengths, lengths_with};
 ghost use Rattle.kt_rules.specs.Suffixes.{all_needs, start_suffixes, suffix_cut};
+ghost use Rattle.kt_rules.specs.Targets.{names_view, needs_view};
 
 use super::special::{add_needs, start_names};
 use super::suffix::{first_cut, first_end};
-use crate::entry::{Name, Needs};
+use crate::entry::Name;
+use crate::needs::{NeededNames, NeedsView};
 use indexmap::IndexSet;
 use kt_list::Names;
 use std::alloc::{AllocError, Global};
 use std::marker::Model;
 
+// So many suffixes are compared with a name's end sooner than the ends of a few lengths are looked up among them.
+const FEW: usize = 20;
+
 /// Suffixes, each once, in the order in which they came.
 ///
-/// They are looked for in a name by their lengths, so that it makes no difference how many have one length.
+/// Few are looked for at the end of a name one by one, and others by their lengths, so that it makes no difference how
+/// many have one length.
 #[derive(Drop)]
 pub(crate) struct Suffixes {
     names: Names,
@@ -74,18 +80,25 @@ impl Suffixes {
         ensures { option_map (λ suffix. suffix.now) result ≡ find
             (λ suffix. ends_with nat_eq name.now suffix) self.now }
     {
+        if self.names.len() <= FEW {
+            return first_of(self.names.as_slice(), name);
+        }
         let number = first_end(&self.names, self.lengths.as_slice(), name)?;
         self.names.get(number)
     }
 
     /// Adds all names that are needed, or none where memory is refused.
-    pub(crate) fn add_needs(&mut self, needs: &Needs) -> Result<(), AllocError>
-        ensures added { OnOk result (self.new ≡ fold with_name self.old (all_needs needs.now)) }
+    pub(crate) fn add_needs(
+        &mut self,
+        alloc: Global,
+        needs: NeedsView<'_>,
+    ) -> Result<(), AllocError>
+        ensures added { OnOk result (self.new ≡ fold with_name self.old (all_needs (needs_view needs.entry))) }
         ensures refused { OnErr result (self.new ≡ self.old) }
     {
-        note_lengths(&mut self.lengths, needs.prerequisites.as_slice())?;
-        note_lengths(&mut self.lengths, needs.order_only.as_slice())?;
-        add_needs(&mut self.names, needs)
+        note_needed(alloc, &mut self.lengths, needs.prerequisites())?;
+        note_needed(alloc, &mut self.lengths, needs.order_only())?;
+        add_needs(alloc, &mut self.names, needs)
     }
 
     /// Takes all suffixes away.
@@ -97,6 +110,19 @@ impl Suffixes {
     }
 }
 
+// The first of the names that the name ends with.
+fn first_of<'s>(suffixes: &'s [Name], name: &[u8]) -> Option<&'s [u8]>
+    ensures { option_map (λ suffix. suffix.now) result ≡ find
+        (λ suffix. ends_with nat_eq name.now suffix) suffixes.now }
+{
+    for suffix in suffixes {
+        if name.ends_with(suffix.as_slice()) {
+            return Some(suffix.as_slice());
+        }
+    }
+    None
+}
+
 // Notes the length of each name. Where memory is refused, those of some may be noted.
 fn note_lengths(lengths: &mut IndexSet<usize>, names: &[Name]) -> Result<(), AllocError>
     ensures noted { OnOk result (lengths.new.keys ≡ lengths_with lengths.old.keys names.now) }
@@ -104,6 +130,22 @@ fn note_lengths(lengths: &mut IndexSet<usize>, names: &[Name]) -> Result<(), All
 {
     for name in names {
         lengths.insert(name.as_slice().len())?;
+    }
+    Ok(())
+}
+
+// The same of names that are needed.
+fn note_needed(
+    alloc: Global,
+    lengths: &mut IndexSet<usize>,
+    names: NeededNames<'_>,
+) -> Result<(), AllocError>
+    ensures noted { OnOk result (lengths.new.keys ≡ lengths_with lengths.old.keys (names_view names.entry)) }
+    ensures kept { KeepLengths lengths.old.keys lengths.new.keys }
+{
+    for name in names {
+        let text = name.text(alloc)?;
+        lengths.insert(text.as_slice().len())?;
     }
     Ok(())
 }

@@ -5,7 +5,7 @@ use Rattle.kt_syntax.specs.Kinds.{assignment_parts}
 use Rattle.kt_syntax.specs.Mask.{mask_of}
 use Rattle.kt_syntax.specs.declared.kind.Parts.{Parts}
 
--- the symbols of so many first bytes of a line
+-- the symbols of a given number of first bytes of a line
 abbrev pub first_symbols : ℕ → Text → List ℕ
 first_symbols end text = take end (mask_of text)
 

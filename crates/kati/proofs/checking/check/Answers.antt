@@ -1,6 +1,6 @@
 use Rattle.std.proofs.Common.{rules}
-use Rattle.kt_eval.proofs.LastLemmas.{last_behind}
+use Rattle.kt_eval.proofs.lemmas.LastLemmas.{last_after}
 use Rattle.kati.proofs.checking.check.Goals as goal
 
 pub returns-in-Err-Device-clause-blames : goal.returns-in-Err-Device-clause-blames
-returns-in-Err-Device-clause-blames g c = (search rules, search (rules, last_behind))
+returns-in-Err-Device-clause-blames g c = (search rules, search (rules, last_after))

@@ -1,5 +1,5 @@
 use Rattle.std.proofs.Common.{rules}
-use Rattle.kt_eval.proofs.LastLemmas.{last_behind}
+use Rattle.kt_eval.proofs.lemmas.LastLemmas.{last_after}
 use Rattle.kati.proofs.BlameLemmas.{asks_blames}
 use Rattle.kati.proofs.listing.read_list.Goals as goal
 
@@ -7,4 +7,4 @@ pub returns-in-Ok-clause-blames : goal.returns-in-Ok-clause-blames
 returns-in-Ok-clause-blames g c = asks_blames c.list_in.result _ _ _ (search rules) c.list_in.ensures.asks_nothing
 
 pub returns-in-Err-Device-clause-blames : goal.returns-in-Err-Device-clause-blames
-returns-in-Err-Device-clause-blames g c = (search rules, search (rules, last_behind))
+returns-in-Err-Device-clause-blames g c = (search rules, search (rules, last_after))

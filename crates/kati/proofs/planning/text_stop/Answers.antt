@@ -1,7 +1,8 @@
-use Rattle.kt_ninja.specs.Writable.{told_trouble}
-use Rattle.kati.proofs.PlanLemmas.{text_settled_in}
+use Rattle.kt_ninja.specs.Writable.{told_obstacle}
+use Rattle.kati.specs.inner.Shown.{plan_view}
+use Rattle.kati.proofs.PlanLemmas.{text_settled}
 use Rattle.kati.proofs.planning.text_stop.Goals as goal
 
 pub returns-in-Err : goal.returns-in-Err
 returns-in-Err c =
-    text_settled_in c.args.plan.now c.as_slice.result.now (told_trouble c.in-Err.trouble) c.stop_of.result c.as_slice.ensures c.in-Err.ensures.trouble c.stop_of.ensures
+    text_settled (plan_view c.args.plan.now) (told_obstacle c.in-Err.trouble) c.stop_of.result c.in-Err.ensures.obstacle c.stop_of.ensures

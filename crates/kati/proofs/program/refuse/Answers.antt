@@ -1,6 +1,6 @@
 use Rattle.std.proofs.Common.{◌++◌, codes, refl, subst}
 use Rattle.kt_text.specs.Words.{Text}
-use Rattle.kati.specs.Told.{GivesHelp, Tells}
+use Rattle.kati.specs.ErrorOutput.{GivesHelp, WritesOrFails}
 use Rattle.kati.proofs.program.refuse.Goals as goal
 
 pub returns-in-Help : goal.returns-in-Help
@@ -12,6 +12,6 @@ pub returns-in-BadMacro : goal.returns-in-BadMacro
 returns-in-BadMacro g c = rw c.in-BadMacro.is (
   refl,
   refl,
-  subst (λ (word : Text). Tells (codes "kati: bad macro " ++ (word ++ codes "\n")) (g.E.Sink.seen c.args.err.now) (g.E.Sink.seen c.tell_line.new.err))
+  subst (λ (word : Text). WritesOrFails (codes "kati: bad macro " ++ (word ++ codes "\n")) (g.E.Sink.seen c.args.err.now) (g.E.Sink.seen c.tell_line.new.err))
       c.as_str-in-BadMacro.ensures.value c.tell_line.ensures.told,
 )

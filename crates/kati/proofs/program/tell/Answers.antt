@@ -1,11 +1,11 @@
 use Rattle.std.proofs.Common.{◌++◌, ⊎_elim, codes, subst}
 use Rattle.kt_text.specs.Words.{Text}
-use Rattle.kati.specs.Told.{Tells}
+use Rattle.kati.specs.ErrorOutput.{WritesOrFails}
 use Rattle.kati.proofs.program.tell.Goals as goal
 
 pub returns-in-Read-clause-told : goal.returns-in-Read-clause-told
 returns-in-Read-clause-told g c = rw c.in-Read.is
-    (subst (λ (name : Text). Tells (codes "kati: cannot read " ++ (name ++ codes "\n")) (g.E.Sink.seen c.args.err.now)
+    (subst (λ (name : Text). WritesOrFails (codes "kati: cannot read " ++ (name ++ codes "\n")) (g.E.Sink.seen c.args.err.now)
     (g.E.Sink.seen c.tell_line.new.err)) c.as_str.ensures.value c.tell_line.ensures.told)
 
 pub returns-in-Memory-clause-told : goal.returns-in-Memory-clause-told

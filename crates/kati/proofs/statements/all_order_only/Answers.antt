@@ -1,5 +1,5 @@
 use Rattle.std.proofs.Common.{◌∙◌, rules}
-use Rattle.kt_graph.specs.Node.{order_only_of}
+use Rattle.kt_graph.specs.nodes.Node.{order_only_of}
 use Rattle.kati.proofs.PlanningLemmas.{names_more}
 use Rattle.kati.proofs.statements.all_order_only.Goals as goal
 

@@ -1,5 +1,5 @@
 use Rattle.std.proofs.Common.{◌∙◌, rules}
-use Rattle.kt_graph.specs.Node.{inputs_of}
+use Rattle.kt_graph.specs.nodes.Node.{inputs_of}
 use Rattle.kati.proofs.PlanningLemmas.{names_more}
 use Rattle.kati.proofs.statements.joined_inputs.Goals as goal
 

@@ -1,7 +1,7 @@
 use Rattle.std.proofs.Common.{◌≡◌, Vec, Global, ℕ, map, drop, fold, flat_map}
 use Rattle.kt_rules.specs.Names.{with_name}
-use Rattle.kt_graph.specs.Node.{inputs_of}
-use Rattle.kati.specs.Planned.{joined_inputs}
+use Rattle.kt_graph.specs.nodes.Node.{inputs_of}
+use Rattle.kati.specs.Planning.{joined_inputs}
 use Rattle.kati.proofs.statements.joined_inputs.Given as goal
 
 abbrev pub invariant-loop-node : goal.invariant-loop-node

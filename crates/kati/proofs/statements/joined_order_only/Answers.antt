@@ -8,4 +8,4 @@ pub returns : goal.returns
 returns c = λ is.
     filter_same _ (λ (name : Text). not (is_among (map (λ (key : Vec ℕ Global). key.items) c.args.inputs.now.keys) name)) _ (λ x b f k. search rules) _ _ c.retain.ensures.filtered
     ∙ ap (filter (λ (name : Text). not (is_among (map (λ (key : Vec ℕ Global). key.items) c.args.inputs.now.keys) name))) (c.in_ok-names-2.ensures ∙ c.in_ok-names.ensures)
-    ∙ ap (λ (inputs : List Text). filter (λ (name : Text). not (is_among inputs name)) (Rattle.kt_rules.specs.Names.without_repeats (Rattle.std.proofs.Common.flat_map Rattle.kt_graph.specs.Node.order_only_of c.args.group.now))) is
+    ∙ ap (λ (inputs : List Text). filter (λ (name : Text). not (is_among inputs name)) (Rattle.kt_rules.specs.Names.without_repeats (Rattle.std.proofs.Common.flat_map Rattle.kt_graph.specs.nodes.Node.order_only_of c.args.group.now))) is

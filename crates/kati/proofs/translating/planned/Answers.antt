@@ -1,5 +1,3 @@
-use Rattle.std.proofs.Common.{[]}
-use Rattle.kt_eval.specs.Machines.{traced}
 use Rattle.kati.proofs.BlameLemmas.{if_some-weaker}
 use Rattle.kati.proofs.MeaningLemmas.{then_means}
 use Rattle.kati.proofs.translating.planned.Goals as goal

@@ -1,8 +1,8 @@
 use Rattle.std.proofs.Common.{[], rules}
 use Rattle.std.proofs.lemmas.Result.{err_from_is_err_and}
-use Rattle.kt_eval.specs.Machines.{traced}
-use Rattle.kt_graph.specs.Faults.{IsSoundGraph}
-use Rattle.kati.specs.inner.Views.{wanted_told}
+use Rattle.kt_eval.specs.reading.Machine.{traced}
+use Rattle.kt_graph.specs.faults.Faults.{IsSoundGraph}
+use Rattle.kati.specs.inner.Views.{wanted_view}
 use Rattle.kati.proofs.MeaningLemmas.{first_asks, plan_means, trouble_means}
 use Rattle.kati.proofs.SoundLemmas.{sound_if_ok}
 use Rattle.kati.proofs.translating.planned_goals.Goals as goal
@@ -11,7 +11,7 @@ pub returns-in_err-graph-clause-means : goal.returns-in_err-graph-clause-means
 returns-in_err-graph-clause-means c = λ asked.
     let p = err_from_is_err_and c.from_residual.result c.from_residual.ensures.1 in
     rw (p.1, p.2)
-    (trouble_means c.args.args.now.limit (wanted_told c.args.sources.now c.args.goals.items) (traced c.args.messages.now.items asked)
+    (trouble_means c.args.args.now.limit (wanted_view c.args.sources.now c.args.goals.items) (traced c.args.messages.now.items asked)
     c.in_err-graph.field-0.0 (rw c.as_slice.ensures.value at c.in_err-graph.ensures.first))
 
 pub returns-in_err-graph-clause-asks_nothing : goal.returns-in_err-graph-clause-asks_nothing
@@ -21,7 +21,7 @@ returns-in_err-graph-clause-asks_nothing c =
 
 pub returns-clause-means : goal.returns-clause-means
 returns-clause-means c = λ asked.
-    plan_means c.args.args.now.limit (wanted_told c.args.sources.now c.args.goals.items) (traced c.args.messages.now.items asked) _
+    plan_means c.args.args.now.limit (wanted_view c.args.sources.now c.args.goals.items) (traced c.args.messages.now.items asked) _
     c.plan-plan.new.messages.items c.plan-plan.result (search rules) c.plan-plan.ensures.gives
 
 pub returns-clause-writable : goal.returns-clause-writable
@@ -29,7 +29,7 @@ returns-clause-writable c = c.plan-plan.ensures.writable c.args.sources.now.know
 
 pub returns-clause-sound : goal.returns-clause-sound
 returns-clause-sound c =
-    let want = wanted_told c.args.sources.now c.args.goals.items in
+    let want = wanted_view c.args.sources.now c.args.goals.items in
     let sound : IsSoundGraph want.read.book want.known want.goals c.in_ok-graph.graph = search rules in
     sound_if_ok c.args.args.now.limit want (traced c.args.messages.now.items []) c.plan-plan.result (traced c.plan-plan.new.messages.items [])
     (plan_means c.args.args.now.limit want (traced c.args.messages.now.items []) _ c.plan-plan.new.messages.items c.plan-plan.result sound c.plan-plan.ensures.gives)

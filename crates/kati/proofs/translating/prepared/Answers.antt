@@ -1,5 +1,5 @@
 use Rattle.std.proofs.Common.{◌≡◌, Ok, rules}
-use Rattle.kati.specs.inner.Views.{read_told}
+use Rattle.kati.specs.inner.Views.{read_view}
 use Rattle.kati.proofs.AskedLemmas.{list_read, list_stops}
 use Rattle.kati.proofs.BlameLemmas.{if_some-joined, if_some-weaker}
 use Rattle.kati.proofs.OutcomeLemmas.{chosen_after}
@@ -18,7 +18,7 @@ returns-clause-gives g c =
     if_some-joined (g.F.Files.seen c.args.files.now).known (g.F.Files.seen c.listed.new.files).known _ _ _ c.in_ok-list.ensures.keeps
     (λ store is also. chosen_after _ c.args.args.now store (g.F.Files.seen c.args.files.now).names (g.F.Files.seen c.listed.new.files).names
     (g.F.Files.seen c.makefile_read-told.new.files).names c.makefile_read-told.result.0.items c.chosen.new.messages.items c.in_ok-list.list.items
-    (read_told c.in_ok-makefile.makefile) c.chosen.result is also chosen)
+    (read_view c.in_ok-makefile.makefile) c.chosen.result is also chosen)
     c.in_ok-list.ensures.gives reads
 
 pub returns-clause-asked : goal.returns-clause-asked

@@ -1,5 +1,5 @@
-use Rattle.kt_eval.specs.Levels.{evaluator}
-use Rattle.kt_eval.proofs.DoublingLemmas.{doubled-expanded, doubled-found}
+use Rattle.kt_eval.specs.expanding.Levels.{evaluator}
+use Rattle.kt_eval.proofs.lemmas.expanding.DoublingLemmas.{doubled-expanded, doubled-found}
 use Rattle.kt_eval.proofs.laws.doubled_texts_expand_to_themselves.Goals as goal
 
 pub returns : goal.returns

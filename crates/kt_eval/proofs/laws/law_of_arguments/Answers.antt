@@ -1,5 +1,5 @@
-use Rattle.kt_eval.proofs.SplitLemmas.{are_arguments, arguments_only}
-use Rattle.kt_eval.proofs.BalancedLemmas.{balanced_arguments}
+use Rattle.kt_eval.proofs.lemmas.expanding.SplitLemmas.{are_arguments, arguments_only}
+use Rattle.kt_eval.proofs.lemmas.expanding.BalancedLemmas.{balanced_arguments}
 use Rattle.kt_eval.proofs.laws.law_of_arguments.Goals as goal
 
 pub returns : goal.returns

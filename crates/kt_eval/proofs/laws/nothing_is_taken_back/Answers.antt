@@ -1,4 +1,4 @@
-use Rattle.kt_eval.proofs.GrowingReads.{expanding_grows, applying_grows, reading_grows, tree_grows, text_grows}
+use Rattle.kt_eval.proofs.lemmas.GrowingReads.{expanding_grows, applying_grows, reading_grows, tree_grows, text_grows}
 use Rattle.kt_eval.proofs.laws.nothing_is_taken_back.Goals as goal
 
 pub returns-clause-expanding : goal.returns-clause-expanding

@@ -1,4 +1,4 @@
-use Rattle.kt_eval.proofs.GrowingReads.{expanding_stays, applying_stays, reading_stays, tree_stays, text_stays}
+use Rattle.kt_eval.proofs.lemmas.GrowingReads.{expanding_stays, applying_stays, reading_stays, tree_stays, text_stays}
 use Rattle.kt_eval.proofs.laws.one_deeper.Goals as goal
 
 pub returns-clause-expanding : goal.returns-clause-expanding

@@ -1,4 +1,4 @@
-use Rattle.kt_eval.proofs.RowLemmas
+use Rattle.kt_eval.proofs.lemmas.expanding.RowLemmas
 use Rattle.kt_eval.proofs.laws.rows_of_assignments.Goals as goal
 
 pub returns : goal.returns

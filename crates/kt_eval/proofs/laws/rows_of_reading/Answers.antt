@@ -1,4 +1,4 @@
-use Rattle.kt_eval.proofs.ReadingRowLemmas as rows
+use Rattle.kt_eval.proofs.lemmas.reading.ReadingRowLemmas as rows
 use Rattle.kt_eval.proofs.laws.rows_of_reading.Goals as goal
 
 pub returns : goal.returns

@@ -1,27 +1,33 @@
-use Rattle.std.proofs.Common.{◌∙◌, ◌≡◌, ◌+◌, take, drop, sym, ap}
-use Rattle.std.specs.Prelude.{Some, None}
+use Rattle.std.proofs.Common.{◌∙◌, ◌≡◌, ◌+◌, ℕ, List, take, drop, sym, ap, rules}
+use Rattle.std.specs.Prelude.{Option, Some, None}
 use Rattle.std.specs.Option.{option_or}
+use Rattle.kt_ninja.specs.declared.plan.Statement.{Statement}
 use Rattle.kt_ninja.specs.Plan.{outputs}
+use Rattle.kt_ninja.specs.View.{names_at}
 use Rattle.kt_ninja.specs.Writable.{repeated_after}
+use Rattle.kt_ninja.proofs.Places.{item_there}
 use Rattle.kt_ninja.proofs.Troubles.{repeated_after-next}
 use Rattle.kt_ninja.proofs.checking.first_repeated.Goals as goal
 
 pub returns-in-Some : goal.returns-in-Some
-returns-in-Some c =
-    let all = c.args.statements.now in
-    let i = c.loop-place.place in
-    let statement = c.index-statements-place.result in
+returns-in-Some g c =
+    let all = (g.V.PlanView.plan c.args.view.now).statements in
+    let i = c.loop-statement.statement in
+    let there = item_there all i (search rules) in
     let rest = repeated_after (outputs (take (i + 1) all)) (outputs (drop (i + 1) all)) in
-    let found : Some c.in-Some.out.now ≡ repeated_after (outputs (take i all)) statement.outs = rw c.as_slice.ensures at c.in-Some.ensures in
-    let next = repeated_after-next all i statement c.loop-place-test.true c.index-statements-place.is in
-    ap (λ o. option_or o rest) found ∙ sym next ∙ c.loop-place.invariant
+    let found : Some c.in-Some.out.now ≡ repeated_after (outputs (take i all)) there.0.outs
+    = c.in-Some.ensures ∙ ap (λ (o : Option Statement). repeated_after (outputs (take i all)) (names_at (λ s. s.outs) o)) there.1 in
+    ap (λ (o : Option (List ℕ)). option_or o rest) found ∙ sym (repeated_after-next all i there.0 there.1) ∙ c.loop-statement.invariant.repeats
 
-pub loop-place-preserved : goal.loop-place-preserved
-loop-place-preserved c =
-    let all = c.args.statements.now in
-    let i = c.loop-place.place in
-    let statement = c.index-statements-place.result in
+pub loop-statement-preserved : goal.loop-statement-preserved
+loop-statement-preserved g c =
+    let all = (g.V.PlanView.plan c.args.view.now).statements in
+    let i = c.loop-statement.statement in
+    let there = item_there all i (search rules) in
     let rest = repeated_after (outputs (take (i + 1) all)) (outputs (drop (i + 1) all)) in
-    let found : None ≡ repeated_after (outputs (take i all)) statement.outs = rw c.as_slice.ensures at c.in_default.ensures in
-    let next = repeated_after-next all i statement c.loop-place-test.true c.index-statements-place.is in
-    ap (λ o. option_or o rest) found ∙ sym next ∙ c.loop-place.invariant
+    let found : None ≡ repeated_after (outputs (take i all)) there.0.outs
+    = c.in_default.ensures ∙ ap (λ (o : Option Statement). repeated_after (outputs (take i all)) (names_at (λ s. s.outs) o)) there.1 in
+    record {
+      within = search rules;
+      repeats = ap (λ (o : Option (List ℕ)). option_or o rest) found ∙ sym (repeated_after-next all i there.0 there.1) ∙ c.loop-statement.invariant.repeats;
+    }

@@ -23,4 +23,4 @@ pub returns : goal.returns
 returns c =
     let both = sym c.as_slice.ensures.value ∙ c.in-Some.ensures in
     rw (sides_read c.args.line.now c.in-Some.outs c.in-Some.rest c.in_ok-sides.sides.items c.in_ok-outs.outs.items c.in_ok-sides.ensures both c.in_ok-outs.ensures)
-    c.build_behind.ensures
+    c.build_after.ensures

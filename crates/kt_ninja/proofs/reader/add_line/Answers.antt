@@ -2,7 +2,7 @@ use Rattle.std.proofs.Common.{◌≡◌, sym, ◌∙◌, ap, map, true, false}
 use Rattle.std.proofs.lemmas.Result.{err_from_is_err_and}
 use Rattle.kt_ninja.specs.JoinedLines.{is_blank, is_comment}
 use Rattle.kt_ninja.specs.Reading.{line_binding}
-use Rattle.kt_ninja.specs.inner.Wording.{binding_told}
+use Rattle.kt_ninja.specs.inner.Wording.{binding_view}
 use Rattle.kt_ninja.proofs.PieceLemmas.{refuses_too}
 use Rattle.kt_ninja.proofs.ReaderLemmas.{binding_adds, binding_stops, blank_adds, closed_stops, comment_adds, told_more}
 use Rattle.kt_ninja.proofs.reader.add_line.Goals as goal
@@ -10,13 +10,13 @@ use Rattle.kt_ninja.proofs.reader.add_line.Goals as goal
 pub returns-then-is_comment : goal.returns-then-is_comment
 returns-then-is_comment c =
     let comment : is_comment c.args.line.now.text ≡ true = ap is_comment (sym c.text-text.ensures) ∙ (sym c.is_comment.ensures ∙ c.if-is_comment.true) in
-    comment_adds c.args.closed (map binding_told c.args.bindings.now.items) c.args.line.now comment
+    comment_adds c.args.closed (map binding_view c.args.bindings.now.items) c.args.line.now comment
 
 pub returns-then-is_blank : goal.returns-then-is_blank
 returns-then-is_blank c =
     let comment : is_comment c.args.line.now.text ≡ false = ap is_comment (sym c.text-text.ensures) ∙ (sym c.is_comment.ensures ∙ c.if-is_comment.false) in
     let blank : is_blank c.args.line.now.text ≡ true = ap is_blank (sym c.text-text.ensures) ∙ (sym c.is_blank.ensures ∙ c.if-is_blank.true) in
-    blank_adds c.args.closed (map binding_told c.args.bindings.now.items) c.args.line.now comment blank
+    blank_adds c.args.closed (map binding_view c.args.bindings.now.items) c.args.line.now comment blank
 
 pub returns-then-closed : goal.returns-then-closed
 returns-then-closed c =
@@ -40,6 +40,6 @@ returns c =
     let blank : is_blank c.args.line.now.text ≡ false = ap is_blank (sym c.text-text.ensures) ∙ (sym c.is_blank.ensures ∙ c.if-is_blank.false) in
     let old = c.args.bindings.now.items in
     let new = c.push.new.self.items in
-    binding_adds c.args.closed (map binding_told old) (map binding_told new) c.args.line.now (binding_told c.in_ok-line_binding.field-0) comment blank c.if-closed.false
+    binding_adds c.args.closed (map binding_view old) (map binding_view new) c.args.line.now (binding_view c.in_ok-line_binding.field-0) comment blank c.if-closed.false
     (ap line_binding (sym c.text-text.ensures) ∙ c.in_ok-line_binding.ensures)
-    (told_more binding_told old new c.in_ok-line_binding.field-0 c.in_ok-push.ensures.items)
+    (told_more binding_view old new c.in_ok-line_binding.field-0 c.in_ok-push.ensures.items)

@@ -9,8 +9,8 @@ loop-at-preserved c =
     let front : Text = c.loop-at.command.items in
     let run : Text = take c.in-Some.at c.loop-at.rest.now in
     let quote : Text = 39 ∷ 92 ∷ 39 ∷ 39 ∷ [] in
-    let left : Text = flat_map quoted_byte c.behind-rest.result.now in
+    let left : Text = flat_map quoted_byte c.after-rest.result.now in
     ap (λ t. t ++ left) (c.in_ok-extend_from_slice-2.ensures.items ∙ ap (λ t. t ++ quote) c.in_ok-extend_from_slice.ensures.items)
     ∙ append_assoc (front ++ run) quote left ∙ append_assoc front run (quote ++ left)
-    ∙ ap (λ t. front ++ t) (rw c.behind-rest.ensures (sym (first_quote c.loop-at.rest.now c.in-Some.at c.in-Some.ensures)))
+    ∙ ap (λ t. front ++ t) (rw c.after-rest.ensures (sym (first_quote c.loop-at.rest.now c.in-Some.at c.in-Some.ensures)))
     ∙ c.loop-at.invariant

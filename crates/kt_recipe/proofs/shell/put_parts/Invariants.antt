@@ -1,13 +1,13 @@
 use Rattle.std.proofs.Common.{◌≡◌, ◌-◌, length}
 use Rattle.std.specs.List.{range_with_len}
-use Rattle.kt_eval.specs.Fronts.{IsFront}
+use Rattle.kt_eval.specs.Prefixes.{IsPrefix}
 use Rattle.kt_recipe.specs.Shell.{put_parts}
 use Rattle.kt_recipe.specs.Views.{command_in}
 use Rattle.kt_recipe.proofs.shell.put_parts.Given as goal
 
 abbrev pub invariant-loop-part : goal.invariant-loop-part
 invariant-loop-part l = record {
-  kept : IsFront l.fn.messages.items l.messages.items;
+  kept : IsPrefix l.fn.messages.items l.messages.items;
   rest : put_parts l.commands.table l.commands.limit l.node (range_with_len l.part (l.part-end - l.part)) (command_in l.command.items) l.messages.items
       ≡ put_parts l.commands.table l.commands.limit l.node (range_with_len 0 (length l.node.parts)) (command_in l.fn.command.items) l.fn.messages.items;
 }

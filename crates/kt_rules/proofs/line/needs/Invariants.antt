@@ -6,7 +6,7 @@ use Rattle.kt_rules.proofs.line.needs.Given as goal
 
 abbrev pub invariant-loop-word : goal.invariant-loop-word
 invariant-loop-word l =
-    needs_from l.behind_bar l.prerequisites.items l.order_only.items (written_words l.rest) ≡ needs_of (written_words l.text)
+    needs_from l.after_bar l.prerequisites.items l.order_only.items (written_words l.rest) ≡ needs_of (written_words l.text)
 
 abbrev pub decreases-loop-word : goal.decreases-loop-word
 decreases-loop-word l = length (written_words l.rest)

@@ -1,7 +1,7 @@
-use Rattle.std.proofs.Common.{◌≡◌, ◌<◌, ◌/◌, ◌%◌, ◌++◌, ◌∷◌, [], List, ℕ, length, get_or, drop, ap, sym, ◌∙◌, true≢false, arith}
+use Rattle.std.proofs.Common.{◌≡◌, ◌/◌, ◌%◌, ◌++◌, ◌∷◌, [], List, ℕ, length, get_or, drop, ap, sym, ◌∙◌, true≢false, arith}
 use Rattle.std.proofs.lemmas.Bool.{eqb-true, eq-eqb}
 use Rattle.kt_syntax.specs.Comments.{backslashes, uncommented, uncommented_of}
-use Rattle.kt_syntax.proofs.Uncommenting.{uncommented-backslash, uncommented-literal, uncommented-comment, uncommented-other, uncommented-nil}
+use Rattle.kt_syntax.proofs.Uncommenting.{at_symbol, uncommented-backslash, uncommented-literal, uncommented-comment, uncommented-other, uncommented-nil}
 use Rattle.kt_syntax.proofs.comment.without_comment.Goals as goal
 use Rattle.kt_syntax.proofs.comment.without_comment.Goals.{then-is, else-is+then-is-2+in_ok-put_backslashes+else-run-eq0+in_ok-push, else-is+else-is-2+in_ok-put_backslashes-2+in_ok-push-2}
 
@@ -16,9 +16,9 @@ loop-symbol-preserved c =
     let steps = c.in-Some.ensures.steps in
     let sizes = ap length steps in
     let size = c.loop-symbol.invariant.size in
-    let within : place < length text = omega arith in
-    let start : plain ++ uncommented run (symbol ∷ mask) (drop place text) ≡ uncommented_of text =
-    ap (λ m. plain ++ uncommented run m (drop place text)) (sym steps) ∙ c.loop-symbol.invariant.value in
+    let next = at_symbol text plain (uncommented_of text) run symbol place c.loop-symbol.symbol-iterator mask steps size c.loop-symbol.invariant.value in
+    let within = next.0 in
+    let start = next.1 in
     elim c.if-is.branch [
       | then-is w ↦ record {
         small = omega arith;
@@ -52,15 +52,10 @@ returns-then-run-eq0 c =
     let place = c.loop-symbol.place in
     let symbol = c.in-Some.symbol in
     let mask : List ℕ = c.next.new.self in
-    let steps = c.in-Some.ensures.steps in
-    let sizes = ap length steps in
-    let size = c.loop-symbol.invariant.size in
-    let within : place < length text = omega arith in
-    let start : plain ++ uncommented run (symbol ∷ mask) (drop place text) ≡ uncommented_of text =
-    ap (λ m. plain ++ uncommented run m (drop place text)) (sym steps) ∙ c.loop-symbol.invariant.value in
+    let next = at_symbol text plain (uncommented_of text) run symbol place c.loop-symbol.symbol-iterator mask c.in-Some.ensures.steps c.loop-symbol.invariant.size c.loop-symbol.invariant.value in
     c.in_ok-put_backslashes.ensures
-    ∙ sym (uncommented-comment text plain run symbol place mask within (λ e. true≢false (sym (eq-eqb symbol 92 e) ∙ sym c.is.ensures ∙ c.if-is.false)) (eqb-true symbol 35 (sym c.is-else-is.ensures ∙ c.if-is-2.true)) c.if-run-eq0.true)
-    ∙ start
+    ∙ sym (uncommented-comment text plain run symbol place mask next.0 (λ e. true≢false (sym (eq-eqb symbol 92 e) ∙ sym c.is.ensures ∙ c.if-is.false)) (eqb-true symbol 35 (sym c.is-else-is.ensures ∙ c.if-is-2.true)) c.if-run-eq0.true)
+    ∙ next.1
 
 pub returns : goal.returns
 returns c =

@@ -2,7 +2,7 @@ use Rattle.std.proofs.Common.{◌≡◌, ◌∙◌, sym, ap, subst}
 use Rattle.std.proofs.lemmas.List.{take_rest}
 use Rattle.std.specs.Prelude.{IfSome}
 use Rattle.kt_text.specs.Words.{Text, trimmed_start}
-use Rattle.kt_syntax.specs.Kinds.{kind_of, kind_told}
+use Rattle.kt_syntax.specs.Kinds.{kind_of, kind_view}
 use Rattle.kt_syntax.proofs.LeadingForms.{form_assigned}
 use Rattle.kt_syntax.proofs.front.leading_form.Goals as goal
 
@@ -15,4 +15,4 @@ returns-else-begins_slash c =
 
 pub returns-in-None : goal.returns-in-None
 returns-in-None c =
-    subst (λ (t : Text). IfSome c.unassigning_form.result (λ form. kind_told form ≡ kind_of t c.args.tab)) (sym c.in_ok-word.ensures.0) c.unassigning_form.ensures
+    subst (λ (t : Text). IfSome c.unassigning_form.result (λ form. kind_view form ≡ kind_of t c.args.tab)) (sym c.in_ok-word.ensures.0) c.unassigning_form.ensures

@@ -1,7 +1,7 @@
 use Rattle.std.proofs.Common.{refl}
-use Rattle.kt_syntax.specs.Terms.{closing, behind_dollar, first_term, terms_after, terms_of}
+use Rattle.kt_syntax.specs.Terms.{closing, after_dollar, first_term, terms_after, terms_of}
 use Rattle.kt_syntax.proofs.laws.rows_of_terms.Goals as goal
 
 pub returns : goal.returns
-unfolding closing behind_dollar first_term terms_after terms_of
+unfolding closing after_dollar first_term terms_after terms_of
 returns c = record { each = refl; unterminated = refl; own_marks = refl; nested = refl; no_continuation = refl; carriage_return = refl }

@@ -1,14 +1,14 @@
 use Rattle.std.proofs.Common.{refl}
 use Rattle.kt_text.specs.Words.{is_blank}
 use Rattle.kt_text.specs.Lines.{is_continued, is_ended, groups, pieces_of, condensed_line, condensed_rest, condensed_group, condensed_of}
-use Rattle.kt_syntax.specs.Terms.{closing, behind_dollar}
+use Rattle.kt_syntax.specs.Terms.{closing, after_dollar}
 use Rattle.kt_syntax.specs.Mask.{more_masked, mask_from, mask_of}
 use Rattle.kt_syntax.specs.Comments.{uncommented, uncommented_of}
 use Rattle.kt_syntax.specs.Recipes.{joint_of, recipe_line, recipe_lines, recipe_of}
 use Rattle.kt_syntax.proofs.laws.rows_of_texts.Goals as goal
 
 pub returns : goal.returns
-unfolding is_blank closing behind_dollar more_masked mask_from mask_of is_continued is_ended groups pieces_of condensed_line condensed_rest condensed_group condensed_of uncommented uncommented_of joint_of recipe_line recipe_lines recipe_of
+unfolding is_blank closing after_dollar more_masked mask_from mask_of is_continued is_ended groups pieces_of condensed_line condensed_rest condensed_group condensed_of uncommented uncommented_of joint_of recipe_line recipe_lines recipe_of
 returns c = record {
   runs = refl;
   three = refl;

@@ -5,7 +5,7 @@ use Rattle.kt_syntax.proofs.OwnSymbols.{own_step}
 use Rattle.kt_syntax.proofs.mask.first_symbol.Goals as goal
 
 pub returns-then-skip-gt0 : goal.returns-then-skip-gt0
-returns-then-skip-gt0 c = rw c.again.ensures (step-inside c.args.skip c.args.symbol.now c.args.odd c.args.byte c.args.text.now (omega arith))
+returns-then-skip-gt0 c = rw c.copy.ensures (step-inside c.args.skip c.args.symbol.now c.args.odd c.args.byte c.args.text.now (omega arith))
 
 pub returns-then-byte-ne92 : goal.returns-then-byte-ne92
 returns-then-byte-ne92 c =

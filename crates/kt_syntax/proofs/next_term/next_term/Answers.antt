@@ -1,6 +1,6 @@
 use Rattle.std.proofs.Common.{drop, ap, sym, ◌∙◌}
 use Rattle.std.proofs.lemmas.List.{take_rest, nil_from_length}
-use Rattle.kt_syntax.specs.Terms.{piece_of, terms_of}
+use Rattle.kt_syntax.specs.Terms.{token_of, terms_of}
 use Rattle.kt_syntax.proofs.Splitting.{text_ends, text_first}
 use Rattle.kt_syntax.proofs.next_term.next_term.Goals as goal
 
@@ -12,4 +12,4 @@ returns c =
     let rest = c.in_ok-first.rest.now in
     let f = c.first_term-taken in
     ap terms_of c.in_ok-first.ensures.cases.0
-    ∙ text_first c.in_ok-first.first.now rest _ (piece_of f.result.0) (sym f.ensures.term) (ap (λ n. drop n rest) (sym f.ensures.taken) ∙ sym (take_rest rest f.result.1))
+    ∙ text_first c.in_ok-first.first.now rest _ (token_of f.result.0) (sym f.ensures.term) (ap (λ n. drop n rest) (sym f.ensures.taken) ∙ sym (take_rest rest f.result.1))

@@ -1,26 +1,146 @@
-use Rattle.std.proofs.Common.{◌∙◌, ap, List, rules, subst}
+use Rattle.std.proofs.Common.{◌≡◌, ◌∙◌, ap, List, rules, subst, sym}
 use Rattle.kt_text.specs.Words.{Text}
 use Rattle.kt_syntax.specs.Reading.{left_at}
-use Rattle.kt_eval.specs.inner.Views.{compared_told}
+use Rattle.kt_syntax.specs.Terms.{token_of}
+use Rattle.kt_eval.specs.expanding.Expansion.{expanded}
+use Rattle.kt_eval.specs.inner.Views.{compared_view}
 use Rattle.kt_eval.specs.Outcome.{Gave, Outcome, left_of}
-use Rattle.kt_eval.specs.State.{World}
+use Rattle.kt_eval.specs.State.{World, lookup}
 use Rattle.kt_eval.specs.Step.{AreKnown, GoesOn, store_of}
 use Rattle.std.proofs.lemmas.Result.{err_from_is_err_and}
-use Rattle.kt_eval.proofs.EarlyLemmas.{Early, call_fails, close_fails, eval_fails, foreach_fails, word_fails, sheet_fails, equal_fails, argument_at_fails, argument_at_front, or_at_fails, and_at_fails, definition_fails, first_fails, branch_fails}
-use Rattle.kt_eval.proofs.StepLemmas.{call_by_name_front, rule_of_parts_front}
+use Rattle.kt_eval.proofs.lemmas.EarlyLemmas.{Early, call_fails, close_fails, eval_fails, foreach_fails, word_fails, sheet_fails, equal_fails, argument_at_fails, argument_at_front, or_at_fails, and_at_fails, definition_fails, first_fails, branch_fails}
+use Rattle.kt_eval.specs.inner.Plain.{put_of}
+use Rattle.kt_eval.proofs.lemmas.expanding.AppendingLemmas.{put_gives, value_fails, value_front, value_gives, whole_gives, term_fails, term_gives}
+use Rattle.kt_eval.proofs.lemmas.expanding.PlainLemmas.{value_put, value_expanded}
+use Rattle.kt_eval.proofs.lemmas.StepLemmas.{call_by_name_front, rule_of_parts_front}
 use Rattle.std.specs.Prelude.{Some, option_map, map}
-use Rattle.kt_eval.specs.Levels.{evaluator}
-use Rattle.kt_eval.specs.Reading.{read_items}
-use Rattle.kt_eval.proofs.ReadingLemmas.{first_taken}
+use Rattle.kt_eval.specs.expanding.Levels.{evaluator}
+use Rattle.kt_eval.specs.reading.Reading.{read_items}
+use Rattle.kt_eval.proofs.lemmas.reading.ReadingLemmas.{first_taken}
 use Rattle.kt_eval.proofs.evaluation.Evaluation.+evaluate.Goals as goal
 
 pub read_conditional-returns-then-branch-clause-goes_on :
     goal.read_conditional-returns-then-branch-clause-goes_on
 read_conditional-returns-then-branch-clause-goes_on g t c = λ known.
     let e = evaluator g.M.Scope.writable (store_of c.args.self.now.known) c.args.below in
-    rw c.behind.ensures
+    rw c.past.ensures
     (first_taken e c.args.page.now c.args.page.now.blocks.steps c.args.place c.args.next c.args.after c.args.self.now.world c.branch_holds.new.self.world
     c.requires.reads (c.in_ok-branch_holds.ensures.gives known ∙ ap (λ b. Gave c.branch_holds.new.self.world b) c.if-branch.true))
+
+pub put_term-returns-in-Nothing : goal.put_term-returns-in-Nothing
+put_term-returns-in-Nothing g t c = record {
+  gives = λ known.
+      put_gives g.M.Scope.writable (store_of c.args.self.now.known) c.args.below c.args.out.now.items c.put_plain.new.out.items (token_of c.args.term) c.args.self.now.world
+      (sym c.in-Nothing.is ∙ c.in_ok-put_plain.ensures.left) c.in_ok-put_plain.ensures.put;
+  cut = λ known. tt;
+  kept = search rules;
+  blames = search rules;
+}
+
+pub put_term-returns-in_err-x-in-Value : goal.put_term-returns-in_err-x-in-Value
+put_term-returns-in_err-x-in-Value g t c =
+    let p = err_from_is_err_and c.from_residual-in_err-x-in-Value.result c.from_residual-in_err-x-in-Value.ensures.1 in
+    let h = rw c.as_slice.ensures at c.in_err-x-in-Value.ensures.gives in
+    let k = rw c.as_slice.ensures at c.in_err-x-in-Value.ensures.cut in
+    let early = λ (known : AreKnown c.args.self.now.known).
+    (value_fails g.M.Scope.writable (store_of c.args.self.now.known) c.args.below c.in_err-x-in-Value.field-0.0 c.args.out.now.items c.in-Value.value (token_of c.args.term) c.args.self.now.world c.expand.new.self.world
+    (sym c.in-Value.is ∙ c.in_ok-put_plain.ensures.left) (h known, k known)) in
+    record {
+      gives = λ known. rw (p.1, p.2) (early known).0;
+      cut = λ known. rw (p.1, p.2) (early known).1;
+      kept = search rules;
+      blames = search rules;
+    }
+
+pub put_term-returns-in_err-extend_from_slice-in-Value : goal.put_term-returns-in_err-extend_from_slice-in-Value
+put_term-returns-in_err-extend_from_slice-in-Value g t c =
+    let p = err_from_is_err_and c.from_residual-in_err-extend_from_slice-in-Value.result c.from_residual-in_err-extend_from_slice-in-Value.ensures.1 in
+    let h = rw c.as_slice.ensures at c.in_ok-x-in-Value.ensures.gives in
+    record {
+      gives = λ known. rw (p.1, p.2) tt;
+      cut = λ known. rw (p.1, p.2)
+          (value_front g.M.Scope.writable (store_of c.args.self.now.known) c.args.below c.args.out.now.items c.in_ok-x-in-Value.x.items c.in-Value.value (token_of c.args.term) c.args.self.now.world c.expand.new.self.world
+          (sym c.in-Value.is ∙ c.in_ok-put_plain.ensures.left) (h known));
+      kept = search rules;
+      blames = search rules;
+    }
+
+pub put_term-returns-in_ok-extend_from_slice-in-Value : goal.put_term-returns-in_ok-extend_from_slice-in-Value
+put_term-returns-in_ok-extend_from_slice-in-Value g t c =
+    let h = rw c.as_slice.ensures at c.in_ok-x-in-Value.ensures.gives in
+    record {
+      gives = λ known.
+          value_gives g.M.Scope.writable (store_of c.args.self.now.known) c.args.below c.args.out.now.items c.put_plain.new.out.items c.extend_from_slice.new.self.items c.in_ok-x-in-Value.x.items c.in-Value.value (token_of c.args.term) c.args.self.now.world c.expand.new.self.world
+          (sym c.in-Value.is ∙ c.in_ok-put_plain.ensures.left) c.in_ok-put_plain.ensures.put (h known)
+          (rw c.deref.ensures.value at c.in_ok-extend_from_slice-in-Value.ensures.items);
+      cut = λ known. tt;
+      kept = search rules;
+      blames = search rules;
+    }
+
+pub put_term-returns-in_ok-extend_from_slice-in-Whole : goal.put_term-returns-in_ok-extend_from_slice-in-Whole
+put_term-returns-in_ok-extend_from_slice-in-Whole g t c = record {
+  gives = λ known.
+      whole_gives g.M.Scope.writable (store_of c.args.self.now.known) c.args.below c.args.out.now.items c.put_plain.new.out.items c.extend_from_slice-in-Whole.new.self.items c.in_ok-x-in-Whole.x.items (token_of c.args.term) c.args.self.now.world c.expand_term.new.self.world
+      (sym c.in-Whole.is ∙ c.in_ok-put_plain.ensures.left) c.in_ok-put_plain.ensures.put (c.in_ok-x-in-Whole.ensures.gives known)
+      (rw c.deref-in-Whole.ensures.value at c.in_ok-extend_from_slice-in-Whole.ensures.items);
+  cut = λ known. tt;
+  kept = search rules;
+  blames = search rules;
+}
+
+pub expand_here-returns-in_err-put_term : goal.expand_here-returns-in_err-put_term
+unfolding expanded
+expand_here-returns-in_err-put_term g t c =
+    let p = err_from_is_err_and c.from_residual-in_err-put_term.result c.from_residual-in_err-put_term.ensures.1 in
+    let h = rw c.terms.invariant.kept.0 at c.in_err-put_term.ensures.gives in
+    let k = rw c.terms.invariant.kept.0 at c.in_err-put_term.ensures.cut in
+    let early = λ (known : AreKnown c.args.self.now.known).
+    (subst (λ (o : Outcome World Text). Early c.in_err-put_term.field-0.0 c.put_term.new.self.world o) (c.terms.invariant.rest known)
+    (term_fails g.M.Scope.writable (store_of c.args.self.now.known) c.args.below c.in_err-put_term.field-0.0 c.terms.out.items (token_of c.in-Some.term) c.terms.rest c.next.new.self c.terms.self.world c.put_term.new.self.world c.in-Some.ensures.steps (h known, k known))) in
+    record {
+      gives = λ known. rw (p.1, p.2) (early known).0;
+      cut = λ known. rw (p.1, p.2) (early known).1;
+      kept = search rules;
+      blames = search rules;
+    }
+
+pub expand_here-terms-preserved : goal.expand_here-terms-preserved
+expand_here-terms-preserved g t c =
+    let h = rw c.terms.invariant.kept.0 at c.in_ok-put_term.ensures.gives in
+    record {
+      kept = search rules;
+      unfailed = search rules;
+      rest = λ known.
+          sym (term_gives g.M.Scope.writable (store_of c.args.self.now.known) c.args.below c.terms.out.items c.put_term.new.out.items (token_of c.in-Some.term) c.terms.rest c.next.new.self c.terms.self.world c.put_term.new.self.world c.in-Some.ensures.steps (h known))
+          ∙ c.terms.invariant.rest known;
+    }
+
+pub value_of-returns-in-None : goal.value_of-returns-in-None
+value_of-returns-in-None g t c =
+    let found = lookup c.args.name.now c.args.self.now.world in
+    let text : c.put_value.new.out.items ≡ put_of c.args.below found = search rules in
+    record {
+      gives = λ known.
+          value_put g.M.Scope.writable (store_of c.args.self.now.known) c.args.below found c.args.self.now.world (sym c.in-None.is ∙ c.in_ok-put_value.ensures.left)
+          ∙ ap (λ t. Gave c.args.self.now.world t) (sym text);
+      cut = λ known. tt;
+      kept = search rules;
+      blames = search rules;
+    }
+
+pub value_of-returns-in-Some : goal.value_of-returns-in-Some
+value_of-returns-in-Some g t c =
+    let h = rw c.as_slice.ensures at c.expand.ensures.gives in
+    let k = rw c.as_slice.ensures at c.expand.ensures.cut in
+    let is = λ (known : AreKnown c.args.self.now.known).
+    (value_expanded g.M.Scope.writable (store_of c.args.self.now.known) c.args.below (lookup c.args.name.now c.args.self.now.world) c.in-Some.value c.args.self.now.world (sym c.in-Some.is ∙ c.in_ok-put_value.ensures.left)) in
+    record {
+      gives = λ known. rw (is known).0 (h known);
+      cut = λ known. rw (is known).0 (k known);
+      kept = search rules;
+      blames = search rules;
+    }
 
 pub apply_foreach-returns-in_err-expanded : goal.apply_foreach-returns-in_err-expanded
 apply_foreach-returns-in_err-expanded g t c =
@@ -117,7 +237,7 @@ pub are_equal-returns-in_err-x : goal.are_equal-returns-in_err-x
 are_equal-returns-in_err-x g t c =
     let p = err_from_is_err_and c.from_residual.result c.from_residual.ensures.1 in
     let early = λ (known : AreKnown c.args.self.now.known).
-    (equal_fails g.M.Scope.writable (store_of c.args.self.now.known) c.args.below c.in_err-x.field-0.0 c.args.self.now.world c.expand_text.new.self.world (compared_told c.in-Some.compared) (c.in_err-x.ensures.gives known, c.in_err-x.ensures.cut known)) in
+    (equal_fails g.M.Scope.writable (store_of c.args.self.now.known) c.args.below c.in_err-x.field-0.0 c.args.self.now.world c.expand_text.new.self.world (compared_view c.in-Some.compared) (c.in_err-x.ensures.gives known, c.in_err-x.ensures.cut known)) in
     record {
       gives = λ known. rw (p.1, p.2, c.in-Some.is) (early known).0;
       cut = λ known. rw (p.1, p.2, c.in-Some.is) (early known).1;

@@ -4,13 +4,13 @@ use Rattle.std.proofs.Common.{◌≡◌, ◌<◌, ◌≤◌, ◌+◌, ◌-◌, �
 use Rattle.kt_text.specs.Words.{words_of}
 use Rattle.kt_syntax.specs.Terms.{terms_of}
 use Rattle.kt_eval.specs.Step.{AreKnown, Keeps, store_of}
-use Rattle.kt_eval.specs.Expansion.{each_term, each_argument, apply_or, apply_and, each_word}
-use Rattle.kt_eval.specs.Levels.{evaluator}
-use Rattle.kt_eval.specs.Including.{each_include}
-use Rattle.kt_eval.specs.Reading.{read_items}
+use Rattle.kt_eval.specs.expanding.Expansion.{each_term, each_argument, apply_or, apply_and, each_word}
+use Rattle.kt_eval.specs.expanding.Levels.{evaluator}
+use Rattle.kt_eval.specs.files.Including.{each_include}
+use Rattle.kt_eval.specs.reading.Reading.{read_items}
 use Rattle.kt_syntax.specs.Blocks.{tree_of}
 use Rattle.kt_syntax.specs.Reading.{left_at}
-use Rattle.kt_eval.proofs.ReadingLemmas.{Tries}
+use Rattle.kt_eval.proofs.lemmas.reading.ReadingLemmas.{Tries}
 use Rattle.kt_eval.proofs.evaluation.Evaluation.+evaluate.Given as goal
 
 abbrev pub decreases-expand : goal.decreases-expand
@@ -79,59 +79,62 @@ decreases-refer g l = 64 * l.below + 6
 abbrev pub decreases-expand_term : goal.decreases-expand_term
 decreases-expand_term g l = 64 * l.below + 7
 
+abbrev pub decreases-put_term : goal.decreases-put_term
+decreases-put_term g l = 64 * l.below + 8
+
 abbrev pub decreases-expand_here : goal.decreases-expand_here
-decreases-expand_here g l = 64 * l.below + 8
+decreases-expand_here g l = 64 * l.below + 9
 
 abbrev pub decreases-expand_text : goal.decreases-expand_text
-decreases-expand_text g l = 64 * l.below + 9
+decreases-expand_text g l = 64 * l.below + 10
 
 abbrev pub decreases-include : goal.decreases-include
 decreases-include g l = 64 * l.levels
 
 abbrev pub decreases-assign : goal.decreases-assign
-decreases-assign g l = 64 * l.below + 10
+decreases-assign g l = 64 * l.below + 11
 
 abbrev pub decreases-assign_named : goal.decreases-assign_named
-decreases-assign_named g l = 64 * l.below + 11
+decreases-assign_named g l = 64 * l.below + 12
 
 abbrev pub decreases-assign_line : goal.decreases-assign_line
-decreases-assign_line g l = 64 * l.below + 12
+decreases-assign_line g l = 64 * l.below + 13
 
 abbrev pub decreases-define : goal.decreases-define
-decreases-define g l = 64 * l.below + 13
+decreases-define g l = 64 * l.below + 14
 
 abbrev pub decreases-read_assignment : goal.decreases-read_assignment
-decreases-read_assignment g l = 64 * l.below + 13
+decreases-read_assignment g l = 64 * l.below + 14
 
 abbrev pub decreases-rule_line : goal.decreases-rule_line
-decreases-rule_line g l = 64 * l.below + 11
+decreases-rule_line g l = 64 * l.below + 12
 
 abbrev pub decreases-read_rule : goal.decreases-read_rule
-decreases-read_rule g l = 64 * l.below + 10
+decreases-read_rule g l = 64 * l.below + 11
 
 abbrev pub decreases-is_defined : goal.decreases-is_defined
-decreases-is_defined g l = 64 * l.below + 10
+decreases-is_defined g l = 64 * l.below + 11
 
 abbrev pub decreases-are_equal : goal.decreases-are_equal
-decreases-are_equal g l = 64 * l.below + 10
+decreases-are_equal g l = 64 * l.below + 11
 
 abbrev pub decreases-holds : goal.decreases-holds
-decreases-holds g l = 64 * l.below + 11
+decreases-holds g l = 64 * l.below + 12
 
 abbrev pub decreases-worded_holds : goal.decreases-worded_holds
-decreases-worded_holds g l = 64 * l.below + 12
+decreases-worded_holds g l = 64 * l.below + 13
 
 abbrev pub decreases-text_holds : goal.decreases-text_holds
-decreases-text_holds g l = 64 * l.below + 13
+decreases-text_holds g l = 64 * l.below + 14
 
 abbrev pub decreases-else_holds : goal.decreases-else_holds
-decreases-else_holds g l = 64 * l.below + 14
+decreases-else_holds g l = 64 * l.below + 15
 
 abbrev pub decreases-line_holds : goal.decreases-line_holds
-decreases-line_holds g l = 64 * l.below + 15
+decreases-line_holds g l = 64 * l.below + 16
 
 abbrev pub decreases-branch_holds : goal.decreases-branch_holds
-decreases-branch_holds g l = 64 * l.below + 16
+decreases-branch_holds g l = 64 * l.below + 17
 
 abbrev pub decreases-include_named : goal.decreases-include_named
 decreases-include_named g l = 64 * l.below + 1
@@ -140,58 +143,58 @@ abbrev pub decreases-each_include : goal.decreases-each_include
 decreases-each_include g l = 64 * l.below + 2
 
 abbrev pub decreases-include_line : goal.decreases-include_line
-decreases-include_line g l = 64 * l.below + 10
+decreases-include_line g l = 64 * l.below + 11
 
 abbrev pub decreases-read_include : goal.decreases-read_include
-decreases-read_include g l = 64 * l.below + 11
+decreases-read_include g l = 64 * l.below + 12
 
 abbrev pub decreases-read_kind : goal.decreases-read_kind
-decreases-read_kind g l = 64 * l.below + 14
+decreases-read_kind g l = 64 * l.below + 15
 
 abbrev pub decreases-read_bare_tab : goal.decreases-read_bare_tab
-decreases-read_bare_tab g l = 64 * l.below + 15
+decreases-read_bare_tab g l = 64 * l.below + 16
 
 abbrev pub decreases-read_bare_form : goal.decreases-read_bare_form
-decreases-read_bare_form g l = 64 * l.below + 14
+decreases-read_bare_form g l = 64 * l.below + 15
 
 abbrev pub decreases-read_tab : goal.decreases-read_tab
-decreases-read_tab g l = 64 * l.below + 16
+decreases-read_tab g l = 64 * l.below + 17
 
 abbrev pub decreases-read_line : goal.decreases-read_line
-decreases-read_line g l = 64 * l.below + 17
+decreases-read_line g l = 64 * l.below + 18
 
 abbrev pub decreases-read_define : goal.decreases-read_define
-decreases-read_define g l = 64 * l.below + 15
+decreases-read_define g l = 64 * l.below + 16
 
 abbrev pub decreases-read_define_form : goal.decreases-read_define_form
-decreases-read_define_form g l = 64 * l.below + 14
+decreases-read_define_form g l = 64 * l.below + 15
 
 abbrev pub decreases-read_conditional : goal.decreases-read_conditional
-decreases-read_conditional g l = 64 * l.below + 17
+decreases-read_conditional g l = 64 * l.below + 18
 
 abbrev pub decreases-read_step : goal.decreases-read_step
-decreases-read_step g l = 64 * l.below + 18
+decreases-read_step g l = 64 * l.below + 19
 
 abbrev pub decreases-read_items : goal.decreases-read_items
-decreases-read_items g l = 64 * l.below + 19
+decreases-read_items g l = 64 * l.below + 20
 
 abbrev pub decreases-read_page : goal.decreases-read_page
-decreases-read_page g l = 64 * l.below + 20
+decreases-read_page g l = 64 * l.below + 21
 
 abbrev pub decreases-read_text : goal.decreases-read_text
-decreases-read_text g l = 64 * l.below + 21
+decreases-read_text g l = 64 * l.below + 22
 
 abbrev pub decreases-read_held : goal.decreases-read_held
-decreases-read_held g l = 64 * l.below + 22
+decreases-read_held g l = 64 * l.below + 23
 
 abbrev pub decreases-read_file : goal.decreases-read_file
-decreases-read_file g l = 64 * l.below + 22
+decreases-read_file g l = 64 * l.below + 23
 
 abbrev pub decreases-read_included : goal.decreases-read_included
-decreases-read_included g l = 64 * l.below + 23
+decreases-read_included g l = 64 * l.below + 24
 
 abbrev pub decreases-included : goal.decreases-included
-decreases-included g l = 64 * l.below + 24
+decreases-included g l = 64 * l.below + 25
 
 abbrev pub invariant-expand_here-terms : goal.invariant-expand_here-terms
 invariant-expand_here-terms g l =

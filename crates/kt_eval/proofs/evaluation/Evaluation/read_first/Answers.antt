@@ -3,7 +3,7 @@ use Rattle.std.proofs.lemmas.Result.{err_from_is_err_and}
 use Rattle.kt_eval.specs.Outcome.{Outcome}
 use Rattle.kt_eval.specs.State.{World}
 use Rattle.kt_eval.specs.Step.{store_of}
-use Rattle.kt_eval.proofs.EarlyLemmas.{Early, file_at_fails}
+use Rattle.kt_eval.proofs.lemmas.EarlyLemmas.{Early, file_at_fails}
 use Rattle.kt_eval.proofs.evaluation.Evaluation.read_first.Goals as goal
 
 pub returns-in_err-text-clause-gives : goal.returns-in_err-text-clause-gives

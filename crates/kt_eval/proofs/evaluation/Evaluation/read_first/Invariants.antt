@@ -1,6 +1,6 @@
 use Rattle.std.proofs.Common.{◌≡◌, map, drop}
-use Rattle.kt_eval.specs.Levels.{evaluator}
-use Rattle.kt_eval.specs.Reading.{read_first}
+use Rattle.kt_eval.specs.expanding.Levels.{evaluator}
+use Rattle.kt_eval.specs.reading.Reading.{read_first}
 use Rattle.kt_eval.specs.Step.{AreKnown, Keeps, store_of}
 use Rattle.kt_eval.proofs.evaluation.Evaluation.read_first.Given as goal
 

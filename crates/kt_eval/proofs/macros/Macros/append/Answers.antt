@@ -2,8 +2,8 @@ use Rattle.std.proofs.Common.{◌++◌, map, codes, sym, ap, ◌∙◌}
 use Rattle.std.specs.Option.{option_copied_mut}
 use Rattle.indexmap.proofs.MapLemmas.{OnOk-map}
 use Rattle.kt_eval.specs.declared.macros.Macro.{Macro}
-use Rattle.kt_eval.specs.Table.{put}
-use Rattle.kt_eval.proofs.TableLemmas.{entry_of, set_entries}
+use Rattle.kt_eval.specs.macros.Macros.{put}
+use Rattle.kt_eval.proofs.lemmas.macros.TableLemmas.{entry_of, set_entries}
 use Rattle.kt_eval.proofs.macros.Macros.append.Goals as goal
 
 pub returns-in-Some : goal.returns-in-Some

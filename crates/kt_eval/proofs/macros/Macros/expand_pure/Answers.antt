@@ -1,5 +1,5 @@
 use Rattle.std.proofs.Common.{refl, rules}
-use Rattle.kt_eval.proofs.PureLemmas.{says_when}
+use Rattle.kt_eval.proofs.lemmas.expanding.PureLemmas.{says_when}
 use Rattle.kt_eval.proofs.macros.Macros.expand_pure.Goals as goal
 
 pub returns : goal.returns

@@ -1,6 +1,6 @@
 use Rattle.std.proofs.Common.{ap, ◌∙◌}
-use Rattle.kt_eval.specs.Table.{find}
-use Rattle.kt_eval.proofs.TableLemmas.{seen, find_entries}
+use Rattle.kt_eval.specs.macros.Macros.{find}
+use Rattle.kt_eval.proofs.lemmas.macros.TableLemmas.{seen, find_entries}
 use Rattle.kt_eval.proofs.macros.Macros.get.Goals as goal
 
 pub returns : goal.returns

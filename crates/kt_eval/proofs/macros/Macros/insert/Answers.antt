@@ -1,6 +1,6 @@
 use Rattle.std.proofs.Common.{map, ap, ◌∙◌}
-use Rattle.kt_eval.specs.Table.{put}
-use Rattle.kt_eval.proofs.TableLemmas.{entry_of, put_entries}
+use Rattle.kt_eval.specs.macros.Macros.{put}
+use Rattle.kt_eval.proofs.lemmas.macros.TableLemmas.{entry_of, put_entries}
 use Rattle.kt_eval.proofs.macros.Macros.insert.Goals as goal
 
 pub returns-clause-set : goal.returns-clause-set

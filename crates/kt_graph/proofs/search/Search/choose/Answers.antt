@@ -1,8 +1,8 @@
 use Rattle.std.proofs.Common.{IfOk, sym, subst}
 use Rattle.std.proofs.lemmas.Result.{IfOk-weaker}
-use Rattle.kt_graph.specs.Search.{IsFoundByTrees, Searching, choice_of}
-use Rattle.kt_graph.specs.Views.{choice_told}
-use Rattle.kt_graph.proofs.TreeLemmas.{found_as_trees, told_as_trees}
+use Rattle.kt_graph.specs.search.Search.{IsFoundByTrees, Searching, choice_of}
+use Rattle.kt_graph.specs.search.Views.{choice_view}
+use Rattle.kt_graph.proofs.lemmas.search.TreeLemmas.{found_as_trees, told_as_trees}
 use Rattle.kt_graph.proofs.search.Search.choose.Goals as goal
 
 pub returns-else-is_err-clause-trees : goal.returns-else-is_err-clause-trees
@@ -12,5 +12,5 @@ returns-else-is_err-clause-trees c =
     let name = c.args.name.now in
     subst (λ (search : Searching). IfOk c.choice-choice.result (IsFoundByTrees search.rules search.known name)) c.self.view_is
     (IfOk-weaker c.choice-choice.result _ (IsFoundByTrees rules known name)
-    (λ choice told. subst (IsFoundByTrees rules known name) (sym told) (told_as_trees choice_told (choice_of rules known name) (found_as_trees _ _ _ _ _)))
+    (λ choice told. subst (IsFoundByTrees rules known name) (sym told) (told_as_trees choice_view (choice_of rules known name) (found_as_trees _ _ _ _ _)))
     c.choice-choice.ensures.chosen)

@@ -1,14 +1,19 @@
-use Rattle.std.proofs.Common.{codes}
+use Rattle.std.proofs.Common.{codes, ℕ, List}
+use Rattle.std.specs.Prelude.{option_map, slice_get}
+use Rattle.std.specs.Borrow.{Bor}
 use Rattle.kt_ninja.proofs.Putting.{puts_none, puts_then}
+use Rattle.kt_ninja.proofs.ViewLemmas.{marked_put, names_put, rule_name_put}
 use Rattle.kt_ninja.proofs.block.Block.put_build.Goals as goal
 
 pub returns : goal.returns
-returns g c =
+returns g c = λ s is.
+    let seen = g.W.Sink.seen in
+    let found = slice_get (g.V.PlanView.plan c.args.view.now).statements c.args.statement in
     puts_then (codes "build") _ c.put.ensures
-    (puts_then _ _ (rw c.as_slice.ensures at c.put_names.ensures)
+    (puts_then _ _ (names_put seen _ _ found s is (λ t. t.outs) c.put_names.ensures)
     (puts_then (codes ": ") _ c.put-2.ensures
-    (puts_then _ _ c.put_rule_name.ensures
-    (puts_then _ _ (rw c.as_slice-2.ensures at c.put_names-2.ensures)
-    (puts_then _ _ (rw c.as_slice-3.ensures at c.put_marked.ensures)
-    (puts_then _ _ (rw c.as_slice-4.ensures at c.put_marked-2.ensures)
+    (puts_then _ _ (rule_name_put seen _ _ found s is c.args.number (option_map (λ (text : Bor (List ℕ)). text.now) c.command.result) c.command.ensures c.put_rule_name.ensures)
+    (puts_then _ _ (names_put seen _ _ found s is (λ t. t.inputs) c.put_names-2.ensures)
+    (puts_then _ _ (marked_put seen _ _ found s is (codes " |") (λ t. t.implicit) c.put_marked.ensures)
+    (puts_then _ _ (marked_put seen _ _ found s is (codes " ||") (λ t. t.order_only) c.put_marked-2.ensures)
     (puts_then (codes "\n") _ c.put-3.ensures (puts_none _))))))))

@@ -7,5 +7,5 @@ pub returns : goal.returns
 unfolding plan_text
 returns g c =
     puts_then (codes "# kati\n") _ c.put.ensures
-    (puts_then _ _ (rw c.as_slice.ensures at c.put_statements.ensures)
-    (puts_then _ _ (rw c.as_slice-2.ensures at c.put_defaults.ensures) (puts_none _)))
+    (puts_then _ _ c.put_statements.ensures
+    (puts_then _ _ c.put_defaults.ensures (puts_none _)))

@@ -2,10 +2,10 @@ use Rattle.std.proofs.Common.{codes}
 use Rattle.kt_ninja.proofs.Putting.{puts_none, puts_then}
 use Rattle.kt_ninja.proofs.block.Block.put_rule.Goals as goal
 
-pub returns-in-Command : goal.returns-in-Command
-returns-in-Command g c =
-    rw c.in-Command.is (puts_then (codes "rule r") _ c.put.ensures
+pub returns-in-Some : goal.returns-in-Some
+returns-in-Some g c =
+    rw c.in-Some.is (puts_then (codes "rule r") _ c.put.ensures
     (puts_then _ _ c.put_number.ensures
-    (puts_then (codes "\n command = ") _ c.put-in-Command.ensures
-    (puts_then _ _ (rw c.as_slice.ensures at c.put_command.ensures)
-    (puts_then (codes "\n") _ c.put-in-Command-2.ensures (puts_none _))))))
+    (puts_then (codes "\n command = ") _ c.put-in-Some.ensures
+    (puts_then _ _ c.put_command.ensures
+    (puts_then (codes "\n") _ c.put-in-Some-2.ensures (puts_none _))))))

@@ -1,5 +1,13 @@
+use Rattle.std.proofs.Common.{ℕ, List}
+use Rattle.std.specs.Prelude.{option_map, slice_get}
+use Rattle.std.specs.Borrow.{Bor}
 use Rattle.kt_ninja.proofs.Putting.{puts_then}
+use Rattle.kt_ninja.proofs.ViewLemmas.{rule_put}
 use Rattle.kt_ninja.proofs.block.Block.put_statement.Goals as goal
 
 pub returns : goal.returns
-returns g c = puts_then _ _ c.put_rule.ensures c.put_build.ensures
+returns g c = λ s is.
+    let found = slice_get (g.V.PlanView.plan c.args.view.now).statements c.args.statement in
+    puts_then _ _
+    (rule_put g.W.Sink.seen _ _ found s is c.args.number (option_map (λ (text : Bor (List ℕ)). text.now) c.command.result) c.command.ensures c.put_rule.ensures)
+    (c.put_build.ensures s is)

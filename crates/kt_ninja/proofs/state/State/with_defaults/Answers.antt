@@ -8,7 +8,7 @@ use Rattle.kt_ninja.proofs.state.State.with_defaults.Goals as goal
 pub returns : goal.returns
 returns c =
     let held = c.self.inside in
-    let state : State = record { file = held.file; rules = held.rules; stated = held.stated; defaults = held.defaults.items } in
+    let state : State = record { file = held.file; rules = held.rules; pending = held.pending; defaults = held.defaults.items } in
     ap (λ s. add_defaults s c.args.names) (sym c.self.view_is)
     ∙ defaults_added state c.args.names c.append.new.self.items
     (ap (λ outs. list_all (is_among outs) c.args.names) (sym c.self.invariant) ∙ ap (list_all (is_among held.outs)) (sym c.as_slice.ensures) ∙ sym c.all_among.ensures ∙ c.if-not-all_among.false)

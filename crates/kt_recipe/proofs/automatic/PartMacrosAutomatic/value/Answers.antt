@@ -1,13 +1,14 @@
 use Rattle.std.proofs.Common.{◌≡◌, IfOk, option_map, sym, subst, ◌∙◌}
 use Rattle.std.proofs.lemmas.Result.{IfOk-weaker}
-use Rattle.kt_eval.specs.Files.{look}
-use Rattle.kt_recipe.specs.Auto.{MacrosOf, automatic_in}
+use Rattle.std.specs.Cow.{cow_slice_items}
+use Rattle.kt_eval.specs.files.Files.{look}
+use Rattle.kt_recipe.specs.Automatic.{MacrosOf, automatic_in}
 use Rattle.kt_recipe.proofs.AskingLemmas.{found_by_name}
 use Rattle.kt_recipe.proofs.automatic.PartMacrosAutomatic.value.Goals as goal
 
 pub returns : goal.returns
 returns c =
     let inside = c.self.inside in
-    subst (λ (s : MacrosOf). IfOk c.macro_in.result (λ found. option_map (λ v. v.items) found ≡ look (automatic_in s.node s.part) c.args.name.now))
+    subst (λ (s : MacrosOf). IfOk c.macro_in.result (λ found. option_map cow_slice_items found ≡ look (automatic_in s.node s.part) c.args.name.now))
     c.self.view_is
     (IfOk-weaker c.macro_in.result _ _ (λ found is. is ∙ sym (found_by_name inside.node.now inside.part c.args.name.now)) c.macro_in.ensures)

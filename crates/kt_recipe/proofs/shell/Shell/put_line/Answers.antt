@@ -1,7 +1,7 @@
 use Rattle.std.proofs.Common.{refl}
 use Rattle.std.proofs.lemmas.Result.{err_from_is_err_and}
 use Rattle.kt_text.specs.Words.{Text}
-use Rattle.kt_eval.proofs.GrowingLemmas.{front_same}
+use Rattle.kt_eval.proofs.lemmas.GrowingLemmas.{front_same}
 use Rattle.kt_recipe.specs.Lines.{after_run, is_marked, pieces_of}
 use Rattle.kt_recipe.specs.Shell.{expansion, put_line, put_pieces}
 use Rattle.kt_recipe.specs.Views.{command_in, setting_at}

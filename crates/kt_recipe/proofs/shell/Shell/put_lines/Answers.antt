@@ -1,6 +1,6 @@
 use Rattle.std.proofs.Common.{◌∙◌, ◌+◌, drop}
 use Rattle.std.proofs.lemmas.Result.{err_from_is_err_and}
-use Rattle.kt_recipe.specs.Auto.{automatic_in}
+use Rattle.kt_recipe.specs.Automatic.{automatic_in}
 use Rattle.kt_recipe.specs.Shell.{put_line, put_lines}
 use Rattle.kt_recipe.specs.Views.{command_in, setting_at}
 use Rattle.kt_recipe.proofs.LoopLemmas.{lines_from}

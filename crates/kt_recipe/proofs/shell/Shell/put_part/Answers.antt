@@ -1,5 +1,5 @@
 use Rattle.std.proofs.Common.{[], sym, ap, unwrap_or}
-use Rattle.kt_recipe.specs.Auto.{automatic_in}
+use Rattle.kt_recipe.specs.Automatic.{automatic_in}
 use Rattle.kt_recipe.specs.Shell.{put_lines, put_part}
 use Rattle.kt_recipe.specs.Views.{command_in}
 use Rattle.kt_recipe.proofs.ShellLemmas.{says_nothing}

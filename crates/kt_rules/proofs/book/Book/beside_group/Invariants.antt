@@ -1,8 +1,9 @@
-use Rattle.std.proofs.Common.{◌≡◌, drop, find, filter}
+use Rattle.std.proofs.Common.{◌≡◌, find, filter}
 use Rattle.std.specs.List.{list_any}
 use Rattle.kt_rules.specs.Book.{is_made, is_beside_group, recipes_of, beside_group_in}
+use Rattle.kt_rules.specs.Targets.{targets_view}
 use Rattle.kt_rules.proofs.book.Book.beside_group.Given as goal
 
 abbrev pub invariant-loop-target : goal.invariant-loop-target
 invariant-loop-target l =
-    find (λ target. list_any (is_beside_group l.entry) (recipes_of l.self target.name)) (filter (is_made l.entry) (drop l.target-index l.entry.targets)) ≡ beside_group_in l.self l.entry
+    find (λ target. list_any (is_beside_group l.entry) (recipes_of l.self target.name)) (filter (is_made l.entry) (targets_view l.target-iterator)) ≡ beside_group_in l.self l.entry

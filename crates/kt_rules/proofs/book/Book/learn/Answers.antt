@@ -1,6 +1,7 @@
 use Rattle.std.proofs.Common.{◌≡◌, ◌∙◌, ◌∷◌, ◌++◌, [], ap, subst, length}
 use Rattle.kt_rules.specs.Slots.{GrewIn, GotSpots, GotRecipes, rules_in}
-use Rattle.kt_rules.proofs.SlotLemmas.{rules_in-none, rules_in-some, put_last, on_err}
+use Rattle.kt_text.proofs.BegunLemmas.{on_err}
+use Rattle.kt_rules.proofs.SlotLemmas.{rules_in-none, rules_in-some, put_last}
 use Rattle.kt_rules.proofs.BookLemmas.{kept_none, kept_some}
 use Rattle.kt_rules.proofs.book.Book.learn.Goals as goal
 

@@ -1,4 +1,4 @@
-use Rattle.std.proofs.Common.{ap, refl}
+use Rattle.std.proofs.Common.{ap}
 use Rattle.kt_rules.specs.inner.Lists.{Notes}
 use Rattle.kt_rules.specs.Slots.{spots_at}
 use Rattle.kt_rules.proofs.BookLemmas.{kept_made}

@@ -1,9 +1,10 @@
-use Rattle.std.proofs.Common.{◌≡◌, ◌++◌, true, drop, map, filter}
+use Rattle.std.proofs.Common.{◌≡◌, ◌++◌, true, map, filter}
 use Rattle.std.specs.List.{list_any}
 use Rattle.kt_rules.specs.Book.{is_made, recipes_of, override_message, targets_with_recipe}
+use Rattle.kt_rules.specs.Targets.{targets_view}
 use Rattle.kt_rules.proofs.book.Book.second_recipes.Given as goal
 
 abbrev pub invariant-loop-target : goal.invariant-loop-target
 invariant-loop-target l =
-    l.warnings.items ++ map (override_message l.entry.place) (filter (λ target. list_any (λ earlier. true) (recipes_of l.self target.name)) (filter (is_made l.entry) (drop l.target-index l.entry.targets)))
+    l.warnings.items ++ map (override_message l.entry.place) (filter (λ target. list_any (λ earlier. true) (recipes_of l.self target.name)) (filter (is_made l.entry) (targets_view l.target-iterator)))
     ≡ map (override_message l.entry.place) (targets_with_recipe l.self l.entry)

@@ -3,7 +3,7 @@ use Rattle.kt_rules.specs.Patterns.{IsSorted}
 use Rattle.kt_rules.proofs.book.matching.unrepeated.Given as goal
 
 abbrev pub invariant-loop-pattern : goal.invariant-loop-pattern
-invariant-loop-pattern l = IsSorted l.fn.patterns.items l.left.items l.kept.items l.behind
+invariant-loop-pattern l = IsSorted l.fn.patterns.items l.left.items l.kept.items l.past
 
 abbrev pub decreases-loop-pattern : goal.decreases-loop-pattern
 decreases-loop-pattern l = vec_len l.left

@@ -1,4 +1,5 @@
-use Rattle.kt_rules.proofs.SlotLemmas.{grew_spots, grew_recipes, on_err}
+use Rattle.kt_text.proofs.BegunLemmas.{on_err}
+use Rattle.kt_rules.proofs.SlotLemmas.{grew_spots, grew_recipes}
 use Rattle.kt_rules.proofs.book.noting.learn.Goals as goal
 
 pub returns-clause-targets_refused : goal.returns-clause-targets_refused

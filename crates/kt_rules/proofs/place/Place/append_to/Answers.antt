@@ -1,6 +1,6 @@
 use Rattle.std.proofs.Common.{◌∙◌, ◌++◌, ap, refl}
 use Rattle.std.specs.Prelude.{codes, decimal}
-use Rattle.kt_rules.proofs.SlotLemmas.{on_err}
+use Rattle.kt_text.proofs.BegunLemmas.{on_err}
 use Rattle.kt_rules.proofs.place.Place.append_to.Goals as goal
 
 pub returns-in_err-push-clause-refused : goal.returns-in_err-push-clause-refused

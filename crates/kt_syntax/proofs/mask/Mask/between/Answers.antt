@@ -2,14 +2,14 @@ use Rattle.std.proofs.Common.{◌≡◌, ◌+◌, length, drop, take, ap, ◌∙
 use Rattle.std.proofs.lemmas.List.{take_rest}
 use Rattle.kt_syntax.specs.Mask.{mask_of}
 use Rattle.kt_syntax.proofs.Masking.{one_taken, length-between}
-use Rattle.kt_syntax.proofs.OwnSymbols.{behind_own}
+use Rattle.kt_syntax.proofs.OwnSymbols.{after_own}
 use Rattle.kt_syntax.proofs.mask.Mask.between.Goals as goal
 
 pub loop-place-init : goal.loop-place-init
 loop-place-init c =
     let text = c.args.text.now in
     let own = c.own_length-own in
-    rw (c.new-mask.ensures.value, c.saturating_sub.ensures, take_rest text own.result) (behind_own text c.args.from c.args.end own.result own.ensures.value own.ensures.bound)
+    rw (c.new-mask.ensures.value, c.saturating_sub.ensures, take_rest text own.result) (after_own text c.args.from c.args.end own.result own.ensures.value own.ensures.bound)
 
 pub loop-place-preserved : goal.loop-place-preserved
 loop-place-preserved c =

@@ -16,7 +16,7 @@ returns-in_err-byte-clause-steps c =
     rw c.from_residual.ensures (ends, ends)
 
 pub returns-clause-steps : goal.returns-clause-steps
-returns-clause-steps c = rw c.again-self-inside.ensures (first c)
+returns-clause-steps c = rw c.copy-self-inside.ensures (first c)
 
 pub returns-clause-goes : goal.returns-clause-goes
 returns-clause-goes c = let e = first c in rw e (search rules)

@@ -4,7 +4,7 @@ use Rattle.std.proofs.lemmas.Option.{slice_get_within}
 use Rattle.kt_rules.specs.inner.Lists.{Notes}
 use Rattle.kt_rules.specs.Slots.{spots_at}
 use Rattle.kt_rules.proofs.NoteLemmas.{grew_none, grew_one, many_more, spot_noted, spots_same}
-use Rattle.kt_rules.proofs.SlotLemmas.{on_err}
+use Rattle.kt_text.proofs.BegunLemmas.{on_err}
 use Rattle.kt_rules.proofs.book.spots.Spots.note.Goals as goal
 
 pub returns-in_err-note-clause-targets_refused : goal.returns-in_err-note-clause-targets_refused

@@ -10,7 +10,7 @@ pub returns-in_err-number : goal.returns-in_err-number
 returns-in_err-number c =
     ap (option_map (λ suffix. suffix.now)) c.from_residual.ensures
     ∙ ap (option_and_then (slice_get c.self.inside.names))
-    (c.in_err-number.ensures ∙ ap (λ lengths. first_end c.self.inside.names lengths c.args.name.now) c.as_slice.ensures.keys)
+    (c.in_err-number.ensures ∙ ap (λ lengths. first_end c.self.inside.names lengths c.args.name.now) c.as_slice-2.ensures.keys)
     ∙ sym (all_ends c.self.inside.names c.self.inside.lengths.keys c.args.name.now c.self.invariant)
     ∙ ap (find (λ suffix. ends_with nat_eq c.args.name.now suffix)) c.self.view_is
 
@@ -18,6 +18,6 @@ pub returns : goal.returns
 returns c =
     c.get.ensures
     ∙ ap (option_and_then (slice_get c.self.inside.names))
-    (c.in_ok-number.ensures ∙ ap (λ lengths. first_end c.self.inside.names lengths c.args.name.now) c.as_slice.ensures.keys)
+    (c.in_ok-number.ensures ∙ ap (λ lengths. first_end c.self.inside.names lengths c.args.name.now) c.as_slice-2.ensures.keys)
     ∙ sym (all_ends c.self.inside.names c.self.inside.lengths.keys c.args.name.now c.self.invariant)
     ∙ ap (find (λ suffix. ends_with nat_eq c.args.name.now suffix)) c.self.view_is

@@ -1,0 +1,150 @@
+-- What a run leaves on its devices, and the program with it (kati's own).
+use Rattle.std.specs.Prelude.{◌≡◌, ◌⊎◌, ℕ, List, [], Option, Some, None, Result, Ok, Err, IfOk, IfSome, IsOk}
+use Rattle.std.specs.Prelude.{string_bytes}
+use Rattle.kt_list.specs.Counters.{Rises}
+use Rattle.kt_text.specs.Words.{Text}
+use Rattle.kt_ninja.specs.declared.plan.Plan.{Plan}
+use Rattle.kt_ninja.specs.Text.{plan_text}
+use Rattle.kt_ninja.specs.Written.{GrowsByFront, SinkSeen, Takes}
+use Rattle.kt_eval.specs.declared.fault.Fault.{Fault}
+use Rattle.kt_eval.specs.Prefixes.{IsPrefix, last}
+use Rattle.kt_eval.specs.files.Files.{FilesSeen, Store}
+use Rattle.kati_args.specs.declared.args.Args.{Args}
+use Rattle.kati_args.specs.declared.fault.ArgFault.{ArgFault}
+use Rattle.kati_args.specs.Args.{Answers}
+use Rattle.kati.specs.declared.faults.RunFault.{RunFault}
+use Rattle.kati.specs.declared.faults.RunFault.TheVariants as faults
+use Rattle.kati.specs.declared.outcome.Outcome.{Outcome}
+use Rattle.kati.specs.declared.status.Status.{Status}
+use Rattle.kati.specs.Asked.{names_asked}
+use Rattle.kati.specs.Checking.{AskedAtCheck, HasStatus, IsReadAs, names_with_check}
+use Rattle.kati.specs.Devices.{Devices}
+use Rattle.kati.specs.Exact.{IsGraphOf}
+use Rattle.kati.specs.Exits.{exit_code}
+use Rattle.kati.specs.Meaning.{Meaning, Means}
+use Rattle.kati.specs.Messages.{err_text}
+use Rattle.kati.specs.Sound.{IsSoundPlan}
+use Rattle.kati.specs.ErrorOutput.{RefusesBy, ReportsEnd}
+
+-- the output has taken the plan's text, which read by Ninja's rules is the plan
+pub record WritesPlan (plan : Plan) (old new : SinkSeen) : Type 0 where
+  pub taken : Takes old new (plan_text plan)
+  pub read : IsReadAs (plan_text plan) plan
+
+-- what the output has taken: a plan's text; nothing where a file is to be checked, and nothing after a makefile's fault
+abbrev pub HasOutput : Option Text → Result Plan Fault → SinkSeen → SinkSeen → Type 0
+HasOutput None (Ok plan) old new = WritesPlan plan old new
+HasOutput None (Err fault) old new = new ≡ old
+HasOutput (Some checked) result old new = new ≡ old
+
+-- the run came to its end: messages, plan or fault, and names asked for are those of the meaning; a plan is just the
+-- graph of its goals, and its text is on the output
+pub record Ends (args : Args) (store : Store) (status : Status) (old new : Devices) : Type 0 where
+  pub meaning : Meaning
+  pub means : Means args store old.files.names meaning
+  pub graph : IfOk meaning.result (IsGraphOf args store old.files.names)
+  pub sound : IfOk meaning.result IsSoundPlan
+  pub ends : HasStatus store args.check meaning.result status
+  pub names : new.files.names ≡ names_with_check args.check meaning.result meaning.asked
+  pub written : HasOutput args.check meaning.result old.out new.out
+  pub told : Takes old.err new.err (err_text meaning)
+
+-- the output failed: the makefile has a plan, the output a prefix of its text, and the error output all of its
+pub record EndsAtOut (args : Args) (store : Store) (old new : Devices) : Type 0 where
+  pub meaning : Meaning
+  pub means : Means args store old.files.names meaning
+  pub names : new.files.names ≡ meaning.asked
+  pub plan : Plan
+  pub planned : meaning.result ≡ Ok plan
+  pub unchecked : args.check ≡ None
+  pub written : GrowsByFront old.out new.out (plan_text plan)
+  pub told : Takes old.err new.err (err_text meaning)
+
+-- the error output failed: it has a prefix of its text, and the output nothing
+pub record EndsAtErr (args : Args) (store : Store) (old new : Devices) : Type 0 where
+  pub meaning : Meaning
+  pub means : Means args store old.files.names meaning
+  pub names : new.files.names ≡ meaning.asked
+  pub written : new.out ≡ old.out
+  pub told : GrowsByFront old.err new.err (err_text meaning)
+
+-- the translation was stopped: nothing was written, and the names asked for are a prefix of those that are asked for
+-- without that
+pub record EndsEarly (args : Args) (store : Store) (old new : Devices) : Type 0 where
+  pub names : IsPrefix new.files.names (names_asked args store old.files.names)
+  pub written : new.out ≡ old.out
+  pub told : new.err ≡ old.err
+
+-- the file to be checked couldn't be read: the error output has the messages, and the output nothing
+pub record EndsAtCheck (args : Args) (store : Store) (fault : RunFault) (old new : Devices) : Type 0 where
+  pub meaning : Meaning
+  pub means : Means args store old.files.names meaning
+  pub planned : IsOk meaning.result
+  pub name : Text
+  pub checks : args.check ≡ Some name
+  pub names : AskedAtCheck fault name meaning.asked new.files.names
+  pub written : new.out ≡ old.out
+  pub told : Takes old.err new.err (err_text meaning)
+
+-- the run was kept from its end before anything was written, or at the file to be checked
+abbrev pub IsKept : Args → Store → RunFault → Devices → Devices → Type 0
+IsKept args store fault old new = EndsEarly args store old new ⊎ EndsAtCheck args store fault old new
+
+-- what a run over these files leaves, as it ended
+abbrev pub Leaves : Args → Store → Result Status RunFault → Devices → Devices → Type 0
+Leaves args store (Ok status) old new = Ends args store status old new
+Leaves args store (Err faults.WriteOut) old new = EndsAtOut args store old new
+Leaves args store (Err faults.WriteErr) old new = EndsAtErr args store old new
+Leaves args store (Err (faults.Read name)) old new = IsKept args store (faults.Read name) old new
+Leaves args store (Err faults.Memory) old new = IsKept args store faults.Memory old new
+
+-- what is to blame for a fault of a run: the counter of that device rose, by the name that was asked for last where
+-- it is the files'; or memory was refused, and no file failed; a run that comes to its end has met no failure
+abbrev pub Blames : Result Status RunFault → Devices → Devices → Type 0
+Blames (Ok status) old new = (new.files.failed ≡ old.files.failed) × (new.out.failed ≡ old.out.failed)
+    × (new.err.failed ≡ old.err.failed)
+Blames (Err (faults.Read name)) old new = Rises old.files.failed new.files.failed
+    × (last new.files.names ≡ Some (string_bytes name))
+Blames (Err faults.Memory) old new = new.files.failed ≡ old.files.failed
+Blames (Err faults.WriteOut) old new = Rises old.out.failed new.out.failed
+Blames (Err faults.WriteErr) old new = Rises old.err.failed new.err.failed
+
+-- the same of a step that only reads
+abbrev pub ReadBlames : {A : Type 0} → Result A RunFault → FilesSeen → FilesSeen → Type 0
+ReadBlames (Ok x) old new = new.failed ≡ old.failed
+ReadBlames (Err (faults.Read name)) old new = Rises old.failed new.failed × (last new.names ≡ Some (string_bytes name))
+ReadBlames (Err faults.Memory) old new = new.failed ≡ old.failed
+ReadBlames (Err faults.WriteOut) old new = ⊥
+ReadBlames (Err faults.WriteErr) old new = ⊥
+
+-- a translation is the meaning, and has asked for its names
+abbrev pub Translates : Args → Store → Outcome → List Text → List Text → Type 0
+Translates args store outcome asked asked' =
+    Means args store asked (record { messages = outcome.messages; result = outcome.result; asked = asked' })
+
+-- a run by these arguments, and the exit status; only what kept the run from its end is told after it
+pub record RunExits (args : Args) (code : ℕ) (old new : Devices) : Type 0 where
+  pub run : Result Status RunFault
+  pub ended : Devices
+  pub leaves : IfSome old.files.known (λ store. Leaves args store run old ended)
+  pub blames : Blames run old ended
+  pub exit : code ≡ exit_code run
+  pub told : ReportsEnd run ended new
+
+-- words that ask for no run ask for no file, too
+abbrev pub ExitsBy : (Args → ℕ → Devices → Devices → Type 0) → Text → Result Args ArgFault → ℕ → Devices → Devices
+    → Type 0
+ExitsBy Runs lead (Ok args) code old new = Runs args code old new
+ExitsBy Runs lead (Err fault) code old new = (new.files ≡ old.files)
+    × RefusesBy lead fault code old.out new.out old.err new.err
+
+-- a whole program: what its words ask for, and how that ends, by how it runs and what stands over its help
+pub record Exits (Runs : Args → ℕ → Devices → Devices → Type 0) (lead : Text) (words : List Text) (code : ℕ)
+    (old new : Devices) : Type 0 where
+  pub answered : Result Args ArgFault
+  pub answers : Answers words answered
+  pub exits : ExitsBy Runs lead answered code old new
+
+-- kati
+abbrev pub KatiExits : List Text → ℕ → Devices → Devices → Type 0
+KatiExits words code old new = Exits RunExits [] words code old new

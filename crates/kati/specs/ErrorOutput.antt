@@ -1,0 +1,51 @@
+-- What the outputs get beside a plan's text, the messages and the makefile's fault (kati's own).
+use Rattle.std.specs.Prelude.{◌≡◌, ℕ, ◌++◌, ◌⊎◌, Result, Ok, Err, codes, string_bytes}
+use Rattle.kt_list.specs.Counters.{Rises}
+use Rattle.kt_text.specs.Words.{Text}
+use Rattle.kt_ninja.specs.Written.{GrowsByFront, SinkSeen, Takes}
+use Rattle.kati_args.specs.declared.fault.ArgFault.{ArgFault}
+use Rattle.kati_args.specs.declared.fault.ArgFault.TheVariants as refusals
+use Rattle.kati.specs.declared.faults.RunFault.{RunFault}
+use Rattle.kati.specs.declared.faults.RunFault.TheVariants as faults
+use Rattle.kati.specs.declared.status.Status.{Status}
+use Rattle.kati.specs.Devices.{Devices}
+use Rattle.kati.specs.Exits.{fault_code, usage_code}
+
+-- what kept a run from its end
+abbrev pub fault_words : RunFault → Text
+fault_words (faults.Read name) = codes "kati: cannot read " ++ (string_bytes name ++ codes "\n")
+fault_words faults.WriteOut = codes "kati: cannot write\n"
+fault_words faults.WriteErr = codes "kati: cannot write\n"
+fault_words faults.Memory = codes "kati: no memory\n"
+
+-- a sink took the text; or it failed, and took a prefix of it
+abbrev pub WritesOrFails : Text → SinkSeen → SinkSeen → Type 0
+WritesOrFails text old new = Takes old new text ⊎ (Rises old.failed new.failed × GrowsByFront old new text)
+
+-- after a run the error output gets what kept it from its end, and nothing else changes
+abbrev pub ReportsEnd : Result Status RunFault → Devices → Devices → Type 0
+ReportsEnd (Ok status) old new = new ≡ old
+ReportsEnd (Err fault) old new =
+    (new.files ≡ old.files) × (new.out ≡ old.out) × WritesOrFails (fault_words fault) old.err new.err
+
+-- the help goes to the output, and a failure there is reported on the error output
+abbrev pub GivesHelp : Text → ℕ → SinkSeen → SinkSeen → SinkSeen → SinkSeen → Type 0
+GivesHelp text code out out' err err' =
+    ((code ≡ 0) × Takes out out' text × (err' ≡ err))
+    ⊎ ((code ≡ fault_code faults.WriteOut) × Rises out.failed out'.failed × GrowsByFront out out' text
+    × WritesOrFails (fault_words faults.WriteOut) err err')
+
+-- what else words can ask for that is no run goes to the error output
+abbrev pub Refuses : ℕ → Text → ℕ → SinkSeen → SinkSeen → SinkSeen → SinkSeen → Type 0
+Refuses expected text code out out' err err' = (code ≡ expected) × (out' ≡ out) × WritesOrFails text err err'
+
+-- how a program ends whose words ask for no run; its help stands after these words
+abbrev pub RefusesBy : Text → ArgFault → ℕ → SinkSeen → SinkSeen → SinkSeen → SinkSeen → Type 0
+RefusesBy lead (refusals.Help text) code out out' err err' =
+    GivesHelp (lead ++ string_bytes text) code out out' err err'
+RefusesBy lead (refusals.Usage text) code out out' err err' =
+    Refuses usage_code (string_bytes text) code out out' err err'
+RefusesBy lead (refusals.BadMacro word) code out out' err err' =
+    Refuses usage_code (codes "kati: bad macro " ++ (string_bytes word ++ codes "\n")) code out out' err err'
+RefusesBy lead refusals.Memory code out out' err err' =
+    Refuses (fault_code faults.Memory) (fault_words faults.Memory) code out out' err err'

@@ -1,0 +1,27 @@
+-- What is to be made (GNU make manual, "Arguments to Specify the Goals", "Other Special Variables", on
+-- `.DEFAULT_GOAL`).
+use Rattle.std.specs.Prelude.{ℕ, List, [], ◌∷◌, None, codes}
+use Rattle.kt_text.specs.Words.{Text}
+use Rattle.kt_rules.specs.declared.fault_kind.FaultKind.TheVariants.{NoTargets}
+use Rattle.kt_eval.specs.reading.Machine.{Read}
+use Rattle.kt_eval.specs.Outcome.{StepOver, ◌>>=◌, done, stop_at}
+use Rattle.kt_eval.specs.expanding.Pure.{expanded_pure}
+use Rattle.kt_eval.specs.macros.Macros.{Table}
+use Rattle.kt_graph.specs.Goals.{default_goals, named_goals}
+use Rattle.kati.specs.Steps.{fault_nowhere}
+
+-- there is something to make, or there is no target
+abbrev pub goals_or_none : List Text → StepOver (List Text) (List Text)
+goals_or_none [] = stop_at (fault_nowhere NoTargets [])
+goals_or_none (goal ∷ goals) = done (goal ∷ goals)
+
+-- the macro that names the goal is expanded at level 0, at no place and without automatic macros (kati's own)
+unfoldable pub default_goal_text : ℕ → Table → StepOver (List Text) Text
+default_goal_text limit table = expanded_pure table [] None limit (codes "$(.DEFAULT_GOAL)")
+
+-- the goals of the command line, or the one that the makefile names or begins with
+abbrev pub chosen_goals : ℕ → Read → List Text → StepOver (List Text) (List Text)
+chosen_goals limit read (word ∷ words) = done (named_goals (word ∷ words))
+chosen_goals limit read [] = do
+  text ← default_goal_text limit read.table
+  goals_or_none (default_goals read.book text)

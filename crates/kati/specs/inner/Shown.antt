@@ -1,0 +1,34 @@
+-- What the code's own types show of a plan (kati's own).
+use Rattle.std.specs.Prelude.{List, [], ◌∷◌, map, Option, Some, None}
+use Rattle.kt_text.specs.Words.{Text}
+use Rattle.kt_ninja.specs.declared.plan.Statement.{Statement}
+use Rattle.kt_ninja.specs.declared.plan.Plan.{Plan}
+use Rattle.kati.specs.declared.name_list.NameList.{NameList}
+use Rattle.kati.specs.declared.name_list.NameList.TheVariants as lists
+use Rattle.kati.specs.declared.graph_plan.GraphPlan.{GraphPlan}
+use Rattle.kati.specs.declared.graph_plan.Part.{Part}
+use Rattle.kati.specs.declared.graph_plan.Part.TheVariants as parts
+use Rattle.kati.specs.Planning.{always_build, always_built, outs_of}
+use Rattle.kati.specs.inner.Drawn.{always_drawn, drawing_view, statement_drawn, statements_drawn}
+
+-- the plan
+abbrev pub plan_view : GraphPlan → Plan
+plan_view plan = record {
+  statements = always_drawn plan.always (statements_drawn (map (λ group. group.items) plan.groups.items) plan.sketch);
+  defaults = plan.goals.items;
+}
+
+-- ---- the names of a statement
+
+abbrev pub names_view : NameList → List Text
+names_view lists.Empty = []
+names_view lists.AlwaysBuild = always_build ∷ []
+names_view (lists.Members nodes) = outs_of nodes.now
+names_view (lists.Needs inputs) = inputs
+names_view (lists.Names names) = names.now
+
+-- the statement that a part of the plan is, if it is one
+abbrev pub part_view : Part → Option Statement
+part_view parts.Missing = None
+part_view parts.Always = Some always_built
+part_view (parts.Group nodes drawing) = Some (statement_drawn nodes.now (drawing_view drawing))

@@ -1,0 +1,195 @@
+//! The plan of a graph, told from the graph.
+ghost use Rattle.std.specs.Prelude.{◌≡◌, None, map, option_map, slice_get};
+ghost use Rattle.kt_ninja.specs.View.{made_at, made_by as made_seen, names_at, names_listed};
+ghost use Rattle.kati.specs.inner.Drawn.{inputs_drawn, order_only_drawn, statements_drawn};
+ghost use Rattle.kati.specs.inner.Shown.{names_view, part_view, plan_view};
+
+use crate::name_list::NameList;
+use crate::sketch::{Drawing, Sketch};
+use kt_graph::Node;
+use kt_ninja::{Listed, PlanView};
+use kt_rules::Name;
+
+/// The plan of a graph, of which no statement is built: names are those of the graph's nodes, and commands stand in one
+/// text.
+#[derive(Drop)]
+pub(crate) struct GraphPlan<'g> {
+    pub groups: Vec<Vec<Node<'g>>>,
+    /// What is held of each group beside its nodes.
+    pub sketch: Sketch,
+    /// Whether the statement of what is always built comes first.
+    pub always: bool,
+    pub goals: Vec<Name>,
+}
+
+// A statement.
+#[derive(Drop)]
+enum Part<'a, 'g> {
+    Missing,
+    // That of what is always built.
+    Always,
+    Group(&'a [Node<'g>], Drawing<'a>),
+}
+
+impl<'g> GraphPlan<'g> {
+    // The statement of a group.
+    #[inline(always)]
+    fn group(&self, place: usize) -> Part<'_, 'g>
+        ensures { part_view result
+            ≡ slice_get (statements_drawn (map (λ group. group.items) self.now.groups.items) self.now.sketch) place }
+    {
+        match self.groups.as_slice().get(place) {
+            Some(nodes) => match self.sketch.get(place) {
+                Some(drawing) => Part::Group(nodes.as_slice(), drawing),
+                None => Part::Missing,
+            },
+            None => Part::Missing,
+        }
+    }
+
+    // The statement at a place.
+    #[inline(always)]
+    fn part(&self, statement: usize) -> Part<'_, 'g>
+        ensures { part_view result ≡ slice_get (plan_view self.now).statements statement }
+    {
+        if !self.always {
+            return self.group(statement);
+        }
+        match statement.checked_sub(1) {
+            Some(place) => self.group(place),
+            None => Part::Always,
+        }
+    }
+
+    #[inline(always)]
+    fn names(&self, list: Listed) -> NameList<'_, 'g>
+        ensures { names_view result ≡ names_listed (plan_view self.now) list }
+    {
+        match list {
+            Listed::Outputs(statement) => self.part(statement).outputs(),
+            Listed::Inputs(statement) => self.part(statement).inputs(),
+            Listed::Implicit(statement) => self.part(statement).implicit(),
+            Listed::OrderOnly(statement) => self.part(statement).order_only(),
+            Listed::Defaults => NameList::Names(self.goals.as_slice()),
+        }
+    }
+}
+
+impl<'a, 'g> Part<'a, 'g> {
+    #[inline(always)]
+    fn outputs(&self) -> NameList<'a, 'g>
+        ensures { names_view result ≡ names_at (λ s. s.outs) (part_view self.now) }
+    {
+        match self {
+            Part::Missing => NameList::Empty,
+            Part::Always => NameList::AlwaysBuild,
+            Part::Group(nodes, _) => NameList::Members(*nodes),
+        }
+    }
+
+    #[inline(always)]
+    fn inputs(&self) -> NameList<'a, 'g>
+        ensures { names_view result ≡ names_at (λ s. s.inputs) (part_view self.now) }
+    {
+        match self {
+            Part::Missing | Part::Always => NameList::Empty,
+            Part::Group(nodes, drawing) => match drawing.joined {
+                Some(joined) => NameList::Names(joined.inputs.as_slice()),
+                None => first_inputs(*nodes),
+            },
+        }
+    }
+
+    #[inline(always)]
+    fn implicit(&self) -> NameList<'a, 'g>
+        ensures { names_view result ≡ names_at (λ s. s.implicit) (part_view self.now) }
+    {
+        match self {
+            Part::Missing | Part::Always => NameList::Empty,
+            Part::Group(_, drawing) => {
+                if drawing.always {
+                    NameList::AlwaysBuild
+                } else {
+                    NameList::Empty
+                }
+            }
+        }
+    }
+
+    #[inline(always)]
+    fn order_only(&self) -> NameList<'a, 'g>
+        ensures { names_view result ≡ names_at (λ s. s.order_only) (part_view self.now) }
+    {
+        match self {
+            Part::Missing | Part::Always => NameList::Empty,
+            Part::Group(nodes, drawing) => match drawing.joined {
+                Some(joined) => NameList::Names(joined.order_only.as_slice()),
+                None => first_order_only(*nodes),
+            },
+        }
+    }
+
+    fn command(&self) -> Option<&'a [u8]>
+        ensures { made_seen (option_map (λ text. text.now) result) ≡ made_at (part_view self.now) }
+    {
+        match self {
+            Part::Missing | Part::Always => None,
+            Part::Group(_, drawing) => {
+                if drawing.command.is_empty() {
+                    None
+                } else {
+                    Some(drawing.command)
+                }
+            }
+        }
+    }
+}
+
+// What the first of the nodes needs.
+#[inline(always)]
+fn first_inputs<'a, 'g>(nodes: &'a [Node<'g>]) -> NameList<'a, 'g>
+    ensures { names_view result ≡ inputs_drawn nodes.now None }
+{
+    match nodes {
+        [node, ..] => NameList::Needs(node.inputs()),
+        [] => NameList::Empty,
+    }
+}
+
+#[inline(always)]
+fn first_order_only<'a, 'g>(nodes: &'a [Node<'g>]) -> NameList<'a, 'g>
+    ensures { names_view result ≡ order_only_drawn nodes.now None }
+{
+    match nodes {
+        [node, ..] => NameList::Needs(node.order_only()),
+        [] => NameList::Empty,
+    }
+}
+
+impl PlanView for GraphPlan<'_> {
+    ghost use Rattle.std.specs.Prelude.{◌≡◌, ◌<◌, Some, length, option_map, slice_get};
+    ghost use Rattle.kt_ninja.specs.View.{made_at, made_by, names_listed};
+    ghost use Rattle.kati.specs.inner.Shown.{plan_view};
+
+    ghost plan = { plan_view };
+
+    fn statement_count(&self) -> usize {
+        let groups = self.groups.len().min(self.sketch.len());
+        if self.always { groups + 1 } else { groups }
+    }
+
+    fn command(&self, statement: usize) -> Option<&[u8]> {
+        self.part(statement).command()
+    }
+
+    fn name_count(&self, list: Listed) -> usize {
+        self.names(list).len()
+    }
+
+    fn name(&self, list: Listed, place: usize) -> &[u8] {
+        match self.names(list).name(place) {
+            Some(name) => name,
+            None => b"",
+        }
+    }
+}

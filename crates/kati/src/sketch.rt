@@ -1,0 +1,142 @@
+//! What is held of the groups of a plan beside their nodes.
+ghost use Rattle.std.specs.Prelude.{◌≡◌, ◌≤◌, ◌++◌, ◌∷◌, [], OnOk, length, option_map, slice_get};
+ghost use Rattle.std.specs.List.{list_any};
+ghost use Rattle.kt_recipe.specs.Views.{command_in};
+ghost use Rattle.kati.specs.inner.Drawn.{drawing_view, drawn_view, joined_view};
+
+use kt_rules::Name;
+use std::alloc::{AllocError, Global};
+use std::boxed::Box;
+use std::marker::Model;
+
+/// What the members of a group need together.
+#[derive(Drop)]
+pub(crate) struct Joined {
+    pub inputs: Vec<Name>,
+    pub order_only: Vec<Name>,
+}
+
+// What is held of a group; its command stands between two places of the text of all.
+#[derive(Drop)]
+struct Mark {
+    start: usize,
+    end: usize,
+    always: bool,
+    joined: Option<Box<Joined>>,
+}
+
+/// The same as definitions have it.
+#[derive(Clone, Copy)]
+pub(crate) struct Drawing<'a> {
+    /// Whether it is always made.
+    pub always: bool,
+    /// What its members need, if it has several.
+    pub joined: Option<&'a Joined>,
+    /// Its command; empty where it has none.
+    pub command: &'a [u8],
+}
+
+/// What is held of each group, in order. The commands of all stand in one text.
+#[derive(Drop)]
+pub(crate) struct Sketch {
+    text: Vec<u8>,
+    marks: Vec<Mark>,
+}
+
+impl Model for Sketch {
+    ghost use Rattle.std.specs.Prelude.{List, length, map};
+    ghost use Rattle.kati.specs.inner.Drawn.{AreWithin, Drawn, drawn_view};
+
+    ghost Value = { List Drawn };
+
+    ghost view = { λ sketch. map (drawn_view sketch.text.items) sketch.marks.items };
+
+    ghost invariant = { λ sketch. AreWithin (length sketch.text.items) sketch.marks.items };
+}
+
+impl Sketch {
+    pub(crate) fn new(alloc: Global) -> Sketch
+        ensures { result ≡ [] }
+    {
+        Sketch {
+            text: Vec::new(alloc),
+            marks: Vec::new(alloc),
+        }
+    }
+
+    /// How many groups there are.
+    pub(crate) fn len(&self) -> usize
+        ensures { result ≡ length self.now }
+    {
+        self.marks.len()
+    }
+
+    /// Whether one of them is always made.
+    pub(crate) fn has_always(&self) -> bool
+        ensures { result ≡ list_any (λ drawn. drawn.always) self.now }
+    {
+        any_always(self.marks.as_slice())
+    }
+
+    /// Puts one more behind the others.
+    pub(crate) fn push(
+        &mut self,
+        always: bool,
+        joined: Option<Box<Joined>>,
+        command: &[u8],
+    ) -> Result<(), AllocError>
+        ensures { OnOk result (self.new ≡ self.old ++ record {
+          always = always;
+          joined = option_map (λ b. joined_view b.value) joined;
+          command = command_in command.now;
+        } ∷ []) }
+    {
+        let start = self.text.len();
+        self.text.extend_from_slice(command)?;
+        self.marks.push(Mark {
+            start,
+            end: self.text.len(),
+            always,
+            joined,
+        })?;
+        Ok(())
+    }
+
+    /// What is held of the group at a place.
+    #[inline(always)]
+    pub(crate) fn get(&self, place: usize) -> Option<Drawing<'_>>
+        ensures { option_map drawing_view result ≡ slice_get self.now place }
+    {
+        match self.marks.as_slice().get(place) {
+            Some(mark) => Some(drawing_of(self.text.as_slice(), mark)),
+            None => None,
+        }
+    }
+}
+
+fn any_always(marks: &[Mark]) -> bool
+    ensures { result ≡ list_any (λ mark. mark.always) marks.now }
+{
+    marks.iter().any(|mark| mark.always)
+}
+
+fn drawing_of<'a>(text: &'a [u8], mark: &'a Mark) -> Drawing<'a>
+    requires rises { mark.now.start ≤ mark.now.end }
+    requires within { mark.now.end ≤ length text.now }
+    ensures { drawing_view result ≡ drawn_view text.now mark.now }
+{
+    Drawing {
+        always: mark.always,
+        joined: joined_in(&mark.joined),
+        command: &text[mark.start..mark.end],
+    }
+}
+
+fn joined_in(joined: &Option<Box<Joined>>) -> Option<&Joined>
+    ensures { option_map (λ b. joined_view b.now) result ≡ option_map (λ b. joined_view b.value) joined.now }
+{
+    match joined {
+        Some(joined) => Some(joined.as_ref()),
+        None => None,
+    }
+}

@@ -1,6 +1,0 @@
-use Rattle.std.proofs.Common.{◌≡◌, ◌++◌, drop}
-use Rattle.kt_eval.specs.Table.{doubled}
-use Rattle.kt_eval.proofs.assigning.doubled.Given as goal
-
-abbrev pub invariant-loop-byte : goal.invariant-loop-byte
-invariant-loop-byte l = l.whole.items ++ doubled (drop l.byte-index l.text) ≡ doubled l.text

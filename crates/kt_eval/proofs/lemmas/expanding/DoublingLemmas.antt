@@ -1,0 +1,127 @@
+-- A text with each dollar doubled, expanded.
+use Rattle.std.proofs.Common.{◌≡◌, ◌==◌, ℕ, suc, Bool, true, false, [], ◌∷◌, ◌++◌, Some, take, refl, sym, ap, subst, ◌∙◌, append_assoc, append-nil, ⊎_elim, arith}
+use Rattle.std.proofs.lemmas.Bool.{cases_Bool, eqb-true}
+use Rattle.kt_text.specs.Words.{Text}
+use Rattle.kt_syntax.specs.Terms.{dropped, terms_of, terms_after, first_term, after_dollar}
+use Rattle.kt_syntax.proofs.Runs.{run}
+use Rattle.kt_eval.specs.macros.Macros.{set_by_makefile, doubled}
+use Rattle.kt_eval.specs.declared.macros.Flavour.TheVariants.{Deferred}
+use Rattle.kt_eval.specs.files.Files.{Store}
+use Rattle.kt_eval.specs.State.{World, found_of}
+use Rattle.kt_eval.specs.Outcome.{Outcome, Gave}
+use Rattle.kt_eval.specs.expanding.Expansion.{Evaluator, value_of, term_of, each_term, expanded}
+use Rattle.kt_eval.specs.expanding.Levels.{above, evaluator}
+
+-- the expansion of what follows a given number of bytes, of which the expansion is known
+pub after : Evaluator → World → Text → ℕ → Text → Outcome World Text
+after e w out skip text = each_term e out (terms_after dropped skip text) w
+
+doubled-yes : (byte : ℕ) (text : Text) → (byte == 36) ≡ true → doubled (byte ∷ text) ≡ 36 ∷ 36 ∷ doubled text
+unfolding doubled
+doubled-yes byte text h = rw h refl
+
+doubled-no : (byte : ℕ) (text : Text) → (byte == 36) ≡ false → doubled (byte ∷ text) ≡ byte ∷ doubled text
+unfolding doubled
+doubled-no byte text h = rw h refl
+
+run-dollar : (text : Text) → run (36 ∷ text) ≡ 0
+run-dollar text = refl
+
+run-other : (byte : ℕ) (text : Text) → (byte == 36) ≡ false → run (byte ∷ text) ≡ suc (run text)
+run-other byte text h = rw h (omega arith)
+
+-- two dollars make one
+after-dollars : (e : Evaluator) (w : World) (out text : Text)
+    → after e w out 0 (36 ∷ 36 ∷ text) ≡ after e w (out ++ 36 ∷ []) 0 text
+unfolding after each_term terms_after first_term after_dollar term_of
+after-dollars e w out text = refl
+
+-- a run without dollar stands for itself
+after-run : (e : Evaluator) (w : World) (out : Text) (byte : ℕ) (text : Text) → (byte == 36) ≡ false
+    → after e w out 0 (byte ∷ text) ≡ after e w (out ++ byte ∷ take (run text) text) (run text) text
+unfolding after each_term terms_after first_term term_of
+after-run e w out byte text h = rw h refl
+
+after-skip : (e : Evaluator) (w : World) (out : Text) (n byte : ℕ) (text : Text)
+    → after e w out (suc n) (byte ∷ text) ≡ after e w out n text
+unfolding after terms_after
+after-skip e w out n byte text = refl
+
+after-nil : (e : Evaluator) (w : World) (out : Text) → after e w out 0 [] ≡ Gave w out
+unfolding after each_term terms_after
+after-nil e w out = refl
+
+-- a text with its dollars doubled, in a run of which the bytes in front are there already
+abbrev Runs : Evaluator → World → Text → Text → Type 0
+Runs e w out text = after e w (out ++ take (run (doubled text)) (doubled text)) (run (doubled text)) (doubled text)
+    ≡ Gave w (out ++ text)
+
+-- and at its begin
+abbrev Starts : Evaluator → World → Text → Text → Type 0
+Starts e w out text = after e w out 0 (doubled text) ≡ Gave w (out ++ text)
+
+-- both, whatever was expanded before
+record Doubles (e : Evaluator) (w : World) (text : Text) : Type 0 where
+  starts : (out : Text) → Starts e w out text
+  runs : (out : Text) → Runs e w out text
+
+doubles-nil : (e : Evaluator) (w : World) → Doubles e w []
+unfolding doubled
+doubles-nil e w = record {
+  starts = λ out. after-nil e w out ∙ ap (Gave w) (sym (append-nil out));
+  runs = λ out. after-nil e w (out ++ []);
+}
+
+doubles-dollar : (e : Evaluator) (w : World) (byte : ℕ) (text : Text) → (byte == 36) ≡ true → Doubles e w text
+    → Doubles e w (byte ∷ text)
+doubles-dollar e w byte text h d = record {
+  starts = λ out. begins out;
+  runs = λ out.
+      subst (λ (x : Text). after e w (out ++ take (run x) x) (run x) x ≡ Gave w (out ++ byte ∷ text))
+      (sym (doubled-yes byte text h))
+      (ap (λ (x : Text). after e w x 0 (36 ∷ 36 ∷ doubled text)) (append-nil out) ∙ two out);
+}
+  where
+    two : (out : Text) → after e w out 0 (36 ∷ 36 ∷ doubled text) ≡ Gave w (out ++ byte ∷ text)
+    two out = after-dollars e w out (doubled text) ∙ d.starts (out ++ 36 ∷ [])
+        ∙ ap (Gave w) (append_assoc out (36 ∷ []) text ∙ ap (λ (b : ℕ). out ++ b ∷ text) (sym (eqb-true byte 36 h)))
+
+    begins : (out : Text) → after e w out 0 (doubled (byte ∷ text)) ≡ Gave w (out ++ byte ∷ text)
+    begins out = ap (after e w out 0) (doubled-yes byte text h) ∙ two out
+
+doubles-other : (e : Evaluator) (w : World) (byte : ℕ) (text : Text) → (byte == 36) ≡ false → Doubles e w text
+    → Doubles e w (byte ∷ text)
+doubles-other e w byte text h d = record {
+  starts = λ out. ap (after e w out 0) (doubled-no byte text h) ∙ after-run e w out byte (doubled text) h ∙ more out;
+  runs = λ out.
+      subst (λ (x : Text). after e w (out ++ take (run x) x) (run x) x ≡ Gave w (out ++ byte ∷ text))
+      (sym (doubled-no byte text h))
+      (subst (λ (n : ℕ). after e w (out ++ take n (byte ∷ doubled text)) n (byte ∷ doubled text) ≡ Gave w
+      (out ++ byte ∷ text)) (sym (run-other byte (doubled text) h))
+      (after-skip e w _ _ _ _ ∙ more out));
+}
+  where
+    more : (out : Text)
+        → after e w (out ++ byte ∷ take (run (doubled text)) (doubled text)) (run (doubled text)) (doubled text)
+        ≡ Gave w (out ++ byte ∷ text)
+    more out =
+        ap (λ (x : Text). after e w x (run (doubled text)) (doubled text))
+        (sym (append_assoc out (byte ∷ []) (take (run (doubled text)) (doubled text))))
+        ∙ d.runs (out ++ byte ∷ []) ∙ ap (Gave w) (append_assoc out (byte ∷ []) text)
+
+doubles : (e : Evaluator) (w : World) (text : Text) → Doubles e w text
+doubles e w [] = doubles-nil e w
+doubles e w (byte ∷ text) =
+    ⊎_elim (λ h. doubles-dollar e w byte text h (doubles e w text))
+    (λ h. doubles-other e w byte text h (doubles e w text)) (cases_Bool (byte == 36))
+
+pub doubled-expanded : (e : Evaluator) (w : World) (text : Text) → expanded e (doubled text) w ≡ Gave w text
+unfolding expanded terms_of after
+doubled-expanded e w text = (doubles e w text).starts []
+
+-- the macro that is left stands for the text
+pub doubled-found : (reads : Bool) (store : Store) (levels : ℕ) (text : Text) (w : World)
+    → value_of (evaluator reads store (suc levels)) (Some (found_of (set_by_makefile Deferred (doubled text)))) w
+    ≡ Gave w text
+unfolding value_of evaluator above
+doubled-found reads store levels text w = doubled-expanded (evaluator reads store levels) w text

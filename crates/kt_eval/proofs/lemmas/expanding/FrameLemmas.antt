@@ -1,0 +1,36 @@
+-- Bindings from the innermost on.
+use Rattle.std.proofs.Common.{◌≡◌, List, [], ◌∷◌, ◌++◌, Option, None, Some, option_map, Bor, refl, sym, ap, ◌∙◌, true≢false}
+use Rattle.std.specs.Prelude.{is_some}
+use Rattle.kt_text.specs.Words.{Text}
+use Rattle.kt_eval.specs.declared.state.Frame.{Frame}
+use Rattle.kt_eval.specs.State.{innermost, newer, seen}
+
+-- one more binding inside the others comes first
+pub inner_first : (name : Text) (found : Option Text) (frames : List Frame) (frame : Frame)
+    → innermost name found (frames ++ frame ∷ []) ≡ newer (innermost name found frames) (seen name frame)
+unfolding innermost
+inner_first name found [] frame = refl
+inner_first name found (other ∷ frames) frame = inner_first name (newer found (seen name other)) frames frame
+
+-- the innermost of them says something
+pub innermost_says : (name : Text) (left outer : List Frame) (frame : Frame) (value : Text) (whole : Option Text) → left ≡ outer ++ frame ∷ []
+    → Some value ≡ seen name frame → innermost name None left ≡ whole → Some value ≡ whole
+innermost_says name left outer frame value whole cut says is =
+    ap (newer (innermost name None outer)) says ∙ sym (inner_first name None outer frame) ∙ sym (ap (innermost name None) cut) ∙ is
+
+none_of : (said : Option Text) → ((value : Text) → said ≡ Some value → ⊥) → None ≡ said
+none_of None none = refl
+none_of (Some value) none = absurd (none value refl)
+
+-- it says nothing, so the others are asked
+pub innermost_silent : (name : Text) (left outer : List Frame) (frame : Frame) (said whole : Option Text) → left ≡ outer ++ frame ∷ []
+    → said ≡ seen name frame → ((value : Text) → said ≡ Some value → ⊥) → innermost name None left ≡ whole
+    → innermost name None outer ≡ whole
+innermost_silent name left outer frame said whole cut says none is =
+    ap (newer (innermost name None outer)) (none_of said none ∙ says) ∙ sym (inner_first name None outer frame) ∙ sym (ap (innermost name None) cut) ∙ is
+
+-- what lends no text says none
+pub none_seen : (found : Option (Bor Text)) → ((value : Bor Text) → found ≡ Some value → ⊥)
+    → (value : Text) → option_map (λ (lent : Bor Text). lent.now) found ≡ Some value → ⊥
+none_seen None none value is = true≢false (sym (ap is_some is))
+none_seen (Some lent) none value is = none lent refl

@@ -1,0 +1,26 @@
+-- A text that refers to nothing is expanded to itself.
+use Rattle.std.proofs.Common.{◌≡◌, Bool, true, false, ◌==◌, ◌||◌, [], ◌∷◌, refl, sym, append-nil, true≢false}
+use Rattle.std.specs.List.{list_any}
+use Rattle.kt_text.specs.Words.{Text}
+use Rattle.kt_syntax.specs.Terms.{dropped, literal, count_of, terms_of}
+use Rattle.kt_syntax.proofs.Splitting.{terms_of-nil, term_first}
+use Rattle.kt_eval.specs.expanding.Expansion.{Evaluator, term_of, each_term, expanded}
+use Rattle.kt_eval.specs.Outcome.{Gave}
+use Rattle.kt_eval.specs.State.{World}
+
+neither : (a b : Bool) → (a || b) ≡ false → (a ≡ false) × (b ≡ false)
+neither false b is = (refl, is)
+neither true b is = absurd (true≢false is)
+
+uncounted : (text : Text) → list_any (λ byte. byte == 36) text ≡ false → count_of 36 text ≡ 0
+unfolding count_of
+uncounted [] free = refl
+uncounted (byte ∷ text) free =
+    let parts = neither (byte == 36) (list_any (λ byte. byte == 36) text) free in
+    rw (parts.0, uncounted text parts.1) refl
+
+pub stays : (e : Evaluator) (text : Text) (w : World) → list_any (λ byte. byte == 36) text ≡ false → expanded e text w ≡ Gave w text
+unfolding expanded terms_of each_term term_of
+stays e [] w free = rw (terms_of-nil dropped) refl
+stays e (byte ∷ text) w free =
+    rw (term_first dropped (literal (byte ∷ text)) (byte ∷ text) (byte ∷ text) [] (sym (append-nil (byte ∷ text))) (refl, uncounted (byte ∷ text) free, tt), terms_of-nil dropped) refl

@@ -1,0 +1,2 @@
+-- Lemmas about macros.
+pub mod TableLemmas

@@ -1,0 +1,77 @@
+-- A reading from its first line to its end.
+use Rattle.std.proofs.Common.{◌≡◌, ℕ, List, [], Option, Some, None, Result, Ok, Err, refl, sym, true}
+use Rattle.std.specs.Prelude.{IfSome}
+use Rattle.kt_text.specs.Words.{Text}
+use Rattle.kt_rules.specs.Entry.{Rule}
+use Rattle.kt_eval.specs.declared.stop.Stop.{Stop}
+use Rattle.kt_eval.specs.declared.stop.Stop.TheVariants as stops
+use Rattle.kt_eval.specs.files.Files.{Store}
+use Rattle.kt_eval.specs.macros.Macros.{Table}
+use Rattle.kt_eval.specs.State.{World}
+use Rattle.kt_eval.specs.declared.state.Frame.{Frame}
+use Rattle.kt_eval.specs.Outcome.{Outcome, Gave, Stopped, Gives, IfCut, leaving, left_of, then_do}
+use Rattle.kt_eval.specs.Step.{told, asked_for, GoesOn, AreKnown, store_of}
+use Rattle.kt_eval.specs.expanding.Levels.{evaluator}
+use Rattle.kt_eval.specs.reading.Reading.{read_first}
+use Rattle.kt_eval.specs.reading.Machine.{ComesBefore, Read, Trace, first_world, read_of, reading, trace_of, traced}
+use Rattle.kt_eval.proofs.lemmas.StepLemmas.{read_first_front}
+
+both_fronts : (v w : World) → GoesOn v w → ComesBefore (trace_of v) (trace_of w)
+both_fronts v w g = ((g.0 told, g.1 told), (g.0 asked_for, g.1 asked_for))
+
+-- the end of a reading, by that of its lines
+abbrev pub ended : Outcome World (Unit {0}) → Outcome Trace Read
+ended outcome = leaving trace_of (then_do outcome (λ _ w. Gave w (read_of w.table w.book)))
+
+-- what a reading gives is how it ends
+ends_so : (result : Result (Unit {0}) Stop) (w : World) (outcome : Outcome World (Unit {0})) → Gives (λ u. u) result w outcome
+    → Gives (λ _. read_of w.table w.book) result (trace_of w) (ended outcome)
+ends_so (Ok x) w outcome h = rw h refl
+ends_so (Err (stops.Fault fault)) w outcome h = rw h refl
+ends_so (Err (stops.Device name)) w outcome h = tt
+ends_so (Err stops.Memory) w outcome h = tt
+
+in_the_end : (w : World) (outcome : Outcome World (Unit {0})) → GoesOn w (left_of outcome) → ComesBefore (trace_of w) (left_of (ended outcome))
+in_the_end w (Gave v x) h = both_fronts w v h
+in_the_end w (Stopped v x) h = both_fronts w v h
+
+cut_so : (result : Result (Unit {0}) Stop) (w : World) (outcome : Outcome World (Unit {0})) → IfCut result (GoesOn w (left_of outcome))
+    → IfCut result (ComesBefore (trace_of w) (left_of (ended outcome)))
+cut_so (Ok x) w outcome h = tt
+cut_so (Err (stops.Fault fault)) w outcome h = tt
+cut_so (Err (stops.Device name)) w outcome h = in_the_end w outcome h
+cut_so (Err stops.Memory) w outcome h = in_the_end w outcome h
+
+module _ (names : List Text) (limit : ℕ) (before : Read) (trace : Trace) (frames : List Frame) (result : Result (Unit {0}) Stop)
+    (w : World) (table : Table) (book : List Rule) (said asked : List Text) (empty : frames ≡ []) (t : w.table ≡ table) (b : w.book ≡ book)
+    (s : w.said ≡ said) (a : w.asked ≡ asked) where
+  -- a reading by what is held at its end, where the bytes of the named files are known
+  pub reads_when : (known : Option Store)
+      → (AreKnown known → Gives (λ u. u) result w (read_first (store_of known) (evaluator true (store_of known) limit) names (record (first_world before trace) { frames = frames })))
+      → IfSome known (λ store. Gives (λ _. read_of table book) result (traced said asked) (reading store names limit before trace))
+  reads_when None h = tt
+  reads_when (Some store) h = rw (sym t, sym b, sym s, sym a)
+      (ends_so result w (read_first store (evaluator true store limit) names (first_world before trace)) (rw empty at (h refl)))
+
+  pub cut_when : (known : Option Store)
+      → (AreKnown known → IfCut result (GoesOn w (left_of (read_first (store_of known) (evaluator true (store_of known) limit) names (record (first_world before trace) { frames = frames })))))
+      → IfSome known (λ store. IfCut result (ComesBefore (traced said asked) (left_of (reading store names limit before trace))))
+  cut_when None h = tt
+  cut_when (Some store) h = rw (sym s, sym a)
+      (cut_so result w (read_first store (evaluator true store limit) names (first_world before trace)) (rw empty at (h refl)))
+
+-- before the first line the messages and the names are a prefix of those of the reading
+pub before_reading : (store : Store) (names : List Text) (limit : ℕ) (before : Read) (trace : Trace)
+    → ComesBefore trace (left_of (reading store names limit before trace))
+before_reading store names limit before trace = in_the_end (first_world before trace)
+    (read_first store (evaluator true store limit) names (first_world before trace)) (read_first_front true store limit names (first_world before trace))
+
+pub known_before : (names : List Text) (limit : ℕ) (before : Read) (trace : Trace) (known : Option Store)
+    → IfSome known (λ store. ComesBefore trace (left_of (reading store names limit before trace)))
+known_before names limit before trace None = tt
+known_before names limit before trace (Some store) = before_reading store names limit before trace
+
+-- nothing is said of a call that was cut
+pub known_cut : (known : Option Store) → IfSome known (λ store. Unit {0})
+known_cut None = tt
+known_cut (Some store) = tt

@@ -1,0 +1,6 @@
+use Rattle.std.proofs.Common.{◌≡◌, ◌++◌, drop}
+use Rattle.kt_eval.specs.macros.Macros.{doubled}
+use Rattle.kt_eval.proofs.macros.assigning.doubled.Given as goal
+
+abbrev pub invariant-loop-byte : goal.invariant-loop-byte
+invariant-loop-byte l = l.whole.items ++ doubled (drop l.byte-index l.text) ≡ doubled l.text

@@ -1,8 +1,0 @@
-use Rattle.std.proofs.Common.{◌≡◌, drop, map}
-use Rattle.std.specs.Prelude.{string_bytes}
-use Rattle.kt_eval.specs.Files.{look}
-use Rattle.kt_eval.proofs.memory.find.Given as goal
-
-abbrev pub invariant-loop-other : goal.invariant-loop-other
-invariant-loop-other l =
-    look (map (λ p. (string_bytes p.0, p.1.items)) (drop l.other-index l.pairs)) l.name ≡ look (map (λ p. (string_bytes p.0, p.1.items)) l.pairs) l.name

@@ -1,0 +1,28 @@
+-- A text expanded after all reading, as recipes are: what is left of it are its messages (GNU make manual, "How to Use
+-- Variables", "Using Variables in Recipes").
+use Rattle.std.specs.Prelude.{ℕ, false, List, [], Option, Result}
+use Rattle.kt_text.specs.Words.{Text}
+use Rattle.kt_rules.specs.declared.place.Place.{Place}
+use Rattle.kt_eval.specs.files.Files.{Store}
+use Rattle.kt_eval.specs.macros.Macros.{Table}
+use Rattle.kt_eval.specs.State.{frozen_world}
+use Rattle.kt_eval.specs.declared.stop.Stop.{Stop}
+use Rattle.kt_eval.specs.Prefixes.{IsPrefix}
+use Rattle.kt_eval.specs.Outcome.{AsksNothing, Gives, IfCut, StepOver, leaving, left_of}
+use Rattle.kt_eval.specs.expanding.Expansion.{expanded}
+use Rattle.kt_eval.specs.expanding.Levels.{evaluator}
+
+-- with these macros and automatic ones, at this place, with a given number of levels; no macro is set, and no file
+-- asked for
+abbrev pub expanded_pure : Table → Store → Option Place → ℕ → Text → StepOver (List Text) Text
+expanded_pure table automatic place limit text said =
+    leaving (λ w. w.said) (expanded (evaluator false [] limit) text (frozen_world table automatic place said))
+
+-- The call does the step, of which messages are left, and asks for no file; what it returned is seen by `see`.
+pub record Says {A B : Type 0} (see : A → B) (step : StepOver (List Text) B) (result : Result A Stop)
+    (old new : List Text) : Type 0 where
+  pub gives : Gives see result new (step old)
+  -- messages are appended; where memory was refused, a prefix of those of the step
+  pub appends : IsPrefix old new
+  pub cut : IfCut result (IsPrefix new (left_of (step old)))
+  pub asks_nothing : AsksNothing result

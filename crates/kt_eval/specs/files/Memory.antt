@@ -1,0 +1,30 @@
+-- Files over memory.
+use Rattle.std.specs.Prelude.{ℕ, List, ◌∷◌, [], ◌++◌, ◌==◌, Bool, Some, if◌then◌else◌}
+use Rattle.kt_list.specs.Counters.{one_more}
+use Rattle.kt_eval.specs.files.Files.{FilesSeen, Store}
+
+-- the bytes of the file of each name, what was asked for, which read fails, how many there were, and how many failed
+pub record Memory : Type 0 where
+  pub store : Store
+  pub asked : List (List ℕ)
+  pub nth : ℕ
+  pub reads : ℕ
+  pub failures : ℕ
+
+-- what is seen of them as of any files
+abbrev pub seen_of : Memory → FilesSeen
+seen_of m = record { known = Some m.store; names = m.asked; failed = m.failures }
+
+-- whether the next read is the one that fails
+abbrev pub fails_next : Memory → Bool
+fails_next m = one_more m.reads == m.nth
+
+-- after a read of this name
+abbrev pub after_read : Memory → List ℕ → Memory
+after_read m name = record {
+  store = m.store;
+  asked = m.asked ++ name ∷ [];
+  nth = m.nth;
+  reads = one_more m.reads;
+  failures = if fails_next m then one_more m.failures else m.failures;
+}

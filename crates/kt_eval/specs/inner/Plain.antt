@@ -1,0 +1,71 @@
+-- What a term gives without a level of its own: a literal, and the value of a plainly named macro that stands for itself
+-- (kati's own).
+use Rattle.std.specs.Prelude.{ℕ, Bool, true, not, ◌&&◌, ◌==◌, [], ◌++◌, length, Option, Some, None, codes}
+use Rattle.std.specs.Prelude.{if◌then◌else◌}
+use Rattle.std.specs.List.{list_all, list_any}
+use Rattle.kt_text.specs.Words.{Text, is_separator}
+use Rattle.kt_syntax.specs.declared.term.Mark.{Mark}
+use Rattle.kt_syntax.specs.declared.term.Mark.TheVariants.{Byte, Parentheses, Braces}
+use Rattle.kt_syntax.specs.Terms.{Token, literal, dollar, reference, unclosed}
+use Rattle.kt_eval.specs.declared.macros.Flavour.{Flavour}
+use Rattle.kt_eval.specs.declared.macros.Flavour.TheVariants.{Deferred, Immediate}
+use Rattle.kt_eval.specs.declared.state.Found.{Found}
+use Rattle.kt_eval.specs.declared.state.Left.{Left}
+use Rattle.kt_eval.specs.declared.state.Left.TheVariants.{Nothing, Value, Whole}
+use Rattle.kt_eval.specs.State.{World, lookup}
+use Rattle.kt_eval.specs.Outcome.{◌>>=◌, done}
+use Rattle.kt_eval.specs.Step.{Step}
+use Rattle.kt_eval.specs.expanding.Expansion.{Evaluator, term_of}
+
+-- whether a value is what it is expanded to: it isn't expanded again, or a level is left and it refers to nothing
+abbrev pub is_plain : ℕ → Flavour → Text → Bool
+is_plain below Immediate value = true
+is_plain below Deferred value = not (below == 0) && not (list_any (λ byte. byte == 36) value)
+
+abbrev pub put_if : Bool → Text → Text
+put_if plain value = if plain then value else []
+
+abbrev pub left_unless : Bool → Text → Option Text
+left_unless plain value = if plain then None else Some value
+
+-- what a name was found to stand for, if that is what it is expanded to, and else what is left to expand
+unfoldable pub put_of : ℕ → Option Found → Text
+put_of below None = []
+put_of below (Some found) = put_if (is_plain below found.flavour found.value) found.value
+
+unfoldable pub still_deferred : ℕ → Option Found → Option Text
+still_deferred below None = None
+still_deferred below (Some found) = left_unless (is_plain below found.flavour found.value) found.value
+
+-- whether a body is a name as it stands: neither a dollar, nor a colon, nor a separator is in it
+unfoldable pub is_name_byte : ℕ → Bool
+is_name_byte byte = not (byte == 36) && (not (byte == 58) && not (is_separator byte))
+
+unfoldable pub names_plainly : Mark → Text → Bool
+names_plainly Byte body = length body == 1 && list_all is_name_byte body
+names_plainly Parentheses body = list_all is_name_byte body
+names_plainly Braces body = list_all is_name_byte body
+
+abbrev pub value_left : Option Text → Left
+value_left None = Nothing
+value_left (Some value) = Value value
+
+-- what a term gives so, and what is left of it
+unfoldable pub put_by : ℕ → Token → World → Text
+put_by below (literal bytes) w = bytes
+put_by below dollar w = codes "$"
+put_by below (reference mark body) w = if names_plainly mark body then put_of below (lookup body w) else []
+put_by below unclosed w = []
+
+unfoldable pub left_by : ℕ → Token → World → Left
+left_by below (literal bytes) w = Nothing
+left_by below dollar w = Nothing
+left_by below (reference mark body) w =
+    if names_plainly mark body then value_left (still_deferred below (lookup body w)) else Whole
+left_by below unclosed w = Whole
+
+-- a text, and after it what a term gives
+unfoldable pub appended : Evaluator → Text → Token → Step Text
+appended e out piece = do
+  x ← term_of e piece
+  done (out ++ x)

@@ -1,0 +1,122 @@
+-- What is left of reading makefiles, and what a machine holds between two readings (kati's own; GNU make manual,
+-- "What Name to Give Your Makefile").
+use Rattle.std.specs.Prelude.{◌≡◌, ℕ, string_bytes, true, List, [], Option, Some, None, codes, Result, Ok, Err}
+use Rattle.kt_text.specs.Words.{Text}
+use Rattle.kt_rules.specs.Entry.{Rule}
+use Rattle.kt_eval.specs.declared.macros.Flavour.TheVariants.{Deferred}
+use Rattle.kt_eval.specs.declared.macros.Macro.{Macro}
+use Rattle.kt_eval.specs.declared.stop.Stop.{Stop}
+use Rattle.kt_eval.specs.declared.stop.Stop.TheVariants as stops
+use Rattle.kt_eval.specs.files.Files.{Store}
+use Rattle.kt_eval.specs.Prefixes.{IsPrefix}
+use Rattle.kt_eval.specs.macros.Macros.{Table, find, put, set_by_makefile}
+use Rattle.kt_eval.specs.State.{World}
+use Rattle.kt_eval.specs.Outcome.{Outcome, Gave, StepOver, ◌>>◌, leaving}
+use Rattle.kt_eval.specs.Step.{Step}
+use Rattle.kt_eval.specs.expanding.Expansion.{Evaluator}
+use Rattle.kt_eval.specs.expanding.Levels.{evaluator}
+use Rattle.kt_eval.specs.reading.Reading.{read_first}
+
+-- the limit of levels, macros, rules and messages so far, and why nothing more is read, if something was refused
+pub record Held : Type 0 where
+  pub limit : ℕ
+  pub table : Table
+  pub book : List Rule
+  pub said : List Text
+  pub refusal : Option Stop
+
+-- a deferred macro, where it isn't set
+abbrev pub default_by : Text → Text → Table → Option Macro → Table
+default_by name value table None = put name (set_by_makefile Deferred value) table
+default_by name value table (Some entry) = table
+
+unfoldable pub with_default : Text → Text → Table → Table
+with_default name value table = default_by name value table (find name table)
+
+-- the macros that are there before any makefile is read
+abbrev pub predefined : Table → Table
+predefined table =
+    with_default (codes "MAKE") (codes "make")
+    (with_default (codes ".SHELLFLAGS") (codes "-c") (with_default (codes "SHELL") (codes "/bin/sh") table))
+
+-- nothing is read yet
+abbrev pub nothing_read : ℕ → Table → Held
+nothing_read limit table = record { limit = limit; table = predefined table; book = []; said = []; refusal = None }
+
+-- what a run shows: its messages, and the names that it asks for
+pub record Trace : Type 0 where
+  pub said : List Text
+  pub asked : List Text
+
+abbrev pub traced : List Text → List Text → Trace
+traced said asked = record { said = said; asked = asked }
+
+abbrev pub trace_of : World → Trace
+trace_of w = traced w.said w.asked
+
+-- each list of the first is a prefix of the second's
+abbrev pub ComesBefore : Trace → Trace → Type 0
+ComesBefore old new = IsPrefix old.said new.said × IsPrefix old.asked new.asked
+
+-- the macros and rules of a makefile
+pub record Read : Type 0 where
+  pub table : Table
+  pub book : List Rule
+
+abbrev pub read_of : Table → List Rule → Read
+read_of table book = record { table = table; book = book }
+
+-- before the first line of a reading
+abbrev pub first_world : Read → Trace → World
+first_world before trace = record {
+  table = before.table;
+  automatic = [];
+  frames = [];
+  said = trace.said;
+  asked = trace.asked;
+  place = None;
+  book = before.book;
+  rule = None;
+}
+
+-- the first of these files that is there is read, and gives what is known then
+abbrev pub first_read : Store → Evaluator → List Text → Step Read
+first_read store e names = do
+  read_first store e names
+  λ w. Gave w (read_of w.table w.book)
+
+-- the reading of the first of these files that is there, with these macros and rules before it
+abbrev pub reading : Store → List Text → ℕ → Read → StepOver Trace Read
+reading store names limit before trace =
+    leaving trace_of (first_read store (evaluator true store limit) names (first_world before trace))
+
+-- the same by what a machine holds
+abbrev pub read_by : Held → Read
+read_by held = read_of held.table held.book
+
+abbrev pub traced_by : Held → List Text → Trace
+traced_by held asked = traced held.said asked
+
+abbrev pub reading_by : Store → List Text → Held → List Text → Outcome Trace Read
+reading_by store names held asked = reading store names held.limit (read_by held) (traced_by held asked)
+
+abbrev pub IsDeviceOf : Text → Stop → Type 0
+IsDeviceOf name (stops.Fault fault) = ⊥
+IsDeviceOf name (stops.Device other) = string_bytes other ≡ name
+IsDeviceOf name stops.Memory = ⊥
+
+-- the refusal once more, or being out of memory where its copy is refused
+abbrev pub IsCopy : Stop → Stop → Type 0
+IsCopy stops.Memory stop = Unit {0}
+IsCopy (stops.Fault fault) stop = stop ≡ stops.Fault fault
+IsCopy (stops.Device name) stop = IsDeviceOf (string_bytes name) stop
+
+-- each further call after a refusal
+abbrev pub Repeats : Result (Unit {0}) Stop → Stop → Type 0
+Repeats (Ok x) stop = ⊥
+Repeats (Err copied) stop = IsCopy copied stop
+
+-- a refusal is kept, and nothing else is
+abbrev pub Remembers : Result (Unit {0}) Stop → Option Stop → Type 0
+Remembers (Ok x) kept = kept ≡ None
+Remembers (Err stop) kept = (copied : Stop) × (kept ≡ Some copied) × IsCopy copied stop

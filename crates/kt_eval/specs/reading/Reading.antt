@@ -1,0 +1,236 @@
+-- What the lines of a makefile do, one after another (POSIX.1-2024 make, "Makefile Syntax"; GNU make manual, "Writing
+-- Makefiles" and "Conditional Parts of Makefiles").
+use Rattle.std.specs.Prelude.{ℕ, ◌+◌, Bool, true, false, nat_lt, List, [], ◌∷◌, length, map, Option, Some, None}
+use Rattle.std.specs.Prelude.{unwrap_or, if◌then◌else◌}
+use Rattle.std.specs.List.{slice_get, slice_range}
+use Rattle.kt_text.specs.declared.line.Line.{Line}
+use Rattle.kt_text.specs.Words.{Text}
+use Rattle.kt_text.specs.Lines.{logical_lines_of, nul_line}
+use Rattle.kt_syntax.specs.declared.form.Directive.TheVariants as word
+use Rattle.kt_syntax.specs.Kinds.{Kind, blank, assignment, directive, refused, rule, kind_of, line_kind}
+use Rattle.kt_syntax.specs.Blocks.{Items, Branches, Flat, none, line, fault, definition, conditional, no_branch, branch}
+use Rattle.kt_syntax.specs.Blocks.{late, blocks_of, tree_of}
+use Rattle.kt_syntax.specs.Comments.{plain_of}
+use Rattle.kt_syntax.specs.Roles.{line_text, heads_of}
+use Rattle.kt_syntax.specs.declared.part.Missing.{Missing}
+use Rattle.kt_syntax.specs.declared.part.Missing.TheVariants as missing
+use Rattle.kt_syntax.specs.declared.part.Stray.{Stray}
+use Rattle.kt_syntax.specs.declared.part.Stray.TheVariants as stray
+use Rattle.kt_rules.specs.declared.fault_kind.FaultKind.TheVariants as kinds
+use Rattle.kt_rules.specs.Entry.{Rule}
+use Rattle.kt_eval.specs.declared.reading.page.Source.{Source}
+use Rattle.kt_eval.specs.declared.reading.page.Source.TheVariants.{File, Held}
+use Rattle.kt_eval.specs.files.Files.{Store, look}
+use Rattle.kt_eval.specs.State.{World, move_to, ask, set_rule}
+use Rattle.kt_eval.specs.Outcome.{Gave, ◌>>=◌, ◌>>◌, done}
+use Rattle.kt_eval.specs.Step.{Step, stop, change}
+use Rattle.kt_eval.specs.expanding.Expansion.{Evaluator}
+use Rattle.kt_eval.specs.macros.Assignments.{assign_line, define, body_text, refused_form}
+use Rattle.kt_eval.specs.reading.Conditionals.{line_holds}
+use Rattle.kt_eval.specs.files.Including.{include_line}
+use Rattle.kt_eval.specs.reading.Rules.{close_rule, rule_line, recipe_line}
+
+-- a logical line as it stands in the file
+pub record Raw : Type 0 where
+  pub number : ℕ
+  pub tab : Bool
+  pub text : Text
+
+abbrev pub raw_line : Text → Line → Raw
+raw_line text l = record { number = l.number; tab = l.tab; text = line_text text l }
+
+-- the line at a place
+unfoldable pub line_at : List Raw → ℕ → Raw
+line_at lines place = unwrap_or (slice_get lines place) (record { number = 0; tab = false; text = [] })
+
+-- a text that is read: where it is from, its lines, and their blocks
+pub record Sheet : Type 0 where
+  pub source : Source
+  pub lines : List Raw
+  pub blocks : Flat
+
+abbrev pub sheet_of : Source → Text → Sheet
+sheet_of source text = record {
+  source = source;
+  lines = map (raw_line text) (logical_lines_of text);
+  blocks = blocks_of (heads_of text (logical_lines_of text));
+}
+
+-- at a line of a file; the lines of an `eval` are all at the place where it stands (kati's own)
+unfoldable pub at_number : Source → ℕ → World → World
+at_number Held number w = w
+at_number (File name) number w = move_to (Some (record { file = name; line = number })) w
+
+abbrev pub at_line : Sheet → ℕ → World → World
+at_line sheet place w = at_number sheet.source (line_at sheet.lines place).number w
+
+unfoldable pub read_include : Evaluator → Bool → Text → Step (Unit {0})
+read_include e optional rest = do
+  close_rule
+  include_line e optional (plain_of rest)
+
+-- a line that is no block, by its kind; an assignment, an include and a rule line close the rule that is open
+unfoldable pub read_kind : Evaluator → Text → Kind → Step (Unit {0})
+read_kind e text blank = done tt
+read_kind e text (assignment name operator value) = do
+  close_rule
+  assign_line e (plain_of name) operator (plain_of value)
+read_kind e text (directive word.Include rest) = read_include e false rest
+read_kind e text (directive word.OptionalInclude rest) = read_include e true rest
+read_kind e text (directive other rest) = done tt
+read_kind e text (refused word) = refused_form word
+read_kind e text rule = do
+  close_rule
+  rule_line e text
+
+-- a line that begins with a tab while no rule is open
+unfoldable pub read_bare_tab : Evaluator → Kind → Step (Unit {0})
+read_bare_tab e blank = done tt
+read_bare_tab e (assignment name operator value) = assign_line e (plain_of name) operator (plain_of value)
+read_bare_tab e other = stop kinds.RecipeBeforeTarget []
+
+-- a line that begins with a tab is one of the open rule's recipe, if there is one
+abbrev pub read_tab_in : Evaluator → Text → Option Rule → Step (Unit {0})
+read_tab_in e text None = read_bare_tab e (line_kind text true)
+read_tab_in e text (Some started) = recipe_line started text
+
+unfoldable pub read_tab : Evaluator → Text → Step (Unit {0})
+read_tab e text w = read_tab_in e text w.rule (set_rule None w)
+
+unfoldable pub read_line : Evaluator → Raw → Step (Unit {0})
+read_line e raw w = if raw.tab then read_tab e raw.text w else read_kind e raw.text (line_kind raw.text false) w
+
+-- the lines from one place up to another as the value of a define
+abbrev pub body_at : Sheet → ℕ → ℕ → Text
+body_at sheet start end = body_text (map (λ raw. raw.text) (slice_range sheet.lines start end))
+
+-- a define with its body; it closes the open rule
+unfoldable pub read_define : Evaluator → Kind → Text → Step (Unit {0})
+read_define e (directive word.Define rest) body = do
+  close_rule
+  define e rest (kind_of rest true) body
+read_define e other body = done tt
+
+-- a line that continues or ends no block
+unfoldable pub read_stray : Stray → Step (Unit {0})
+read_stray stray.Else = stop kinds.StrayElse []
+read_stray stray.LateElse = stop kinds.StrayElse []
+read_stray stray.Endif = stop kinds.StrayEndif []
+read_stray stray.Endef = stop kinds.StrayEndef []
+
+-- the first late `else` of branches, met after the branch that was read
+unfoldable pub late_else : Sheet → Branches → Step (Unit {0})
+late_else sheet no_branch = done tt
+late_else sheet (branch place condition items others) = late_else sheet others
+late_else sheet (late place items others) = do
+  change (at_line sheet place)
+  read_stray stray.LateElse
+
+-- whether the branch of the line at a place is taken
+unfoldable pub branch_holds : Evaluator → Sheet → ℕ → Bool → Step Bool
+branch_holds e sheet place condition = do
+  change (at_line sheet place)
+  line_holds e condition (line_kind (line_at sheet.lines place).text false)
+
+-- items one after another; of a conditional the first branch that is taken is read
+unfoldable mutual
+  pub read_items : Evaluator → Sheet → Items → Step (Unit {0})
+  read_items e sheet none = done tt
+  read_items e sheet (line place next) = do
+    change (at_line sheet place)
+    read_line e (line_at sheet.lines place)
+    read_items e sheet next
+  read_items e sheet (fault kind place next) = do
+    change (at_line sheet place)
+    read_stray kind
+    read_items e sheet next
+  read_items e sheet (definition place body_end next) = do
+    change (at_line sheet place)
+    read_define e (line_kind (line_at sheet.lines place).text false) (body_at sheet (place + 1) body_end)
+    read_items e sheet next
+  read_items e sheet (conditional place first others next) = do
+    chosen ← branch_holds e sheet place true
+    if chosen then read_items e sheet first else read_branches e sheet others
+    late_else sheet others
+    read_items e sheet next
+
+  pub read_branches : Evaluator → Sheet → Branches → Step (Unit {0})
+  read_branches e sheet no_branch = done tt
+  read_branches e sheet (branch place condition items others) = do
+    chosen ← branch_holds e sheet place condition
+    if chosen then read_items e sheet items else read_branches e sheet others
+  read_branches e sheet (late place items others) = done tt
+
+-- the end that is missing, at the line that opens its block
+unfoldable pub read_end : Source → Option Missing → Step (Unit {0})
+read_end source None = done tt
+read_end source (Some (missing.Endif number)) = do
+  change (at_number source number)
+  stop kinds.MissingEndif []
+read_end source (Some (missing.Endef number)) = do
+  change (at_number source number)
+  stop kinds.MissingEndef []
+
+-- the tree of a text's lines; at its end the open rule is closed, and then the missing end is met
+unfoldable pub read_sheet : Evaluator → Sheet → Step (Unit {0})
+read_sheet e sheet = do
+  read_items e sheet (tree_of sheet.blocks.steps)
+  close_rule
+  read_end sheet.source sheet.blocks.missing
+
+-- a text with a NUL is refused whole, at the line of the NUL (kati's own)
+abbrev pub read_without_nul : Evaluator → Source → Text → Option ℕ → Step (Unit {0})
+read_without_nul e source text None = read_sheet e (sheet_of source text)
+read_without_nul e source text (Some number) = do
+  change (at_number source number)
+  stop kinds.NulByte []
+
+unfoldable pub read_text : Evaluator → Source → Text → Step (Unit {0})
+read_text e source text = read_without_nul e source text (nul_line text)
+
+-- the text of an `eval` has rules of its own: the one that is open round it stays so
+unfoldable pub read_held : Evaluator → Text → Step (Unit {0})
+read_held e text w =
+    (do
+      change (set_rule None)
+      read_text e Held text
+      change (set_rule w.rule)) w
+
+-- the most bytes that a makefile may have (kati's own)
+abbrev pub largest_file : ℕ
+largest_file = 16777216
+
+-- a file that is there, if it isn't too large
+unfoldable pub read_file : Evaluator → Text → Text → Step (Unit {0})
+read_file e name text =
+    if nat_lt largest_file (length text) then stop kinds.FileTooLarge name else read_text e (File name) text
+
+-- an included file; the place is then that of the include again
+abbrev pub read_included : Evaluator → Bool → Text → Option Text → Step (Unit {0})
+read_included e true name None w = Gave w tt
+read_included e false name None w = stop kinds.NoFile name w
+read_included e optional name (Some text) w =
+    (do
+      read_file e name text
+      change (move_to w.place)) w
+
+-- the bytes of a file, if it is there; each look at a name is asked for
+unfoldable pub read_bytes : Store → Text → Step (Option Text)
+read_bytes store name w = Gave (ask name w) (look store name)
+
+unfoldable pub included : Store → Evaluator → Bool → Text → Step (Unit {0})
+included store e optional name = do
+  found ← read_bytes store name
+  read_included e optional name found
+
+-- a file that is there is read, or else what follows is done
+abbrev pub read_or : Evaluator → Text → Option Text → Step (Unit {0}) → Step (Unit {0})
+read_or e name None others = others
+read_or e name (Some text) others = read_file e name text
+
+-- the first of these files that is there
+unfoldable pub read_first : Store → Evaluator → List Text → Step (Unit {0})
+read_first store e [] = stop kinds.NoMakefile []
+read_first store e (name ∷ names) = do
+  found ← read_bytes store name
+  read_or e name found (read_first store e names)

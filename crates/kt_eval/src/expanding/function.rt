@@ -1,0 +1,18 @@
+//! The functions of the makefile language.
+use crate::expanding::text_functions::TextFunction;
+
+/// A function (GNU make manual, "Functions for Transforming Text").
+#[derive(Clone, Copy, Debug, PartialEq, Eq)]
+pub enum Function {
+    Text(TextFunction),
+    If,
+    Or,
+    And,
+    Foreach,
+    Call,
+    Value,
+    Eval,
+    Error,
+    Warning,
+    Info,
+}

@@ -1,0 +1,106 @@
+//! Texts expanded after all reading, as recipes are.
+ghost use Rattle.std.specs.Prelude.{◌≡◌, ◌++◌, ◌∷◌, [], OnErr, OnOk, map, string_bytes};
+ghost use Rattle.kt_eval.specs.expanding.Pure.{Says, expanded_pure};
+
+use crate::evaluation::Evaluation;
+use crate::files::{FileFault, Files};
+use crate::macros::Macros;
+use crate::macros::automatic::Automatic;
+use crate::macros::scope::Frozen;
+use crate::stop::Stop;
+use kt_list::Sequence;
+use kt_rules::Place;
+use std::alloc::{AllocError, Global};
+
+impl Macros {
+    /// The text with its references expanded, for a recipe: no macro is set, so `eval` is refused.
+    ///
+    /// The text stands at level 0. Without a place, as for the goal that a macro names, messages
+    /// begin with the program's name. GNU make manual, "How to Use Variables", "Using Variables in
+    /// Recipes". Messages are appended in order; where memory is refused, a prefix of them.
+    pub fn expand_pure<A: Automatic>(
+        &self,
+        text: &[u8],
+        automatic: &A,
+        place: Option<Place>,
+        messages: &mut Vec<Sequence<u8>>,
+        limit: u64,
+    ) -> Result<Vec<u8>, Stop>
+        ensures { Says (λ v. v.items) (expanded_pure self.now (A.values automatic.now) place limit text.now) result
+            messages.old.items messages.new.items }
+    {
+        let alloc = self.alloc;
+        let before = std::mem::replace(messages, Vec::new(alloc));
+        let mut files = NoFiles {
+            alloc,
+            asked: Vec::new(alloc),
+        };
+        let mut evaluation = Evaluation {
+            alloc,
+            macros: Frozen {
+                macros: self,
+                automatic,
+            },
+            frames: Vec::new(alloc),
+            messages: before,
+            place,
+            rule: None,
+            files: &mut files,
+        };
+        let result = evaluation.expand_here(limit, text);
+        let Evaluation {
+            alloc: _alloc,
+            macros: _macros,
+            frames: _frames,
+            messages: after,
+            place: _place,
+            rule: _rule,
+            files,
+        } = evaluation;
+        let _ = &*files;
+        *messages = after;
+        result
+    }
+}
+
+// The files of a recipe: no name stands for any.
+#[derive(Drop)]
+struct NoFiles {
+    alloc: Global,
+    asked: Vec<String>,
+}
+
+impl Files for NoFiles {
+    ghost use Rattle.std.specs.Prelude.{[], Some, map, string_bytes};
+
+    ghost seen = { λ s. record { known = Some []; names = map string_bytes s.asked.items; failed = 0 } };
+
+    fn read(&mut self, name: &str) -> Result<Option<Vec<u8>>, FileFault> {
+        match self.note(name) {
+            Ok(()) => Ok(None),
+            Err(_) => Err(FileFault::Memory),
+        }
+    }
+
+    fn asked(&self) -> &[String] {
+        self.asked.as_slice()
+    }
+
+    fn failures(&self) -> u64 {
+        0
+    }
+}
+
+impl NoFiles {
+    // Notes that the name was asked for.
+    fn note(&mut self, name: &str) -> Result<(), AllocError>
+        ensures noted { OnOk result (map string_bytes self.new.asked.items
+            ≡ map string_bytes self.old.asked.items ++ name.now ∷ []) }
+        ensures refused { OnErr result (map string_bytes self.new.asked.items
+            ≡ map string_bytes self.old.asked.items) }
+    {
+        let name = name.to_string(self.alloc)?;
+        self.asked.push(name)?;
+        Ok(())
+    }
+}

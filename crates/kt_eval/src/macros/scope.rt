@@ -1,0 +1,215 @@
+//! Where names are looked up that nothing binds, and where rules go.
+ghost use Rattle.std.specs.Prelude.{◌≡◌, ◌++◌, ◌∷◌, [], Bool, List, codes, false, option_map, IfOk, IfSome};
+ghost use Rattle.std.specs.Prelude.{MatchOption, OnErr, OnOk};
+ghost use Rattle.kt_rules.specs.Book.{added, refusal_of};
+ghost use Rattle.kt_rules.specs.Entry.{Rule};
+ghost use Rattle.kt_rules.specs.Refusals.{Answers};
+ghost use Rattle.kt_eval.specs.macros.Macros.{Table, find, put, set_by_makefile};
+ghost use Rattle.kt_eval.specs.State.{unbound};
+ghost use Rattle.kt_eval.specs.files.Files.{Store};
+ghost use Rattle.kt_eval.specs.declared.macros.Macro.{Macro};
+ghost use Rattle.kt_eval.specs.inner.Plain.{put_of, still_deferred};
+
+use crate::macros::automatic::Automatic;
+use crate::macros::{Flavour, Macro, Macros};
+use crate::state::Found;
+use kt_list::Shared;
+use kt_rules::{Book, Entry, RuleFault, Warnings};
+use std::alloc::AllocError;
+
+/// Macros, automatic ones before them, and rules.
+pub(crate) trait Scope {
+    /// The macros that were set.
+    ghost table: { Self → Table };
+
+    /// The automatic macros, which hide them.
+    ghost automatic: { Self → Store };
+
+    /// The rules that were closed.
+    ghost book: { Self → List Rule };
+
+    /// Whether macros may be set and rules made: a makefile may, a recipe may not.
+    ghost writable: { Bool };
+
+    fn is_writable(&self) -> bool
+        ensures { result ≡ writable };
+
+    fn find(&self, name: &[u8]) -> Result<Option<Found>, AllocError>
+        ensures { IfOk result (λ found. found ≡ unbound name.now (automatic self.now) (table self.now)) };
+
+    // Appends what a name stands for, as far as it is what it is expanded to with a given number of
+    // levels below; what isn't is given.
+    fn put_value(
+        &self,
+        name: &[u8],
+        below: u64,
+        out: &mut Vec<u8>,
+    ) -> Result<Option<Shared<u8>>, AllocError>
+        ensures put { OnOk result (out.new.items
+            ≡ out.old.items ++ put_of below (unbound name.now (automatic self.now) (table self.now))) }
+        ensures left { IfOk result (λ left. left
+            ≡ still_deferred below (unbound name.now (automatic self.now) (table self.now))) };
+
+    fn get(&self, name: &[u8]) -> Option<&Macro>
+        ensures { option_map (λ entry. entry.now) result ≡ find name.now (table self.now) };
+
+    // Sets a macro, if any may be set.
+    fn put(&mut self, name: Vec<u8>, value: Macro) -> Option<Result<(), AllocError>>
+        ensures set { MatchOption result (writable ≡ false)
+            (λ done. OnOk done (table self.new ≡ put name.items value (table self.old))) }
+        ensures kept_automatic { automatic self.new ≡ automatic self.old }
+        ensures kept_book { book self.new ≡ book self.old };
+
+    // Sets a macro to a text after `front` and a space, if any may be set.
+    fn append(
+        &mut self,
+        name: Vec<u8>,
+        flavour: Flavour,
+        front: Shared<u8>,
+        text: &[u8],
+    ) -> Option<Result<(), AllocError>>
+        ensures set { MatchOption result (writable ≡ false) (λ done. OnOk done (table self.new
+            ≡ put name.items (set_by_makefile flavour ((front ++ codes " ") ++ text.now)) (table self.old))) }
+        ensures kept_automatic { automatic self.new ≡ automatic self.old }
+        ensures kept_book { book self.new ≡ book self.old };
+
+    // Adds a rule, if any may be made.
+    fn add(&mut self, rule: Entry) -> Option<Result<Warnings, RuleFault>>
+        ensures answers { MatchOption result (writable ≡ false)
+            (λ result. Answers result (added (book self.old) rule (refusal_of (book self.old) rule))) }
+        ensures grown { IfSome result (λ result. OnOk result (book self.new ≡ book self.old ++ rule ∷ [])) }
+        ensures refused { IfSome result (λ result. OnErr result (book self.new ≡ book self.old)) }
+        ensures kept_automatic { automatic self.new ≡ automatic self.old }
+        ensures kept_table { table self.new ≡ table self.old };
+}
+
+/// What a makefile sets: macros and rules.
+#[derive(Drop)]
+pub struct Makefile {
+    pub macros: Macros,
+    pub book: Book,
+}
+
+impl Scope for Makefile {
+    ghost use Rattle.std.specs.Prelude.{[], true};
+
+    ghost table = { λ s. s.macros };
+
+    ghost automatic = { λ _. [] };
+
+    ghost book = { λ s. s.book };
+
+    ghost writable = { true };
+
+    fn is_writable(&self) -> bool {
+        true
+    }
+
+    fn find(&self, name: &[u8]) -> Result<Option<Found>, AllocError> {
+        self.macros.found(name)
+    }
+
+    fn put_value(
+        &self,
+        name: &[u8],
+        below: u64,
+        out: &mut Vec<u8>,
+    ) -> Result<Option<Shared<u8>>, AllocError> {
+        self.macros.put_value(name, below, out)
+    }
+
+    fn get(&self, name: &[u8]) -> Option<&Macro> {
+        self.macros.get(name)
+    }
+
+    fn put(&mut self, name: Vec<u8>, value: Macro) -> Option<Result<(), AllocError>> {
+        Some(self.macros.insert(name, value))
+    }
+
+    fn append(
+        &mut self,
+        name: Vec<u8>,
+        flavour: Flavour,
+        front: Shared<u8>,
+        text: &[u8],
+    ) -> Option<Result<(), AllocError>> {
+        Some(self.macros.append(name, flavour, front, text))
+    }
+
+    fn add(&mut self, rule: Entry) -> Option<Result<Warnings, RuleFault>> {
+        Some(self.book.add(rule))
+    }
+}
+
+/// The macros of a makefile and the automatic ones of a recipe, neither of which changes.
+#[derive(Drop)]
+pub(crate) struct Frozen<'a, A: Automatic> {
+    pub(crate) macros: &'a Macros,
+    pub(crate) automatic: &'a A,
+}
+
+impl<'a, A: Automatic> Scope for Frozen<'a, A> {
+    ghost use Rattle.std.specs.Prelude.{[], false};
+
+    ghost table = { λ s. s.macros.now };
+
+    ghost automatic = { λ s. A.values s.automatic.now };
+
+    ghost book = { λ _. [] };
+
+    ghost writable = { false };
+
+    fn is_writable(&self) -> bool {
+        false
+    }
+
+    fn find(&self, name: &[u8]) -> Result<Option<Found>, AllocError> {
+        match self.automatic.value(name)? {
+            Some(value) => {
+                let macros = self.macros;
+                let value = Vec::from_slice(macros.alloc, value.as_slice())?;
+                Ok(Some(Found {
+                    flavour: Flavour::Immediate,
+                    value: Shared::from_vec(value)?,
+                }))
+            }
+            None => self.macros.found(name),
+        }
+    }
+
+    #[tactic(auto, unfolding(crate::proofs::Steps::value_open))]
+    fn put_value(
+        &self,
+        name: &[u8],
+        below: u64,
+        out: &mut Vec<u8>,
+    ) -> Result<Option<Shared<u8>>, AllocError> {
+        if let Some(value) = self.automatic.value(name)? {
+            out.extend_from_slice(value.as_slice())?;
+            return Ok(None);
+        }
+        self.macros.put_value(name, below, out)
+    }
+
+    fn get(&self, name: &[u8]) -> Option<&Macro> {
+        self.macros.get(name)
+    }
+
+    fn put(&mut self, _name: Vec<u8>, _value: Macro) -> Option<Result<(), AllocError>> {
+        None
+    }
+
+    fn append(
+        &mut self,
+        _name: Vec<u8>,
+        _flavour: Flavour,
+        _front: Shared<u8>,
+        _text: &[u8],
+    ) -> Option<Result<(), AllocError>> {
+        None
+    }
+
+    fn add(&mut self, _rule: Entry) -> Option<Result<Warnings, RuleFault>> {
+        None
+    }
+}

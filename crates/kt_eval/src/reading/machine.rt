@@ -1,0 +1,266 @@
+//! Makefiles read to their end.
+
+ghost use Rattle.std.specs.Prelude.{◌≡◌, ◌≤◌, IfErr, IfOk, IfSome, None, OnOk, Some, map, true};
+ghost use Rattle.kt_eval.specs.Prefixes.{IsPrefix};
+ghost use Rattle.kt_eval.specs.reading.Machine.{ComesBefore, IsCopy, Remembers, Repeats, nothing_read, read_by};
+ghost use Rattle.kt_eval.specs.reading.Machine.{read_of, reading, reading_by, traced, traced_by, with_default};
+ghost use Rattle.kt_eval.specs.Outcome.{Gives, IfCut, left_of};
+ghost use Rattle.kt_eval.specs.Step.{Blames};
+ghost use Rattle.kt_eval.specs.declared.stop.Stop.{Stop as StopType};
+
+use crate::evaluation::Evaluation;
+use crate::fault::Fault;
+use crate::files::Files;
+use crate::macros::scope::Makefile;
+use crate::macros::{Flavour, Macro, Macros, Origin};
+use crate::stop::Stop;
+use kt_list::{Sequence, Shared};
+use kt_rules::Book;
+use std::alloc::{AllocError, Global};
+use std::marker::Model;
+use std::mem;
+
+/// What makefiles say.
+#[derive(Drop)]
+pub struct Reading {
+    pub macros: Macros,
+    pub book: Book,
+    /// Without their newlines.
+    pub messages: Sequence<Sequence<u8>>,
+}
+
+/// Reads makefiles.
+#[derive(Drop)]
+pub struct Machine {
+    alloc: Global,
+    limit: u64,
+    macros: Macros,
+    book: Book,
+    messages: Vec<Sequence<u8>>,
+    refusal: Option<Stop>,
+}
+
+impl Model for Machine {
+    ghost use Rattle.kt_eval.specs.reading.Machine.{Held};
+
+    ghost Value = { Held };
+
+    ghost view = { λ machine. record {
+      limit = machine.limit;
+      table = machine.macros;
+      book = machine.book;
+      said = machine.messages.items;
+      refusal = machine.refusal;
+    } };
+}
+
+impl Machine {
+    /// Nothing is read yet. `SHELL`, `.SHELLFLAGS` and `MAKE` are set where they aren't.
+    pub fn new(alloc: Global, macros: Macros, limit: u64) -> Result<Machine, AllocError>
+        ensures { IfOk result (λ machine. machine ≡ nothing_read limit macros) }
+    {
+        let mut macros = macros;
+        set_default(alloc, &mut macros, b"SHELL", b"/bin/sh")?;
+        set_default(alloc, &mut macros, b".SHELLFLAGS", b"-c")?;
+        set_default(alloc, &mut macros, b"MAKE", b"make")?;
+        Ok(Machine {
+            alloc,
+            limit,
+            macros,
+            book: Book::new(alloc)?,
+            messages: Vec::new(alloc),
+            refusal: None,
+        })
+    }
+
+    /// Reads the first of these files that is there.
+    ///
+    /// After a refusal each further call repeats it, or is out of memory where its copy is refused,
+    /// and asks for no file. Messages are appended in order; where memory is refused or a device
+    /// fails, a prefix of them, and a prefix of the names is asked for. A failed device is reported
+    /// by the name asked for last; nothing else is returned where one failed.
+    pub fn read_file<F: Files>(&mut self, files: &mut F, names: &[&str]) -> Result<(), Stop>
+        ensures reads { self.old.refusal ≡ None → IfSome (F.seen files.old).known (λ store. Gives
+            (λ _. read_by self.new) result (traced_by self.new (F.seen files.new).names)
+            (reading_by store (map (λ name. name.now) names.now) self.old (F.seen files.old).names)) }
+        ensures cut { self.old.refusal ≡ None → IfSome (F.seen files.old).known
+            (λ store. IfCut result (ComesBefore (traced_by self.new (F.seen files.new).names)
+            (left_of (reading_by store (map (λ name. name.now) names.now) self.old (F.seen files.old).names)))) }
+        ensures repeats { (stop : StopType) → self.old.refusal ≡ Some stop → Repeats result stop }
+        ensures untouched { (stop : StopType) → self.old.refusal ≡ Some stop → (files.new ≡ files.old)
+            × (self.new ≡ self.old) }
+        ensures remembers { self.old.refusal ≡ None → Remembers result self.new.refusal }
+        ensures limited { self.new.limit ≡ self.old.limit }
+        ensures said { IsPrefix self.old.said self.new.said }
+        ensures asked { IsPrefix (F.seen files.old).names (F.seen files.new).names }
+        ensures keeps { (F.seen files.new).known ≡ (F.seen files.old).known }
+        ensures counts { (F.seen files.old).failed ≤ (F.seen files.new).failed }
+        ensures blames { self.old.refusal ≡ None
+            → Blames result (F.seen files.old) (F.seen files.new) }
+    {
+        if let Some(refusal) = &self.refusal {
+            return Err(copy_or_memory(self.alloc, refusal));
+        }
+        let result = self.read(files, names);
+        if let Err(stop) = &result {
+            self.refusal = Some(copy_or_memory(self.alloc, stop));
+        }
+        result
+    }
+
+    // Reads once. An empty book stands in for the one that is read into.
+    fn read<F: Files>(&mut self, files: &mut F, names: &[&str]) -> Result<(), Stop>
+        ensures reads { IfSome (F.seen files.old).known (λ store. Gives (λ _. read_by self.new)
+            result (traced_by self.new (F.seen files.new).names)
+            (reading_by store (map (λ name. name.now) names.now) self.old (F.seen files.old).names)) }
+        ensures cut { IfSome (F.seen files.old).known
+            (λ store. IfCut result (ComesBefore (traced_by self.new (F.seen files.new).names)
+            (left_of (reading_by store (map (λ name. name.now) names.now) self.old (F.seen files.old).names)))) }
+        ensures limited { self.new.limit ≡ self.old.limit }
+        ensures refusal { self.new.refusal ≡ self.old.refusal }
+        ensures said { IsPrefix self.old.said self.new.said }
+        ensures asked { IsPrefix (F.seen files.old).names (F.seen files.new).names }
+        ensures keeps { (F.seen files.new).known ≡ (F.seen files.old).known }
+        ensures counts { (F.seen files.old).failed ≤ (F.seen files.new).failed }
+        ensures blames { Blames result (F.seen files.old) (F.seen files.new) }
+    {
+        let empty = Book::new(self.alloc)?;
+        let book = mem::replace(&mut self.book, empty);
+        let macros = mem::replace(&mut self.macros, Macros::new(self.alloc));
+        let messages = mem::replace(&mut self.messages, Vec::new(self.alloc));
+        let makefile = Makefile { macros, book };
+        let (makefile, messages, result) = read_once(
+            self.alloc, self.limit, makefile, messages, files, names,
+        );
+        let Makefile { macros, book } = makefile;
+        self.macros = macros;
+        self.book = book;
+        self.messages = messages;
+        result
+    }
+
+    /// What was read. After a refusal the messages are those before it. Takes no memory.
+    pub fn finish(self) -> Reading
+        ensures { result ≡ record { macros = self.table; book = self.book; messages = self.said } }
+    {
+        let Machine {
+            alloc: _,
+            limit: _,
+            macros,
+            book,
+            messages,
+            refusal: _,
+        } = self;
+        Reading {
+            macros,
+            book,
+            messages: Sequence::from(messages),
+        }
+    }
+}
+
+// Reads the first of these files that is there, from its first line to its end. The evaluation is made and ends here,
+// in a function without branches, so that the files are the caller's again.
+fn read_once<F: Files>(
+    alloc: Global,
+    limit: u64,
+    makefile: Makefile,
+    messages: Vec<Sequence<u8>>,
+    files: &mut F,
+    names: &[&str],
+) -> (Makefile, Vec<Sequence<u8>>, Result<(), Stop>)
+    ensures reads { IfSome (F.seen files.old).known (λ store. Gives (λ _. read_of result.0.macros result.0.book)
+        result.2 (traced result.1.items (F.seen files.new).names)
+        (reading store (map (λ name. name.now) names.now) limit (read_of makefile.macros makefile.book)
+        (traced messages.items (F.seen files.old).names))) }
+    ensures cut { IfSome (F.seen files.old).known
+        (λ store. IfCut result.2 (ComesBefore (traced result.1.items (F.seen files.new).names)
+        (left_of (reading store (map (λ name. name.now) names.now) limit (read_of makefile.macros makefile.book)
+        (traced messages.items (F.seen files.old).names))))) }
+    ensures said { IsPrefix messages.items result.1.items }
+    ensures asked { IsPrefix (F.seen files.old).names (F.seen files.new).names }
+    ensures keeps { (F.seen files.new).known ≡ (F.seen files.old).known }
+    ensures counts { (F.seen files.old).failed ≤ (F.seen files.new).failed }
+    ensures blames { Blames result.2 (F.seen files.old) (F.seen files.new) }
+{
+    let mut evaluation = Evaluation {
+        alloc,
+        macros: makefile,
+        frames: Vec::new(alloc),
+        messages,
+        place: None,
+        rule: None,
+        files,
+    };
+    let result = evaluation.read_first(limit, names);
+    let Evaluation {
+        alloc: _alloc,
+        macros,
+        frames: _frames,
+        messages,
+        place: _place,
+        rule: _rule,
+        files,
+    } = evaluation;
+    let _ = &*files;
+    (macros, messages, result)
+}
+
+// Sets a deferred macro that isn't there.
+#[tactic(auto, unfolding(crate::specs::reading::Machine::with_default))]
+fn set_default(
+    alloc: Global,
+    macros: &mut Macros,
+    name: &[u8],
+    value: &[u8],
+) -> Result<(), AllocError>
+    ensures { OnOk result (macros.new ≡ with_default name.now value.now macros.old) }
+{
+    if macros.get(name).is_some() {
+        return Ok(());
+    }
+    let value = Shared::from_vec(Vec::from_slice(alloc, value)?)?;
+    macros.insert(
+        Vec::from_slice(alloc, name)?,
+        Macro {
+            flavour: Flavour::Deferred,
+            origin: Origin::Makefile,
+            value,
+        },
+    )
+}
+
+// The refusal once more, or being out of memory where its copy is refused.
+fn copy_or_memory(alloc: Global, stop: &Stop) -> Stop
+    ensures { IsCopy result stop.now }
+{
+    match copy(alloc, stop) {
+        Ok(copied) => copied,
+        Err(_refused) => Stop::Memory,
+    }
+}
+
+fn copy(alloc: Global, stop: &Stop) -> Result<Stop, AllocError>
+    ensures { IfOk result (λ copied. IsCopy copied stop.now) }
+{
+    match stop {
+        Stop::Fault(fault) => Ok(Stop::Fault(copy_fault(alloc, fault)?)),
+        Stop::Device(name) => Ok(Stop::Device(name.as_str().to_string(alloc)?)),
+        Stop::Memory => Ok(Stop::Memory),
+    }
+}
+
+fn copy_fault(alloc: Global, fault: &Fault) -> Result<Fault, AllocError>
+    ensures { IfOk result (λ copied. copied ≡ fault.now) }
+{
+    let place = match &fault.place {
+        None => None,
+        Some(place) => Some(place.share()?),
+    };
+    let words = Vec::from_slice(alloc, fault.words.as_slice())?;
+    Ok(Fault {
+        place,
+        number: fault.number,
+        words: Sequence::from(words),
+    })
+}

@@ -1,0 +1,227 @@
+//! A text that is read, with its lines and their blocks.
+ghost use Rattle.std.specs.Prelude.{◌≡◌, ◌+◌, ◌<◌, ◌≤◌, ℕ, Bool, length, map, IfOk, IfSome, None, Some};
+ghost use Rattle.std.specs.List.{slice_get, slice_range};
+ghost use Rattle.kt_syntax.specs.Reading.{IsAhead, ReadsOn, left_at};
+ghost use Rattle.kt_syntax.specs.Blocks.{none, tree_of};
+ghost use Rattle.kt_syntax.specs.declared.step.Step.TheVariants as step;
+ghost use Rattle.kt_syntax.specs.Roles.{line_text};
+ghost use Rattle.kt_text.specs.Lines.{AreInOrder, logical_lines_of};
+ghost use Rattle.kt_eval.specs.macros.Assignments.{body_text};
+ghost use Rattle.kt_eval.specs.reading.Reading.{line_at, sheet_of};
+ghost use Rattle.kt_eval.specs.inner.Views.{raw_view};
+
+use kt_list::Shared;
+use kt_syntax::{Blocks, Missing, Step, marked_blocks};
+use kt_text::{Line, Mark, condensed};
+use std::alloc::{AllocError, Global};
+use std::marker::Model;
+
+/// Where a text comes from.
+#[derive(Debug, Drop)]
+pub(crate) enum Source {
+    /// A file, by its name as it was asked for.
+    File(Shared<u8>),
+    /// An `eval`.
+    Held,
+}
+
+/// A logical line as it stands in its text.
+#[derive(Clone, Copy)]
+pub(crate) struct RawLine<'a> {
+    pub number: u64,
+    pub tab: bool,
+    pub text: &'a [u8],
+}
+
+/// A text that is read.
+#[derive(Drop)]
+pub(crate) struct Page<'a> {
+    source: &'a Source,
+    text: &'a [u8],
+    lines: Vec<Mark>,
+    blocks: Blocks,
+}
+
+impl<'a> Model for Page<'a> {
+    ghost use Rattle.std.specs.Prelude.{◌≡◌, length, map};
+    ghost use Rattle.kt_syntax.specs.Blocks.{tree_of};
+    ghost use Rattle.kt_syntax.specs.Reading.{left_at};
+    ghost use Rattle.kt_eval.specs.reading.Reading.{Sheet, raw_line};
+
+    ghost Value = { Sheet };
+
+    ghost view = { λ page. record {
+      source = page.source.now;
+      lines = map (raw_line page.text.now) page.lines.items;
+      blocks = page.blocks;
+    } };
+
+    ghost invariant = { λ page. (length page.blocks.steps ≡ length page.lines.items)
+        × (left_at page.blocks.steps 0 ≡ tree_of page.blocks.steps) };
+}
+
+impl<'a> Page<'a> {
+    // The page of a text with its logical lines.
+    pub(crate) fn new(
+        alloc: Global,
+        source: &'a Source,
+        text: &'a [u8],
+        lines: Vec<Mark>,
+    ) -> Result<Page<'a>, AllocError>
+        requires lines { lines.items ≡ logical_lines_of text.now }
+        requires order { AreInOrder (length text.now) lines.items }
+        ensures { IfOk result (λ page. page ≡ sheet_of source.now text.now) }
+    {
+        let blocks = marked_blocks(alloc, text, &lines)?;
+        Ok(Page {
+            source,
+            text,
+            lines,
+            blocks,
+        })
+    }
+
+    pub(crate) fn source(&self) -> &Source
+        ensures { result.now ≡ self.now.source }
+    {
+        self.source
+    }
+
+    // The place of the first line, at which the whole tree is left.
+    pub(crate) fn first(&self) -> usize
+        ensures whole { left_at self.now.blocks.steps result ≡ tree_of self.now.blocks.steps }
+        ensures within { result ≤ length self.now.blocks.steps }
+    {
+        // Naming a field makes the invariant known.
+        let _blocks = &self.blocks;
+        0
+    }
+
+    // The step of a line, counted from 0; none after the last one.
+    #[tactic(auto, using(crate::proofs::RootLemmas::none_left_past, std::proofs::lemmas::Option::slice_get_within))]
+    pub(crate) fn step(&self, place: usize) -> Option<Step>
+        ensures value { result ≡ slice_get self.now.blocks.steps place }
+        ensures reads { IfSome result (ReadsOn self.now.blocks.steps place) }
+        ensures ahead { IfSome result (IsAhead place (length self.now.blocks.steps)) }
+        ensures within { IfSome result (λ found. place < length self.now.blocks.steps) }
+        ensures done { result ≡ None → left_at self.now.blocks.steps place ≡ none }
+    {
+        self.blocks.get(place)
+    }
+
+    // The branch that begins at a place, before that where reading goes on after all branches:
+    // whether it has a condition, and where the next one begins.
+    pub(crate) fn branch(&self, place: usize, after: usize) -> Option<(bool, usize)>
+        ensures before { IfSome result (λ found. place < after) }
+        ensures some { IfSome result (λ found. (more : ℕ)
+            × (slice_get self.now.blocks.steps place ≡ Some (step.Branch found.0 found.1 more))) }
+        ensures none { result ≡ None → (condition : Bool) → (next : ℕ) → slice_get self.now.blocks.steps place
+            ≡ Some (step.Branch condition next after) → ⊥ }
+        ensures ahead { IfSome result (λ found. (place < found.1) × (found.1 ≤ length self.now.blocks.steps)) }
+    {
+        match self.blocks.get(place) {
+            Some(
+                Step::Branch {
+                    condition,
+                    next,
+                    ..
+                },
+            ) => {
+                if place < after {
+                    Some((condition, next))
+                } else {
+                    None
+                }
+            }
+            _ => None,
+        }
+    }
+
+    // The place after that of a line.
+    pub(crate) fn past(&self, place: usize) -> usize
+        requires { place < length self.now.blocks.steps }
+        ensures { result ≡ place + 1 }
+    {
+        let count = self.lines.len();
+        if place < count { place + 1 } else { place }
+    }
+
+    pub(crate) fn missing(&self) -> Option<Missing>
+        ensures { result ≡ self.now.blocks.missing }
+    {
+        self.blocks.missing()
+    }
+
+    // The line at a place.
+    #[tactic(auto, unfolding(crate::specs::reading::Reading::line_at))]
+    pub(crate) fn line(&self, place: usize) -> RawLine<'_>
+        ensures { raw_view result ≡ line_at self.now.lines place }
+    {
+        match self.lines.get(place) {
+            Some(mark) => raw_line(self.text, &mark.line()),
+            None => RawLine {
+                number: 0,
+                tab: false,
+                text: b"",
+            },
+        }
+    }
+
+    // The lines from one place up to another as the value of a define.
+    #[tactic(auto, using(crate::proofs::BodyLemmas::body_lines), unfolding(crate::specs::macros::Assignments::body_text))]
+    pub(crate) fn body(
+        &self,
+        alloc: Global,
+        start: usize,
+        end: usize,
+    ) -> Result<Vec<u8>, AllocError>
+        requires order { start ≤ end }
+        requires within { end ≤ length self.now.blocks.steps }
+        ensures { IfOk result (λ body. body.items
+            ≡ body_text (map (λ raw. raw.text) (slice_range self.now.lines start end))) }
+    {
+        body_text(alloc, self.text, &self.lines[start..end])
+    }
+}
+
+fn raw_line<'a>(text: &'a [u8], line: &Line) -> RawLine<'a>
+    ensures { raw_view result ≡ record {
+      number = line.now.number;
+      tab = line.now.tab;
+      text = line_text text.now line.now;
+    } }
+{
+    RawLine {
+        number: line.number,
+        tab: line.tab,
+        text: line_text(text, line),
+    }
+}
+
+// The bytes of a line.
+fn line_text<'a>(text: &'a [u8], line: &Line) -> &'a [u8]
+    ensures { result.now ≡ line_text text.now line.now }
+{
+    let start = line.span.start;
+    let end = line.span.end;
+    if start <= end && end <= text.len() {
+        &text[start..end]
+    } else {
+        b""
+    }
+}
+
+// Lines joined by newlines, each without its continuations.
+#[tactic(auto, using(crate::proofs::BodyLemmas::whole_body), unfolding(crate::proofs::BodyLemmas::left_of_body))]
+fn body_text(alloc: Global, text: &[u8], lines: &[Mark]) -> Result<Vec<u8>, AllocError>
+    ensures { IfOk result (λ body. body.items ≡ body_text (map (line_text text.now) lines.now)) }
+{
+    let mut body = Vec::new(alloc);
+    let mut separator: &[u8] = b"";
+    for line in lines {
+        body.extend_from_slice(separator)?;
+        body.extend_from_slice(&condensed(alloc, line_text(text, &line.line()))?)?;
+        separator = b"\n";
+    }
+    Ok(body)
+}

@@ -1,5 +1,0 @@
-use Rattle.kt_text.proofs.NameLemmas.{slash_found}
-use Rattle.kt_graph.proofs.candidate.directory_len.Goals as goal
-
-pub returns-in-Some-clause-value : goal.returns-in-Some-clause-value
-returns-in-Some-clause-value c = slash_found c.args.name.now c.in-Some.place c.in-Some.ensures

@@ -1,6 +1,0 @@
-use Rattle.std.proofs.Common.{All, take}
-use Rattle.kt_graph.specs.inner.Edges.{LeadsBack}
-use Rattle.kt_graph.proofs.cycles.Left.first_back.Given as goal
-
-abbrev pub invariant-loop-vertex : goal.invariant-loop-vertex
-invariant-loop-vertex l = All (λ vertex. ¬ LeadsBack l.edges vertex) (take l.vertex-index l.order)

@@ -1,6 +1,0 @@
-use Rattle.std.proofs.Common.{take}
-use Rattle.kt_graph.specs.inner.Edges.{Visits}
-use Rattle.kt_graph.proofs.cycles.visit.Given as goal
-
-abbrev pub invariant-loop-vertex : goal.invariant-loop-vertex
-invariant-loop-vertex l = Visits (take l.vertex-index l.vertices) l.fn.unvisited.items l.unvisited.items l.fn.work.items l.work.items

@@ -1,6 +1,0 @@
-use Rattle.std.proofs.Common.{take}
-use Rattle.kt_graph.specs.inner.Ends.{HasAll}
-use Rattle.kt_graph.proofs.ends.Ends.found.Given as goal
-
-abbrev pub invariant-loop-length : goal.invariant-loop-length
-invariant-loop-length l = HasAll l.self l.name (take l.length-index l.length-items) l.found.items

@@ -1,6 +1,0 @@
-use Rattle.std.proofs.Common.{take}
-use Rattle.kt_graph.specs.inner.Ends.{NotesAll}
-use Rattle.kt_graph.proofs.ends.Ends.note_targets.Given as goal
-
-abbrev pub invariant-loop-target : goal.invariant-loop-target
-invariant-loop-target l = NotesAll l.fn.self l.self (take l.target-index l.targets) l.number

@@ -1,0 +1,22 @@
+use Rattle.std.proofs.Common.{◌∙◌, ◌≤◌, length, sym, arith}
+use Rattle.std.proofs.lemmas.Bool.{false≢true}
+use Rattle.std.proofs.lemmas.List.{take_all}
+use Rattle.std.proofs.lemmas.List.Elements.{All-more}
+use Rattle.kt_graph.specs.inner.faults.Edges.{LeadsBack}
+use Rattle.kt_graph.proofs.lemmas.faults.CircleLemmas.{first_at}
+use Rattle.kt_graph.proofs.faults.cycles.Left.first_back.Goals as goal
+
+pub returns-then-branch : goal.returns-then-branch
+returns-then-branch c =
+    first_at c.args.edges.now c.args.order.now c.loop-vertex.vertex-index c.loop-vertex-test.true c.loop-vertex.invariant
+    (c.in_ok-is_circular.ensures.0 c.if-branch.true)
+
+pub loop-vertex-preserved : goal.loop-vertex-preserved
+loop-vertex-preserved c =
+    All-more (λ vertex. ¬ LeadsBack c.args.edges.now vertex) c.args.order.now c.loop-vertex.vertex-index 0 c.loop-vertex-test.true c.loop-vertex.invariant
+    (λ back. false≢true (sym c.if-branch.false ∙ c.in_ok-is_circular.ensures.1 back))
+
+pub returns : goal.returns
+returns c =
+    let past : length c.args.order.now ≤ c.loop-vertex.vertex-index = omega arith in
+    rw (take_all c.loop-vertex.vertex-index c.args.order.now past) at c.loop-vertex.invariant

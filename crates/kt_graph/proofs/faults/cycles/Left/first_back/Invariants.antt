@@ -1,0 +1,6 @@
+use Rattle.std.proofs.Common.{All, take}
+use Rattle.kt_graph.specs.inner.faults.Edges.{LeadsBack}
+use Rattle.kt_graph.proofs.faults.cycles.Left.first_back.Given as goal
+
+abbrev pub invariant-loop-vertex : goal.invariant-loop-vertex
+invariant-loop-vertex l = All (λ vertex. ¬ LeadsBack l.edges vertex) (take l.vertex-index l.order)

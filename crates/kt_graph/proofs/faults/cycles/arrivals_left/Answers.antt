@@ -1,0 +1,28 @@
+use Rattle.std.proofs.Common.{◌≡◌, ◌+◌, ◌-◌, ◌<◌, [], subst, arith}
+use Rattle.std.specs.List.{range_with_len}
+use Rattle.kt_graph.specs.inner.faults.Arrivals.{AreCounted}
+use Rattle.kt_graph.specs.inner.faults.Edges.{count_of}
+use Rattle.kt_graph.proofs.lemmas.faults.ArrivalLemmas.{begun, next_turn, turn_taken}
+use Rattle.kt_graph.proofs.faults.cycles.arrivals_left.Goals as goal
+
+pub loop-vertex-init : goal.loop-vertex-init
+loop-vertex-init c =
+    let all : count_of c.args.edges.now ≡ count_of c.args.edges.now - 0 = omega arith in (
+      c.new-work.ensures.items,
+      subst (λ n. AreCounted c.args.edges.now c.in_ok-counts.counts.items [] (range_with_len 0 n)) all
+          (begun c.args.edges.now c.in_ok-counts.counts.items c.in_ok-counts.ensures),
+    )
+
+pub loop-vertex-preserved : goal.loop-vertex-preserved
+loop-vertex-preserved c =
+    let within : c.loop-vertex.vertex < count_of c.args.edges.now = omega (arith, c.count-vertex-end.ensures) in (
+      c.in_ok-leave_after.ensures.done,
+      c.in_ok-leave_after.ensures.counted (range_with_len (c.loop-vertex.vertex + 1) (count_of c.args.edges.now - (c.loop-vertex.vertex + 1)))
+          (turn_taken c.args.edges.now c.loop-vertex.counts.items c.leave.new.counts.items c.leave.new.work.items c.loop-vertex.vertex
+          (range_with_len (c.loop-vertex.vertex + 1) (count_of c.args.edges.now - (c.loop-vertex.vertex + 1)))
+          (next_turn c.args.edges.now c.loop-vertex.counts.items c.loop-vertex.vertex within c.loop-vertex.invariant.1)
+          (rw c.loop-vertex.invariant.0 at c.in_ok-leave.ensures)),
+    )
+
+pub returns : goal.returns
+returns c = c.loop-vertex.invariant.1.circular

@@ -1,0 +1,19 @@
+use Rattle.std.proofs.Common.{◌<◌, ◌∙◌, arith, length, sym}
+use Rattle.std.proofs.lemmas.List.{get_or_default}
+use Rattle.kt_graph.specs.inner.faults.Edges.{row_of, rows_held}
+use Rattle.kt_graph.specs.inner.nodes.Stored.{stored_at}
+use Rattle.kt_graph.proofs.lemmas.faults.EdgeLemmas.{row_after, row_in_front}
+use Rattle.kt_graph.proofs.faults.edges.Edges.next.Goals as goal
+
+pub returns-then-vertex-len : goal.returns-then-vertex-len
+returns-then-vertex-len c =
+    let nodes = c.args.self.now.nodes.now in
+    let within : c.args.vertex < length nodes = omega arith in
+    c.next_by.ensures
+    ∙ sym (row_in_front (row_of c.args.self.now.makings.items) nodes (rows_held c.args.self.now.rows.items) c.args.vertex (stored_at nodes c.args.vertex) within
+    (get_or_default nodes c.args.vertex _ (stored_at nodes c.args.vertex) within))
+
+pub returns : goal.returns
+returns c =
+    row_after (row_of c.args.self.now.makings.items) c.args.self.now.nodes.now (rows_held c.args.self.now.rows.items) c.args.vertex c.row_at.result.now
+    (omega arith) (rw (c.as_slice.ensures.value, c.len-2.ensures.len) at c.row_at.ensures)

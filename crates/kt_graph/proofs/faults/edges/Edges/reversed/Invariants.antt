@@ -1,0 +1,7 @@
+use Rattle.std.proofs.Common.{◌≡◌, drop}
+use Rattle.kt_graph.specs.inner.faults.Edges.{bare_rows, count_of, rows_held, rows_of, turned_from, with_edges}
+use Rattle.kt_graph.proofs.faults.edges.Edges.reversed.Given as goal
+
+abbrev pub invariant-loop-vertex : goal.invariant-loop-vertex
+invariant-loop-vertex l =
+    with_edges (rows_held l.rows.items) (turned_from l.vertex (drop l.vertex (rows_of l.self))) ≡ with_edges (bare_rows (count_of l.self)) (turned_from 0 (rows_of l.self))

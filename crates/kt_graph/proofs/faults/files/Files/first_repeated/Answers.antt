@@ -1,0 +1,26 @@
+use Rattle.std.proofs.Common.{◌≡◌, ◌∙◌, [], Some, ap, rules, false, sym, true}
+use Rattle.kt_text.specs.Words.{Text}
+use Rattle.kt_graph.specs.inner.faults.Files.{is_repeated}
+use Rattle.kt_graph.proofs.lemmas.faults.FileLemmas.{found_first}
+use Rattle.kt_graph.proofs.faults.files.Files.first_repeated.Goals as goal
+
+pub loop-node-preserved : goal.loop-node-preserved
+loop-node-preserved c = λ names held.
+    let left = c.in-Some.ensures.steps in
+    let before = c.loop-node.invariant names held in
+    sym (found_first (is_repeated names) c.in-Some.node c.next.new.self false (sym c.if-branch.false ∙ c.in_ok-is_repeated.ensures names held))
+    ∙ (rw left at before)
+
+pub returns-then-branch : goal.returns-then-branch
+returns-then-branch c = λ names held.
+    let left = c.in-Some.ensures.steps in
+    let before = c.loop-node.invariant names held in
+    ap (λ (name : Text). Some name) c.name.ensures
+    ∙ sym (found_first (is_repeated names) c.in-Some.node c.next.new.self true (sym c.if-branch.true ∙ c.in_ok-is_repeated.ensures names held))
+    ∙ (rw left at before)
+
+pub returns : goal.returns
+returns c = λ names held.
+    let none : c.loop-node.node-iterator ≡ [] = search rules in
+    let before = c.loop-node.invariant names held in
+    rw none at before

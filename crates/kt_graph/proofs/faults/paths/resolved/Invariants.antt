@@ -1,0 +1,11 @@
+use Rattle.std.proofs.Common.{◌≡◌, ◌==◌, [], map, drop, fold, reverse, List, ℕ}
+use Rattle.std.specs.Borrow.{Bor}
+use Rattle.std.specs.List.{slice_split}
+use Rattle.kt_graph.specs.faults.Paths.{with_part}
+use Rattle.kt_graph.proofs.faults.paths.resolved.Given as goal
+
+abbrev pub invariant-loop-part : goal.invariant-loop-part
+invariant-loop-part l =
+    fold (with_part l.rooted) (reverse (map (λ (part : Bor (List ℕ)). part.now) l.parts.items))
+    (map (λ (piece : Bor (List ℕ)). piece.now) (drop l.part-index l.part-items))
+    ≡ fold (with_part l.rooted) [] (slice_split (λ byte. byte == 47) l.name)

@@ -1,8 +1,0 @@
-use Rattle.std.proofs.Common.{◌≡◌, List, find}
-use Rattle.kt_text.specs.Words.{Text}
-use Rattle.kt_graph.specs.inner.Files.{HasFiles, is_repeated, made_names}
-use Rattle.kt_graph.proofs.files.Files.first_repeated.Given as goal
-
-abbrev pub invariant-loop-node : goal.invariant-loop-node
-invariant-loop-node l =
-    (names : List Text) → HasFiles l.self names → find (is_repeated names) (made_names l.node-iterator) ≡ find (is_repeated names) (made_names l.fn.nodes)

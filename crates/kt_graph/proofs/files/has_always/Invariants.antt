@@ -1,7 +1,0 @@
-use Rattle.std.proofs.Common.{◌≡◌}
-use Rattle.std.specs.List.{list_any}
-use Rattle.kt_graph.specs.Paths.{is_reserved}
-use Rattle.kt_graph.proofs.files.has_always.Given as goal
-
-abbrev pub invariant-loop-node : goal.invariant-loop-node
-invariant-loop-node l = list_any (λ node. is_reserved node.name) l.node-iterator ≡ list_any (λ node. is_reserved node.name) l.fn.nodes

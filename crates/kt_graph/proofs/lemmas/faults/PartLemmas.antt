@@ -1,0 +1,95 @@
+-- The components of a name, the last of them first, and the name that they spell.
+use Rattle.std.proofs.Common.{◌≡◌, ◌-◌, ◌≤◌, ◌==◌, Bool, true, false, not, if◌then◌else◌, fold, get_or, take, drop, List, [], ◌∷◌, ◌++◌, length, map, reverse, flat_map, Option, Some, None, refl, sym, ap, ◌∙◌, arith, MatchOption}
+use Rattle.std.specs.Borrow.{Bor}
+use Rattle.std.specs.List.{join_with_byte, slice_split}
+use Rattle.std.specs.Option.{option_to_list}
+use Rattle.std.specs.Str.{bytes_eq}
+use Rattle.std.proofs.lemmas.Bool.{false≢true}
+use Rattle.std.proofs.lemmas.List.{append-nil, map-append, reverse-append, nil_from_length, reverse-reverse, take_rest, length-reverse, length-map}
+use Rattle.kt_text.specs.Words.{Text}
+use Rattle.kt_graph.specs.faults.Paths.{above_name, canon_of, ends_in_name, is_rooted, parts_of, step_up, with_part}
+
+-- components as they are held
+abbrev pub told : List (Bor Text) → List Text
+told parts = map (λ (part : Bor Text). part.now) parts
+
+last_first : (front : List (Bor Text)) (last : Bor Text) → reverse (told (front ++ last ∷ [])) ≡ last.now ∷ reverse (told front)
+last_first front last = ap reverse (map-append (λ (part : Bor Text). part.now) front (last ∷ [])) ∙ reverse-append (told front) (last.now ∷ [])
+
+pub name_taken : (rooted : Bool) (last : Text) (parts : List Text) → not (bytes_eq last above_name) ≡ true → step_up rooted (last ∷ parts) ≡ parts
+name_taken true last parts h = by (bytes_eq last above_name) refl
+  where
+    by : (b : Bool) → bytes_eq last above_name ≡ b → step_up true (last ∷ parts) ≡ parts
+    by true e = absurd (false≢true (rw e at h))
+    by false e = rw e refl
+name_taken false last parts h = by (bytes_eq last above_name) refl
+  where
+    by : (b : Bool) → bytes_eq last above_name ≡ b → step_up false (last ∷ parts) ≡ parts
+    by true e = absurd (false≢true (rw e at h))
+    by false e = rw e refl
+
+pub above_stays : (rooted : Bool) (last : Text) (parts : List Text) → not (bytes_eq last above_name) ≡ false → step_up rooted (last ∷ parts) ≡ above_name ∷ last ∷ parts
+above_stays true last parts h = by (bytes_eq last above_name) refl
+  where
+    by : (b : Bool) → bytes_eq last above_name ≡ b → step_up true (last ∷ parts) ≡ above_name ∷ last ∷ parts
+    by true e = rw e refl
+    by false e = absurd (false≢true (sym (rw e at h)))
+above_stays false last parts h = by (bytes_eq last above_name) refl
+  where
+    by : (b : Bool) → bytes_eq last above_name ≡ b → step_up false (last ∷ parts) ≡ above_name ∷ last ∷ parts
+    by true e = rw e refl
+    by false e = absurd (false≢true (sym (rw e at h)))
+
+-- `..` takes a name away
+pub taken_up : (rooted : Bool) (old new : List (Bor Text)) (popped : Option (Bor Text)) → ends_in_name (reverse (told old)) ≡ true
+    → old ≡ new ++ option_to_list popped → MatchOption popped (length old ≡ 0) (λ _. Unit {0})
+    → reverse (told new) ≡ step_up rooted (reverse (told old))
+taken_up rooted old new None ends cut none =
+    let nil : old ≡ [] = nil_from_length old none in
+    absurd (false≢true (rw nil at ends))
+taken_up rooted old new (Some last) ends cut some =
+    let whole : reverse (told old) ≡ last.now ∷ reverse (told new) = ap (λ parts. reverse (told parts)) cut ∙ last_first new last in
+    sym (ap (step_up rooted) whole ∙ name_taken rooted last.now (reverse (told new)) (sym (ap ends_in_name whole) ∙ ends))
+
+above_first : (rooted : Bool) (parts : List Text) → ends_in_name parts ≡ false → (rooted ≡ true → length parts ≡ 0 → ⊥)
+    → above_name ∷ parts ≡ step_up rooted parts
+above_first true [] ends some = absurd (some refl refl)
+above_first false [] ends some = refl
+above_first rooted (last ∷ parts) ends some = sym (above_stays rooted last parts ends)
+
+-- it stays after another, and at the front of a name without root
+pub put_up : (rooted : Bool) (old new : List (Bor Text)) (above : Bor Text) → above.now ≡ above_name → ends_in_name (reverse (told old)) ≡ false
+    → (rooted ≡ true → length old ≡ 0 → ⊥) → new ≡ old ++ above ∷ []
+    → reverse (told new) ≡ step_up rooted (reverse (told old))
+put_up rooted old new above is ends some grown =
+    ap (λ parts. reverse (told parts)) grown ∙ last_first old above ∙ ap (λ part. part ∷ reverse (told old)) is
+    ∙ above_first rooted (reverse (told old)) ends (λ r none. some r (sym (length-reverse (told old) ∙ length-map old (λ (part : Bor Text). part.now)) ∙ none))
+
+-- and under the root it goes
+pub root_up : (rooted : Bool) (old : List (Bor Text)) → rooted ≡ true → length old ≡ 0 → reverse (told old) ≡ step_up rooted (reverse (told old))
+root_up rooted [] is none = rw is refl
+root_up rooted (part ∷ old) is none = absurd (omega arith)
+
+-- components with slashes between them
+pub joined_after : (first : Text) (after : List (Bor Text)) → join_with_byte 47 (first ∷ told after) ≡ first ++ flat_map (λ (part : Bor Text). 47 ∷ part.now) after
+joined_after first [] = sym (append-nil first)
+joined_after first (next ∷ after) = ap (λ rest. first ++ 47 ∷ rest) (joined_after next.now after)
+
+pub joined_at : (parts : List (Bor Text)) (d : Bor Text) → 1 ≤ length parts
+    → join_with_byte 47 (told parts) ≡ (get_or parts 0 d).now ++ flat_map (λ (part : Bor Text). 47 ∷ part.now) (take (length parts - 1) (drop 1 parts))
+joined_at [] d some = absurd (omega arith)
+joined_at (first ∷ after) d some =
+    joined_after first.now after ∙ ap (λ rest. first.now ++ flat_map (λ (part : Bor Text). 47 ∷ part.now) rest) (sym (take_rest (first ∷ after) 1))
+
+-- the components of a name, once none is left
+pub canon_is : (name : Text) (rooted : Bool) (parts : List (Bor Text)) (left : List Text) → rooted ≡ is_rooted name → left ≡ []
+    → fold (with_part rooted) (reverse (told parts)) left ≡ fold (with_part rooted) [] (slice_split (λ byte. byte == 47) name)
+    → canon_of name ≡ (if rooted then 47 ∷ [] else []) ++ join_with_byte 47 (told parts)
+unfolding canon_of parts_of
+canon_is name rooted parts left is none done =
+    let all : reverse (told parts) ≡ fold (with_part rooted) [] (slice_split (λ byte. byte == 47) name)
+    = sym (ap (fold (with_part rooted) (reverse (told parts))) none) ∙ done in
+    let same : told parts ≡ reverse (fold (with_part rooted) [] (slice_split (λ byte. byte == 47) name))
+    = sym (reverse-reverse (told parts)) ∙ ap reverse all in
+    sym (ap (λ (names : List Text). (if rooted then 47 ∷ [] else []) ++ join_with_byte 47 names) same
+    ∙ ap (λ b. (if b then 47 ∷ [] else []) ++ join_with_byte 47 (reverse (fold (with_part b) [] (slice_split (λ byte. byte == 47) name)))) is)

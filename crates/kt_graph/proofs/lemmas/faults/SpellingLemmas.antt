@@ -1,0 +1,78 @@
+-- A name that is the one spelling of its file.
+use Rattle.std.proofs.Common.{◌≡◌, ℕ, ◌+◌, ◌==◌, ◌&&◌, Bool, true, false, fold, take, drop, List, [], ◌∷◌, ◌++◌, reverse, Some, None, refl, sym, ap, ◌∙◌, arith, bytes_eq}
+use Rattle.std.specs.List.{join_with_byte, slice_split, list_all, position_or_len}
+use Rattle.std.proofs.lemmas.Bool.{eqb-true, false≢true, false_from_ne_true}
+use Rattle.std.proofs.lemmas.List.Elements.{All-from_get_or}
+use Rattle.std.proofs.lemmas.List.{append-nil, append_assoc, reverse-append}
+use Rattle.std.proofs.lemmas.List.Splits.{join_with_byte-slice_split, slice_split_first, slice_split_none}
+use Rattle.memchr.specs.Find.{IsFirstByte, is_byte}
+use Rattle.kt_text.specs.Words.{Text}
+use Rattle.kt_text.proofs.PlaceLemmas.{first_byte_place}
+use Rattle.kt_graph.specs.inner.faults.Spelling.{has_names_only, is_name}
+use Rattle.kt_graph.specs.faults.Paths.{canon_of, parts_of, is_idle, is_rooted, above_name, with_part}
+
+abbrev is_slash : ℕ → Bool
+is_slash byte = byte == 47
+
+-- names go after the components before them
+put_name : (rooted : Bool) (parts : List Text) (part : Text) → is_name part ≡ true → with_part rooted parts part ≡ part ∷ parts
+put_name rooted parts part h = by (is_idle part) (bytes_eq part above_name) refl refl
+  where
+    by : (idle above : Bool) → is_idle part ≡ idle → bytes_eq part above_name ≡ above → with_part rooted parts part ≡ part ∷ parts
+    by true above i a = absurd (false≢true (rw i at h))
+    by false true i a = absurd (false≢true (rw (i, a) at h))
+    by false false i a = rw (i, a) refl
+
+put_names : (rooted : Bool) (front parts : List Text) → list_all is_name parts ≡ true → reverse (fold (with_part rooted) front parts) ≡ reverse front ++ parts
+put_names rooted front [] h = sym (append-nil (reverse front))
+put_names rooted front (part ∷ parts) h =
+    ap (λ begun. reverse (fold (with_part rooted) begun parts)) (put_name rooted front part (and_first _ _ h))
+    ∙ put_names rooted (part ∷ front) parts (and_second _ _ h)
+    ∙ ap (λ begun. begun ++ parts) (reverse-cons part front)
+    ∙ append_assoc (reverse front) (part ∷ []) parts
+  where
+    and_first : (a b : Bool) → (a && b) ≡ true → a ≡ true
+    and_first true b h = refl
+    and_first false b h = absurd (false≢true h)
+
+    and_second : (a b : Bool) → (a && b) ≡ true → b ≡ true
+    and_second true b h = h
+    and_second false b h = absurd (false≢true h)
+
+    reverse-cons : (part : Text) (front : List Text) → reverse (part ∷ front) ≡ reverse front ++ part ∷ []
+    reverse-cons part front = reverse-append (part ∷ []) front
+
+-- a name of names alone is the spelling of its file
+pub spelled_plainly : (name : Text) → is_rooted name ≡ false → has_names_only name ≡ true → canon_of name ≡ name
+unfolding canon_of parts_of has_names_only
+spelled_plainly name plain h =
+    rw plain (ap (join_with_byte 47) (put_names false [] (slice_split is_slash name) h) ∙ join_with_byte-slice_split 47 name)
+
+pub spelled_from_root : (name below : Text) → name ≡ 47 ∷ below → has_names_only below ≡ true → canon_of name ≡ name
+unfolding canon_of parts_of has_names_only
+spelled_from_root name below is h =
+    rw is (ap (λ parts. 47 ∷ join_with_byte 47 parts) (put_names true [] (slice_split is_slash below) h)
+    ∙ ap (λ text. 47 ∷ text) (join_with_byte-slice_split 47 below))
+
+-- the first component, by the place of the first slash
+pub cut_at_slash : (text : Text) (slash : ℕ) → IsFirstByte (is_byte 47) text (Some slash)
+    → has_names_only text ≡ (is_name (take slash text) && has_names_only (drop (slash + 1) text))
+unfolding has_names_only
+cut_at_slash text slash found =
+    let same : slash ≡ position_or_len is_slash text = first_byte_place is_slash text (Some slash) found in
+    ap (list_all is_name) (slice_split_first is_slash text 0 (omega (arith, same, found.0.high)))
+    ∙ ap (λ place. is_name (take place text) && list_all is_name (slice_split is_slash (drop (place + 1) text))) (sym same)
+
+pub no_slash : (text : Text) → IsFirstByte (is_byte 47) text None → has_names_only text ≡ is_name text
+unfolding has_names_only
+no_slash text found =
+    ap (list_all is_name) (slice_split_none is_slash text (All-from_get_or (λ byte. is_slash byte ≡ false) text 0 (λ k l. false_from_ne_true _ (found k (omega arith) l)))) ∙ and_true (is_name text)
+  where
+    and_true : (b : Bool) → (b && true) ≡ b
+    and_true true = refl
+    and_true false = refl
+
+-- a name under the root, and one without it
+pub rooted_spelling : (name : Text) → is_rooted name ≡ true → has_names_only (drop 1 name) ≡ true → canon_of name ≡ name
+rooted_spelling [] rooted h = absurd (false≢true rooted)
+rooted_spelling (byte ∷ name) rooted h = spelled_from_root (byte ∷ name) name (ap (λ b. b ∷ name) (eqb-true byte 47 rooted)) h

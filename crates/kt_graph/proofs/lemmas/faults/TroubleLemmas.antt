@@ -1,0 +1,427 @@
+-- What is wrong with a graph, as its nodes tell it.
+use Rattle.std.proofs.Common.{◌≡◌, ◌<◌, Bool, true, false, not, ◌||◌, cond, ◌⊎◌, ⊎_elim, List, [], ◌∷◌, ◌++◌, length, map, filter, find, All, Option, None, Some, option_map, refl, sym, ap, ◌∙◌, subst, arith}
+use Rattle.std.specs.List.{Contains, list_any}
+use Rattle.std.specs.List.Sorted.{IsStrictlySortedBy}
+use Rattle.std.specs.Ordering.{nat_cmp, is_eq, ordering_reverse}
+use Rattle.std.specs.Option.{MatchOption, option_map_or}
+use Rattle.std.specs.declared.cmp.Ordering.{Ordering}
+use Rattle.std.specs.declared.cmp.Ordering.TheVariants.{Less}
+use Rattle.std.specs.Cmp.Lexicographic.{slice_cmp}
+use Rattle.std.specs.Str.{bytes_eq}
+use Rattle.std.proofs.lemmas.Bool.{false≢true, true≢false, lt-ltb, ltb-true}
+use Rattle.std.proofs.lemmas.Cmp.{nat_list_cmp_total, tied_itself}
+use Rattle.std.proofs.lemmas.List.{length-map, map-append}
+use Rattle.std.proofs.lemmas.List.Elements.{All-cons, All-contains, All-filter, All-head, All-map, All-tail, recursion_from_All}
+use Rattle.std.proofs.lemmas.Map.Keys.{sorted_tail}
+use Rattle.std.proofs.lemmas.Map.Views.{All-after_first}
+use Rattle.std.proofs.lemmas.Option.{none-some, same_Some}
+use Rattle.std.proofs.lemmas.Slice.Eq.{bytes_eq-Decides}
+use Rattle.kt_text.specs.Words.{Text}
+use Rattle.kt_rules.specs.Entry.{Rule}
+use Rattle.kt_graph.specs.faults.Faults.{IsFileTrouble}
+use Rattle.kt_graph.specs.inner.faults.Files.{count_of, is_repeated, made_names}
+use Rattle.kt_graph.specs.nodes.Groups.{made_nodes}
+use Rattle.kt_graph.specs.nodes.Node.{Node, is_leaf, node_of}
+use Rattle.kt_graph.specs.faults.Paths.{canon_of, is_reserved}
+use Rattle.kt_graph.specs.Reach.{ComesFirst, IsCyclic, IsDoubled, IsFirst, IsGraph, IsMade, IsReached, IsReserved, Trouble, no_rule, circular, reserved_name, one_file, is_unmade, unmade_goal}
+use Rattle.kt_graph.specs.inner.nodes.Graph.{makes_among}
+use Rattle.kt_graph.proofs.lemmas.MemberLemmas.{Contains-cases, Contains-from_map, Contains-here, Contains-map, Contains-none, Contains-there}
+
+abbrev order : Text → Text → Ordering
+order = slice_cmp nat_cmp
+
+abbrev Rises : List Text → Type 0
+Rises = IsStrictlySortedBy order
+
+-- ---- tests on lists
+
+pub any_there : {A : Type 0} (p : A → Bool) (xs : List A) → list_any p xs ≡ true → (x : A) × Contains xs x × (p x ≡ true)
+any_there p [] e = absurd (false≢true e)
+any_there {A} p (first ∷ xs) e = by (λ f. any_there p xs f) (p first) refl e
+  where
+    by : (list_any p xs ≡ true → (x : A) × Contains xs x × (p x ≡ true)) → (b : Bool) → p first ≡ b → (b || list_any p xs) ≡ true → (x : A) × Contains (first ∷ xs) x × (p x ≡ true)
+    by more true on f = (first, Contains-here first xs, on)
+    by more false off f =
+        let rest : (x : A) × Contains xs x × (p x ≡ true) = more f in
+        (rest.0, Contains-there first xs rest.0 rest.1, rest.2)
+
+pub any_nowhere : {A : Type 0} (p : A → Bool) (xs : List A) → list_any p xs ≡ false → (x : A) → Contains xs x → p x ≡ false
+any_nowhere p [] e x has = Contains-none x has
+any_nowhere {A} p (first ∷ xs) e x has = by (λ f h. any_nowhere p xs f x h) (p first) refl e
+  where
+    by : (list_any p xs ≡ false → Contains xs x → p x ≡ false) → (b : Bool) → p first ≡ b → (b || list_any p xs) ≡ false → p x ≡ false
+    by more true on f = absurd (true≢false f)
+    by more false off f = ⊎_elim
+        (λ (same : first ≡ x). ap p (sym same) ∙ off)
+        (λ (h : Contains xs x). more f h)
+        (Contains-cases first xs x has)
+
+pub find_agree : {A : Type 0} (p q : A → Bool) (xs : List A) → ((x : A) → Contains xs x → p x ≡ q x) → find p xs ≡ find q xs
+find_agree p q [] same = refl
+find_agree {A} p q (x ∷ xs) same =
+    ap (λ b. cond b (Some x) (find p xs)) (same x (Contains-here x xs))
+    ∙ ap (λ (rest : Option A). cond (q x) (Some x) rest) (find_agree p q xs (λ y has. same y (Contains-there x xs y has)))
+
+-- what is found passes, and nothing before it does
+pub record IsFound {A : Type 0} (p : A → Bool) (xs : List A) (x : A) : Type 0 where
+  pub passes : p x ≡ true
+  pub earlier : List A
+  pub later : List A
+  pub cut : xs ≡ earlier ++ x ∷ later
+  pub none_earlier : (y : A) → Contains earlier y → p y ≡ false
+
+pub found_is : {A : Type 0} (p : A → Bool) (xs : List A) (x : A) → find p xs ≡ Some x → IsFound p xs x
+found_is p [] x e = absurd (none-some x e)
+found_is {A} p (first ∷ xs) x e = by (λ f. found_is p xs x f) (p first) refl e
+  where
+    by : (find p xs ≡ Some x → IsFound p xs x) → (b : Bool) → p first ≡ b → cond b (Some first) (find p xs) ≡ Some x → IsFound p (first ∷ xs) x
+    by more true on f =
+        let same : first ≡ x = same_Some first x f in
+        record {
+          passes = ap p (sym same) ∙ on;
+          earlier = [];
+          later = xs;
+          cut = ap (λ (y : A). y ∷ xs) same;
+          none_earlier = λ y has. Contains-none y has;
+        }
+    by more false off f =
+        let rest = more f in
+        record {
+          passes = rest.passes;
+          earlier = first ∷ rest.earlier;
+          later = rest.later;
+          cut = ap (λ (ys : List A). first ∷ ys) rest.cut;
+          none_earlier = λ y has. ⊎_elim
+              (λ (same : first ≡ y). ap p (sym same) ∙ off)
+              (λ (h : Contains rest.earlier y). rest.none_earlier y h)
+              (Contains-cases first rest.earlier y has);
+        }
+
+pub found_nowhere : {A : Type 0} (p : A → Bool) (xs : List A) → find p xs ≡ None → (x : A) → Contains xs x → p x ≡ false
+found_nowhere p [] e x has = Contains-none x has
+found_nowhere {A} p (first ∷ xs) e x has = by (λ f h. found_nowhere p xs f x h) (p first) refl e
+  where
+    by : (find p xs ≡ None → Contains xs x → p x ≡ false) → (b : Bool) → p first ≡ b → cond b (Some first) (find p xs) ≡ None → p x ≡ false
+    by more true on f = absurd (none-some first (sym f))
+    by more false off f = ⊎_elim
+        (λ (same : first ≡ x). ap p (sym same) ∙ off)
+        (λ (h : Contains xs x). more f h)
+        (Contains-cases first xs x has)
+
+-- ---- lists that rise
+
+never_itself : (name : Text) → order name name ≡ Less → ⊥
+never_itself name less = true≢false (sym (ap is_eq (sym less ∙ tied_itself nat_list_cmp_total name)))
+
+never_both : (one other : Text) → order one other ≡ Less → order other one ≡ Less → ⊥
+never_both one other less more = never_itself one (nat_list_cmp_total.trans one other one less more)
+
+rises_more : (first : Text) (names : List Text) → All (λ other. order first other ≡ Less) names → Rises names → Rises (first ∷ names)
+unfolding IsStrictlySortedBy
+rises_more first names below rises = (recursion_from_All (λ other. order first other ≡ Less) names below, rises)
+
+rises_none : Rises []
+unfolding IsStrictlySortedBy
+rises_none = tt
+
+-- what stands after a name in a list that rises isn't below it
+pub none_below : (earlier : List Text) (name : Text) (later : List Text) → Rises (earlier ++ name ∷ later) → (other : Text)
+    → Contains (name ∷ later) other → ¬ (order other name ≡ Less)
+none_below [] name later rises other has less = ⊎_elim
+    (λ (same : name ≡ other). never_itself name (subst (λ (n : Text). order n name ≡ Less) (sym same) less))
+    (λ (h : Contains later other). never_both other name less (All-contains (λ n. order name n ≡ Less) later other (All-after_first order name later rises) h))
+    (Contains-cases name later other has)
+none_below (first ∷ earlier) name later rises other has less =
+    none_below earlier name later (sorted_tail order first (earlier ++ name ∷ later) rises) other has less
+
+pub in_cut : {A : Type 0} (earlier : List A) (x : A) (later : List A) (y : A) → Contains (earlier ++ x ∷ later) y → Contains earlier y ⊎ Contains (x ∷ later) y
+in_cut earlier x later y has = Rattle.std.proofs.lemmas.List.Elements.Contains-append_cases earlier (x ∷ later) y has
+
+-- the first that passes in a list that rises is the first of those for which it stands
+pub first_of : (P : Text → Type 0) (p : Text → Bool) (names : List Text) (name : Text) → Rises names → IsFound p names name
+    → P name → ((other : Text) → P other → Contains names other × (p other ≡ true)) → IsFirst P name
+first_of P p names name rises found holds back = record {
+  holds = holds;
+  least = λ other is less.
+      let has = back other is in
+      let inside : Contains (found.earlier ++ name ∷ found.later) other = subst (λ (ns : List Text). Contains ns other) found.cut has.0 in
+      ⊎_elim
+      (λ (h : Contains found.earlier other). false≢true (sym (found.none_earlier other h) ∙ has.1))
+      (λ (h : Contains (name ∷ found.later) other).
+      none_below found.earlier name found.later (subst Rises found.cut rises) other h less)
+      (in_cut found.earlier name found.later other inside);
+}
+
+-- ---- made names
+
+-- what is left of names that rise rises
+pub kept_rises : (p : Node → Bool) (nodes : List Node) → Rises (map (λ node. node.name) nodes) → Rises (map (λ node. node.name) (filter p nodes))
+kept_rises p [] rises = rises_none
+kept_rises p (node ∷ nodes) rises =
+    by (kept_rises p nodes (sorted_tail order node.name (map (λ (one : Node). one.name) nodes) rises)) (p node)
+  where
+    above : All (λ (one : Node). order node.name one.name ≡ Less) nodes
+    above k d within =
+        let all = All-after_first order node.name (map (λ (one : Node). one.name) nodes) rises in
+        let inside : k < length (map (λ (one : Node). one.name) nodes) = subst (λ n. k < n) (sym (length-map nodes (λ (one : Node). one.name))) within in
+        subst (λ (name : Text). order node.name name ≡ Less) (Rattle.std.proofs.lemmas.List.get_or-map (λ (one : Node). one.name) nodes k d d.name within) (all k d.name inside)
+
+    by : Rises (map (λ (one : Node). one.name) (filter p nodes)) → (b : Bool) → Rises (map (λ (one : Node). one.name) (cond b (node ∷ filter p nodes) (filter p nodes)))
+    by rest true = rises_more node.name (map (λ (one : Node). one.name) (filter p nodes))
+        (All-map (λ (name : Text). order node.name name ≡ Less) (λ (one : Node). one.name) (filter p nodes)
+        (All-filter p (λ (one : Node). order node.name one.name ≡ Less) nodes above)) rest
+    by rest false = rest
+
+pub rises_made : (nodes : List Node) → Rises (map (λ node. node.name) nodes) → Rises (made_names nodes)
+rises_made nodes rises = kept_rises (λ (node : Node). not (is_leaf node.kind)) nodes rises
+
+pub filter_there : {A : Type 0} (p : A → Bool) (xs : List A) (x : A) → Contains xs x → p x ≡ true → Contains (filter p xs) x
+filter_there p [] x has on = Contains-none x has
+filter_there {A} p (first ∷ xs) x has on = ⊎_elim
+    (λ (same : first ≡ x).
+    subst (λ b. Contains (cond b (first ∷ filter p xs) (filter p xs)) x) (sym (ap p same ∙ on))
+    (subst (λ (y : A). Contains (first ∷ filter p xs) y) same (Contains-here first (filter p xs))))
+    (λ (h : Contains xs x). by (p first) (filter_there p xs x h on))
+    (Contains-cases first xs x has)
+  where
+    by : (b : Bool) → Contains (filter p xs) x → Contains (cond b (first ∷ filter p xs) (filter p xs)) x
+    by true h = Contains-there first (filter p xs) x h
+    by false h = h
+
+pub from_filter : {A : Type 0} (p : A → Bool) (xs : List A) (x : A) → Contains (filter p xs) x → Contains xs x × (p x ≡ true)
+from_filter p [] x has = Contains-none x has
+from_filter {A} p (first ∷ xs) x has =
+    by (λ h. let rest = from_filter p xs x h in (Contains-there first xs x rest.0, rest.1)) (p first) refl has
+  where
+    by : (Contains (filter p xs) x → Contains (first ∷ xs) x × (p x ≡ true)) → (b : Bool) → p first ≡ b → Contains (cond b (first ∷ filter p xs) (filter p xs)) x → Contains (first ∷ xs) x × (p x ≡ true)
+    by later true e h = ⊎_elim
+        (λ (same : first ≡ x). (subst (λ (y : A). Contains (first ∷ xs) y) same (Contains-here first xs), ap p (sym same) ∙ e))
+        (λ (g : Contains (filter p xs) x). later g)
+        (Contains-cases first (filter p xs) x h)
+    by later false e h = later h
+
+-- two that pass make the count two, and the other way round
+one_passes : {A : Type 0} (p : A → Bool) (xs : List A) (x : A) → Contains xs x → p x ≡ true → 0 < length (filter p xs)
+one_passes p xs x has on = let at = (filter_there p xs x has on).1 in omega arith
+
+two_pass : {A : Type 0} (p : A → Bool) (xs : List A) (x y : A) → Contains xs x → Contains xs y → ¬ (x ≡ y) → p x ≡ true → p y ≡ true → 1 < length (filter p xs)
+two_pass p [] x y one other differ on also = Contains-none x one
+two_pass {A} p (first ∷ xs) x y one other differ on also = ⊎_elim
+    (λ (same : first ≡ x). ⊎_elim
+    (λ (e : first ≡ y). absurd (differ (sym same ∙ e)))
+    (λ (h : Contains xs y). here (ap p same ∙ on) (one_passes p xs y h also))
+    (Contains-cases first xs y other))
+    (λ (h : Contains xs x). ⊎_elim
+    (λ (e : first ≡ y). here (ap p e ∙ also) (one_passes p xs x h on))
+    (λ (g : Contains xs y). by (p first) (two_pass p xs x y h g differ on also))
+    (Contains-cases first xs y other))
+    (Contains-cases first xs x one)
+  where
+    here : p first ≡ true → 0 < length (filter p xs) → 1 < length (filter p (first ∷ xs))
+    here e some = subst (λ b. 1 < length (cond b (first ∷ filter p xs) (filter p xs))) (sym e) (omega arith)
+
+    by : (b : Bool) → 1 < length (filter p xs) → 1 < length (cond b (first ∷ filter p xs) (filter p xs))
+    by true h = omega arith
+    by false h = h
+
+some_passes : {A : Type 0} (p : A → Bool) (xs : List A) → 0 < length (filter p xs) → (x : A) × Contains xs x × (p x ≡ true)
+some_passes {A} p xs some = by (filter p xs) refl some
+  where
+    by : (ys : List A) → filter p xs ≡ ys → 0 < length ys → (x : A) × Contains xs x × (p x ≡ true)
+    by [] e none = absurd (omega arith)
+    by (y ∷ ys) e more =
+        let in' = from_filter p xs y (subst (λ (zs : List A). Contains zs y) (sym e) (Contains-here y ys)) in
+        (y, in'.0, in'.1)
+
+-- of two that pass in a list that rises, one isn't a given one
+another : (p : Text → Bool) (names : List Text) (name : Text) → Rises names → 1 < length (filter p names)
+    → (other : Text) × Contains names other × (p other ≡ true) × ¬ (name ≡ other)
+another p [] name rises two = absurd (omega arith)
+another p (first ∷ names) name rises two =
+    by (λ h. another p names name (sorted_tail order first names rises) h) (p first) refl two
+  where
+    later : 0 < length (filter p names) → bytes_eq name first ≡ true → (other : Text) × Contains (first ∷ names) other × (p other ≡ true) × ¬ (name ≡ other)
+    later some same =
+        let one : (x : Text) × Contains names x × (p x ≡ true) = some_passes p names some in
+        let is : name ≡ first = (bytes_eq-Decides name first).0 same in (
+          one.0,
+          Contains-there first names one.0 one.1,
+          one.2,
+          λ e. never_itself one.0
+              (subst (λ (n : Text). order n one.0 ≡ Less) (sym is ∙ e)
+              (All-contains (λ n. order first n ≡ Less) names one.0 (All-after_first order first names rises) one.1)),
+        )
+
+    at : p first ≡ true → 0 < length (filter p names) → (b : Bool) → bytes_eq name first ≡ b → (other : Text) × Contains (first ∷ names) other × (p other ≡ true) × ¬ (name ≡ other)
+    at on some true same = later some same
+    at on some false differ = (first, Contains-here first names, on, λ e. false≢true (sym differ ∙ (bytes_eq-Decides name first).1 e))
+
+    by : (1 < length (filter p names) → (other : Text) × Contains names other × (p other ≡ true) × ¬ (name ≡ other)) → (b : Bool) → p first ≡ b
+        → 1 < length (cond b (first ∷ filter p names) (filter p names)) → (other : Text) × Contains (first ∷ names) other × (p other ≡ true) × ¬ (name ≡ other)
+    by more true e h = at e (omega arith) (bytes_eq name first) refl
+    by more false e h =
+        let rest : (other : Text) × Contains names other × (p other ≡ true) × ¬ (name ≡ other) =
+        more h in
+        (rest.0, Contains-there first names rest.0 rest.1, rest.2, rest.3)
+
+-- ---- names that are the one spelling of their file
+
+find_none : {A : Type 0} (xs : List A) → find (λ x. false) xs ≡ None
+find_none [] = refl
+find_none (x ∷ xs) = find_none xs
+
+-- of names that rise, no two have one file
+single_file : (names : List Text) (name : Text) → Rises names → All (λ one. canon_of one ≡ one) names → Contains names name → is_repeated names name ≡ false
+single_file names name rises canonical has = by (is_repeated names name) refl
+  where
+    by : (b : Bool) → is_repeated names name ≡ b → b ≡ false
+    by true on =
+        let at : (other : Text) × Contains names other × (bytes_eq (canon_of other) (canon_of name) ≡ true) × ¬ (name ≡ other) =
+        another (λ one. bytes_eq (canon_of one) (canon_of name)) names name rises (ltb-true 1 (count_of names (canon_of name)) on) in
+        let one : canon_of name ≡ name = All-contains (λ one. canon_of one ≡ one) names name canonical has in
+        let two : canon_of at.0 ≡ at.0 = All-contains (λ one. canon_of one ≡ one) names at.0 canonical at.1 in
+        absurd (at.3 (sym one ∙ sym ((bytes_eq-Decides (canon_of at.0) (canon_of name)).0 at.2) ∙ two))
+    by false off = refl
+
+pub none_repeated : (nodes : List Node) → Rises (map (λ node. node.name) nodes) → All (λ name. canon_of name ≡ name) (made_names nodes)
+    → None ≡ find (is_repeated (made_names nodes)) (made_names nodes)
+none_repeated nodes rises canonical =
+    sym (find_agree (is_repeated (made_names nodes)) (λ name. false) (made_names nodes)
+    (λ name has. single_file (made_names nodes) name (rises_made nodes rises) canonical has)
+    ∙ find_none (made_names nodes))
+
+-- ---- a graph
+
+module _ (rules : List Rule) (known goals : List Text) (nodes : List Node) (graph : IsGraph rules known goals nodes) where
+  of_node : (node : Node) → Contains nodes node → node_of rules known node.name ≡ node
+  of_node node has =
+      let names : List Text = map (λ (one : Node). one.name) nodes in
+      let within : has.0 < length nodes = has.1 in
+      let inside : has.0 < length names = subst (λ n. has.0 < n) (sym (length-map nodes (λ (one : Node). one.name))) within in
+      ap (λ (one : Node). node_of rules known one.name) (sym has.2)
+      ∙ ap (node_of rules known) (sym (Rattle.std.proofs.lemmas.List.get_or-map (λ (one : Node). one.name) nodes has.0 node node.name within))
+      ∙ sym (Rattle.std.proofs.lemmas.List.get_or-map (node_of rules known) names has.0 node.name node inside)
+      ∙ ap (λ (ns : List Node). Rattle.std.specs.List.slice_index_or ns has.0 node) (sym graph.stored)
+      ∙ has.2
+
+  node_reached : (node : Node) → Contains nodes node → IsReached rules known goals node.name
+  node_reached node has = (graph.reached node.name).0 (Contains-map (λ (one : Node). one.name) nodes node has)
+
+  reached_node : (name : Text) → IsReached rules known goals name → (node : Node) × Contains nodes node × (node.name ≡ name)
+  reached_node name reached = Contains-from_map (λ (one : Node). one.name) nodes name ((graph.reached name).1 reached)
+
+  -- ---- goals
+
+  makes_is : (name : Text) → IsReached rules known goals name → not (makes_among nodes name) ≡ is_unmade rules known name
+  makes_is name reached = by (find (λ (node : Node). bytes_eq name node.name) nodes) refl
+    where
+      by : (o : Option Node) → find (λ (node : Node). bytes_eq name node.name) nodes ≡ o
+          → not (option_map_or (λ (node : Node). not (is_leaf node.kind)) o false) ≡ is_unmade rules known name
+      by None e =
+          let at : (node : Node) × Contains nodes node × (node.name ≡ name) = reached_node name reached in
+          absurd (false≢true (sym (found_nowhere (λ (node : Node). bytes_eq name node.name) nodes e at.0 at.1) ∙ (bytes_eq-Decides name at.0.name).1 (sym at.2)))
+      by (Some node) e =
+          let found = found_is (λ (one : Node). bytes_eq name one.name) nodes node e in
+          let same : name ≡ node.name = (bytes_eq-Decides name node.name).0 found.passes in
+          let inside : Contains nodes node = subst (λ (ns : List Node). Contains ns node) (sym found.cut)
+          (Rattle.std.proofs.lemmas.List.Elements.Contains-append_right found.earlier (node ∷ found.later) node (Contains-here node found.later)) in
+          twice (is_leaf node.kind)
+          ∙ ap (λ (one : Node). is_leaf one.kind) (sym (of_node node inside))
+          ∙ ap (λ (n : Text). is_leaf (node_of rules known n).kind) (sym same)
+        where
+          twice : (b : Bool) → not (not b) ≡ b
+          twice true = refl
+          twice false = refl
+
+  pub goals_are : find (λ goal. not (makes_among nodes goal)) goals ≡ unmade_goal rules known goals
+  goals_are = find_agree (λ goal. not (makes_among nodes goal)) (is_unmade rules known) goals
+      (λ goal has. makes_is goal (record { goal = goal; named = has; path = ([], refl) }))
+
+  -- ---- files
+
+  made_is : (name : Text) → Contains (made_names nodes) name → IsMade rules known goals name
+  made_is name has =
+      let at : (node : Node) × Contains (made_nodes nodes) node × (node.name ≡ name) = Contains-from_map (λ (one : Node). one.name) (made_nodes nodes) name has in
+      let inside = from_filter (λ (one : Node). not (is_leaf one.kind)) nodes at.0 at.1 in
+      record {
+        reached = subst (IsReached rules known goals) at.2 (node_reached at.0 inside.0);
+        made = ap (λ (n : Text). is_leaf (node_of rules known n).kind) (sym at.2)
+            ∙ ap (λ (one : Node). is_leaf one.kind) (of_node at.0 inside.0) ∙ turned (is_leaf at.0.kind) inside.1;
+      }
+    where
+      turned : (b : Bool) → not b ≡ true → b ≡ false
+      turned true e = absurd (false≢true e)
+      turned false e = refl
+
+  is_made : (name : Text) → IsMade rules known goals name → Contains (made_names nodes) name
+  is_made name made =
+      let at : (node : Node) × Contains nodes node × (node.name ≡ name) = reached_node name made.reached in
+      let leaf : is_leaf at.0.kind ≡ false =
+      ap (λ (one : Node). is_leaf one.kind) (sym (of_node at.0 at.1)) ∙ ap (λ (n : Text). is_leaf (node_of rules known n).kind) at.2 ∙ made.made in
+      subst (Contains (made_names nodes)) at.2
+      (Contains-map (λ (one : Node). one.name) (made_nodes nodes) at.0 (filter_there (λ (one : Node). not (is_leaf one.kind)) nodes at.0 at.1 (ap not leaf)))
+
+  repeated_doubled : (name : Text) → Contains (made_names nodes) name → is_repeated (made_names nodes) name ≡ true → IsDoubled rules known goals name
+  repeated_doubled name has on =
+      let p : Text → Bool = λ one. bytes_eq (canon_of one) (canon_of name) in
+      let at : (other : Text) × Contains (made_names nodes) other × (bytes_eq (canon_of other) (canon_of name) ≡ true) × ¬ (name ≡ other) =
+      another (λ one. bytes_eq (canon_of one) (canon_of name)) (made_names nodes) name (rises_made nodes graph.rises) (ltb-true 1 (count_of (made_names nodes) (canon_of name)) on) in
+      record {
+        made = made_is name has;
+        other = at.0;
+        other_made = made_is at.0 at.1;
+        differ = at.3;
+        same = sym ((bytes_eq-Decides (canon_of at.0) (canon_of name)).0 at.2);
+      }
+
+  doubled_repeated : (name : Text) → IsDoubled rules known goals name → Contains (made_names nodes) name × (is_repeated (made_names nodes) name ≡ true)
+  doubled_repeated name doubled =
+      let one = is_made name doubled.made in
+      let two = is_made doubled.other doubled.other_made in (
+        one,
+        lt-ltb 1 (count_of (made_names nodes) (canon_of name))
+            (two_pass (λ n. bytes_eq (canon_of n) (canon_of name)) (made_names nodes) name doubled.other one two doubled.differ
+            ((bytes_eq-Decides (canon_of name) (canon_of name)).1 refl) ((bytes_eq-Decides (canon_of doubled.other) (canon_of name)).1 (sym doubled.same))),
+      )
+
+  pub is_reserved_there : list_any (λ node. is_reserved node.name) nodes ≡ true → (name : Text) × IsReserved rules known goals name
+  is_reserved_there on =
+      let at : (node : Node) × Contains nodes node × (is_reserved node.name ≡ true) = any_there (λ (node : Node). is_reserved node.name) nodes on in
+      (at.0.name, record { reached = node_reached at.0 at.1; reserved = at.2 })
+
+  pub none_reserved : list_any (λ node. is_reserved node.name) nodes ≡ false → (name : Text) → ¬ IsReserved rules known goals name
+  none_reserved off name reserved =
+      let at : (node : Node) × Contains nodes node × (node.name ≡ name) = reached_node name reserved.reached in
+      false≢true (sym (any_nowhere (λ (node : Node). is_reserved node.name) nodes off at.0 at.1) ∙ ap is_reserved at.2 ∙ reserved.reserved)
+
+  -- what is wrong with files, by the two answers
+  pub file_trouble : (found : Option Text) → list_any (λ node. is_reserved node.name) nodes ≡ false
+      → found ≡ find (is_repeated (made_names nodes)) (made_names nodes) → IsFileTrouble rules known goals (option_map one_file found)
+  file_trouble None off is = (
+    none_reserved off,
+    λ name doubled.
+        let at = doubled_repeated name doubled in
+        false≢true (sym (found_nowhere (is_repeated (made_names nodes)) (made_names nodes) (sym is) name at.0) ∙ at.1),
+  )
+  file_trouble (Some name) off is =
+      let found = found_is (is_repeated (made_names nodes)) (made_names nodes) name (sym is) in
+      let inside : Contains (made_names nodes) name = subst (λ (ns : List Text). Contains ns name) (sym found.cut)
+      (Rattle.std.proofs.lemmas.List.Elements.Contains-append_right found.earlier (name ∷ found.later) name (Contains-here name found.later)) in (
+        none_reserved off,
+        first_of (IsDoubled rules known goals) (is_repeated (made_names nodes)) (made_names nodes) name (rises_made nodes graph.rises) found
+            (repeated_doubled name inside found.passes) doubled_repeated,
+      )
+
+-- the parts of what comes first
+pub comes_first : (rules : List Rule) (known goals : List Text) (trouble : Option Trouble) → unmade_goal rules known goals ≡ None
+    → ((name : Text) → ¬ IsCyclic rules known goals name) → IsFileTrouble rules known goals trouble → ComesFirst rules known goals trouble
+comes_first rules known goals None made uncircled files = record {
+  free = record { uncircled = record { goals_made = record { made = made }; uncircled = uncircled }; free = files.0 };
+  single = files.1;
+}
+comes_first rules known goals (Some (no_rule goal)) made uncircled files = absurd files
+comes_first rules known goals (Some (circular name)) made uncircled files = absurd files
+comes_first rules known goals (Some reserved_name) made uncircled files =
+    (record { goals_made = record { made = made }; uncircled = uncircled }, files)
+comes_first rules known goals (Some (one_file name)) made uncircled files =
+    (record { uncircled = record { goals_made = record { made = made }; uncircled = uncircled }; free = files.0 }, files.1)

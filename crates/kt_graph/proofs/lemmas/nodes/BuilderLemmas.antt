@@ -1,0 +1,289 @@
+-- One more name gets its node, from the goals on to the last of all.
+use Rattle.std.proofs.Common.{◌≡◌, ℕ, suc, zero, Bool, true, false, ◌<◌, ◌≤◌, if◌then◌else◌, List, [], ◌∷◌, ◌++◌, length, map, fold, take, drop, get_or, Option, Some, None, slice_get, unwrap_or, Contains, All, refl, sym, ap, subst, ◌∙◌, arith, ◌⊎◌, inl, inr, ⊎_elim}
+use Rattle.std.specs.Option.{option_map}
+use Rattle.std.proofs.lemmas.List.{length-append, length_push, take-append-drop}
+use Rattle.std.proofs.lemmas.List.Elements.{All-nil, All-cons, All-weaker, All-contains_itself}
+use Rattle.std.proofs.lemmas.Option.{slice_get_within, slice_get-get_or, get_or_from_slice_get}
+use Rattle.kt_text.specs.Words.{Text}
+use Rattle.kt_rules.specs.declared.entry.RecipeLine.{RecipeLine}
+use Rattle.kt_rules.specs.declared.entry.Target.{Target}
+use Rattle.kt_rules.specs.Book.{explicit_rules}
+use Rattle.kt_rules.specs.Entry.{Rule}
+use Rattle.kt_rules.specs.Names.{with_name}
+use Rattle.kt_graph.specs.declared.nodes.node.Instance.{Instance as Held}
+use Rattle.kt_graph.specs.declared.nodes.node.NodeKind.{NodeKind}
+use Rattle.kt_graph.specs.inner.nodes.Stored.{StoredPart}
+use Rattle.kt_graph.specs.inner.nodes.Stored.{StoredNode}
+use Rattle.kt_graph.specs.search.Candidates.{Candidate}
+use Rattle.kt_graph.specs.inner.nodes.Named.{needed_by}
+use Rattle.kt_graph.specs.nodes.Node.{Instance, Node, Part, all_inputs, node_by, node_of}
+use Rattle.kt_graph.specs.inner.nodes.Numbering.{AreBelow, HasNumbers, IsMaking, IsNumbered, Says, SaysNode, SaysPart, SayParts, StandFor}
+use Rattle.kt_graph.specs.Reach.{IsReached}
+use Rattle.kt_graph.specs.inner.nodes.GraphBuilder.{IsDone, IsUnderWay}
+use Rattle.kt_graph.specs.nodes.Views.{instance_at, instance_view, name_at, names_at, part_view}
+use Rattle.kt_graph.proofs.lemmas.nodes.NumberLemmas.{names_grow, parts_kept, place_kept}
+use Rattle.kt_graph.proofs.lemmas.nodes.ReachLemmas.{goal_reached, inputs_all, reached_all, reached_on, reached_only, reached_stays}
+
+-- ---- places of lists that grow
+
+place_same : {A : Type 0} (xs more : List A) (k : ℕ) → k < length xs → slice_get (xs ++ more) k ≡ slice_get xs k
+place_same [] more k h = absurd (omega arith)
+place_same (x ∷ xs) more zero h = refl
+place_same (x ∷ xs) more (suc k) h = place_same xs more k (omega arith)
+
+push_cases : {A : Type 0} (xs : List A) (x : A) (k : ℕ) (y : A) → slice_get (xs ++ x ∷ []) k ≡ Some y
+    → (slice_get xs k ≡ Some y) ⊎ ((k ≡ length xs) × (y ≡ x))
+push_cases [] x zero y h = inr (refl, cc)
+push_cases [] x (suc k) y h = cc
+push_cases (z ∷ xs) x zero y h = inl h
+push_cases (z ∷ xs) x (suc k) y h = ⊎_elim (λ e. inl e) (λ e. inr (ap suc e.0, e.1)) (push_cases xs x k y h)
+
+holds_at : {A : Type 0} (P : A → Type 0) (xs : List A) (k : ℕ) (x : A) → All P xs → slice_get xs k ≡ Some x → P x
+holds_at P xs k x all at = subst P (get_or_from_slice_get xs k x x at) (all k x (slice_get_within xs k x at))
+
+-- ---- what is said stays
+
+making_kept : (instances new : List Held) (expected : Option Instance) (number : Option ℕ) → take (length instances) new ≡ instances
+    → IsMaking instances expected number → IsMaking new expected number
+making_kept instances new expected None kept h = record { numbers = tt; told = h.told }
+making_kept instances new expected (Some number) kept h =
+    let more = drop (length instances) new in
+    let whole : new ≡ instances ++ more = sym (take-append-drop (length instances) new) ∙ ap (λ l. l ++ more) kept in
+    let within : number < length instances = h.numbers in
+    record {
+      numbers = omega (arith, ap length whole, length-append instances more);
+      told = ap (λ l. option_map instance_view (slice_get l number)) whole ∙ ap (option_map instance_view) (place_same instances more number within) ∙ h.told;
+    }
+
+node_kept : (names needed : List Text) (instances new : List Held) (expected : Node) (node : StoredNode) → take (length instances) new ≡ instances
+    → SaysNode names instances expected node → SaysNode (fold with_name names needed) new expected node
+node_kept names needed instances new expected node kept h = record {
+  kind = h.kind;
+  parts = parts_kept names needed expected.parts node.parts h.parts;
+  making = making_kept instances new expected.made_with node.made_with kept h.making;
+  inputs = h.inputs;
+  order_only = h.order_only;
+}
+
+-- ---- the work
+
+-- goals are reached, and nothing else is done
+pub begun : (rules : List Rule) (known goals names : List Text) (instances : List Held) (nodes : List StoredNode) → names ≡ fold with_name [] goals → nodes ≡ []
+    → IsUnderWay rules known goals names instances nodes
+begun rules known goals names instances nodes reached none =
+    subst (λ l. IsUnderWay rules known goals l instances nodes) (sym reached)
+    (subst (λ l. IsUnderWay rules known goals (fold with_name [] goals) instances l) (sym none) (record {
+      reached = reached_only (IsReached rules known goals) goals [] (All-nil (IsReached rules known goals))
+          (All-weaker (Contains goals) (IsReached rules known goals) (λ goal h. goal_reached rules known goals goal h) goals (All-contains_itself goals));
+      named = reached_all goals [];
+      within = omega arith;
+      stored = λ number name node at none. cc;
+    }))
+
+grown_within : (needed names : List Text) → length names ≤ length (fold with_name names needed)
+grown_within needed names =
+    let grown = names_grow needed names in
+    omega (arith, ap length grown.1, length-append names grown.0)
+
+grown_at : (needed names : List Text) (k : ℕ) (name : Text) → slice_get names k ≡ Some name → slice_get (fold with_name names needed) k ≡ Some name
+grown_at needed names k name at =
+    let grown = names_grow needed names in
+    ap (λ l. slice_get l k) grown.1 ∙ place_kept names grown.0 k name at
+
+grown_same : (needed names : List Text) (k : ℕ) → k < length names → slice_get (fold with_name names needed) k ≡ slice_get names k
+grown_same needed names k h =
+    let grown = names_grow needed names in
+    ap (λ l. slice_get l k) grown.1 ∙ place_same names grown.0 k h
+
+-- the next name gets its node
+one_more : (rules : List Rule) (known goals names : List Text) (instances new : List Held) (nodes : List StoredNode) (name : Text) (node : StoredNode)
+    → IsUnderWay rules known goals names instances nodes → slice_get names (length nodes) ≡ Some name → take (length instances) new ≡ instances
+    → SaysNode (fold with_name names (needed_by (node_of rules known name))) new (node_of rules known name) node
+    → IsUnderWay rules known goals (fold with_name names (needed_by (node_of rules known name))) new (nodes ++ node ∷ [])
+one_more rules known goals names instances new nodes name node h at kept says =
+    let needed = needed_by (node_of rules known name) in
+    let here : IsReached rules known goals name = holds_at (IsReached rules known goals) names (length nodes) name h.reached at in
+    let within : length nodes < length names = slice_get_within names (length nodes) name at in
+    record {
+      reached = reached_only (IsReached rules known goals) needed names h.reached
+          (All-weaker (Contains (all_inputs (node_of rules known name))) (IsReached rules known goals)
+          (λ input k. reached_on rules known goals name input here k) needed (inputs_all (node_of rules known name)));
+      named = All-weaker (Contains names) (Contains (fold with_name names needed)) (λ goal k. reached_stays needed names goal k) goals h.named;
+      within = omega (arith, within, grown_within needed names, length_push nodes node);
+      stored = λ number other stored there held.
+          ⊎_elim
+          (λ before.
+          let old : slice_get names number ≡ Some other
+          = sym (grown_same needed names number (omega (arith, slice_get_within nodes number stored before, h.within))) ∙ there in
+          node_kept names needed instances new (node_of rules known other) stored kept (h.stored number other stored old before))
+          (λ last.
+          let same : Some other ≡ Some name = sym there ∙ ap (slice_get (fold with_name names needed)) last.0 ∙ grown_at needed names (length nodes) name at in
+          let e : name ≡ other = cc in
+          subst (λ n. SaysNode (fold with_name names needed) new (node_of rules known n) stored) e
+          (subst (λ s. SaysNode (fold with_name names needed) new (node_of rules known name) s) (sym last.1) says))
+          (push_cases nodes node number stored held);
+    }
+
+-- the same in the words of a step
+pub stored_more : (rules : List Rule) (known goals names after : List Text) (instances new : List Held) (nodes more : List StoredNode) (name : Text) (node : StoredNode)
+    → IsUnderWay rules known goals names instances nodes → slice_get names (length nodes) ≡ Some name → take (length instances) new ≡ instances
+    → after ≡ fold with_name names (needed_by (node_of rules known name)) → SaysNode after new (node_of rules known name) node → more ≡ nodes ++ node ∷ []
+    → IsUnderWay rules known goals after new more
+stored_more rules known goals names after instances new nodes more name node h at kept grown says pushed =
+    subst (λ l. IsUnderWay rules known goals l new more) (sym grown)
+    (subst (λ l. IsUnderWay rules known goals (fold with_name names (needed_by (node_of rules known name))) new l) (sym pushed)
+    (one_more rules known goals names instances new nodes name node h at kept
+    (subst (λ l. SaysNode l new (node_of rules known name) node) grown says)))
+
+-- the same where the book and the known names are those of the beginning
+pub stored_under : (rules same_rules : List Rule) (known same_known goals names after : List Text) (instances new : List Held) (nodes more : List StoredNode) (name : Text) (node : StoredNode)
+    → same_rules ≡ rules → same_known ≡ known → IsUnderWay rules known goals names instances nodes → slice_get names (length nodes) ≡ Some name
+    → take (length instances) new ≡ instances → after ≡ fold with_name names (needed_by (node_of same_rules same_known name))
+    → SaysNode after new (node_of same_rules same_known name) node → more ≡ nodes ++ node ∷ []
+    → IsUnderWay rules known goals after new more
+stored_under rules same_rules known same_known goals names after instances new nodes more name node by_rules by_known h at kept grown says pushed =
+    let e : node_of same_rules same_known name ≡ node_of rules known name
+    = ap (λ r. node_of r same_known name) by_rules ∙ ap (λ k. node_of rules k name) by_known in
+    stored_more rules known goals names after instances new nodes more name node h at kept
+    (grown ∙ ap (λ n. fold with_name names (needed_by n)) e) (subst (λ n. SaysNode after new n node) e says) pushed
+
+-- ---- at the end
+
+-- no name is left
+pub none_left : (found at : Option Text) → ((x : Text) → found ≡ Some x → ⊥) → found ≡ at → None ≡ at
+none_left None at h e = e
+none_left (Some x) at h e = absurd (h x refl)
+
+stand_below : (names expected : List Text) (numbers : List ℕ) → StandFor names expected numbers → AreBelow (length names) numbers
+stand_below names expected [] h = All-nil (λ number. number < length names)
+stand_below names [] (number ∷ numbers) h = cc
+stand_below names (name ∷ expected) (number ∷ numbers) h =
+    let first : slice_get names number ≡ Some name = cc in
+    let rest : StandFor names expected numbers = cc in
+    All-cons (λ n. n < length names) number numbers (slice_get_within names number name first) (stand_below names expected numbers rest)
+
+parts_numbered : (names : List Text) (expected : List Part) (parts : List StoredPart) → SayParts names expected parts
+    → All (λ part. IsNumbered (length names) part) parts
+parts_numbered names [] [] h = All-nil (λ part. IsNumbered (length names) part)
+parts_numbered names [] (part ∷ parts) h = absurd h
+parts_numbered names (one ∷ expected) [] h = absurd h
+parts_numbered names (one ∷ expected) (part ∷ parts) h =
+    All-cons (λ p. IsNumbered (length names) p) part parts
+    (record {
+      prerequisites = stand_below names one.needs.prerequisites part.prerequisites h.0.needs.prerequisites;
+      order_only = stand_below names one.needs.order_only part.order_only h.0.needs.order_only;
+    })
+    (parts_numbered names expected parts h.1)
+
+name_read : (keys : List Text) (number : ℕ) (name : Text) → slice_get keys number ≡ Some name
+    → name_at keys number ≡ name
+name_read keys number name at = ap (λ (o : Option Text). unwrap_or o []) at
+
+names_read : (keys expected : List Text) (numbers : List ℕ) → StandFor keys expected numbers
+    → names_at keys numbers ≡ expected
+names_read keys [] [] h = refl
+names_read keys [] (number ∷ numbers) h = cc
+names_read keys (name ∷ expected) [] h = cc
+names_read keys (name ∷ expected) (number ∷ numbers) h =
+    let first : slice_get keys number ≡ Some name = cc in
+    let rest : StandFor keys expected numbers = cc in
+    let e = name_read keys number name first in
+    let es = names_read keys expected numbers rest in
+    cc
+
+abbrev part_from : Option (List RecipeLine) → Text → List Text → List Text → Part
+part_from recipe stem prerequisites order_only =
+    record { recipe = recipe; stem = stem; needs = record { prerequisites = prerequisites; order_only = order_only } }
+
+abbrev node_from : Text → NodeKind → List Part → Option Instance → Node
+node_from name kind parts made_with = record { name = name; kind = kind; parts = parts; made_with = made_with }
+
+part_read : (keys : List Text) (expected : Part) (part : StoredPart) → SaysPart keys expected part
+    → part_view keys part ≡ expected
+part_read keys expected part h =
+    let first = names_read keys expected.needs.prerequisites part.prerequisites h.needs.prerequisites in
+    let second = names_read keys expected.needs.order_only part.order_only h.needs.order_only in
+    ap (λ r. part_from r part.stem (names_at keys part.prerequisites) (names_at keys part.order_only)) h.recipe
+    ∙ ap (λ s. part_from expected.recipe s (names_at keys part.prerequisites) (names_at keys part.order_only)) h.stem
+    ∙ ap (λ l. part_from expected.recipe expected.stem l (names_at keys part.order_only)) first
+    ∙ ap (λ l. part_from expected.recipe expected.stem expected.needs.prerequisites l) second
+
+parts_read : (keys : List Text) (expected : List Part) (parts : List StoredPart) → SayParts keys expected parts
+    → map (part_view keys) parts ≡ expected
+parts_read keys [] [] h = refl
+parts_read keys [] (part ∷ parts) h = absurd h
+parts_read keys (one ∷ expected) [] h = absurd h
+parts_read keys (one ∷ expected) (part ∷ parts) h =
+    let e = part_read keys one part h.0 in
+    let es = parts_read keys expected parts h.1 in
+    cc
+
+-- what a node says where the names are keys
+says_told : (keys : List Text) (instances : List Held) (name : Text) (expected : Node) (node : StoredNode) → expected.name ≡ name
+    → SaysNode keys instances expected node → Says keys instances name expected node
+says_told keys instances name expected node named h = record {
+  numbers = record {
+    parts = parts_numbered keys expected.parts node.parts h.parts;
+    inputs = h.inputs;
+    order_only = h.order_only;
+    made_with = h.making.numbers;
+  };
+  told = λ number at.
+      ap (λ n. node_from n node.kind (map (part_view keys) node.parts) (instance_at instances node.made_with)) (at ∙ sym named)
+      ∙ ap (λ k. node_from expected.name k (map (part_view keys) node.parts) (instance_at instances node.made_with)) h.kind
+      ∙ ap (λ l. node_from expected.name expected.kind l (instance_at instances node.made_with)) (parts_read keys expected.parts node.parts h.parts)
+      ∙ ap (λ m. node_from expected.name expected.kind expected.parts m) h.making.told;
+}
+
+one_named : (b : Bool) (one other : Node) (name : Text) → one.name ≡ name → other.name ≡ name → (if b then one else other).name ≡ name
+one_named true one other name h k = h
+one_named false one other name h k = k
+
+by_named : (rules : List Rule) (name : Text) (made : List (Rule × Target)) (used : Option (Rule × Target)) (found : Option (Candidate × Rule))
+    → (node_by rules name made used found).name ≡ name
+by_named rules name made (Some used) found = refl
+by_named rules name made None (Some found) = refl
+by_named rules name made None None = refl
+
+-- the node of a name has that name
+pub node_named : (rules : List Rule) (known : List Text) (name : Text) → (node_of rules known name).name ≡ name
+unfolding node_of
+node_named rules known name = one_named _ _ _ name refl (by_named rules name (explicit_rules rules name) _ _)
+
+past : {A : Type 0} (xs : List A) (k : ℕ) → None ≡ slice_get xs k → length xs ≤ k
+past [] k e = omega arith
+past (x ∷ xs) zero e = cc
+past (x ∷ xs) (suc k) e = omega (arith, past xs k e)
+
+named_at : (keys : List Text) (number : ℕ) → number < length keys
+    → slice_get keys number ≡ Some (name_at keys number)
+named_at [] number h = absurd (omega arith)
+named_at (key ∷ keys) zero h = refl
+named_at (key ∷ keys) (suc number) h = named_at keys number (omega arith)
+
+keys_done : (rules : List Rule) (known goals keys : List Text) (instances : List Held) (nodes : List StoredNode)
+    → IsUnderWay rules known goals keys instances nodes → None ≡ slice_get keys (length nodes)
+    → IsDone rules known goals keys instances nodes
+keys_done rules known goals keys instances nodes h none =
+    let count : length nodes ≡ length keys
+    = omega (arith, h.within, past keys (length nodes) none) in
+    record {
+      reached = h.reached;
+      named = h.named;
+      stored = λ number node at.
+          let name = name_at keys number in
+          let within : number < length keys = omega (arith, slice_get_within nodes number node at, count) in
+          says_told keys instances name (node_of rules known name) node (node_named rules known name) (h.stored number name node (named_at keys number within) at);
+      all = count;
+    }
+
+-- nothing is left
+pub all_done : (rules : List Rule) (known goals names : List Text) (instances : List Held) (nodes : List StoredNode)
+    → IsUnderWay rules known goals names instances nodes → None ≡ slice_get names (length nodes)
+    → IsDone rules known goals names instances nodes
+all_done rules known goals names instances nodes h none = keys_done rules known goals names instances nodes h none
+
+-- each node has the numbers of names and makings alone
+pub done_numbers : (rules : List Rule) (known goals names : List Text) (instances : List Held) (nodes : List StoredNode)
+    → IsDone rules known goals names instances nodes → All (HasNumbers (length names) (length instances)) nodes
+done_numbers rules known goals names instances nodes h = λ k d l. (h.stored k (get_or nodes k d) (slice_get-get_or nodes k d l)).numbers

@@ -1,0 +1,460 @@
+-- The groups that numbers lead are those of the nodes.
+use Rattle.std.proofs.Common.{◌≡◌, ℕ, suc, ◌+◌, ◌<◌, ◌≤◌, Bool, true, false, not, ◌&&◌, ◌||◌, ⊎_elim, cond, if◌then◌else◌, List, [], ◌∷◌, ◌++◌, length, drop, get_or, map, filter, find, nat_eq, Option, None, Some, IfSome, option_map, slice_get, refl, sym, ap, ◌∙◌, subst, arith}
+use Rattle.std.specs.List.{Contains, cons_option, prefix_len}
+use Rattle.std.specs.List.Sorted.{IsStrictlySortedBy}
+use Rattle.std.specs.Option.{option_and_then, option_map_or}
+use Rattle.std.specs.Ordering.{nat_cmp, is_eq}
+use Rattle.std.specs.declared.cmp.Ordering.TheVariants.{Less}
+use Rattle.std.specs.Cmp.Lexicographic.{slice_cmp}
+use Rattle.std.specs.Str.{bytes_eq}
+use Rattle.std.proofs.lemmas.Bool.{and_parts, cases_eq, eq-eqb, eqb-true, false≢true, true≢false}
+use Rattle.std.proofs.lemmas.List.{append-nil, append_assoc, drop_all, drop_more, get_or-replicate, get_or-set_other, get_or-set_same, length-replicate, length-set, map-append}
+use Rattle.std.proofs.lemmas.List.Elements.{All-contains, filter-append, filter_agree}
+use Rattle.std.proofs.lemmas.List.Sums.{prefix_len_stops}
+use Rattle.std.proofs.lemmas.Map.Keys.{sorted_tail}
+use Rattle.std.proofs.lemmas.Map.Text.{is_eq-slice_cmp}
+use Rattle.std.proofs.lemmas.Map.Views.{All-after_first}
+use Rattle.std.proofs.lemmas.Slice.Eq.{bytes_eq-Decides}
+use Rattle.kt_text.specs.Words.{Text}
+use Rattle.kt_graph.specs.declared.nodes.node.Instance.{Instance as Held}
+use Rattle.kt_graph.specs.inner.nodes.Stored.{StoredNode}
+use Rattle.kt_graph.specs.inner.faults.Edges.{bare_rows}
+use Rattle.kt_graph.specs.inner.nodes.Grouping.{HasMembers, group_at, groups_left, is_first, is_made_at, is_made_with, is_number, leads_at, leads_by, making_at, members_by, members_of, with_making, with_member}
+use Rattle.kt_graph.specs.nodes.Groups.{are_together, groups_among, groups_of, is_leading, is_one_making, made_nodes}
+use Rattle.kt_graph.specs.nodes.Node.{Instance, Node, is_leaf}
+use Rattle.kt_graph.specs.inner.nodes.Numbering.{HasNumbers}
+use Rattle.kt_graph.specs.nodes.Views.{instance_at, name_at, names_at, node_view, nodes_view}
+use Rattle.kt_graph.specs.inner.nodes.Graph.{IsWhole}
+use Rattle.kt_graph.proofs.lemmas.nodes.GroupLemmas.{one_itself, one_same}
+use Rattle.kt_graph.proofs.lemmas.MemberLemmas.{Contains-cases, Contains-here, Contains-map, Contains-none, Contains-slice_get, Contains-there}
+use Rattle.kt_graph.proofs.lemmas.faults.TroubleLemmas.{from_filter}
+use Rattle.kt_graph.proofs.lemmas.nodes.WholeLemmas.{instance_there}
+
+both_ways : (p q : Bool) → (p ≡ true → q ≡ true) → (q ≡ true → p ≡ true) → p ≡ q
+both_ways true q there back = sym (there refl)
+both_ways false true there back = back refl
+both_ways false false there back = refl
+
+-- ---- the numbers of each making
+
+pub none_noted : (nodes : List StoredNode) (count : ℕ) (members : List (List ℕ)) → members ≡ bare_rows count → HasMembers nodes count [] members
+none_noted nodes count members is = subst (HasMembers nodes count []) (sym is) record {
+  many = length-replicate {A = List ℕ} count [];
+  each = λ making less. get_or-replicate {A = List ℕ} count making [] [] less;
+}
+
+pub one_noted : (nodes : List StoredNode) (count number : ℕ) (numbers : List ℕ) (members new : List (List ℕ)) → HasMembers nodes count numbers members
+    → new ≡ with_member nodes members number → HasMembers nodes count (numbers ++ number ∷ []) new
+one_noted nodes count number numbers members new so_far is =
+    subst (HasMembers nodes count (numbers ++ number ∷ [])) (sym is) record {
+      many = many (is_made_at nodes number) (making_at nodes number);
+      each = λ making less.
+          each making less (is_made_at nodes number) (making_at nodes number)
+          ∙ sym (filter-append (is_made_with nodes making) numbers (number ∷ []));
+    }
+  where
+    unlike : (one other : ℕ) → ¬ (one ≡ other) → nat_eq one other ≡ false
+    unlike one other differ = by (nat_eq one other) refl
+      where
+        by : (b : Bool) → nat_eq one other ≡ b → nat_eq one other ≡ false
+        by true e = absurd (differ (eqb-true one other e))
+        by false e = e
+
+    many : (b : Bool) (o : Option ℕ) → length (if b then with_making members number o else members) ≡ count
+    many false o = so_far.many
+    many true None = so_far.many
+    many true (Some making) = length-set members making (get_or members making [] ++ number ∷ []) ∙ so_far.many
+
+    each : (making : ℕ) → making < count → (b : Bool) (o : Option ℕ) → get_or (if b then with_making members number o else members) making []
+        ≡ filter (is_made_with nodes making) numbers ++ cond (b && is_number making o) (number ∷ []) []
+    each making less false o = so_far.each making less ∙ sym (append-nil (filter (is_made_with nodes making) numbers))
+    each making less true None = so_far.each making less ∙ sym (append-nil (filter (is_made_with nodes making) numbers))
+    each making less true (Some other) = ⊎_elim
+        (λ (same : making ≡ other).
+        let long = so_far.many in
+        let within : other < length members = omega arith in
+        ap (λ n. get_or (with_making members number (Some other)) n []) same
+        ∙ get_or-set_same members other (get_or members other [] ++ number ∷ []) [] within
+        ∙ ap (λ n. get_or members n [] ++ number ∷ []) (sym same)
+        ∙ ap (λ (ns : List ℕ). ns ++ number ∷ []) (so_far.each making less)
+        ∙ ap (λ b. filter (is_made_with nodes making) numbers ++ cond b (number ∷ []) []) (sym (eq-eqb making other same)))
+        (λ differ.
+        get_or-set_other members other making (get_or members other [] ++ number ∷ []) [] differ
+        ∙ so_far.each making less ∙ sym (append-nil (filter (is_made_with nodes making) numbers))
+        ∙ ap (λ b. filter (is_made_with nodes making) numbers ++ cond b (number ∷ []) []) (sym (unlike making other differ)))
+        (cases_eq making other)
+
+-- ---- lists
+
+abbrev head_of : {A : Type 0} → List A → Option A
+head_of [] = None
+head_of (x ∷ xs) = Some x
+
+find_head : {A : Type 0} (p : A → Bool) (xs : List A) → find p xs ≡ head_of (filter p xs)
+find_head p [] = refl
+find_head {A} p (x ∷ xs) = by (p x) (find_head p xs)
+  where
+    by : (b : Bool) → find p xs ≡ head_of (filter p xs) → cond b (Some x) (find p xs) ≡ head_of (cond b (x ∷ filter p xs) (filter p xs))
+    by true rest = refl
+    by false rest = rest
+
+filter_one : {A : Type 0} (p : A → Bool) (x : A) (xs : List A) → filter p (x ∷ xs) ≡ cond (p x) (x ∷ []) [] ++ filter p xs
+filter_one {A} p x xs = by (p x)
+  where
+    by : (b : Bool) → cond b (x ∷ filter p xs) (filter p xs) ≡ cond b (x ∷ []) [] ++ filter p xs
+    by true = refl
+    by false = refl
+
+-- ---- the groups of an order
+
+module _ (names : List Text) (instances : List Held) (nodes : List StoredNode) (order : List ℕ) (whole : IsWhole names instances nodes order)
+    (members : List (List ℕ)) (has : HasMembers nodes (length instances) order members) where
+  abbrev told : List ℕ → List Node
+  told numbers = nodes_view names instances nodes numbers
+
+  abbrev made : List ℕ → List Node
+  made numbers = made_nodes (told numbers)
+
+  told_one : (number : ℕ) (numbers : List ℕ) → told (number ∷ numbers) ≡ told (number ∷ []) ++ told numbers
+  told_one number numbers = by (slice_get nodes number)
+    where
+      by : (o : Option StoredNode) → cons_option (option_map (node_view names instances number) o) (told numbers)
+          ≡ cons_option (option_map (node_view names instances number) o) [] ++ told numbers
+      by None = refl
+      by (Some node) = refl
+
+  made_one : (number : ℕ) (numbers : List ℕ) → made (number ∷ numbers) ≡ (if is_made_at nodes number then told (number ∷ []) else []) ++ made numbers
+  made_one number numbers = by (slice_get nodes number)
+    where
+      made_by : (b : Bool) (node : Node) → cond b (node ∷ made numbers) (made numbers) ≡ (if b then node ∷ [] else []) ++ made numbers
+      made_by true node = refl
+      made_by false node = refl
+
+      by : (o : Option StoredNode) → made_nodes (cons_option (option_map (node_view names instances number) o) (told numbers))
+          ≡ (if option_map_or (λ node. not (is_leaf node.kind)) o false then cons_option (option_map (node_view names instances number) o) [] else []) ++ made numbers
+      by None = refl
+      by (Some node) = made_by (not (is_leaf node.kind)) (node_view names instances number node)
+
+  -- ---- two numbers
+
+  same_name : (one other : ℕ) → Contains order one → Contains order other → bytes_eq (name_at names one) (name_at names other) ≡ nat_eq one other
+  same_name one other first second = both_ways (bytes_eq (name_at names one) (name_at names other)) (nat_eq one other)
+      (λ e. eq-eqb one other (whole.held.distinct one other ((whole.rises.all one).0 first) ((whole.rises.all other).0 second)
+      ((bytes_eq-Decides (name_at names one) (name_at names other)).0 e)))
+      (λ e. (bytes_eq-Decides (name_at names one) (name_at names other)).1 (ap (name_at names) (eqb-true one other e)))
+
+  -- the makings of two numbers are one
+  abbrev is_same : Option ℕ → Option ℕ → Bool
+  is_same None other = false
+  is_same (Some making) other = is_number making other
+
+  abbrev IsBelow : Option ℕ → Type 0
+  IsBelow making = IfSome making (λ number. number < length instances)
+
+  same_making : (one other : Option ℕ) → IsBelow one → IsBelow other → is_one_making (instance_at instances one) (instance_at instances other) ≡ is_same one other
+  same_making None other first second = refl
+  same_making (Some one) None first second =
+      let there : (told : Instance) × (instance_at instances (Some one) ≡ Some told) = instance_there instances one first in
+      ap (λ (o : Option Instance). is_one_making o None) there.1
+  same_making (Some one) (Some other) first second = both_ways (is_one_making (instance_at instances (Some one)) (instance_at instances (Some other))) (nat_eq one other)
+      (λ e. eq-eqb one other (whole.held.apart one other first second (one_same (instance_at instances (Some one)) (instance_at instances (Some other)) e)))
+      (λ e.
+      let there : (told : Instance) × (instance_at instances (Some one) ≡ Some told) = instance_there instances one first in
+      let also : instance_at instances (Some other) ≡ Some there.0 = ap (λ n. instance_at instances (Some n)) (sym (eqb-true one other e)) ∙ there.1 in
+      ap (λ (o : Option Instance). is_one_making o (instance_at instances (Some other))) there.1 ∙ ap (is_one_making (Some there.0)) also ∙ one_itself there.0)
+
+  below : (number : ℕ) (node : StoredNode) → slice_get nodes number ≡ Some node → IsBelow node.made_with
+  below number node at =
+      (All-contains (HasNumbers (length names) (length instances)) nodes node whole.held.numbers (Contains-slice_get nodes number node at)).made_with
+
+  -- whether a number stands in one group with another
+  abbrev stands_with : ℕ → ℕ → Bool
+  stands_with leader number = is_made_at nodes number && (nat_eq leader number || is_same (making_at nodes leader) (making_at nodes number))
+
+  -- ---- the numbers of a group
+
+  -- those that stand with a node, of more numbers
+  with_one : (leader : ℕ) (node : StoredNode) → Contains order leader → slice_get nodes leader ≡ Some node → (number : ℕ) → Contains order number
+      → filter (are_together (node_view names instances leader node)) (if is_made_at nodes number then told (number ∷ []) else [])
+      ≡ told (cond (stands_with leader number) (number ∷ []) [])
+  with_one leader node first at number second = by (slice_get nodes number) refl
+    where
+      both : Option ℕ → Bool
+      both making = nat_eq leader number || is_same node.made_with making
+
+      making_is : making_at nodes leader ≡ node.made_with
+      making_is = ap (λ (o : Option StoredNode). option_and_then (λ one. one.made_with) o) at
+
+      kept : (b : Bool) (other : StoredNode) → slice_get nodes number ≡ Some other
+          → cond b (node_view names instances number other ∷ []) [] ≡ told (cond b (number ∷ []) [])
+      kept true other is = ap (λ (o : Option StoredNode). cons_option (option_map (node_view names instances number) o) []) (sym is)
+      kept false other is = refl
+
+      together : (other : StoredNode) → slice_get nodes number ≡ Some other
+          → are_together (node_view names instances leader node) (node_view names instances number other) ≡ both other.made_with
+      together other is =
+          ap (λ b. b || is_one_making (instance_at instances node.made_with) (instance_at instances other.made_with)) (same_name leader number first second)
+          ∙ ap (λ b. nat_eq leader number || b) (same_making node.made_with other.made_with (below leader node at) (below number other is))
+
+      made_by : (b : Bool) (other : StoredNode) → slice_get nodes number ≡ Some other
+          → filter (are_together (node_view names instances leader node)) (if b then node_view names instances number other ∷ [] else [])
+          ≡ told (cond (b && both other.made_with) (number ∷ []) [])
+      made_by false other is = refl
+      made_by true other is =
+          ap (λ b. cond b (node_view names instances number other ∷ []) []) (together other is) ∙ kept (both other.made_with) other is
+
+      Wanted : Option StoredNode → Option ℕ → Type 0
+      Wanted o making =
+          filter (are_together (node_view names instances leader node))
+          (if option_map_or (λ one. not (is_leaf one.kind)) o false then cons_option (option_map (node_view names instances number) o) [] else [])
+          ≡ told (cond (option_map_or (λ one. not (is_leaf one.kind)) o false
+          && (nat_eq leader number || is_same making (option_and_then (λ one. one.made_with) o))) (number ∷ []) [])
+
+      by : (o : Option StoredNode) → slice_get nodes number ≡ o
+          → filter (are_together (node_view names instances leader node)) (if is_made_at nodes number then told (number ∷ []) else [])
+          ≡ told (cond (stands_with leader number) (number ∷ []) [])
+      by None is = subst (λ (o : Option StoredNode). Wanted o (making_at nodes leader)) (sym is) refl
+      by (Some other) is = subst (λ (o : Option StoredNode). Wanted o (making_at nodes leader)) (sym is)
+          (subst (λ (making : Option ℕ). Wanted (Some other) making) (sym making_is) (made_by (not (is_leaf other.kind)) other is))
+
+  with_all : (leader : ℕ) (node : StoredNode) → Contains order leader → slice_get nodes leader ≡ Some node → (numbers : List ℕ)
+      → ((number : ℕ) → Contains numbers number → Contains order number)
+      → filter (are_together (node_view names instances leader node)) (made numbers) ≡ told (filter (stands_with leader) numbers)
+  with_all leader node first at [] inside = refl
+  with_all leader node first at (number ∷ numbers) inside =
+      let rest = with_all leader node first at numbers (λ other h. inside other (Contains-there number numbers other h)) in
+      ap (filter (are_together (node_view names instances leader node))) (made_one number numbers)
+      ∙ filter-append (are_together (node_view names instances leader node)) (if is_made_at nodes number then told (number ∷ []) else []) (made numbers)
+      ∙ ap (λ (front : List Node). front ++ filter (are_together (node_view names instances leader node)) (made numbers))
+      (with_one leader node first at number (inside number (Contains-here number numbers)))
+      ∙ ap (λ (back : List Node). told (cond (stands_with leader number) (number ∷ []) []) ++ back) rest
+      ∙ joined (stands_with leader number)
+      ∙ ap told (sym (filter_one (stands_with leader) number numbers))
+    where
+      joined : (b : Bool) → told (cond b (number ∷ []) []) ++ told (filter (stands_with leader) numbers) ≡ told (cond b (number ∷ []) [] ++ filter (stands_with leader) numbers)
+      joined true = sym (told_one number (filter (stands_with leader) numbers))
+      joined false = refl
+
+  -- a number stands once in numbers whose names rise
+  none_later : (leader : ℕ) (numbers : List ℕ) (p : ℕ → Bool) → ((number : ℕ) → p number ≡ true → leader ≡ number)
+      → IsStrictlySortedBy (slice_cmp nat_cmp) (names_at names (leader ∷ numbers)) → filter p numbers ≡ []
+  none_later leader numbers p only rises = kept_none numbers (λ number h. by number h (p number) refl)
+    where
+      kept_none : (others : List ℕ) → ((number : ℕ) → Contains others number → p number ≡ false) → filter p others ≡ []
+      kept_none [] none = refl
+      kept_none (first ∷ others) none =
+          ap (λ b. cond b (first ∷ filter p others) (filter p others)) (none first (Contains-here first others))
+          ∙ kept_none others (λ number h. none number (Contains-there first others number h))
+
+      by : (number : ℕ) → Contains numbers number → (b : Bool) → p number ≡ b → p number ≡ false
+      by number h false e = e
+      by number h true e =
+          let less : slice_cmp nat_cmp (name_at names leader) (name_at names number) ≡ Less =
+          All-contains (λ (name : Text). slice_cmp nat_cmp (name_at names leader) name ≡ Less) (names_at names numbers) (name_at names number)
+          (All-after_first (slice_cmp nat_cmp) (name_at names leader) (names_at names numbers) rises) (Contains-map (name_at names) numbers number h) in
+          let differ : bytes_eq (name_at names leader) (name_at names number) ≡ false =
+          sym (is_eq-slice_cmp (name_at names leader) (name_at names number)) ∙ ap is_eq less in
+          let same : bytes_eq (name_at names leader) (name_at names number) ≡ true =
+          (bytes_eq-Decides (name_at names leader) (name_at names number)).1 (ap (name_at names) (only number e)) in
+          absurd (false≢true (sym differ ∙ same))
+
+  once : (leader : ℕ) (numbers : List ℕ) (p : ℕ → Bool) → p leader ≡ true → ((number : ℕ) → p number ≡ true → leader ≡ number)
+      → IsStrictlySortedBy (slice_cmp nat_cmp) (names_at names numbers) → Contains numbers leader → filter p numbers ≡ leader ∷ []
+  once leader [] p on only rises inside = Contains-none leader inside
+  once leader (first ∷ numbers) p on only rises inside = by (λ rise h. once leader numbers p on only rise h) (p first) refl
+    where
+      by : (IsStrictlySortedBy (slice_cmp nat_cmp) (names_at names numbers) → Contains numbers leader → filter p numbers ≡ leader ∷ []) → (b : Bool) → p first ≡ b → filter p (first ∷ numbers) ≡ leader ∷ []
+      by more true e =
+          let same = only first e in
+          let later : filter p numbers ≡ [] =
+          none_later leader numbers p only (subst (λ n. IsStrictlySortedBy (slice_cmp nat_cmp) (names_at names (n ∷ numbers))) (sym same) rises) in
+          ap (λ b. cond b (first ∷ filter p numbers) (filter p numbers)) e ∙ ap (λ (ns : List ℕ). first ∷ ns) later ∙ ap (λ n. n ∷ []) (sym same)
+      by more false e =
+          ap (λ b. cond b (first ∷ filter p numbers) (filter p numbers)) e
+          ∙ more (sorted_tail (slice_cmp nat_cmp) (name_at names first) (names_at names numbers) rises)
+          (⊎_elim
+          (λ (same : first ≡ leader). absurd (false≢true (sym e ∙ ap p same ∙ on)))
+          (λ (h : Contains numbers leader). h)
+          (Contains-cases first numbers leader inside))
+
+  -- those that stand with a number are its members
+  members_are : (leader : ℕ) → Contains order leader → is_made_at nodes leader ≡ true → (making : Option ℕ) → making_at nodes leader ≡ making → IsBelow making
+      → filter (stands_with leader) order ≡ members_by members leader making
+  members_are leader inside on None is within = once leader order (stands_with leader)
+      (ap (λ b. b && (nat_eq leader leader || is_same (making_at nodes leader) (making_at nodes leader))) on
+      ∙ ap (λ b. b || is_same (making_at nodes leader) (making_at nodes leader)) (eq-eqb leader leader refl))
+      (λ number e.
+      let both = and_parts (is_made_at nodes number) (nat_eq leader number || is_same (making_at nodes leader) (making_at nodes number)) e in
+      let named : (nat_eq leader number || false) ≡ true = sym (ap (λ (o : Option ℕ). nat_eq leader number || is_same o (making_at nodes number)) is) ∙ both.1 in
+      eqb-true leader number (or_none (nat_eq leader number) named))
+      whole.rises.rises inside
+    where
+      or_none : (b : Bool) → (b || false) ≡ true → b ≡ true
+      or_none true e = refl
+      or_none false e = e
+  members_are leader inside on (Some making) is within =
+      filter_agree (stands_with leader) (is_made_with nodes making) alike order ∙ sym (has.each making within)
+    where
+      absorbed : (number : ℕ) (b : Bool) → nat_eq leader number ≡ b → (b || is_number making (making_at nodes number)) ≡ is_number making (making_at nodes number)
+      absorbed number false e = refl
+      absorbed number true e =
+          let also : making_at nodes number ≡ Some making = ap (making_at nodes) (sym (eqb-true leader number e)) ∙ is in
+          sym (ap (is_number making) also ∙ eq-eqb making making refl)
+
+      alike : (number : ℕ) → stands_with leader number ≡ is_made_with nodes making number
+      alike number =
+          ap (λ (o : Option ℕ). is_made_at nodes number && (nat_eq leader number || is_same o (making_at nodes number))) is
+          ∙ ap (λ b. is_made_at nodes number && b) (absorbed number (nat_eq leader number) refl)
+
+  -- ---- the group that a number leads
+
+  making_of : (number : ℕ) (node : StoredNode) → slice_get nodes number ≡ Some node → making_at nodes number ≡ node.made_with
+  making_of number node at = ap (λ (o : Option StoredNode). option_and_then (λ one. one.made_with) o) at
+
+  made_of : (number : ℕ) (node : StoredNode) → slice_get nodes number ≡ Some node → is_made_at nodes number ≡ not (is_leaf node.kind)
+  made_of number node at = ap (λ (o : Option StoredNode). option_map_or (λ one. not (is_leaf one.kind)) o false) at
+
+  -- its nodes
+  group_is : (leader : ℕ) (node : StoredNode) → Contains order leader → slice_get nodes leader ≡ Some node → is_made_at nodes leader ≡ true
+      → filter (are_together (node_view names instances leader node)) (made order) ≡ told (members_of nodes members leader)
+  group_is leader node inside at on =
+      with_all leader node inside at order (λ number h. h)
+      ∙ ap told (members_are leader inside on (making_at nodes leader) refl (subst IsBelow (sym (making_of leader node at)) (below leader node at)))
+
+  -- a number that is made has a node
+  there_made : (number : ℕ) → is_made_at nodes number ≡ true → (node : StoredNode) × (slice_get nodes number ≡ Some node)
+  there_made number on = by (slice_get nodes number) refl on
+    where
+      by : (o : Option StoredNode) → slice_get nodes number ≡ o → option_map_or (λ one. not (is_leaf one.kind)) o false ≡ true
+          → (node : StoredNode) × (slice_get nodes number ≡ Some node)
+      by None is e = absurd (false≢true e)
+      by (Some node) is e = (node, is)
+
+  -- whether it leads the group
+  abbrev is_named : ℕ → List Node → Bool
+  is_named leader group = option_map_or (λ first. bytes_eq first.name (name_at names leader)) (head_of group) false
+
+  leads_is : (leader : ℕ) (node : StoredNode) → Contains order leader → slice_get nodes leader ≡ Some node → is_made_at nodes leader ≡ true
+      → is_leading (made order) (node_view names instances leader node) ≡ leads_by members leader (making_at nodes leader)
+  leads_is leader node inside at on =
+      ap (λ (o : Option Node). option_map_or (λ first. bytes_eq first.name (name_at names leader)) o false)
+      (find_head (are_together (node_view names instances leader node)) (made order) ∙ ap head_of (group_is leader node inside at on))
+      ∙ by (making_at nodes leader) (subst IsBelow (sym (making_of leader node at)) (below leader node at))
+    where
+      first_of : (making : ℕ) → making < length instances → (numbers : List ℕ) → get_or members making [] ≡ numbers → is_named leader (told numbers) ≡ is_first numbers leader
+      first_of making less [] is = refl
+      first_of making less (first ∷ others) is =
+          let from = from_filter (is_made_with nodes making) order first
+          (subst (λ (ns : List ℕ). Contains ns first) (sym is ∙ has.each making less) (Contains-here first others)) in
+          let made_there : is_made_at nodes first ≡ true = (and_parts (is_made_at nodes first) (is_number making (making_at nodes first)) from.1).0 in
+          let there : (one : StoredNode) × (slice_get nodes first ≡ Some one) = there_made first made_there in
+          ap (λ (o : Option StoredNode). is_named leader (cons_option (option_map (node_view names instances first) o) (told others))) there.1
+          ∙ same_name first leader from.0 inside
+
+      by : (making : Option ℕ) → IsBelow making → is_named leader (told (members_by members leader making)) ≡ leads_by members leader making
+      by None within =
+          ap (λ (o : Option StoredNode). is_named leader (cons_option (option_map (node_view names instances leader) o) [])) at
+          ∙ (bytes_eq-Decides (name_at names leader) (name_at names leader)).1 refl
+      by (Some making) within = first_of making within (get_or members making []) refl
+
+  -- ---- all groups
+
+  abbrev group_in : Node → List Node
+  group_in leader = filter (are_together leader) (made order)
+
+  abbrev group_told : ℕ → List Node
+  group_told number = told (members_of nodes members number)
+
+  one_group : (number : ℕ) → Contains order number
+      → map group_in (filter (is_leading (made order)) (if is_made_at nodes number then told (number ∷ []) else [])) ≡ group_at names instances nodes members number
+  one_group number inside = by (is_made_at nodes number) refl
+    where
+      led : (b : Bool) (node : Node) (group : List Node) → group_in node ≡ group → map group_in (cond b (node ∷ []) []) ≡ (if b then group ∷ [] else [])
+      led true node group is = ap (λ (ns : List Node). ns ∷ []) is
+      led false node group is = refl
+
+      by : (b : Bool) → is_made_at nodes number ≡ b
+          → map group_in (filter (is_leading (made order)) (if b then told (number ∷ []) else []))
+          ≡ (if b && leads_by members number (making_at nodes number) then group_told number ∷ [] else [])
+      by false e = refl
+      by true e =
+          let there : (one : StoredNode) × (slice_get nodes number ≡ Some one) = there_made number e in
+          let node : Node = node_view names instances number there.0 in
+          ap (λ (o : Option StoredNode). map group_in (filter (is_leading (made order)) (cons_option (option_map (node_view names instances number) o) []))) there.1
+          ∙ led (is_leading (made order) (node_view names instances number there.0)) (node_view names instances number there.0) (group_told number)
+          (group_is number there.0 inside there.1 e)
+          ∙ ap (λ b. if b then group_told number ∷ [] else []) (leads_is number there.0 inside there.1 e)
+
+  all_groups : (numbers : List ℕ) → ((number : ℕ) → Contains numbers number → Contains order number)
+      → map group_in (filter (is_leading (made order)) (made numbers)) ≡ groups_left names instances nodes members numbers
+  all_groups [] inside = refl
+  all_groups (number ∷ numbers) inside =
+      let rest = all_groups numbers (λ other h. inside other (Contains-there number numbers other h)) in
+      ap (λ (ns : List Node). map group_in (filter (is_leading (made order)) ns)) (made_one number numbers)
+      ∙ ap (map group_in) (filter-append (is_leading (made order)) (if is_made_at nodes number then told (number ∷ []) else []) (made numbers))
+      ∙ map-append group_in (filter (is_leading (made order)) (if is_made_at nodes number then told (number ∷ []) else [])) (filter (is_leading (made order)) (made numbers))
+      ∙ ap (λ (front : List (List Node)). front ++ map group_in (filter (is_leading (made order)) (made numbers))) (one_group number (inside number (Contains-here number numbers)))
+      ∙ ap (λ (back : List (List Node)). group_at names instances nodes members number ++ back) rest
+
+  pub groups_are : groups_left names instances nodes members order ≡ groups_of (nodes_view names instances nodes order)
+  unfolding groups_among
+  groups_are = sym (all_groups order (λ number h. h))
+
+-- ---- the next group
+
+module _ (names : List Text) (instances : List Held) (nodes : List StoredNode) (members : List (List ℕ)) where
+  abbrev stays : ℕ → Bool
+  stays number = not (leads_at nodes members number)
+
+  abbrev left_of : List ℕ → List (List Node)
+  left_of numbers = groups_left names instances nodes members numbers
+
+  skipped : (numbers : List ℕ) → left_of numbers ≡ left_of (drop (prefix_len stays numbers) numbers)
+  skipped [] = refl
+  skipped (number ∷ numbers) = by (skipped numbers) (leads_at nodes members number) refl
+    where
+      by : left_of numbers ≡ left_of (drop (prefix_len stays numbers) numbers) → (b : Bool) → leads_at nodes members number ≡ b → left_of (number ∷ numbers) ≡ left_of (drop (cond (not b) (1 + prefix_len stays numbers) 0) (number ∷ numbers))
+      by more true e = refl
+      by more false e =
+          let next : suc (prefix_len stays numbers) ≡ 1 + prefix_len stays numbers = omega arith in
+          ap (λ b. (if b then nodes_view names instances nodes (members_of nodes members number) ∷ [] else []) ++ left_of numbers) e
+          ∙ more ∙ ap (λ n. left_of (drop n (number ∷ numbers))) next
+
+  pub none_next : (numbers : List ℕ) (place : ℕ) → place ≡ prefix_len stays numbers → length numbers ≤ place → left_of numbers ≡ []
+  none_next numbers place is past =
+      skipped numbers ∙ ap (λ n. left_of (drop n numbers)) (sym is) ∙ ap left_of (drop_all place numbers past)
+
+  pub some_next : (numbers : List ℕ) (place number : ℕ) (group : List Node) (rest : List ℕ) → place ≡ prefix_len stays numbers → place < length numbers
+      → number ≡ get_or numbers place number → group ≡ nodes_view names instances nodes (members_of nodes members number)
+      → rest ≡ drop (place + 1) numbers → left_of numbers ≡ group ∷ left_of rest
+  some_next numbers place number group rest is within at told rest_is =
+      let stops : not (leads_at nodes members (get_or numbers (prefix_len stays numbers) number)) ≡ false =
+      prefix_len_stops stays numbers number (subst (λ n. n < length numbers) is within) in
+      let leads : leads_at nodes members number ≡ true =
+      not_not (leads_at nodes members number) (ap (λ n. not (leads_at nodes members n)) (at ∙ ap (λ n. get_or numbers n number) is) ∙ stops) in
+      skipped numbers ∙ ap (λ n. left_of (drop n numbers)) (sym is)
+      ∙ ap left_of (drop_more numbers place number within)
+      ∙ ap (λ n. left_of (n ∷ drop (place + 1) numbers)) (sym at)
+      ∙ ap (λ b. (if b then nodes_view names instances nodes (members_of nodes members number) ∷ [] else []) ++ left_of (drop (place + 1) numbers)) leads
+      ∙ ap (λ (ns : List Node). ns ∷ left_of (drop (place + 1) numbers)) (sym told)
+      ∙ ap (λ (ns : List ℕ). group ∷ left_of ns) (sym rest_is)
+    where
+      not_not : (b : Bool) → not b ≡ false → b ≡ true
+      not_not true e = refl
+      not_not false e = absurd (true≢false e)
+
+  -- nodes behind others
+  pub put_more : (numbers : List ℕ) (place number : ℕ) (before after : List Node) → place < length numbers → number ≡ get_or numbers place number
+      → after ≡ before ++ nodes_view names instances nodes (number ∷ [])
+      → after ++ nodes_view names instances nodes (drop (place + 1) numbers) ≡ before ++ nodes_view names instances nodes (drop place numbers)
+  put_more numbers place number before after within at put =
+      ap (λ (ns : List Node). ns ++ nodes_view names instances nodes (drop (place + 1) numbers)) put
+      ∙ append_assoc before (nodes_view names instances nodes (number ∷ [])) (nodes_view names instances nodes (drop (place + 1) numbers))
+      ∙ ap (λ (ns : List Node). before ++ ns) (sym (one_more (slice_get nodes number)))
+      ∙ ap (λ (ns : List ℕ). before ++ nodes_view names instances nodes ns)
+      (ap (λ n. n ∷ drop (place + 1) numbers) at ∙ sym (drop_more numbers place number within))
+    where
+      one_more : (o : Option StoredNode) → cons_option (option_map (node_view names instances number) o) (nodes_view names instances nodes (drop (place + 1) numbers))
+          ≡ cons_option (option_map (node_view names instances number) o) [] ++ nodes_view names instances nodes (drop (place + 1) numbers)
+      one_more None = refl
+      one_more (Some node) = refl

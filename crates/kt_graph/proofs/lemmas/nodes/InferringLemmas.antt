@@ -1,0 +1,74 @@
+-- What a chosen rule gives is what the node of the candidate tells that the search finds.
+use Rattle.std.proofs.Common.{◌≡◌, true, false, if◌then◌else◌, List, ◌++◌, Option, Some, None, slice_get, refl, sym, ap, ◌∙◌}
+use Rattle.std.specs.Option.{option_and_then, option_map}
+use Rattle.kt_text.specs.Words.{Text}
+use Rattle.kt_rules.specs.declared.entry.Target.{Target}
+use Rattle.kt_rules.specs.Book.{is_phony, patterns_of}
+use Rattle.kt_rules.specs.Entry.{Rule}
+use Rattle.kt_graph.specs.declared.search.choice.Chosen.{Chosen}
+use Rattle.kt_graph.specs.declared.nodes.inferring.Inferred.{Inferred}
+use Rattle.kt_graph.specs.search.Candidates.{Candidate, needs_with}
+use Rattle.kt_graph.specs.inner.nodes.Inferring.{GivesChosen, Infers, InfersFrom, inferred_node, pattern_making}
+use Rattle.kt_graph.specs.nodes.Node.{chosen_rule, implicit_node, joined_needs, needs_after, searched}
+use Rattle.kt_graph.specs.search.Search.{choice_of}
+use Rattle.kt_graph.specs.search.Views.{choice_view}
+use Rattle.kt_graph.specs.nodes.Views.{instance_view}
+use Rattle.kt_graph.proofs.lemmas.search.ChosenLemmas.{choice_needs}
+
+-- nothing is searched for where a name is phony
+pub phony_tells : (book : List Rule) (known : List Text) (name : Text) → is_phony book name ≡ true → InfersFrom (searched book known name) None
+phony_tells book known name h =
+    ap (λ b. if b then None else option_and_then (chosen_rule (patterns_of book)) (choice_of (patterns_of book) known name)) h
+
+search_is : (book : List Rule) (known : List Text) (name : Text) (choice : Option Candidate) → is_phony book name ≡ false
+    → choice_of (patterns_of book) known name ≡ choice → searched book known name ≡ option_and_then (chosen_rule (patterns_of book)) choice
+search_is book known name choice h found =
+    ap (λ b. if b then None else option_and_then (chosen_rule (patterns_of book)) (choice_of (patterns_of book) known name)) h
+    ∙ ap (option_and_then (chosen_rule (patterns_of book))) found
+
+-- nothing is found
+pub none_tells : (book : List Rule) (known : List Text) (name : Text) → is_phony book name ≡ false
+    → None ≡ option_map choice_view (choice_of (patterns_of book) known name) → InfersFrom (searched book known name) None
+none_tells book known name h none = by_choice (choice_of (patterns_of book) known name) refl none
+  where
+    by_choice : (choice : Option Candidate) → choice_of (patterns_of book) known name ≡ choice → None ≡ option_map choice_view choice → InfersFrom (searched book known name) None
+    by_choice None found e = search_is book known name None h found
+    by_choice (Some candidate) found e = cc
+
+given : (candidate : Candidate) (rule : Rule) (chosen : Chosen) (inferred : Inferred) → chosen ≡ choice_view candidate
+    → candidate.needs ≡ needs_with candidate.directory candidate.stem rule.needs → GivesChosen rule chosen inferred
+    → (name : Text) (rules : List (Rule × Target)) → inferred_node name rules inferred ≡ implicit_node name rules candidate rule
+given candidate rule chosen inferred told needing gives name rules =
+    let stem : inferred.stem ≡ candidate.directory ++ candidate.stem = gives.stem ∙ ap (λ c. c.directory ++ c.stem) told in
+    let needs : inferred.needs ≡ candidate.needs = gives.needs ∙ ap (λ c. needs_with c.directory c.stem rule.needs) told ∙ sym needing in
+    let all : needs_after inferred.needs (joined_needs rules) ≡ needs_after candidate.needs (joined_needs rules) = ap (λ n. needs_after n (joined_needs rules)) needs in
+    let made : option_map instance_view inferred.making ≡ pattern_making rule (choice_view candidate) = gives.making ∙ ap (pattern_making rule) told in
+    cc (gives.recipe)
+
+-- a rule is found, or the chosen number is that of none
+rule_tells : (book : List Rule) (known : List Text) (name : Text) (candidate : Candidate) (chosen : Chosen) (inferred : Option Inferred) → is_phony book name ≡ false
+    → choice_of (patterns_of book) known name ≡ Some candidate → chosen ≡ choice_view candidate
+    → Infers (patterns_of book) chosen inferred → InfersFrom (searched book known name) inferred
+rule_tells book known name candidate chosen None h found told infers =
+    search_is book known name (Some candidate) h found
+    ∙ ap (option_map (λ rule. (candidate, rule))) (ap (λ c. slice_get (patterns_of book) c.rule) (sym told) ∙ infers)
+rule_tells book known name candidate chosen (Some inferred) h found told infers =
+    let rule = infers.0 in
+    let at : slice_get (patterns_of book) candidate.rule ≡ Some rule = ap (λ c. slice_get (patterns_of book) c.rule) (sym told) ∙ infers.1 in (
+      (candidate, rule),
+      search_is book known name (Some candidate) h found ∙ ap (option_map (λ r. (candidate, r))) at,
+      given candidate rule chosen inferred told (choice_needs (patterns_of book) known name candidate rule found at) infers.2,
+    )
+
+-- something is chosen
+pub some_tells : (book : List Rule) (known : List Text) (name : Text) (chosen : Chosen) (inferred : Option Inferred) → is_phony book name ≡ false
+    → Some chosen ≡ option_map choice_view (choice_of (patterns_of book) known name) → Infers (patterns_of book) chosen inferred
+    → InfersFrom (searched book known name) inferred
+some_tells book known name chosen inferred h some infers = by_choice (choice_of (patterns_of book) known name) refl some
+  where
+    by_choice : (choice : Option Candidate) → choice_of (patterns_of book) known name ≡ choice → Some chosen ≡ option_map choice_view choice
+        → InfersFrom (searched book known name) inferred
+    by_choice None found e = cc
+    by_choice (Some candidate) found e =
+        let told : chosen ≡ choice_view candidate = cc in
+        rule_tells book known name candidate chosen inferred h found told infers

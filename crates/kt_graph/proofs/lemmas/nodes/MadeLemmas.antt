@@ -1,0 +1,346 @@
+-- What implicit nodes need: it is known, or a rule makes it.
+use Rattle.std.proofs.Common.{◌≡◌, ℕ, suc, ◌+◌, ◌<◌, Bool, true, false, not, ◌&&◌, ◌||◌, if◌then◌else◌, List, [], ◌∷◌, ◌++◌, length, filter, map, Option, Some, None, is_some, refl, sym, ap, ◌∙◌, subst, true≢false, ◌⊎◌, inl, inr, ⊎_elim, arith}
+use Rattle.std.specs.Prelude.{bytes_eq, fold, nat_le, option_map, slice_get}
+use Rattle.std.specs.Option.{option_and_then, option_or, option_to_list}
+use Rattle.std.specs.List.{Contains, cons_option, filter_map, find, flat_map, list_all, list_any}
+use Rattle.std.specs.Cmp.Lexicographic.{same_text}
+use Rattle.std.proofs.lemmas.Bool.{and_from, and_parts, not_from_false}
+use Rattle.std.proofs.lemmas.List.Elements.{Contains-append_cases, Contains-append_left, Contains-append_right}
+use Rattle.std.proofs.lemmas.Option.{none-some, same_Some}
+use Rattle.kt_text.specs.Words.{Text}
+use Rattle.kt_rules.specs.declared.entry.Target.{Target}
+use Rattle.kt_rules.specs.Names.{is_among, without_repeats}
+use Rattle.kt_rules.specs.Entry.{Rule, needs_for}
+use Rattle.kt_rules.specs.Suffixes.{all_needs, is_suffix_rule, suffixes_of}
+use Rattle.kt_rules.specs.Book.{explicit_rules, is_double, is_explicit, is_made, is_phony, patterns_of, rules_of, target_rules}
+use Rattle.kt_graph.specs.declared.nodes.node.NodeKind.TheVariants.{DoubleColon, Explicit, Implicit, Phony, Leaf}
+use Rattle.kt_graph.specs.search.Candidates.{Candidate, are_short, candidate_by, candidate_of, candidate_with, candidates_for, fit_of, matching_from, shorter, shortest, size_of, unless_long, without_any}
+use Rattle.kt_graph.specs.Known.{known_names, listed_names, named_by, named_with}
+use Rattle.kt_graph.specs.search.Search.{choice_of, fitting, is_begun, is_inferred, is_met, is_used, open_candidates, unknown_needs, with_rule}
+use Rattle.kt_graph.specs.nodes.Node.{Node, all_inputs, chosen_rule, double_node, implicit_node, inputs_of, is_leaf, joined_needs, kind_without, node_by, node_of, order_only_of, searched, used_rule}
+use Rattle.kt_graph.specs.Reach.{HasInput, HasMadeInputs, IsGraph, IsReached, Leads}
+use Rattle.kt_graph.proofs.lemmas.search.GrowthLemmas.{from_by_size, from_flat_map, in_flat_map, tree_grows}
+use Rattle.kt_graph.proofs.lemmas.Membership.{any_passes, each_passes, first_or_rest, in_first, in_rest, kept_by_filter, none_in_empty}
+use Rattle.kt_graph.proofs.lemmas.search.CandidateViewLemmas.{get_some}
+use Rattle.kt_graph.proofs.lemmas.search.TreeLemmas.{found_as_trees}
+use Rattle.kt_graph.proofs.lemmas.search.UnknownLemmas.{among_from, among_itself, from_without_repeats, in_without_repeats, is_unknown}
+
+-- ---- elements of lists that were made of others
+
+module _ {X Y : Type 0} where
+  from_map : (f : X → Y) (xs : List X) (y : Y) → Contains (map f xs) y → (x : X) × Contains xs x × (f x ≡ y)
+  from_map f [] y c = absurd (none_in_empty y c)
+  from_map f (x ∷ xs) y c = by (first_or_rest (f x) y (map f xs) c) (from_map f xs y)
+    where
+      by : (f x ≡ y) ⊎ Contains (map f xs) y → (Contains (map f xs) y → (z : X) × Contains xs z × (f z ≡ y)) → (z : X) × Contains (x ∷ xs) z × (f z ≡ y)
+      by (inl e) later = (x, in_first x xs, e)
+      by (inr rest) later = let found = later rest in (found.0, in_rest x found.0 xs found.1, found.2)
+
+  in_map : (f : X → Y) (xs : List X) (x : X) → Contains xs x → Contains (map f xs) (f x)
+  in_map f [] x c = absurd (none_in_empty x c)
+  in_map f (z ∷ xs) x c =
+      ⊎_elim (λ e. subst (λ w. Contains (f z ∷ map f xs) (f w)) e (in_first (f z) (map f xs))) (λ rest. in_rest (f z) (f x) (map f xs) (in_map f xs x rest)) (first_or_rest z x xs c)
+
+  from_filter_map : (f : X → Option Y) (xs : List X) (y : Y) → Contains (filter_map f xs) y → (x : X) × (f x ≡ Some y)
+  from_filter_map f [] y c = absurd (none_in_empty y c)
+  from_filter_map f (x ∷ xs) y c = by (f x) refl c (from_filter_map f xs y)
+    where
+      by : (o : Option Y) → f x ≡ o → Contains (cons_option o (filter_map f xs)) y → (Contains (filter_map f xs) y → (z : X) × (f z ≡ Some y)) → (z : X) × (f z ≡ Some y)
+      by None e c later = later c
+      by (Some first) e c later = ⊎_elim (λ same. (x, e ∙ ap Some same)) later (first_or_rest first y (filter_map f xs) c)
+
+pub found_in : {X : Type 0} (p : X → Bool) (xs : List X) (x : X) → find p xs ≡ Some x → Contains xs x × (p x ≡ true)
+found_in p [] x e = absurd (none-some x e)
+found_in p (y ∷ xs) x e = by (p y) refl e (found_in p xs x)
+  where
+    by : (b : Bool) → p y ≡ b → (if b then Some y else find p xs) ≡ Some x → (find p xs ≡ Some x → Contains xs x × (p x ≡ true)) → Contains (y ∷ xs) x × (p x ≡ true)
+    by true h e later = let same = same_Some y x e in (subst (λ z. Contains (y ∷ xs) z) same (in_first y xs), ap p (sym same) ∙ h)
+    by false h e later = let found = later e in (in_rest y x xs found.0, found.1)
+
+-- ---- the rules of candidates
+
+module _ (number : ℕ) where
+  shorter_rule : (best : Candidate) (others : List Candidate) → best.rule ≡ number → ((one : Candidate) → Contains others one → one.rule ≡ number)
+      → (fold shorter best others).rule ≡ number
+  shorter_rule best [] e h = e
+  shorter_rule best (other ∷ others) e h =
+      shorter_rule (shorter best other) others (by (nat_le (size_of best) (size_of other))) (λ one c. h one (in_rest other one others c))
+    where
+      by : (b : Bool) → (if b then best else other).rule ≡ number
+      by true = e
+      by false = h other (in_first other others)
+
+  shortest_rule : (candidates : List Candidate) (one : Candidate) → ((one : Candidate) → Contains candidates one → one.rule ≡ number) → shortest candidates ≡ Some one → one.rule ≡ number
+  shortest_rule [] one h e = absurd (none-some one e)
+  shortest_rule (candidate ∷ candidates) one h e =
+      ap (λ (c : Candidate). c.rule) (sym (same_Some (fold shorter candidate candidates) one e))
+      ∙ shorter_rule candidate candidates (h candidate (in_first candidate candidates)) (λ other c. h other (in_rest candidate other candidates c))
+
+  by_rule : (rule : Rule) (name : Text) (target : Target) (one : Candidate) → candidate_by number rule name target ≡ Some one → one.rule ≡ number
+  by_rule rule name target one e = by (fit_of target.name name) e
+    where
+      by : (o : Option (Text × Text)) → option_map (candidate_with number rule target.name) o ≡ Some one → one.rule ≡ number
+      by None e = absurd (none-some one e)
+      by (Some fit) e = ap (λ (c : Candidate). c.rule) (sym (same_Some (candidate_with number rule target.name fit) one e))
+
+  candidate_rule : (rule : Rule) (name : Text) (one : Candidate) → candidate_of number rule name ≡ Some one → one.rule ≡ number
+  unfolding candidate_of
+  candidate_rule rule name one e = by (shortest (filter_map (candidate_by number rule name) rule.targets)) refl e
+    where
+      short : (candidate : Candidate) (b : Bool) → (if b then Some candidate else None) ≡ Some one → candidate ≡ one
+      short candidate true e = same_Some candidate one e
+      short candidate false e = absurd (none-some one e)
+
+      by : (o : Option Candidate) → shortest (filter_map (candidate_by number rule name) rule.targets) ≡ o → option_and_then (unless_long rule) o ≡ Some one → one.rule ≡ number
+      by None f e = absurd (none-some one e)
+      by (Some candidate) f e =
+          ap (λ (c : Candidate). c.rule) (sym (short candidate (are_short candidate.directory candidate.stem rule.needs) e))
+          ∙ shortest_rule (filter_map (candidate_by number rule name) rule.targets) candidate
+          (λ other c. let found = from_filter_map (candidate_by number rule name) rule.targets other c in by_rule rule name found.0 other found.1) f
+
+in_option : {X : Type 0} (o : Option X) (x : X) → Contains (option_to_list o) x → o ≡ Some x
+in_option None x c = absurd (none_in_empty x c)
+in_option (Some y) x c = ⊎_elim (λ e. ap Some e) (λ none. absurd (none_in_empty x none)) (first_or_rest y x [] c)
+
+matching_rule : (number : ℕ) (rules : List Rule) (name : Text) (one : Candidate) → Contains (matching_from number rules name) one → one.rule < number + length rules
+unfolding matching_from
+matching_rule number [] name one c = absurd (none_in_empty one c)
+matching_rule number (rule ∷ rules) name one c =
+    ⊎_elim (λ here. omega (arith, candidate_rule number rule name one (in_option (candidate_of number rule name) one here)))
+    (λ later. omega (arith, matching_rule (number + 1) rules name one later))
+    (Contains-append_cases (option_to_list (candidate_of number rule name)) (matching_from (number + 1) rules name) one c)
+
+from_without_any : (in_chain : Bool) (candidates : List Candidate) (one : Candidate) → Contains (without_any in_chain candidates) one → Contains candidates one
+from_without_any in_chain candidates one c = by (in_chain || list_any (λ candidate. not candidate.is_any) candidates) c
+  where
+    by : (b : Bool) → Contains (if b then filter (λ candidate. not candidate.is_any || candidate.is_last) candidates else candidates) one → Contains candidates one
+    by true c = (kept_by_filter (λ candidate. not candidate.is_any || candidate.is_last) candidates one c).0
+    by false c = c
+
+-- a candidate is one of a rule
+pub has_rule : (rules : List Rule) (in_chain : Bool) (name : Text) (one : Candidate) → Contains (candidates_for rules in_chain name) one → one.rule < length rules
+unfolding candidates_for
+has_rule rules in_chain name one c =
+    omega (arith, matching_rule 0 rules name one (from_without_any in_chain (matching_from 0 rules name) one (from_by_size name (without_any in_chain (matching_from 0 rules name)) one c)))
+
+-- ---- what is chosen
+
+module _ (rules : List Rule) (known : List Text) where
+  -- it is an open candidate that is met or inferred
+  pub chosen_is : (left : ℕ) (used : List ℕ) (name : Text) (one : Candidate) → fitting rules known (suc left) used name ≡ Some one
+      → Contains (candidates_for rules (is_begun used) name) one × ((is_met known one ≡ true) ⊎ (is_inferred known (fitting rules known left) used one ≡ true))
+  unfolding fitting
+  chosen_is left used name one e = by (find (is_met known) (open_candidates rules used name)) refl e
+    where
+      by : (o : Option Candidate) → find (is_met known) (open_candidates rules used name) ≡ o
+          → option_or o (find (is_inferred known (fitting rules known left) used) (open_candidates rules used name)) ≡ Some one
+          → Contains (candidates_for rules (is_begun used) name) one × ((is_met known one ≡ true) ⊎ (is_inferred known (fitting rules known left) used one ≡ true))
+      by (Some first) f e =
+          let found = found_in (is_met known) (open_candidates rules used name) one (f ∙ e) in
+          ((kept_by_filter (λ candidate. not (is_used used candidate.rule)) (candidates_for rules (is_begun used) name) one found.0).0, inl found.1)
+      by None f e =
+          let found = found_in (is_inferred known (fitting rules known left) used) (open_candidates rules used name) one e in
+          ((kept_by_filter (λ candidate. not (is_used used candidate.rule)) (candidates_for rules (is_begun used) name) one found.0).0, inr found.1)
+
+  -- what it needs and isn't known finds a rule, also outside the chain
+  pub needed_found : (name : Text) (one : Candidate) (input : Text) → choice_of rules known name ≡ Some one → Contains (all_needs one.needs) input → is_among known input ≡ false
+      → is_some (choice_of rules known input) ≡ true
+  needed_found name one input e c unknown = by (chosen_is 7 [] name one e).1
+    where
+      by : (is_met known one ≡ true) ⊎ (is_inferred known (fitting rules known 7) [] one ≡ true) → is_some (choice_of rules known input) ≡ true
+      by (inl met) = absurd (true≢false (sym (each_passes (is_among known) (all_needs one.needs) met input c) ∙ unknown))
+      by (inr inferred) =
+          let chain = with_rule one.rule [] in
+          let parts = and_parts (not one.is_last) (list_all (λ n. is_some (fitting rules known 7 chain n)) (unknown_needs known one)) inferred in
+          let after = each_passes (λ n. is_some (fitting rules known 7 chain n)) (unknown_needs known one) parts.1 input (is_unknown known one input c unknown) in
+          (found_as_trees rules known 8 [] input).1
+          (tree_grows rules known 7 8 (omega arith) chain [] (λ rule none. absurd (true≢false (sym none))) input ((found_as_trees rules known 7 chain input).0 after))
+
+-- ---- nodes
+
+module _ (rules : List Rule) (known : List Text) (name : Text) where
+  abbrev pub made : List (Rule × Target)
+  made = explicit_rules rules name
+
+  searched_choice : (found : Candidate × Rule) → searched rules known name ≡ Some found → choice_of (patterns_of rules) known name ≡ Some found.0
+  searched_choice found e = by (is_phony rules name) e
+    where
+      drawn : (one : Candidate) (o : Option Rule) → option_map (λ rule. (one, rule)) o ≡ Some found → one ≡ found.0
+      drawn one None e = absurd (none-some found e)
+      drawn one (Some rule) e = ap (λ pair. pair.0) (same_Some (one, rule) found e)
+
+      chosen : (o : Option Candidate) → option_and_then (chosen_rule (patterns_of rules)) o ≡ Some found → o ≡ Some found.0
+      chosen None e = absurd (none-some found e)
+      chosen (Some one) e = ap Some (drawn one (slice_get (patterns_of rules) one.rule) e)
+
+      by : (b : Bool) → (if b then None else option_and_then (chosen_rule (patterns_of rules)) (choice_of (patterns_of rules) known name)) ≡ Some found
+          → choice_of (patterns_of rules) known name ≡ Some found.0
+      by true e = absurd (none-some found e)
+      by false e = chosen (choice_of (patterns_of rules) known name) e
+
+  -- an implicit node is that of a candidate that is chosen
+  pub record IsChosen (node : Node) : Type 0 where
+    pub chosen : Candidate
+    pub rule : Rule
+    pub is : choice_of (patterns_of rules) known name ≡ Some chosen
+    pub whole : node ≡ implicit_node name made chosen rule
+
+  implicit_by : (u : Option (Rule × Target)) (s : Option (Candidate × Rule)) → searched rules known name ≡ s → (node_by rules name made u s).kind ≡ Implicit → IsChosen (node_by rules name made u s)
+  implicit_by (Some used) s f e = let h : Explicit ≡ Implicit = e in absurd (cc)
+  implicit_by None (Some found) f e = record { chosen = found.0; rule = found.1; is = searched_choice found f; whole = refl }
+  implicit_by None None f e = absurd (by made (is_phony rules name) e)
+    where
+      by : (rules : List (Rule × Target)) (b : Bool) → kind_without rules b ≡ Implicit → ⊥
+      by (one ∷ others) b e = let h : Explicit ≡ Implicit = e in cc
+      by [] true e = let h : Phony ≡ Implicit = e in cc
+      by [] false e = let h : Leaf ≡ Implicit = e in cc
+
+  pub implicit_is : (node_of rules known name).kind ≡ Implicit → IsChosen (node_of rules known name)
+  unfolding node_of
+  implicit_is e = by (list_any (λ rule. is_double rule.0.kind) made) e
+    where
+      by : (b : Bool) → (if b then double_node (suffixes_of rules) name made else node_by rules name made (used_rule made) (searched rules known name)).kind ≡ Implicit
+          → IsChosen (if b then double_node (suffixes_of rules) name made else node_by rules name made (used_rule made) (searched rules known name))
+      by true e = let h : DoubleColon ≡ Implicit = e in absurd (cc)
+      by false e = implicit_by (used_rule made) (searched rules known name) refl e
+
+  name_by : (u : Option (Rule × Target)) (s : Option (Candidate × Rule)) → (node_by rules name made u s).name ≡ name
+  name_by (Some used) s = refl
+  name_by None (Some found) = refl
+  name_by None None = refl
+
+  -- a node has its name
+  pub node_name : (node_of rules known name).name ≡ name
+  unfolding node_of
+  node_name = by (list_any (λ rule. is_double rule.0.kind) made)
+    where
+      by : (b : Bool) → (if b then double_node (suffixes_of rules) name made else node_by rules name made (used_rule made) (searched rules known name)).name ≡ name
+      by true = refl
+      by false = name_by (used_rule made) (searched rules known name)
+
+  not_leaf_by : (u : Option (Rule × Target)) (s : Option (Candidate × Rule)) → (s ≡ None → is_phony rules name ≡ true) → is_leaf (node_by rules name made u s).kind ≡ false
+  not_leaf_by (Some used) s h = refl
+  not_leaf_by None (Some found) h = refl
+  not_leaf_by None None h = by made (is_phony rules name) (h refl)
+    where
+      by : (rules : List (Rule × Target)) (b : Bool) → b ≡ true → is_leaf (kind_without rules b) ≡ false
+      by (one ∷ others) b e = refl
+      by [] true e = refl
+      by [] false e = absurd (true≢false (sym e))
+
+  -- where the search finds a rule, or a name is phony, its node is no leaf
+  pub found_no_leaf : is_some (choice_of (patterns_of rules) known name) ≡ true → is_leaf (node_of rules known name).kind ≡ false
+  unfolding node_of
+  found_no_leaf found = by (list_any (λ rule. is_double rule.0.kind) made)
+    where
+      drawn : (one : Candidate) → choice_of (patterns_of rules) known name ≡ Some one → option_and_then (chosen_rule (patterns_of rules)) (choice_of (patterns_of rules) known name) ≡ None → ⊥
+      drawn one e none =
+          let rule = get_some (patterns_of rules) one.rule (has_rule (patterns_of rules) (is_begun []) name one (chosen_is (patterns_of rules) known 7 [] name one e).0) in
+          none-some (one, rule.0) (sym none ∙ ap (option_and_then (chosen_rule (patterns_of rules))) e ∙ ap (option_map (λ r. (one, r))) rule.1)
+
+      some : (o : Option Candidate) → choice_of (patterns_of rules) known name ≡ o → is_some o ≡ true → option_and_then (chosen_rule (patterns_of rules)) (choice_of (patterns_of rules) known name) ≡ None → ⊥
+      some None e h none = true≢false (sym h)
+      some (Some one) e h none = drawn one e none
+
+      none_phony : (b : Bool) → (if b then None else option_and_then (chosen_rule (patterns_of rules)) (choice_of (patterns_of rules) known name)) ≡ None → b ≡ true
+      none_phony true e = refl
+      none_phony false e = absurd (some (choice_of (patterns_of rules) known name) refl found e)
+
+      by : (b : Bool) → is_leaf (if b then double_node (suffixes_of rules) name made else node_by rules name made (used_rule made) (searched rules known name)).kind ≡ false
+      by true = refl
+      by false = not_leaf_by (used_rule made) (searched rules known name) (none_phony (is_phony rules name))
+
+-- ---- the inputs of an implicit node
+
+joined_from : (made : List (Rule × Target)) (input : Text) → Contains (joined_needs made).prerequisites input ⊎ Contains (joined_needs made).order_only input
+    → (one : Rule × Target) × Contains made one × Contains (all_needs (needs_for one.0 one.1)) input
+unfolding joined_needs
+joined_from made input (inl c) =
+    let found = from_flat_map (λ (one : Rule × Target). (needs_for one.0 one.1).prerequisites) made input c in
+    (found.0, found.1, Contains-append_left (needs_for found.0.0 found.0.1).prerequisites (needs_for found.0.0 found.0.1).order_only input found.2)
+joined_from made input (inr c) =
+    let found = from_flat_map (λ (one : Rule × Target). (needs_for one.0 one.1).order_only) made input c in
+    (found.0, found.1, Contains-append_right (needs_for found.0.0 found.0.1).prerequisites (needs_for found.0.0 found.0.1).order_only input found.2)
+
+-- the chosen rule needs it, or an explicit rule does
+from_inputs : (name : Text) (made : List (Rule × Target)) (chosen : Candidate) (rule : Rule) (input : Text) → Contains (all_inputs (implicit_node name made chosen rule)) input
+    → Contains (all_needs chosen.needs) input ⊎ ((one : Rule × Target) × Contains made one × Contains (all_needs (needs_for one.0 one.1)) input)
+unfolding inputs_of order_only_of
+from_inputs name made chosen rule input c = by (Contains-append_cases (inputs_of (implicit_node name made chosen rule)) (order_only_of (implicit_node name made chosen rule)) input c)
+  where
+    joined : Contains (joined_needs made).prerequisites input ⊎ Contains (joined_needs made).order_only input
+        → Contains (all_needs chosen.needs) input ⊎ ((one : Rule × Target) × Contains made one × Contains (all_needs (needs_for one.0 one.1)) input)
+    joined h = inr (joined_from made input h)
+
+    empty : (xs : List Text) → Contains (xs ++ []) input → Contains xs input
+    empty xs c = ⊎_elim (λ h. h) (λ none. absurd (none_in_empty input none)) (Contains-append_cases xs [] input c)
+
+    by : Contains (inputs_of (implicit_node name made chosen rule)) input ⊎ Contains (order_only_of (implicit_node name made chosen rule)) input
+        → Contains (all_needs chosen.needs) input ⊎ ((one : Rule × Target) × Contains made one × Contains (all_needs (needs_for one.0 one.1)) input)
+    by (inl c) =
+        ⊎_elim (λ own. inl (Contains-append_left chosen.needs.prerequisites chosen.needs.order_only input own)) (λ other. joined (inl other))
+        (Contains-append_cases chosen.needs.prerequisites (joined_needs made).prerequisites input
+        (empty (chosen.needs.prerequisites ++ (joined_needs made).prerequisites) (from_without_repeats ((chosen.needs.prerequisites ++ (joined_needs made).prerequisites) ++ []) input c)))
+    by (inr c) =
+        ⊎_elim (λ own. inl (Contains-append_right chosen.needs.prerequisites chosen.needs.order_only input own)) (λ other. joined (inr other))
+        (Contains-append_cases chosen.needs.order_only (joined_needs made).order_only input
+        (empty (chosen.needs.order_only ++ (joined_needs made).order_only) (from_without_repeats ((chosen.needs.order_only ++ (joined_needs made).order_only) ++ []) input
+        (kept_by_filter (λ one. not (is_among (inputs_of (implicit_node name made chosen rule)) one)) (without_repeats ((chosen.needs.order_only ++ (joined_needs made).order_only) ++ [])) input c).0)))
+
+-- what explicit rules need is known
+needed_known : (rules : List Rule) (files name : Text) (one : Rule × Target) (input : Text) → Contains (explicit_rules rules name) one
+    → Contains (all_needs (needs_for one.0 one.1)) input → is_among (known_names rules files) input ≡ true
+unfolding explicit_rules rules_of known_names
+needed_known rules files name one input c needed =
+    let suffixes = suffixes_of rules in
+    let plain = kept_by_filter (λ made. not (is_suffix_rule suffixes name made)) (rules_of rules name) one c in
+    let named = kept_by_filter (λ (made : Rule × Target). bytes_eq name made.1.name) (flat_map target_rules rules) one plain.0 in
+    let from = from_flat_map target_rules rules one named.0 in
+    let target = from_map (λ t. (from.0, t)) (filter (is_made from.0) from.0.targets) one from.2 in
+    let kept = kept_by_filter (is_made from.0) from.0.targets target.0 target.1 in
+    let same : name ≡ one.1.name = same_text name one.1.name (sym named.1) in
+    let explicit : is_explicit suffixes one ≡ true
+    = and_from (is_made one.0 one.1) (not (is_suffix_rule suffixes one.1.name one)) (subst (λ (made : Rule × Target). is_made made.0 made.1 ≡ true) target.2 kept.1)
+    (subst (λ n. not (is_suffix_rule suffixes n one) ≡ true) same plain.1) in
+    let by_target : Contains (named_with suffixes one.0 one.1) input
+    = subst (λ b. Contains (if b then one.1.name ∷ all_needs (needs_for one.0 one.1) else []) input) (sym explicit) (in_rest one.1.name input (all_needs (needs_for one.0 one.1)) needed) in
+    let by_targets : Contains (flat_map (named_with suffixes from.0) from.0.targets) input
+    = in_flat_map (named_with suffixes from.0) from.0.targets target.0 input kept.0
+    (subst (λ (made : Rule × Target). Contains (named_with suffixes made.0 made.1) input) (sym target.2) by_target) in
+    let by_rules : Contains (flat_map (named_by suffixes) rules) input
+    = in_flat_map (named_by suffixes) rules from.0 input from.1 (Contains-append_left (flat_map (named_with suffixes from.0) from.0.targets) _ input by_targets) in
+    among_from (known_names rules files) input
+    (in_without_repeats (listed_names files ++ flat_map (named_by suffixes) rules) input (Contains-append_right (listed_names files) (flat_map (named_by suffixes) rules) input by_rules))
+
+-- ---- the graph
+
+leads_on : {A : Type 0} (Edge : A → A → Type 0) (from : A) (steps : List A) (to next : A) → Leads Edge from steps to → Edge to next → Leads Edge from (steps ++ next ∷ []) next
+leads_on Edge from [] to next path edge = (subst (λ a. Edge a next) (sym path) edge, refl)
+leads_on Edge from (step ∷ steps) to next path edge = (path.0, leads_on Edge step steps to next path.1 edge)
+
+-- what a reached name needs is reached
+pub input_reached : (rules : List Rule) (known goals : List Text) (name input : Text) → IsReached rules known goals name → HasInput rules known name input → IsReached rules known goals input
+input_reached rules known goals name input reached edge = record {
+  goal = reached.goal;
+  named = reached.named;
+  path = (reached.path.0 ++ input ∷ [], leads_on (HasInput rules known) reached.goal reached.path.0 name input reached.path.1 edge);
+}
+
+-- what an implicit node needs is known, or a rule makes it, where the names are known that the rules themselves tell
+pub made_inputs : (rules : List Rule) (known goals : List Text) (nodes : List Node) (files : Text) → IsGraph rules known goals nodes → known ≡ known_names rules files → HasMadeInputs known nodes
+made_inputs rules known goals nodes files graph all = λ node input c kind needed unknown.
+    let names = map (λ (one : Node). one.name) nodes in
+    let of_name = from_map (node_of rules known) names node (subst (λ ns. Contains ns node) graph.stored c) in
+    let name = of_name.0 in
+    let implicit = implicit_is rules known name (ap (λ (one : Node). one.kind) of_name.2 ∙ kind) in
+    let own : Contains (all_inputs (node_of rules known name)) input = subst (λ (one : Node). Contains (all_inputs one) input) (sym of_name.2) needed in
+    let reached = input_reached rules known goals name input ((graph.reached name).0 of_name.1) own in
+    let there : Contains nodes (node_of rules known input)
+    = subst (λ ns. Contains ns (node_of rules known input)) (sym graph.stored) (in_map (node_of rules known) names input ((graph.reached input).1 reached)) in
+    let no_leaf : is_leaf (node_of rules known input).kind ≡ false
+    = ⊎_elim (λ by_chosen. found_no_leaf rules known input (needed_found (patterns_of rules) known name implicit.chosen input implicit.is by_chosen unknown))
+    (λ by_made. absurd (true≢false (sym (ap (λ ns. is_among ns input) all ∙ needed_known rules files name by_made.0 input by_made.1 by_made.2) ∙ unknown)))
+    (from_inputs name (explicit_rules rules name) implicit.chosen implicit.rule input (subst (λ (one : Node). Contains (all_inputs one) input) implicit.whole own)) in
+    any_passes (λ (one : Node). bytes_eq one.name input && not (is_leaf one.kind)) nodes (node_of rules known input) there
+    (and_from (bytes_eq (node_of rules known input).name input) (not (is_leaf (node_of rules known input).kind))
+    (ap (λ n. bytes_eq n input) (node_name rules known input) ∙ among_itself input) (not_from_false (is_leaf (node_of rules known input).kind) no_leaf))

@@ -1,0 +1,189 @@
+-- Names that are sorted with their numbers.
+use Rattle.std.proofs.Common.{◌≡◌, ℕ, suc, zero, ◌+◌, ◌<◌, ◌↔◌, false, List, [], ◌∷◌, ◌++◌, length, map, get_or, All, Some, refl, sym, ap, ◌∙◌, subst, arith, add-zero, slice_get}
+use Rattle.std.specs.List.{Contains, range_with_len, swap}
+use Rattle.std.specs.List.Sorted.{IsPermutation, IsSorted, IsSortedBy, IsStrictlySortedBy}
+use Rattle.std.specs.Option.{unwrap_or}
+use Rattle.std.specs.Ordering.{is_eq, is_lt, nat_cmp, ordering_then, ordering_reverse}
+use Rattle.std.specs.Cmp.Lexicographic.{slice_cmp}
+use Rattle.std.specs.declared.cmp.Ordering.{Ordering}
+use Rattle.std.specs.declared.cmp.Ordering.TheVariants.{Less, Equal, Greater}
+use Rattle.std.proofs.lemmas.Bool.{false≢true}
+use Rattle.std.proofs.lemmas.Cmp.{nat_list_cmp_total}
+use Rattle.std.proofs.lemmas.List.{length-map, get_or-map, map-append}
+use Rattle.std.proofs.lemmas.List.Elements.{All-contains, All-head, All-nil, All-push, All-tail, recursion_from_All}
+use Rattle.std.proofs.lemmas.List.FromFn.{length-range_with_len, get_or-range_with_len}
+use Rattle.std.proofs.lemmas.List.Sorted.{All-permutation, Contains-permutation, IsPermutation-keeps, IsPermutation-map, IsPermutation-swap, length_permutation, ranks_by, sorted_far}
+use Rattle.indexmap.proofs.ReorderLemmas.{exchange, exchange-twice, exchange-within, get_or-swap}
+use Rattle.std.proofs.lemmas.Map.Text.{is_eq-slice_cmp}
+use Rattle.std.proofs.lemmas.Option.{slice_get_read}
+use Rattle.std.proofs.lemmas.Slice.Eq.{bytes_eq-Decides}
+use Rattle.kt_text.specs.Words.{Text}
+use Rattle.kt_graph.specs.inner.faults.Files.{AreDistinct, IsByteOrder}
+use Rattle.kt_graph.specs.nodes.Views.{name_at, names_at}
+
+-- ---- numbers that differ
+
+-- no number stands twice
+IsSingle : List ℕ → Type 0
+IsSingle xs = (i j d : ℕ) → i < length xs → j < length xs → get_or xs i d ≡ get_or xs j d → i ≡ j
+
+single-swap : (xs : List ℕ) (a b : ℕ) → a < length xs → b < length xs → IsSingle xs → IsSingle (swap xs a b)
+unfolding IsSingle
+single-swap xs a b in_a in_b single i j d in_i in_j same =
+    let long : length (swap xs a b) ≡ length xs = length_permutation xs (swap xs a b) (IsPermutation-swap xs (swap xs a b) a b in_a in_b refl) in
+    let below_i : i < length xs = omega arith in
+    let below_j : j < length xs = omega arith in
+    let e : exchange a b i ≡ exchange a b j =
+    single (exchange a b i) (exchange a b j) d (exchange-within a b (length xs) i in_a in_b below_i) (exchange-within a b (length xs) j in_a in_b below_j)
+    (sym (get_or-swap xs a b d in_a in_b i) ∙ same ∙ get_or-swap xs a b d in_a in_b j) in
+    sym (exchange-twice a b i) ∙ ap (exchange a b) e ∙ exchange-twice a b j
+
+single-range : (n : ℕ) → IsSingle (range_with_len 0 n)
+unfolding IsSingle
+single-range n i j d in_i in_j same =
+    let long : length (range_with_len 0 n) ≡ n = length-range_with_len 0 n in
+    let at_i : get_or (range_with_len 0 n) i d ≡ 0 + i = get_or-range_with_len 0 n i d (omega arith) in
+    let at_j : get_or (range_with_len 0 n) j d ≡ 0 + j = get_or-range_with_len 0 n j d (omega arith) in
+    omega arith
+
+-- numbers in another order stay single
+single_permuted : (n : ℕ) (order : List ℕ) → IsPermutation (range_with_len 0 n) order → IsSingle order
+single_permuted n order moved =
+    IsPermutation-keeps (range_with_len 0 n) IsSingle (single-range n) (λ l i j in_i in_j single. single-swap l i j in_i in_j single) order moved
+
+within_range : (n : ℕ) → All (λ k. k < n) (range_with_len 0 n)
+within_range n k d within =
+    let long : length (range_with_len 0 n) ≡ n = length-range_with_len 0 n in
+    rw (get_or-range_with_len 0 n k d (omega arith)) (omega arith)
+
+-- and have all numbers
+pub has_number : (n : ℕ) (order : List ℕ) → IsPermutation (range_with_len 0 n) order → (number : ℕ) → Contains order number ↔ (number < n)
+has_number n order moved number =
+    let zero_on : 0 + number ≡ number = omega arith in (
+      λ there. All-contains (λ k. k < n) order number (All-permutation (λ k. k < n) (range_with_len 0 n) order moved (within_range n)) there,
+      λ within. Contains-permutation (range_with_len 0 n) order number moved
+          (number, rw (length-range_with_len 0 n) within, get_or-range_with_len 0 n number number within ∙ zero_on),
+    )
+
+-- ---- names that rise
+
+-- of two texts that differ, where the second isn't less the first is
+less_from : (x y : Text) → is_lt (slice_cmp nat_cmp y x) ≡ false → (x ≡ y → ⊥) → slice_cmp nat_cmp x y ≡ Less
+less_from x y not_less differ = by (slice_cmp nat_cmp x y) refl
+  where
+    by : (o : Ordering) → slice_cmp nat_cmp x y ≡ o → slice_cmp nat_cmp x y ≡ Less
+    by Less e = e
+    by Equal e = absurd (differ ((bytes_eq-Decides x y).0 (sym (is_eq-slice_cmp x y) ∙ ap is_eq e)))
+    by Greater e =
+        let back : slice_cmp nat_cmp y x ≡ Less = nat_list_cmp_total.antisymm y x ∙ ap ordering_reverse e in
+        absurd (false≢true (sym not_less ∙ ap is_lt back))
+
+rising_by : (xs : List Text) → ((i j : ℕ) (d : Text) → i < j → j < length xs → slice_cmp nat_cmp (get_or xs i d) (get_or xs j d) ≡ Less)
+    → IsStrictlySortedBy (slice_cmp nat_cmp) xs
+unfolding IsStrictlySortedBy
+rising_by [] less = tt
+rising_by (x ∷ xs) less = (
+  recursion_from_All (λ y. slice_cmp nat_cmp x y ≡ Less) xs (λ k d within. less 0 (suc k) d (omega arith) (omega arith)),
+  rising_by xs (λ i j d before within. less (suc i) (suc j) d (omega arith) (omega arith)),
+)
+
+-- names in turn, none less than one before it, of which no two are equal
+pub rising : (xs : List Text) → IsSortedBy (λ x y. is_lt (slice_cmp nat_cmp x y)) xs
+    → ((i j : ℕ) (d : Text) → i < length xs → j < length xs → get_or xs i d ≡ get_or xs j d → i ≡ j)
+    → IsStrictlySortedBy (slice_cmp nat_cmp) xs
+rising xs sorted single =
+    rising_by xs (λ i j d before within.
+    less_from (get_or xs i d) (get_or xs j d)
+    (sorted_far (λ x y. is_lt (slice_cmp nat_cmp x y)) (ranks_by nat_list_cmp_total (λ x. x)) xs sorted i j d (omega arith) within)
+    (λ same. let e : i ≡ j = single i j d (omega arith) within same in omega arith))
+
+-- ---- names with their numbers
+
+abbrev pub Numbered : Type 0
+Numbered = Text × ℕ
+
+-- each name has its number
+pub record AreNumbered (names : List Text) (count : ℕ) (pairs : List Numbered) : Type 0 where
+  pub numbers : map (λ (pair : Numbered). pair.1) pairs ≡ range_with_len 0 count
+  pub named : All (λ (pair : Numbered). pair.0 ≡ name_at names pair.1) pairs
+
+names_of : (names : List Text) (pairs : List Numbered) → All (λ (pair : Numbered). pair.0 ≡ name_at names pair.1) pairs
+    → map (λ (pair : Numbered). pair.0) pairs ≡ names_at names (map (λ (pair : Numbered). pair.1) pairs)
+names_of names [] named = refl
+names_of names (pair ∷ pairs) named =
+    ap (λ first. first ∷ map (λ (p : Numbered). p.0) pairs) (All-head (λ (p : Numbered). p.0 ≡ name_at names p.1) pair pairs named)
+    ∙ ap (λ rest. name_at names pair.1 ∷ rest) (names_of names pairs (All-tail (λ (p : Numbered). p.0 ≡ name_at names p.1) pair pairs named))
+
+abbrev pub pair_cmp : Numbered → Numbered → Ordering
+pair_cmp x y = ordering_then (slice_cmp nat_cmp x.0 y.0) (nat_cmp x.1 y.1)
+
+first_not_less : (a b : Ordering) → is_lt (ordering_then a b) ≡ false → is_lt a ≡ false
+first_not_less Less b h = h
+first_not_less Equal b h = refl
+first_not_less Greater b h = refl
+
+names_sorted : (pairs : List Numbered) → IsSorted pair_cmp pairs → IsSortedBy (λ x y. is_lt (slice_cmp nat_cmp x y)) (map (λ (pair : Numbered). pair.0) pairs)
+names_sorted pairs sorted k d low within =
+    let long : length (map (λ (pair : Numbered). pair.0) pairs) ≡ length pairs = length-map pairs (λ (pair : Numbered). pair.0) in
+    let past : Numbered = ([], 0) in
+    let this : get_or (map (λ (pair : Numbered). pair.0) pairs) k d ≡ (get_or pairs k past).0 = get_or-map (λ (pair : Numbered). pair.0) pairs k past d (omega arith) in
+    let next : get_or (map (λ (pair : Numbered). pair.0) pairs) (k + 1) d ≡ (get_or pairs (k + 1) past).0
+    = get_or-map (λ (pair : Numbered). pair.0) pairs (k + 1) past d (omega arith) in
+    rw (this, next) (first_not_less _ (nat_cmp (get_or pairs (k + 1) past).1 (get_or pairs k past).1) (sorted k past low (omega arith)))
+
+single_at : (order : List ℕ) → IsSingle order → (i j : ℕ) → i < length order → j < length order → get_or order i 0 ≡ get_or order j 0 → i ≡ j
+unfolding IsSingle
+single_at order single i j in_i in_j same = single i j 0 in_i in_j same
+
+-- names that are sorted with their numbers are in byte order
+pub sorted_order : (names : List Text) (pairs sorted : List Numbered) → AreDistinct names → AreNumbered names (length names) pairs
+    → IsPermutation pairs sorted → IsSorted pair_cmp sorted → IsByteOrder names (map (λ (pair : Numbered). pair.1) sorted)
+sorted_order names pairs sorted distinct numbered moved up =
+    let order : List ℕ = map (λ (pair : Numbered). pair.1) sorted in
+    let n = length names in
+    let moved_numbers : IsPermutation (range_with_len 0 n) order
+    = subst (λ xs. IsPermutation xs order) numbered.numbers (IsPermutation-map (λ (pair : Numbered). pair.1) pairs sorted moved) in
+    let named = names_of names sorted (All-permutation (λ (p : Numbered). p.0 ≡ name_at names p.1) pairs sorted moved numbered.named) in
+    let below : All (λ k. k < n) order = All-permutation (λ k. k < n) (range_with_len 0 n) order moved_numbers (within_range n) in
+    let single = single_permuted n order moved_numbers in
+    let long : length (names_at names order) ≡ length order = length-map order (name_at names) in
+    record {
+      rises = rising (names_at names order)
+          (subst (λ xs. IsSortedBy (λ x y. is_lt (slice_cmp nat_cmp x y)) xs) named (names_sorted sorted up))
+          (λ i j d in_i in_j same.
+          let at_i : get_or (names_at names order) i d ≡ name_at names (get_or order i 0) = get_or-map (name_at names) order i 0 d (omega arith) in
+          let at_j : get_or (names_at names order) j d ≡ name_at names (get_or order j 0) = get_or-map (name_at names) order j 0 d (omega arith) in
+          single_at order single i j (omega arith) (omega arith)
+          (distinct (get_or order i 0) (get_or order j 0) (below i 0 (omega arith)) (below j 0 (omega arith)) (sym at_i ∙ same ∙ at_j)));
+      all = has_number n order moved_numbers;
+    }
+
+-- ---- one more
+
+pub numbered_none : (names : List Text) (pairs : List Numbered) → pairs ≡ [] → AreNumbered names 0 pairs
+numbered_none names pairs none = record {
+  numbers = ap (map (λ (pair : Numbered). pair.1)) none;
+  named = subst (λ xs. All (λ (pair : Numbered). pair.0 ≡ name_at names pair.1) xs) (sym none) (All-nil (λ (pair : Numbered). pair.0 ≡ name_at names pair.1));
+}
+
+range_more : (a n : ℕ) → range_with_len a n ++ (a + n) ∷ [] ≡ range_with_len a (n + 1)
+range_more a zero = ap (λ k. k ∷ []) (add-zero a)
+range_more a (suc n) =
+    let more : suc n + 1 ≡ suc (suc n) = omega arith in
+    let next : n + 1 ≡ suc n = omega arith in
+    let last : a + suc n ≡ a + 1 + n = omega arith in
+    rw (more, last) (ap (λ rest. a ∷ rest) (range_more (a + 1) n ∙ ap (range_with_len (a + 1)) next))
+
+pub numbered_more : (names : List Text) (number : ℕ) (name : Text) (pairs more : List Numbered) (pair : Numbered) → AreNumbered names number pairs
+    → number < length names → name ≡ get_or names number name → pair.0 ≡ name → pair.1 ≡ number → more ≡ pairs ++ pair ∷ []
+    → AreNumbered names (number + 1) more
+numbered_more names number name pairs more pair numbered within is text at grown =
+    let found : slice_get names number ≡ Some name = slice_get_read names (length names) number name refl within is in
+    let told : pair.0 ≡ name_at names pair.1
+    = text ∙ sym (ap (λ o. unwrap_or o []) (ap (slice_get names) at ∙ found)) in
+    record {
+      numbers = ap (map (λ (p : Numbered). p.1)) grown ∙ map-append (λ (p : Numbered). p.1) pairs (pair ∷ [])
+          ∙ ap (λ front. front ++ pair.1 ∷ []) numbered.numbers ∙ ap (λ k. range_with_len 0 number ++ k ∷ []) (at ∙ omega arith) ∙ range_more 0 number;
+      named = subst (λ xs. All (λ (p : Numbered). p.0 ≡ name_at names p.1) xs) (sym grown)
+          (All-push (λ (p : Numbered). p.0 ≡ name_at names p.1) pairs pair numbered.named told);
+    }

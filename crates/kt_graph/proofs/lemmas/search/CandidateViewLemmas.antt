@@ -1,0 +1,136 @@
+-- Candidates as definitions have it, one by one.
+use Rattle.std.proofs.Common.{◌≡◌, ℕ, zero, suc, ◌+◌, ◌<◌, ◌≤◌, Bool, true, false, cond, not, List, [], ◌∷◌, length, get_or, drop, filter, Option, Some, None, is_some, refl, sym, ap, ◌∙◌, subst, arith}
+use Rattle.std.specs.Prelude.{◌==◌, option_map, slice_get, IfSome}
+use Rattle.std.proofs.lemmas.Option.{none-some, same_Some}
+use Rattle.std.specs.List.{cons_option, filter_map, find}
+use Rattle.std.proofs.lemmas.Bool.{eqb-true}
+use Rattle.std.proofs.lemmas.List.{drop_more, drop_all, get_or_default}
+use Rattle.kt_text.specs.Words.{Text}
+use Rattle.kt_rules.specs.Entry.{Rule}
+use Rattle.kt_rules.specs.Patterns.{is_terminal}
+use Rattle.kt_graph.specs.declared.search.candidate.Candidate.{Candidate as HeldCandidate}
+use Rattle.kt_graph.specs.search.Candidates.{Candidate}
+use Rattle.kt_graph.specs.inner.search.Chains.{IsFound}
+use Rattle.kt_graph.specs.search.Search.{is_begun}
+use Rattle.kt_graph.specs.search.Views.{AreWithin, IsWithin, candidate_at, candidate_view, candidates_view}
+
+pub get_some : {X : Type 0} (xs : List X) (k : ℕ) → k < length xs → (x : X) × (slice_get xs k ≡ Some x)
+get_some [] k h = absurd (omega arith)
+get_some (x ∷ xs) zero h = (x, refl)
+get_some (x ∷ xs) (suc k) h = get_some xs k (omega arith)
+
+pub at_some : {X : Type 0} (o : Option X) (P : X → Type 0) (x : X) → o ≡ Some x → IfSome o P → P x
+at_some o P x e h = rw e at h
+
+module _ (rules : List Rule) (name : Text) where
+  -- a candidate of a rule is told
+  pub told_at : (candidate : HeldCandidate) → candidate.rule < length rules → (told : Candidate) × (candidate_view rules name candidate ≡ Some told)
+  told_at candidate h =
+      let rule = get_some rules candidate.rule h in
+      (candidate_at name rule.0 candidate, ap (option_map (λ one. candidate_at name one candidate)) rule.1)
+
+  pub told_cons : (candidate : HeldCandidate) (candidates : List HeldCandidate) (told : Candidate) → candidate_view rules name candidate ≡ Some told
+      → candidates_view rules name (candidate ∷ candidates) ≡ told ∷ candidates_view rules name candidates
+  told_cons candidate candidates told e = ap (λ o. cons_option o (candidates_view rules name candidates)) e
+
+  -- the candidates from a place on
+  pub told_from : (candidates : List HeldCandidate) (i : ℕ) (candidate : HeldCandidate) (told : Candidate) → i < length candidates → candidate ≡ get_or candidates i candidate
+      → candidate_view rules name candidate ≡ Some told
+      → candidates_view rules name (drop i candidates) ≡ told ∷ candidates_view rules name (drop (i + 1) candidates)
+  told_from candidates i candidate told h is e =
+      ap (candidates_view rules name) (drop_more candidates i candidate h ∙ ap (λ one. one ∷ drop (i + 1) candidates) (sym is))
+      ∙ told_cons candidate (drop (i + 1) candidates) told e
+
+  -- a test of the rules' numbers keeps the same candidates as definitions have it
+  pub filter_told : (p : ℕ → Bool) (candidates : List HeldCandidate)
+      → candidates_view rules name (filter (λ candidate. p candidate.rule) candidates) ≡ filter (λ candidate. p candidate.rule) (candidates_view rules name candidates)
+  filter_told p [] = refl
+  filter_told p (candidate ∷ candidates) =
+      by (p candidate.rule) (slice_get rules candidate.rule) refl refl (filter_told p candidates)
+    where
+      by : (b : Bool) (o : Option Rule) → p candidate.rule ≡ b → slice_get rules candidate.rule ≡ o
+          → filter_map (candidate_view rules name) (filter (λ (one : HeldCandidate). p one.rule) candidates) ≡ filter (λ (one : Candidate). p one.rule) (candidates_view rules name candidates)
+          → filter_map (candidate_view rules name) (cond b (candidate ∷ filter (λ (one : HeldCandidate). p one.rule) candidates) (filter (λ (one : HeldCandidate). p one.rule) candidates))
+          ≡ filter (λ (one : Candidate). p one.rule) (cons_option (option_map (λ rule. candidate_at name rule candidate) o) (candidates_view rules name candidates))
+      by true None e f same = ap (λ o. cons_option (option_map (λ rule. candidate_at name rule candidate) o) (filter_map (candidate_view rules name) (filter (λ (one : HeldCandidate). p one.rule) candidates))) f ∙ same
+      by false None e f same = same
+      by true (Some rule) e f same =
+          ap (λ o. cons_option (option_map (λ r. candidate_at name r candidate) o) (filter_map (candidate_view rules name) (filter (λ (one : HeldCandidate). p one.rule) candidates))) f
+          ∙ ap (λ rest. candidate_at name rule candidate ∷ rest) same
+          ∙ sym (ap (λ b. cond b (candidate_at name rule candidate ∷ filter (λ (one : Candidate). p one.rule) (candidates_view rules name candidates)) (filter (λ (one : Candidate). p one.rule) (candidates_view rules name candidates))) e)
+      by false (Some rule) e f same =
+          same ∙ sym (ap (λ b. cond b (candidate_at name rule candidate ∷ filter (λ (one : Candidate). p one.rule) (candidates_view rules name candidates)) (filter (λ (one : Candidate). p one.rule) (candidates_view rules name candidates))) e)
+
+  -- ---- the first that passes a test
+
+  module _ (p : Candidate → Bool) (candidates : List HeldCandidate) (i : ℕ)
+      (left : find p (candidates_view rules name (drop i candidates)) ≡ find p (candidates_view rules name candidates)) where
+    -- nothing is left
+    pub found_none : length candidates ≤ i → IsFound rules name (find p (candidates_view rules name candidates)) None
+    found_none past = record {
+      told = ap (λ rest. find p (candidates_view rules name rest)) (sym (drop_all i candidates past)) ∙ left;
+      within = tt;
+    }
+
+    module _ (candidate : HeldCandidate) (h : i < length candidates) (is : candidate ≡ get_or candidates i candidate)
+        (within : AreWithin rules name candidates) (passed : Bool) (tells : IfSome (candidate_view rules name candidate) (λ told. passed ≡ p told)) where
+      own_within : (candidate.rule < length rules) × IsWithin name candidate.fit
+      own_within = subst (λ (one : HeldCandidate). (one.rule < length rules) × IsWithin name one.fit) (sym is) (within i candidate h)
+
+      abbrev told : Candidate
+      told = (told_at candidate own_within.0).0
+
+      told_is : candidate_view rules name candidate ≡ Some told
+      told_is = (told_at candidate own_within.0).1
+
+      rest_is : find p (candidates_view rules name (drop i candidates)) ≡ cond passed (Some told) (find p (candidates_view rules name (drop (i + 1) candidates)))
+      rest_is =
+          ap (find p) (told_from candidates i candidate told h is told_is)
+          ∙ ap (λ b. cond b (Some told) (find p (candidates_view rules name (drop (i + 1) candidates)))) (sym (at_some (candidate_view rules name candidate) (λ one. passed ≡ p one) told told_is tells))
+
+      -- it is this one
+      pub found_this : passed ≡ true → IsFound rules name (find p (candidates_view rules name candidates)) (Some candidate)
+      found_this yes_passed = record {
+        told = told_is ∙ sym (ap (λ b. cond b (Some told) (find p (candidates_view rules name (drop (i + 1) candidates)))) yes_passed) ∙ sym rest_is ∙ left;
+        within = own_within;
+      }
+
+      -- it stands after this one
+      pub found_later : passed ≡ false → find p (candidates_view rules name (drop (i + 1) candidates)) ≡ find p (candidates_view rules name candidates)
+      found_later not_passed = sym (ap (λ b. cond b (Some told) (find p (candidates_view rules name (drop (i + 1) candidates)))) not_passed) ∙ sym rest_is ∙ left
+
+-- something is found where something is expected
+pub found_some : (rules : List Rule) (name : Text) (expected : Option Candidate) (found : Option HeldCandidate) → IsFound rules name expected found → is_some expected ≡ is_some found
+found_some rules name expected None is = ap is_some (sym is.told)
+found_some rules name expected (Some candidate) is =
+    ap is_some (sym is.told ∙ (told_at rules name candidate is.within.0).1)
+
+-- a candidate as definitions have it has its rule, and is last as its rule is terminal
+module _ (rules : List Rule) (name : Text) (candidate : HeldCandidate) (told : Candidate) where
+  pub told_rule : candidate_view rules name candidate ≡ Some told → candidate.rule ≡ told.rule
+  told_rule e = by (slice_get rules candidate.rule) e
+    where
+      by : (o : Option Rule) → option_map (λ rule. candidate_at name rule candidate) o ≡ Some told → candidate.rule ≡ told.rule
+      by None e = absurd (none-some told e)
+      by (Some rule) e = ap (λ (one : Candidate). one.rule) (same_Some (candidate_at name rule candidate) told e)
+
+  pub told_last : candidate_view rules name candidate ≡ Some told → (b : Bool) → IfSome (slice_get rules candidate.rule) (λ rule. b ≡ is_terminal rule.kind) → b ≡ told.is_last
+  told_last e b h = by (slice_get rules candidate.rule) e h
+    where
+      by : (o : Option Rule) → option_map (λ rule. candidate_at name rule candidate) o ≡ Some told → IfSome o (λ rule. b ≡ is_terminal rule.kind) → b ≡ told.is_last
+      by None e h = absurd (none-some told e)
+      by (Some rule) e h = h ∙ ap (λ (one : Candidate). one.is_last) (same_Some (candidate_at name rule candidate) told e)
+
+pub if_some : {X : Type 0} (o : Option X) (P : X → Type 0) → ((x : X) → o ≡ Some x → P x) → IfSome o P
+if_some None P h = tt
+if_some (Some x) P h = h x refl
+
+-- an element that was read is that of its place
+pub read_itself : {X : Type 0} (xs : List X) (i : ℕ) (d : X) → i < length xs → get_or xs i d ≡ get_or xs i (get_or xs i d)
+read_itself xs i d h = get_or_default xs i d (get_or xs i d) h
+
+-- a chain has begun where it isn't empty
+pub begun_is : (used : List ℕ) (empty : Bool) → empty ≡ (length used == 0) → not empty ≡ is_begun used
+begun_is [] empty e = ap not e
+begun_is (rule ∷ used) true e = absurd (omega (arith, eqb-true (length (rule ∷ used)) 0 (sym e)))
+begun_is (rule ∷ used) false e = refl

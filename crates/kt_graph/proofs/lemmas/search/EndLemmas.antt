@@ -1,0 +1,300 @@
+-- Rules that are found by the ends of their targets.
+use Rattle.std.proofs.Common.{◌≡◌, ℕ, zero, suc, ◌+◌, ◌-◌, ◌<◌, ◌≤◌, Bool, true, false, ◌&&◌, ◌⊎◌, ⊎_elim, inl, inr, if◌then◌else◌, nat_eq, nat_le, List, [], ◌∷◌, ◌++◌, length, drop, get_or, filter_map, IfSome, Option, Some, None, option_map, slice_get, refl, sym, ap, ◌∙◌, subst, arith}
+use Rattle.std.specs.List.{Contains, cons_option, dedup, ends_with, position_or_len, slice_index, starts_with}
+use Rattle.std.specs.List.Sorted.{IsPermutation, IsSorted, IsStrictlyIncreasing}
+use Rattle.std.specs.Ordering.{nat_cmp}
+use Rattle.std.specs.Option.{option_and_then, option_to_list}
+use Rattle.std.proofs.lemmas.Bool.{cases_eq, cases_lt, false≢true, leb-true}
+use Rattle.std.proofs.lemmas.List.{append-nil, append_assoc, drop-drop, drop_all, drop_more, length-drop}
+use Rattle.std.proofs.lemmas.List.Elements.{All-head, All-push, All-tail, filter_map-append}
+use Rattle.std.proofs.lemmas.List.Kept.{Contains-dedup_nat}
+use Rattle.std.proofs.lemmas.List.Sorted.{Contains-permutation}
+use Rattle.std.proofs.lemmas.Map.Keys.{IsStrictlyIncreasing-dedup}
+use Rattle.std.proofs.lemmas.Option.{get_or_from_slice_get, none-some, slice_get_past}
+use Rattle.std.proofs.lemmas.Slice.Eq.{bytes_eq-Decides}
+use Rattle.memchr.specs.Find.{IsFirstByte, is_byte}
+use Rattle.kt_text.specs.Words.{Text}
+use Rattle.kt_text.specs.Functions.{name_place}
+use Rattle.kt_text.specs.Match.{has_percent, is_between, is_percent, pattern_back, pattern_front, stem_span}
+use Rattle.kt_text.proofs.PlaceLemmas.{first_byte_place}
+use Rattle.kt_rules.specs.declared.entry.Target.{Target}
+use Rattle.kt_rules.specs.Entry.{Rule}
+use Rattle.kt_graph.specs.declared.search.ends.Ends.{Ends}
+use Rattle.kt_graph.specs.declared.search.candidate.Candidate.{Candidate as HeldCandidate}
+use Rattle.kt_graph.specs.search.Candidates.{Candidate, candidate_by, candidate_of, candidate_with, fit_of, has_slash, matched_part, matching_from, shortest, stem_of, unless_long}
+use Rattle.kt_graph.specs.inner.search.Ends.{AreAllNoted, AreNoted, HasAll, IsNoted, candidate_numbered, candidates_numbered, numbers_at}
+use Rattle.kt_graph.specs.search.Views.{AreWithin, IsWithin, candidate_at, candidate_view, candidates_view, found_view}
+use Rattle.kt_graph.proofs.lemmas.search.CandidateLemmas.{matching_at, matching_none, rule_at, told_at}
+use Rattle.kt_graph.proofs.lemmas.MemberLemmas.{Contains-cases, Contains-none}
+
+-- nothing stands after a percent sign that isn't there
+pub no_back : (pattern : Text) → IsFirstByte (is_byte 37) pattern None → [] ≡ pattern_back pattern
+unfolding pattern_back is_percent
+no_back pattern found =
+    let same : length pattern ≡ position_or_len is_percent pattern = first_byte_place is_percent pattern None found in
+    sym (drop_all (position_or_len is_percent pattern + 1) pattern (omega arith))
+
+-- ---- a name that a pattern matches ends as the pattern does
+
+abbrev pub EndsIn : Text → Text → Type 0
+EndsIn name end = (length end ≤ length name) × (drop (length name - length end) name ≡ end)
+
+between_ends : (front back word : Text) → is_between front back word ≡ true → EndsIn word back
+unfolding is_between
+between_ends front back word is =
+    by (nat_le (length front + length back) (length word)) (starts_with nat_eq word front) (ends_with nat_eq word back) refl refl is
+  where
+    by : (a b c : Bool) → nat_le (length front + length back) (length word) ≡ a → ends_with nat_eq word back ≡ c → (a && (b && c)) ≡ true → EndsIn word back
+    by true true true fits same e = (
+      let long : length front + length back ≤ length word = leb-true _ _ fits in omega (arith, long),
+      sym ((bytes_eq-Decides back (drop (length word - length back) word)).0 same),
+    )
+    by true true false fits same e = absurd (false≢true e)
+    by true false c fits same e = absurd (false≢true e)
+    by false b c fits same e = absurd (false≢true e)
+
+span_ends : (pattern word : Text) (span : ℕ × ℕ) → stem_span pattern word ≡ Some span → EndsIn word (pattern_back pattern)
+unfolding stem_span
+span_ends pattern word span found = by (has_percent pattern) (is_between (pattern_front pattern) (pattern_back pattern) word) refl found
+  where
+    by : (a b : Bool) → is_between (pattern_front pattern) (pattern_back pattern) word ≡ b
+        → (if a && b then Some (length (pattern_front pattern), length word - length (pattern_back pattern)) else None) ≡ Some span → EndsIn word (pattern_back pattern)
+    by true true is e = between_ends (pattern_front pattern) (pattern_back pattern) word is
+    by true false is e = absurd (none-some span e)
+    by false b is e = absurd (none-some span e)
+
+-- what a part after a place ends in, the whole ends in
+rest_ends : (name end : Text) (place : ℕ) → place ≤ length name → EndsIn (drop place name) end → EndsIn name end
+rest_ends name end place within ends =
+    let long = length-drop place name in
+    let at : place + (length (drop place name) - length end) ≡ length name - length end = let fits = ends.0 in omega arith in
+    (let fits = ends.0 in omega arith, sym (drop-drop (length (drop place name) - length end) place name ∙ ap (λ n. drop n name) at) ∙ ends.1)
+
+part_ends : (pattern name end : Text) → EndsIn (matched_part pattern name) end → EndsIn name end
+part_ends pattern name end ends = by (has_slash pattern) ends
+  where
+    by : (b : Bool) → EndsIn (if b then name else drop (name_place name) name) end → EndsIn name end
+    by true e = e
+    by false e = rest_ends name end (name_place name) (omega arith) e
+
+fit_ends : (pattern name : Text) (fit : Text × Text) → fit_of pattern name ≡ Some fit → EndsIn name (pattern_back pattern)
+unfolding fit_of stem_of
+fit_ends pattern name fit found = by (stem_span pattern (matched_part pattern name)) refl
+  where
+    by : (o : Option (ℕ × ℕ)) → stem_span pattern (matched_part pattern name) ≡ o → EndsIn name (pattern_back pattern)
+    by None e = absurd (none-some fit (rw e at found))
+    by (Some span) e = part_ends pattern name (pattern_back pattern) (span_ends pattern (matched_part pattern name) span e)
+
+target_ends : (number : ℕ) (rule : Rule) (name : Text) (target : Target)
+    → (candidate_by number rule name target ≡ None) ⊎ EndsIn name (pattern_back target.name)
+target_ends number rule name target = by (fit_of target.name name) refl
+  where
+    by : (o : Option (Text × Text)) → fit_of target.name name ≡ o → (candidate_by number rule name target ≡ None) ⊎ EndsIn name (pattern_back target.name)
+    by None e = inl (ap (option_map (candidate_with number rule target.name)) e)
+    by (Some fit) e = inr (fit_ends target.name name fit e)
+
+-- ---- a rule that makes a name is found
+
+end_found : (ends : Ends) (name end : Text) (number : ℕ) (found : List ℕ) → HasAll ends name ends.lengths.keys found
+    → EndsIn name end → IsNoted ends end number → Contains found number
+end_found ends name end number found all ending noted =
+    all (length end) number noted.1 ending.0 (subst (λ (text : Text). Contains (numbers_at ends text) number) (sym ending.1) noted.0)
+
+targets_found : (ends : Ends) (name : Text) (number : ℕ) (rule : Rule) (found : List ℕ) → HasAll ends name ends.lengths.keys found
+    → (targets : List Target) → AreNoted ends targets number
+    → (filter_map (candidate_by number rule name) targets ≡ []) ⊎ Contains found number
+targets_found ends name number rule found all [] noted = inl refl
+targets_found ends name number rule found all (target ∷ targets) noted = ⊎_elim
+    (λ (none : candidate_by number rule name target ≡ None). ⊎_elim
+    (λ (rest : filter_map (candidate_by number rule name) targets ≡ []).
+    inl (ap (λ o. cons_option o (filter_map (candidate_by number rule name) targets)) none ∙ rest))
+    (λ (there : Contains found number). inr there)
+    (targets_found ends name number rule found all targets (All-tail (λ (t : Target). IsNoted ends (pattern_back t.name) number) target targets noted)))
+    (λ (ending : EndsIn name (pattern_back target.name)).
+    inr (end_found ends name (pattern_back target.name) number found all ending (All-head (λ (t : Target). IsNoted ends (pattern_back t.name) number) target targets noted)))
+    (target_ends number rule name target)
+
+-- each rule is among these numbers, or doesn't make the name
+abbrev pub Covers : List Rule → Text → List ℕ → Type 0
+Covers rules name numbers =
+    (number : ℕ) (rule : Rule) → slice_get rules number ≡ Some rule → (candidate_of number rule name ≡ None) ⊎ Contains numbers number
+
+pub found_covers : (ends : Ends) (rules : List Rule) (name : Text) (found : List ℕ) → AreAllNoted ends rules → HasAll ends name ends.lengths.keys found
+    → Covers rules name found
+unfolding candidate_of
+found_covers ends rules name found noted all number rule at = ⊎_elim
+    (λ (none : filter_map (candidate_by number rule name) rule.targets ≡ []). inl (ap (λ ones. option_and_then (unless_long rule) (shortest ones)) none))
+    (λ (there : Contains found number). inr there)
+    (targets_found ends name number rule found all rule.targets (noted number rule at))
+
+-- ---- the rules of some numbers, in order
+
+-- each is above the one before, and the first not below a number
+abbrev Rises : ℕ → List ℕ → Type 0
+Rises least [] = Unit {0}
+Rises least (number ∷ numbers) = (least ≤ number) × Rises (number + 1) numbers
+
+next_place : (k : ℕ) → suc k + 1 ≡ suc (k + 1)
+next_place k = omega arith
+
+rises_after : (least number : ℕ) (numbers : List ℕ) → least ≤ number → IsStrictlyIncreasing (number ∷ numbers) → Rises least (number ∷ numbers)
+rises_after least number [] above up = (above, tt)
+rises_after least number (next ∷ numbers) above up = (
+  above,
+  rises_after (number + 1) next numbers (let more = up 0 (omega arith) in omega arith) (λ k within. subst (λ (at : ℕ). slice_index (next ∷ numbers) k < slice_index (number ∷ next ∷ numbers) at) (next_place k) (up (suc k) (omega (arith, within)))),
+)
+
+rises : (numbers : List ℕ) → IsStrictlyIncreasing numbers → Rises 0 numbers
+rises [] up = tt
+rises (number ∷ numbers) up = rises_after 0 number numbers (omega arith) up
+
+rises_lower : (least lower : ℕ) (numbers : List ℕ) → lower ≤ least → Rises least numbers → Rises lower numbers
+rises_lower least lower [] below up = tt
+rises_lower least lower (number ∷ numbers) below up = (let above = up.0 in omega arith, up.1)
+
+next_above : (at number : ℕ) → at ≤ number → (number ≡ at → ⊥) → at + 1 ≤ number
+next_above at number above differ = ⊎_elim
+    (λ (less : at < number). omega arith)
+    (λ (more : number ≤ at). absurd (differ (omega arith)))
+    (cases_lt at number)
+
+rises_past : (number : ℕ) (numbers : List ℕ) → Rises (number + 1) numbers → Contains numbers number → ⊥
+rises_past number [] up there = Contains-none number there
+rises_past number (first ∷ numbers) up there = ⊎_elim
+    (λ (same : first ≡ number). let above = up.0 in absurd (omega arith))
+    (λ (after : Contains numbers number).
+    rises_past number numbers (rises_lower (first + 1) (number + 1) numbers (let above = up.0 in omega arith) up.1) after)
+    (Contains-cases first numbers number there)
+
+none_numbered : (rules : List Rule) (name : Text) (numbers : List ℕ) (least : ℕ) → length rules ≤ least → Rises least numbers → candidates_numbered rules name numbers ≡ []
+none_numbered rules name [] least past up = refl
+none_numbered rules name (number ∷ numbers) least past up =
+    let above = up.0 in
+    ap (λ o. cons_option (option_and_then (λ (rule : Rule). candidate_of number rule name) o) (candidates_numbered rules name numbers)) (slice_get_past rules number (omega arith))
+    ∙ none_numbered rules name numbers (number + 1) (omega arith) up.1
+
+-- each rule from one on is among these numbers, or doesn't make the name
+abbrev CoversFrom : ℕ → List Rule → Text → List ℕ → Type 0
+CoversFrom least rules name numbers =
+    (number : ℕ) (rule : Rule) → least ≤ number → slice_get rules number ≡ Some rule → (candidate_of number rule name ≡ None) ⊎ Contains numbers number
+
+-- a rule that isn't among the numbers makes no candidate
+passed_over : (rules : List Rule) (name : Text) (at : ℕ) (numbers : List ℕ) (rule : Rule) → slice_get rules at ≡ Some rule → CoversFrom at rules name numbers
+    → Rises (at + 1) numbers → (ones : List Candidate) → option_to_list (candidate_of at rule name) ++ ones ≡ ones
+passed_over rules name at numbers rule found covers up ones = ⊎_elim
+    (λ (none : candidate_of at rule name ≡ None). ap (λ (o : Option Candidate). option_to_list o ++ ones) none)
+    (λ (there : Contains numbers at). absurd (rises_past at numbers up there))
+    (covers at rule (omega arith) found)
+
+-- those from the next on
+covers_after : (rules : List Rule) (name : Text) (at : ℕ) (numbers : List ℕ) → CoversFrom at rules name (at ∷ numbers) → CoversFrom (at + 1) rules name numbers
+covers_after rules name at numbers covers number rule above found = ⊎_elim
+    (λ (none : candidate_of number rule name ≡ None). inl none)
+    (λ (there : Contains (at ∷ numbers) number). ⊎_elim
+    (λ (same : at ≡ number). absurd (omega arith))
+    (λ (after : Contains numbers number). inr after)
+    (Contains-cases at numbers number there))
+    (covers number rule (omega arith) found)
+
+first_told : (rules : List Rule) (name : Text) (at : ℕ) (rule : Rule) (ones : List Candidate) → slice_get rules at ≡ Some rule
+    → cons_option (candidate_numbered rules name at) ones ≡ option_to_list (candidate_of at rule name) ++ ones
+first_told rules name at rule ones found =
+    ap (λ o. cons_option (option_and_then (λ (one : Rule). candidate_of at one name) o) ones) found ∙ by (candidate_of at rule name)
+  where
+    by : (o : Option Candidate) → cons_option o ones ≡ option_to_list o ++ ones
+    by None = refl
+    by (Some one) = refl
+
+-- so their candidates are those of all rules
+numbered_from : (rules : List Rule) (name : Text) (left at : ℕ) (numbers : List ℕ) → left + at ≡ length rules → Rises at numbers → CoversFrom at rules name numbers
+    → candidates_numbered rules name numbers ≡ matching_from at (drop at rules) name
+numbered_from rules name zero at numbers size up covers =
+    none_numbered rules name numbers at (omega arith) up ∙ sym (matching_none rules name at (omega arith))
+numbered_from rules name (suc left) at [] size up covers =
+    let there : (rule : Rule) × (slice_get rules at ≡ Some rule) = rule_at rules at (omega arith) in
+    numbered_from rules name left (at + 1) [] (omega arith) tt (λ number rule above found. covers number rule (omega arith) found)
+    ∙ sym (passed_over rules name at [] there.0 there.1 covers tt (matching_from (at + 1) (drop (at + 1) rules) name))
+    ∙ sym (matching_at rules name at there.0 (omega arith) (sym (get_or_from_slice_get rules at there.0 there.0 there.1)))
+numbered_from rules name (suc left) at (number ∷ numbers) size up covers = ⊎_elim
+    (λ (same : number ≡ at).
+    let there : (rule : Rule) × (slice_get rules at ≡ Some rule) = rule_at rules at (omega arith) in
+    let here : CoversFrom at rules name (at ∷ numbers) = subst (λ (n : ℕ). CoversFrom at rules name (n ∷ numbers)) same covers in
+    ap (λ (n : ℕ). candidates_numbered rules name (n ∷ numbers)) same
+    ∙ ap (λ ones. cons_option (candidate_numbered rules name at) ones)
+    (numbered_from rules name left (at + 1) numbers (omega arith) (subst (λ (n : ℕ). Rises (n + 1) numbers) same up.1) (covers_after rules name at numbers here))
+    ∙ first_told rules name at there.0 (matching_from (at + 1) (drop (at + 1) rules) name) there.1
+    ∙ sym (matching_at rules name at there.0 (omega arith) (sym (get_or_from_slice_get rules at there.0 there.0 there.1))))
+    (λ (differ : number ≡ at → ⊥).
+    let there : (rule : Rule) × (slice_get rules at ≡ Some rule) = rule_at rules at (omega arith) in
+    let later : Rises (at + 1) (number ∷ numbers) = (next_above at number up.0 differ, up.1) in
+    numbered_from rules name left (at + 1) (number ∷ numbers) (omega arith) later (λ n rule above found. covers n rule (omega arith) found)
+    ∙ sym (passed_over rules name at (number ∷ numbers) there.0 there.1 covers later (matching_from (at + 1) (drop (at + 1) rules) name))
+    ∙ sym (matching_at rules name at there.0 (omega arith) (sym (get_or_from_slice_get rules at there.0 there.0 there.1))))
+    (cases_eq number at)
+
+pub numbered_all : (rules : List Rule) (name : Text) (numbers : List ℕ) → IsStrictlyIncreasing numbers → Covers rules name numbers
+    → candidates_numbered rules name numbers ≡ matching_from 0 rules name
+numbered_all rules name numbers up covers =
+    numbered_from rules name (length rules) 0 numbers (omega arith) (rises numbers up) (λ number rule above found. covers number rule found)
+
+-- also after a sort, each number once
+pub numbers_in_order : (ends : Ends) (rules : List Rule) (name : Text) (found sorted kept : List ℕ) → AreAllNoted ends rules → HasAll ends name ends.lengths.keys found
+    → IsPermutation found sorted → IsSorted nat_cmp sorted → kept ≡ dedup nat_eq sorted
+    → candidates_numbered rules name kept ≡ matching_from 0 rules name
+numbers_in_order ends rules name found sorted kept noted all same order once =
+    ap (candidates_numbered rules name) once
+    ∙ numbered_all rules name (dedup nat_eq sorted) (IsStrictlyIncreasing-dedup sorted order) (λ number rule at. ⊎_elim
+    (λ (none : candidate_of number rule name ≡ None). inl none)
+    (λ (there : Contains found number). inr (Contains-dedup_nat sorted number (Contains-permutation found sorted number same there)))
+    (found_covers ends rules name found noted all number rule at))
+
+-- ---- candidates as they are held
+
+-- the rule of a number as it makes a name
+pub told_numbered : (rules : List Rule) (name : Text) (number : ℕ) (rule : Rule) (found : Option HeldCandidate) → slice_get rules number ≡ Some rule
+    → IfSome found (λ candidate. (candidate.rule ≡ number) × IsWithin name candidate.fit) → option_map (candidate_at name rule) found ≡ candidate_of number rule name
+    → found_view rules name found ≡ candidate_numbered rules name number
+told_numbered rules name number rule None there within is = is ∙ sym (ap (option_and_then (λ (one : Rule). candidate_of number one name)) there)
+told_numbered rules name number rule (Some candidate) there within is =
+    told_at rules name candidate rule (ap (slice_get rules) within.0 ∙ there) ∙ is ∙ sym (ap (option_and_then (λ (one : Rule). candidate_of number one name)) there)
+
+pub told_none : (rules : List Rule) (name : Text) (number : ℕ) → slice_get rules number ≡ None → None ≡ candidate_numbered rules name number
+told_none rules name number none = sym (ap (option_and_then (λ (one : Rule). candidate_of number one name)) none)
+
+pub within_numbered : (rules : List Rule) (name : Text) (number : ℕ) (found : Option HeldCandidate) → number < length rules
+    → IfSome found (λ candidate. (candidate.rule ≡ number) × IsWithin name candidate.fit)
+    → IfSome found (λ candidate. (candidate.rule < length rules) × IsWithin name candidate.fit)
+within_numbered rules name number None below within = tt
+within_numbered rules name number (Some candidate) below within = (let same = within.0 in omega arith, within.1)
+
+-- one more number
+pub numbered_more : (rules : List Rule) (name : Text) (numbers : List ℕ) (i number : ℕ) (candidates more : List HeldCandidate) (found : Option HeldCandidate)
+    → i < length numbers → number ≡ get_or numbers i number → found_view rules name found ≡ candidate_numbered rules name number
+    → more ≡ candidates ++ option_to_list found
+    → candidates_view rules name more ++ candidates_numbered rules name (drop (i + 1) numbers)
+    ≡ candidates_view rules name candidates ++ candidates_numbered rules name (drop i numbers)
+numbered_more rules name numbers i number candidates more found within at is grown =
+    ap (λ (ones : List Candidate). ones ++ candidates_numbered rules name (drop (i + 1) numbers))
+    (ap (candidates_view rules name) grown ∙ filter_map-append (candidate_view rules name) candidates (option_to_list found))
+    ∙ append_assoc (candidates_view rules name candidates) (candidates_view rules name (option_to_list found)) (candidates_numbered rules name (drop (i + 1) numbers))
+    ∙ ap (λ (ones : List Candidate). candidates_view rules name candidates ++ ones)
+    (by found (candidates_numbered rules name (drop (i + 1) numbers))
+    ∙ ap (λ o. cons_option o (candidates_numbered rules name (drop (i + 1) numbers))) is
+    ∙ sym (ap (candidates_numbered rules name) (drop_more numbers i number within ∙ ap (λ first. first ∷ drop (i + 1) numbers) (sym at))))
+  where
+    by : (o : Option HeldCandidate) (rest : List Candidate) → candidates_view rules name (option_to_list o) ++ rest ≡ cons_option (found_view rules name o) rest
+    by None rest = refl
+    by (Some one) rest = by_told (candidate_view rules name one) rest
+      where
+        by_told : (t : Option Candidate) (rest : List Candidate) → cons_option t [] ++ rest ≡ cons_option t rest
+        by_told None rest = refl
+        by_told (Some told) rest = refl
+
+pub within_with : (rules : List Rule) (name : Text) (candidates more : List HeldCandidate) (found : Option HeldCandidate)
+    → IfSome found (λ candidate. (candidate.rule < length rules) × IsWithin name candidate.fit) → more ≡ candidates ++ option_to_list found
+    → AreWithin rules name candidates → AreWithin rules name more
+within_with rules name candidates more (Some candidate) there grown within =
+    subst (λ (cs : List HeldCandidate). AreWithin rules name cs) (sym grown)
+    (All-push (λ (c : HeldCandidate). (c.rule < length rules) × IsWithin name c.fit) candidates candidate within there)
+within_with rules name candidates more None there grown within =
+    subst (λ (cs : List HeldCandidate). AreWithin rules name cs) (sym (grown ∙ append-nil candidates)) within

@@ -1,0 +1,108 @@
+-- Trees stay where a chain has fewer rules and more may be added: what makes a name after a chain makes it outside one.
+use Rattle.std.proofs.Common.{◌≡◌, ℕ, zero, suc, ◌+◌, ◌≤◌, Bool, true, false, not, ◌||◌, if◌then◌else◌, List, [], ◌∷◌, length, filter, refl, sym, ap, ◌∙◌, subst, true≢false, ◌⊎◌, inl, inr, ⊎_elim, arith}
+use Rattle.std.specs.Prelude.{◌==◌, nat_eq, nat_lt}
+use Rattle.std.specs.List.{Contains, flat_map, list_any, range_with_len}
+use Rattle.std.proofs.lemmas.Bool.{eq-eqb, false_from_ne_true, or_cases, or_left, or_right}
+use Rattle.std.proofs.lemmas.List.Elements.{All-weaker, Contains-append_cases, Contains-append_left, Contains-append_right}
+use Rattle.kt_text.specs.Words.{Text}
+use Rattle.kt_rules.specs.Entry.{Rule}
+use Rattle.kt_graph.specs.search.Candidates.{Candidate, by_size, candidates_for, matching_from, size_of, without_any}
+use Rattle.kt_graph.specs.search.Search.{HasTree, is_begun, is_used, unknown_needs, with_rule}
+use Rattle.kt_graph.proofs.lemmas.Membership.{first_or_rest, in_filter, in_first, in_rest, kept_by_filter, none_in_empty}
+
+-- ---- elements of lists that are joined
+
+pub from_flat_map : {X Y : Type 0} (f : X → List Y) (xs : List X) (y : Y) → Contains (flat_map f xs) y → (x : X) × Contains xs x × Contains (f x) y
+from_flat_map f [] y c = absurd (none_in_empty y c)
+from_flat_map {X = X} f (x ∷ xs) y c = by (Contains-append_cases (f x) (flat_map f xs) y c) (from_flat_map f xs y)
+  where
+    by : Contains (f x) y ⊎ Contains (flat_map f xs) y → (Contains (flat_map f xs) y → (z : X) × Contains xs z × Contains (f z) y) → (z : X) × Contains (x ∷ xs) z × Contains (f z) y
+    by (inl here) later = (x, in_first x xs, here)
+    by (inr rest) later = let found = later rest in (found.0, in_rest x found.0 xs found.1, found.2)
+
+pub in_flat_map : {X Y : Type 0} (f : X → List Y) (xs : List X) (x : X) (y : Y) → Contains xs x → Contains (f x) y → Contains (flat_map f xs) y
+in_flat_map f [] x y c h = absurd (none_in_empty x c)
+in_flat_map f (z ∷ xs) x y c h =
+    ⊎_elim (λ e. Contains-append_left (f z) (flat_map f xs) y (subst (λ w. Contains (f w) y) (sym e) h))
+    (λ rest. Contains-append_right (f z) (flat_map f xs) y (in_flat_map f xs x y rest h)) (first_or_rest z x xs c)
+
+-- ---- candidates outside a chain
+
+by_size_more : (name : Text) (some others : List Candidate) → ((one : Candidate) → Contains some one → Contains others one) → (one : Candidate)
+    → Contains (by_size name some) one → Contains (by_size name others) one
+by_size_more name some others more one c =
+    let sizes = range_with_len 0 (length name + 1) in
+    let found = from_flat_map (λ size. filter (λ candidate. size_of candidate == size) some) sizes one c in
+    let kept = kept_by_filter (λ candidate. size_of candidate == found.0) some one found.2 in
+    in_flat_map (λ size. filter (λ candidate. size_of candidate == size) others) sizes found.0 one found.1
+    (in_filter (λ candidate. size_of candidate == found.0) others one (more one kept.0) kept.1)
+
+pub from_by_size : (name : Text) (candidates : List Candidate) (one : Candidate) → Contains (by_size name candidates) one → Contains candidates one
+from_by_size name candidates one c =
+    let found = from_flat_map (λ size. filter (λ candidate. size_of candidate == size) candidates) (range_with_len 0 (length name + 1)) one c in
+    (kept_by_filter (λ candidate. size_of candidate == found.0) candidates one found.2).0
+
+outside : (candidates : List Candidate) (one : Candidate) → Contains (without_any true candidates) one → Contains (without_any false candidates) one
+outside candidates one c = by (list_any (λ candidate. not candidate.is_any) candidates)
+  where
+    by : (b : Bool) → Contains (if b then filter (λ candidate. not candidate.is_any || candidate.is_last) candidates else candidates) one
+    by true = c
+    by false = (kept_by_filter (λ candidate. not candidate.is_any || candidate.is_last) candidates one c).0
+
+outside_chain : (rules : List Rule) (name : Text) (one : Candidate) → Contains (candidates_for rules true name) one → Contains (candidates_for rules false name) one
+unfolding candidates_for
+outside_chain rules name one c =
+    by_size_more name (without_any true (matching_from 0 rules name)) (without_any false (matching_from 0 rules name)) (outside (matching_from 0 rules name)) one c
+
+-- ---- the rules of chains
+
+abbrev pub HasAll : List ℕ → List ℕ → Type 0
+HasAll used fewer = (rule : ℕ) → is_used fewer rule ≡ true → is_used used rule ≡ true
+
+or_swap : (a b c : Bool) → (a || (b || c)) ≡ (b || (a || c))
+or_swap true true c = refl
+or_swap true false c = refl
+or_swap false true c = refl
+or_swap false false c = refl
+
+used_with : (rule other : ℕ) (used : List ℕ) → is_used (with_rule rule used) other ≡ (nat_eq other rule || is_used used other)
+unfolding with_rule
+used_with rule other [] = refl
+used_with rule other (first ∷ used) = by (nat_lt rule first) (used_with rule other used)
+  where
+    by : (b : Bool) → is_used (with_rule rule used) other ≡ (nat_eq other rule || is_used used other)
+        → is_used (if b then rule ∷ first ∷ used else first ∷ with_rule rule used) other ≡ (nat_eq other rule || is_used (first ∷ used) other)
+    by true more = refl
+    by false more = ap (λ b. nat_eq other first || b) more ∙ or_swap (nat_eq other first) (nat_eq other rule) (is_used used other)
+
+has_all_with : (rule : ℕ) (used fewer : List ℕ) → HasAll used fewer → HasAll (with_rule rule used) (with_rule rule fewer)
+has_all_with rule used fewer all other h =
+    used_with rule other used
+    ∙ ⊎_elim (λ same. or_left (nat_eq other rule) (is_used used other) same) (λ rest. or_right (nat_eq other rule) (is_used used other) (all other rest))
+    (or_cases (nat_eq other rule) (is_used fewer other) (sym (used_with rule other fewer) ∙ h))
+
+-- a candidate after a chain is one after a chain with fewer rules
+fewer_candidates : (rules : List Rule) (name : Text) (used fewer : List ℕ) → HasAll used fewer → (one : Candidate)
+    → Contains (candidates_for rules (is_begun used) name) one → Contains (candidates_for rules (is_begun fewer) name) one
+fewer_candidates rules name [] [] all one c = c
+fewer_candidates rules name (rule ∷ used) [] all one c = outside_chain rules name one c
+fewer_candidates rules name (rule ∷ used) (other ∷ fewer) all one c = c
+fewer_candidates rules name [] (other ∷ fewer) all one c = absurd (true≢false (sym (all other (or_left (nat_eq other other) (is_used fewer other) (eq-eqb other other refl)))))
+
+-- ---- trees
+
+pub tree_grows : (rules : List Rule) (known : List Text) (left more : ℕ) → left ≤ more → (used fewer : List ℕ) → HasAll used fewer → (name : Text)
+    → HasTree rules known left used name → HasTree rules known more fewer name
+unfolding HasTree
+tree_grows rules known zero more h used fewer all name tree = absurd tree
+tree_grows rules known (suc left) zero h used fewer all name tree = absurd (omega arith)
+tree_grows rules known (suc left) (suc more) h used fewer all name tree =
+    let root = tree.0 in (
+      root,
+      fewer_candidates rules name used fewer all root tree.1,
+      false_from_ne_true (is_used fewer root.rule) (λ in_fewer. true≢false (sym (all root.rule in_fewer) ∙ tree.2)),
+      tree.3,
+      All-weaker (HasTree rules known left (with_rule root.rule used)) (HasTree rules known more (with_rule root.rule fewer))
+          (λ needed branch. tree_grows rules known left more (omega arith) (with_rule root.rule used) (with_rule root.rule fewer) (has_all_with root.rule used fewer all) needed branch)
+          (unknown_needs known root) tree.4,
+    )

@@ -1,0 +1,65 @@
+-- How a question is placed among others, as the set tells it that holds them.
+use Rattle.std.proofs.Common.{◌≡◌, ℕ, ◌+◌, Bool, true, false, cond, not, ◌&&◌, ◌||◌, if◌then◌else◌, List, [], ◌∷◌, ◌++◌, length, map, Option, Some, None, refl, sym, ap, ◌∙◌, true≢false, arith}
+use Rattle.std.specs.Prelude.{nat_eq, slice_get, unwrap_or}
+use Rattle.std.specs.List.{list_any, position_or_len}
+use Rattle.std.specs.Cmp.Lexicographic.{pointwise, same_text}
+use Rattle.std.proofs.lemmas.Bool.{and_parts, not-true, not-false}
+use Rattle.indexmap.specs.IndexSet.{insert_key}
+use Rattle.kt_graph.specs.declared.search.candidate.Candidate.{Candidate as HeldCandidate}
+use Rattle.kt_graph.specs.declared.search.question.Question.{Question}
+use Rattle.kt_graph.specs.declared.search.tried.Tried.{Tried}
+use Rattle.kt_graph.specs.inner.search.Chains.{StandsLast, StoodBefore}
+use Rattle.kt_graph.specs.search.Search.{asked_eq}
+use Rattle.kt_graph.specs.search.Views.{question_view}
+
+-- whether two questions are equal, as they tell it themselves
+abbrev pub questions_eq : Question → Question → Bool
+questions_eq one other = pointwise nat_eq one.name other.name && pointwise nat_eq one.used.items other.used.items
+
+any_told : (question : Question) (others : List Question) → list_any (questions_eq question) others ≡ list_any (asked_eq (question_view question)) (map question_view others)
+any_told question [] = refl
+any_told question (other ∷ others) = ap (λ b. questions_eq question other || b) (any_told question others)
+
+place_after : (p : Question → Bool) (others : List Question) → list_any p others ≡ false → position_or_len p others ≡ length others
+place_after p [] h = refl
+place_after p (other ∷ others) h = by (p other) refl (place_after p others)
+  where
+    by : (b : Bool) → p other ≡ b → (list_any p others ≡ false → position_or_len p others ≡ length others) → position_or_len p (other ∷ others) ≡ length (other ∷ others)
+    by true e rest = absurd (true≢false (sym (ap (λ b. b || list_any p others) e) ∙ h))
+    by false e rest =
+        let later : position_or_len p others ≡ length others = rest (sym (ap (λ b. b || list_any p others) e) ∙ h) in
+        ap (λ b. cond (not b) (1 + position_or_len p others) 0) e ∙ omega arith
+
+-- a new one goes last
+pub placed_last : (old new : Tried) (question : Question) (place : ℕ) (is_new : Bool) → is_new ≡ true → is_new ≡ not (list_any (questions_eq question) old.questions.keys)
+    → new.questions.keys ≡ insert_key questions_eq old.questions.keys question → place ≡ position_or_len (questions_eq question) old.questions.keys
+    → new.answers.items ≡ old.answers.items ++ None ∷ [] → StandsLast old new question place
+placed_last old new question place is_new yes_new tells grown at pushed =
+    let absent : list_any (questions_eq question) old.questions.keys ≡ false = not-true _ (sym tells ∙ yes_new) in
+    record {
+      place_after = at ∙ place_after (questions_eq question) old.questions.keys absent;
+      absent = sym (any_told question old.questions.keys) ∙ absent;
+      questions = grown ∙ ap (λ b. if b then old.questions.keys else old.questions.keys ++ question ∷ []) absent;
+      answers = pushed;
+    }
+
+-- another stands where it stood
+pub placed_before : (old new : Tried) (question : Question) (place : ℕ) (is_new : Bool) (answer : Option HeldCandidate) → is_new ≡ false
+    → is_new ≡ not (list_any (questions_eq question) old.questions.keys) → new.questions.keys ≡ insert_key questions_eq old.questions.keys question
+    → (one : Question) × (slice_get new.questions.keys place ≡ Some one) × (questions_eq question one ≡ true)
+    → new.answers.items ≡ old.answers.items → answer ≡ unwrap_or (slice_get old.answers.items place) None → StoodBefore old new question answer
+placed_before old new question place is_new answer not_new tells grown stored kept answered =
+    let there : list_any (questions_eq question) old.questions.keys ≡ true = not-false _ (sym tells ∙ not_new) in
+    let same : new.questions.keys ≡ old.questions.keys = grown ∙ ap (λ b. if b then old.questions.keys else old.questions.keys ++ question ∷ []) there in
+    let parts = and_parts (pointwise nat_eq question.name stored.0.name) (pointwise nat_eq question.used.items stored.0.used.items) stored.2 in
+    let names = same_text question.name stored.0.name (sym parts.0) in
+    let chains = same_text question.used.items stored.0.used.items (sym parts.1) in
+    record {
+      place = place;
+      one = stored.0;
+      stands = ap (λ keys. slice_get keys place) (sym same) ∙ stored.1;
+      same = sym (λ j. (names j, chains j));
+      answered = answered;
+      questions = same;
+      answers = kept;
+    }

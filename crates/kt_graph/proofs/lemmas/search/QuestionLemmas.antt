@@ -1,0 +1,97 @@
+-- Questions after others, each once.
+use Rattle.std.proofs.Common.{◌≡◌, ℕ, ◌+◌, ◌-◌, ◌<◌, ◌≤◌, Bool, true, false, if◌then◌else◌, List, [], ◌∷◌, ◌++◌, length, refl, sym, ap, ◌∙◌, subst, ⊎_elim, arith, append_assoc, append-nil}
+use Rattle.std.specs.Prelude.{fold, map, Some, slice_get, get_or}
+use Rattle.std.specs.List.{Contains, IsDistinct, AllByRecursion, list_any}
+use Rattle.std.proofs.lemmas.Bool.{and_from, or_left, or_right}
+use Rattle.std.proofs.lemmas.Cmp.{nat_list_eq_equiv}
+use Rattle.std.proofs.lemmas.List.{get_or-append_right, length-append}
+use Rattle.std.proofs.lemmas.List.Folds.{list_any-append}
+use Rattle.std.proofs.lemmas.Option.{get_or_from_slice_get, slice_get_within}
+use Rattle.kt_graph.specs.declared.search.question.Question.{Question}
+use Rattle.kt_graph.specs.search.Search.{Asked, asked_eq, with_question}
+use Rattle.kt_graph.specs.search.Views.{question_view}
+use Rattle.kt_graph.proofs.lemmas.Membership.{first_or_rest, in_first, in_rest, none_in_empty}
+
+pub asked_itself : (question : Asked) → asked_eq question question ≡ true
+asked_itself question = and_from _ _ (nat_list_eq_equiv.refl question.0) (nat_list_eq_equiv.refl question.1)
+
+any_in_more : (question : Asked) (asked more : List Asked) → list_any (asked_eq question) asked ≡ true → list_any (asked_eq question) (asked ++ more) ≡ true
+any_in_more question asked more h = list_any-append (asked_eq question) asked more ∙ or_left _ _ h
+
+stays_with_one : (question one : Asked) (asked : List Asked) → list_any (asked_eq question) asked ≡ true → list_any (asked_eq question) (with_question asked one) ≡ true
+stays_with_one question one asked h = by (list_any (asked_eq one) asked)
+  where
+    by : (b : Bool) → list_any (asked_eq question) (if b then asked else asked ++ one ∷ []) ≡ true
+    by true = h
+    by false = any_in_more question asked (one ∷ []) h
+
+is_put : (one : Asked) (asked : List Asked) → list_any (asked_eq one) (with_question asked one) ≡ true
+is_put one asked = by (list_any (asked_eq one) asked) refl
+  where
+    by : (b : Bool) → list_any (asked_eq one) asked ≡ b → list_any (asked_eq one) (if b then asked else asked ++ one ∷ []) ≡ true
+    by true e = e
+    by false e = list_any-append (asked_eq one) asked (one ∷ []) ∙ or_right (list_any (asked_eq one) asked) _ (or_left _ _ (asked_itself one))
+
+-- a question that stands stays
+pub stays_put : (question : Asked) (asked more : List Asked) → list_any (asked_eq question) asked ≡ true → list_any (asked_eq question) (fold with_question asked more) ≡ true
+stays_put question asked [] h = h
+stays_put question asked (one ∷ more) h = stays_put question (with_question asked one) more (stays_with_one question one asked h)
+
+-- what is put stands
+pub all_put : (asked more : List Asked) (question : Asked) → Contains more question → list_any (asked_eq question) (fold with_question asked more) ≡ true
+all_put asked [] question c = absurd (none_in_empty question c)
+all_put asked (one ∷ more) question c =
+    ⊎_elim (λ e. stays_put question (with_question asked one) more (subst (λ q. list_any (asked_eq q) (with_question asked one) ≡ true) e (is_put one asked)))
+    (λ rest. all_put (with_question asked one) more question rest) (first_or_rest one question more c)
+
+-- what stands already adds nothing
+pub none_new : (asked more : List Asked) → ((question : Asked) → Contains more question → list_any (asked_eq question) asked ≡ true) → fold with_question asked more ≡ asked
+none_new asked [] h = refl
+none_new asked (one ∷ more) h =
+    ap (λ b. fold with_question (if b then asked else asked ++ one ∷ []) more) (h one (in_first one more))
+    ∙ none_new asked more (λ question c. h question (in_rest one question more c))
+
+-- what is put goes after what stands
+record IsBehind (asked more all : List Asked) : Type 0 where
+  added : List Asked
+  whole : all ≡ asked ++ added
+  from : (question : Asked) → Contains added question → Contains more question
+
+after : (asked more : List Asked) → IsBehind asked more (fold with_question asked more)
+after asked [] = record { added = []; whole = sym (append-nil asked); from = λ question c. c }
+after asked (one ∷ more) = by (list_any (asked_eq one) asked) (after asked more) (after (asked ++ one ∷ []) more)
+  where
+    by : (b : Bool) → IsBehind asked more (fold with_question asked more) → IsBehind (asked ++ one ∷ []) more (fold with_question (asked ++ one ∷ []) more)
+        → IsBehind asked (one ∷ more) (fold with_question (if b then asked else asked ++ one ∷ []) more)
+    by true rest _ =
+        record { added = rest.added; whole = rest.whole; from = λ question c. in_rest one question more (rest.from question c) }
+    by false _ rest =
+        record {
+          added = one ∷ rest.added;
+          whole = rest.whole ∙ append_assoc asked (one ∷ []) rest.added;
+          from = λ question c. ⊎_elim (λ e. subst (λ q. Contains (one ∷ more) q) e (in_first one more))
+              (λ later. in_rest one question more (rest.from question later)) (first_or_rest one question rest.added c);
+        }
+
+pub put_after : (asked more : List Asked) (place : ℕ) (question : Asked) → length asked ≤ place
+    → slice_get (fold with_question asked more) place ≡ Some question → Contains more question
+put_after asked more place question past at =
+    let all = after asked more in
+    let within : place < length (fold with_question asked more) = slice_get_within (fold with_question asked more) place question at in
+    let size : length (fold with_question asked more) ≡ length asked + length all.added = ap length all.whole ∙ length-append asked all.added in
+    let found : get_or all.added (place - length asked) question ≡ question
+    = sym (get_or-append_right asked all.added (length asked) place question refl past)
+    ∙ ap (λ xs. get_or xs place question) (sym all.whole) ∙ get_or_from_slice_get (fold with_question asked more) place question question at in
+    all.from question (place - length asked, omega arith, found)
+
+-- questions that differ are told differently
+module _ (eq : Question → Question → Bool) (same : (one other : Question) → eq one other ≡ asked_eq (question_view one) (question_view other)) where
+  told_apart : (one : Question) (others : List Question) → AllByRecursion (λ other. eq one other ≡ false) others
+      → AllByRecursion (λ other. asked_eq (question_view one) other ≡ false) (map question_view others)
+  told_apart one [] h = h
+  told_apart one (other ∷ others) h = (sym (same one other) ∙ h.0, told_apart one others h.1)
+
+  pub told_once : (questions : List Question) → IsDistinct eq questions → IsDistinct asked_eq (map question_view questions)
+  unfolding IsDistinct
+  told_once [] h = h
+  told_once (one ∷ others) h = (told_apart one others h.0, told_once others h.1)

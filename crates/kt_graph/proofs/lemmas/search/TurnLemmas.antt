@@ -1,0 +1,265 @@
+-- The steps of a search: what is asked for names and candidates in turn.
+use Rattle.std.proofs.Common.{◌≡◌, ℕ, zero, suc, ◌+◌, ◌-◌, ◌<◌, ◌≤◌, Bool, true, false, not, ◌&&◌, if◌then◌else◌, List, [], ◌∷◌, ◌++◌, length, get_or, drop, map, Option, Some, None, is_some, Vec, Global, refl, sym, ap, ◌∙◌, subst, arith}
+use Rattle.std.specs.Prelude.{fold, slice_get, IfSome}
+use Rattle.std.specs.List.{find, list_all}
+use Rattle.std.proofs.lemmas.List.{drop_more, drop_all}
+use Rattle.std.proofs.lemmas.List.Sums.{fold-append}
+use Rattle.kt_text.specs.Words.{Text}
+use Rattle.kt_rules.specs.Entry.{Rule}
+use Rattle.kt_rules.specs.Patterns.{is_terminal}
+use Rattle.kt_graph.specs.declared.search.candidate.Candidate.{Candidate as HeldCandidate}
+use Rattle.kt_graph.specs.declared.search.tried.Tried.{Tried}
+use Rattle.kt_graph.specs.search.Candidates.{Candidate}
+use Rattle.kt_graph.specs.inner.search.Chains.{IsFound, IsRightFor, Keeps, HasAnswered, asked_besides}
+use Rattle.kt_graph.specs.search.Search.{Asked, Asking, Choosing, asked_among, asked_by, asked_for, asked_inside, asking, chosen_of, fitting, is_inferred, is_met, open_candidates, unknown_needs, with_question, with_rule}
+use Rattle.kt_graph.specs.search.Views.{AreWithin, question_view, candidate_view, candidates_view}
+use Rattle.kt_graph.proofs.lemmas.search.AskingLemmas.{length-with_rule}
+use Rattle.kt_graph.proofs.lemmas.search.ChainLemmas.{keeps_all, keeps_more}
+use Rattle.kt_graph.proofs.lemmas.Membership.{found_any}
+use Rattle.kt_graph.proofs.lemmas.search.CandidateViewLemmas.{at_some, found_some, if_some, told_at, told_from, told_last, told_rule}
+
+-- all this is to be asked, and so much of it is left
+pub record IsAsking (rules : List Rule) (known : List Text) (old now : Tried) (least : ℕ) (all left : List Asked) : Type 0 where
+  pub right : IsRightFor rules known now least
+  pub kept : Keeps old now
+  pub rest : fold with_question (map question_view now.questions.keys) left ≡ fold with_question (map question_view old.questions.keys) all
+
+module _ (rules : List Rule) (known : List Text) (least : ℕ) where
+  pub asking_starts : (tried : Tried) (all left : List Asked) → IsRightFor rules known tried least → all ≡ left → IsAsking rules known tried tried least all left
+  asking_starts tried all left right e = record {
+    right = right;
+    kept = keeps_all tried;
+    rest = sym (ap (fold with_question (map question_view tried.questions.keys)) e);
+  }
+
+  part_put : (now new : Tried) (part later : List Asked) → HasAnswered rules known now new least part
+      → fold with_question (map question_view new.questions.keys) later ≡ fold with_question (map question_view now.questions.keys) (part ++ later)
+  part_put now new part later leaves =
+      ap (λ asked. fold with_question asked later) leaves.put ∙ sym (fold-append with_question (map question_view now.questions.keys) part later)
+
+  pub asking_more : (old now new : Tried) (all left part later : List Asked) → IsAsking rules known old now least all left → HasAnswered rules known now new least part → Keeps now new
+      → left ≡ part ++ later → IsAsking rules known old new least all later
+  asking_more old now new all left part later asking leaves keeps e = record {
+    right = leaves.right;
+    kept = keeps_more old now new asking.kept keeps;
+    rest = part_put now new part later leaves ∙ sym (ap (fold with_question (map question_view now.questions.keys)) e) ∙ asking.rest;
+  }
+
+  pub asking_ends : (old now : Tried) (all left : List Asked) → IsAsking rules known old now least all left → left ≡ [] → HasAnswered rules known old now least all
+  asking_ends old now all left asking e = record {
+    put = ap (fold with_question (map question_view now.questions.keys)) (sym e) ∙ asking.rest;
+    right = asking.right;
+  }
+
+-- ---- names in turn
+
+module _ (deeper : Choosing) (ask : Asking) (used : List ℕ) (names : List (Vec ℕ Global)) (i : ℕ) where
+  abbrev name_at : Vec ℕ Global → Text
+  name_at name = name.items
+
+  names_from : (name : Vec ℕ Global) → i < length names → name ≡ get_or names i name
+      → map name_at (drop i names) ≡ name.items ∷ map name_at (drop (i + 1) names)
+  names_from name h is = ap (map name_at) (drop_more names i name h ∙ ap (λ one. one ∷ drop (i + 1) names) (sym is))
+
+  pub asked_from : (name : Vec ℕ Global) → i < length names → name ≡ get_or names i name → (b : Bool) → is_some (deeper used name.items) ≡ b
+      → asked_for deeper ask used (map name_at (drop i names)) ≡ ask used name.items ++ (if b then asked_for deeper ask used (map name_at (drop (i + 1) names)) else [])
+  asked_from name h is b e =
+      ap (asked_for deeper ask used) (names_from name h is)
+      ∙ ap (λ b. ask used name.items ++ (if b then asked_for deeper ask used (map name_at (drop (i + 1) names)) else [])) e
+
+  pub asked_past : length names ≤ i → asked_for deeper ask used (map name_at (drop i names)) ≡ []
+  asked_past past = ap (λ rest. asked_for deeper ask used (map name_at rest)) (drop_all i names past)
+
+  abbrev finds : Text → Bool
+  finds name = is_some (deeper used name)
+
+  pub finds_from : (name : Vec ℕ Global) → i < length names → name ≡ get_or names i name → (b : Bool) → is_some (deeper used name.items) ≡ b
+      → list_all finds (map name_at (drop i names)) ≡ (b && list_all finds (map name_at (drop (i + 1) names)))
+  finds_from name h is b e =
+      ap (list_all finds) (names_from name h is) ∙ ap (λ c. c && list_all finds (map name_at (drop (i + 1) names))) e
+
+  pub finds_past : length names ≤ i → list_all finds (map name_at (drop i names)) ≡ true
+  finds_past past = ap (λ rest. list_all finds (map name_at rest)) (drop_all i names past)
+
+-- ---- candidates in turn
+
+module _ (rules : List Rule) (name : Text) (known : List Text) (deeper : Choosing) (ask : Asking) (used : List ℕ) (candidates : List HeldCandidate) (i : ℕ) where
+  pub among_from : (candidate : HeldCandidate) (told : Candidate) → i < length candidates → candidate ≡ get_or candidates i candidate → candidate_view rules name candidate ≡ Some told
+      → (b : Bool) → is_inferred known deeper used told ≡ b
+      → asked_among known deeper ask used (candidates_view rules name (drop i candidates))
+      ≡ asked_by known deeper ask used told ++ (if b then [] else asked_among known deeper ask used (candidates_view rules name (drop (i + 1) candidates)))
+  among_from candidate told h is e b inferred =
+      ap (asked_among known deeper ask used) (told_from rules name candidates i candidate told h is e)
+      ∙ ap (λ b. asked_by known deeper ask used told ++ (if b then [] else asked_among known deeper ask used (candidates_view rules name (drop (i + 1) candidates)))) inferred
+
+  pub among_past : length candidates ≤ i → asked_among known deeper ask used (candidates_view rules name (drop i candidates)) ≡ []
+  among_past past = ap (λ rest. asked_among known deeper ask used (candidates_view rules name rest)) (drop_all i candidates past)
+
+-- ---- what is inferred
+
+pub other_inferred : (known : List Text) (deeper : Choosing) (used chain : List ℕ) (names : List Text) (told : Candidate) (all : Bool) → told.is_last ≡ false
+    → chain ≡ with_rule told.rule used → names ≡ unknown_needs known told → all ≡ list_all (λ name. is_some (deeper chain name)) names → all ≡ is_inferred known deeper used told
+other_inferred known deeper used chain names told all e c n found =
+    found ∙ (λ j. list_all (λ name. is_some (deeper (c j) name)) (n j))
+    ∙ sym (ap (λ b. not b && list_all (λ name. is_some (deeper (with_rule told.rule used) name)) (unknown_needs known told)) e)
+
+pub other_asked : (known : List Text) (deeper : Choosing) (ask : Asking) (used chain : List ℕ) (names : List Text) (told : Candidate) → told.is_last ≡ false
+    → chain ≡ with_rule told.rule used → names ≡ unknown_needs known told → asked_for deeper ask chain names ≡ asked_by known deeper ask used told
+other_asked known deeper ask used chain names told e c n =
+    (λ j. asked_for deeper ask (c j) (n j)) ∙ sym (ap (λ b. if b then [] else asked_for deeper ask (with_rule told.rule used) (unknown_needs known told)) e)
+
+-- ---- the steps one by one
+
+-- a name finds a rule or none
+module _ (rules : List Rule) (known : List Text) (left : ℕ) (used : List ℕ) (names : List (Vec ℕ Global)) (i : ℕ) (name : Vec ℕ Global) (h : i < length names)
+    (is : name ≡ get_or names i name) (text : Text) (e : text ≡ name.items) (answer : Option HeldCandidate) (found : IsFound rules text (fitting rules known left used text) answer) where
+  abbrev deeper : Choosing
+  deeper = fitting rules known left
+
+  abbrev ask : Asking
+  ask = asking rules known left
+
+  some_is : (b : Bool) → is_some answer ≡ b → is_some (deeper used name.items) ≡ b
+  some_is b a = ap (λ n. is_some (deeper used n)) (sym e) ∙ found_some rules text (fitting rules known left used text) answer found ∙ a
+
+  asked_here : (b : Bool) → is_some answer ≡ b
+      → asked_for deeper ask used (map (λ (one : Vec ℕ Global). one.items) (drop i names))
+      ≡ ask used text ++ (if b then asked_for deeper ask used (map (λ (one : Vec ℕ Global). one.items) (drop (i + 1) names)) else [])
+  asked_here b a =
+      asked_from deeper ask used names i name h is b (some_is b a)
+      ∙ ap (λ n. ask used n ++ (if b then asked_for deeper ask used (map (λ (one : Vec ℕ Global). one.items) (drop (i + 1) names)) else [])) (sym e)
+
+  pub asks_later : (old now new : Tried) (all : List Asked) → is_some answer ≡ true
+      → IsAsking rules known old now (length used) all (asked_for deeper ask used (map (λ (one : Vec ℕ Global). one.items) (drop i names)))
+      → HasAnswered rules known now new (length used) (ask used text) → Keeps now new
+      → IsAsking rules known old new (length used) all (asked_for deeper ask used (map (λ (one : Vec ℕ Global). one.items) (drop (i + 1) names)))
+  asks_later old now new all a asks leaves keeps =
+      asking_more rules known (length used) old now new all _ (ask used text) _ asks leaves keeps (asked_here true a)
+
+  pub asks_no_more : (old now new : Tried) (all : List Asked) → is_some answer ≡ false
+      → IsAsking rules known old now (length used) all (asked_for deeper ask used (map (λ (one : Vec ℕ Global). one.items) (drop i names)))
+      → HasAnswered rules known now new (length used) (ask used text) → Keeps now new → HasAnswered rules known old new (length used) all
+  asks_no_more old now new all a asks leaves keeps =
+      asking_ends rules known (length used) old new all [] (asking_more rules known (length used) old now new all _ (ask used text) [] asks leaves keeps (asked_here false a)) refl
+
+  pub finds_later : (all : Bool) → is_some answer ≡ true → list_all (λ n. is_some (deeper used n)) (map (λ (one : Vec ℕ Global). one.items) (drop i names)) ≡ all
+      → list_all (λ n. is_some (deeper used n)) (map (λ (one : Vec ℕ Global). one.items) (drop (i + 1) names)) ≡ all
+  finds_later all a rest = sym (finds_from deeper ask used names i name h is true (some_is true a)) ∙ rest
+
+  pub finds_not : (all : Bool) → is_some answer ≡ false → list_all (λ n. is_some (deeper used n)) (map (λ (one : Vec ℕ Global). one.items) (drop i names)) ≡ all → false ≡ all
+  finds_not all a rest = sym (finds_from deeper ask used names i name h is false (some_is false a)) ∙ rest
+
+-- a candidate is inferred or not
+module _ (rules : List Rule) (known : List Text) (left : ℕ) (name : Text) (used : List ℕ) (candidates : List HeldCandidate) (i : ℕ) (candidate : HeldCandidate)
+    (h : i < length candidates) (is : candidate ≡ get_or candidates i candidate) (within : AreWithin rules name candidates) (passed : Bool)
+    (tells : IfSome (candidate_view rules name candidate) (λ told. passed ≡ is_inferred known (fitting rules known left) used told)) where
+  abbrev choosing : Choosing
+  choosing = fitting rules known left
+
+  abbrev putting : Asking
+  putting = asking rules known left
+
+  rule_within : candidate.rule < length rules
+  rule_within = subst (λ (one : HeldCandidate). one.rule < length rules) (sym is) (within i candidate h).0
+
+  abbrev one : Candidate
+  one = (told_at rules name candidate rule_within).0
+
+  one_told : candidate_view rules name candidate ≡ Some one
+  one_told = (told_at rules name candidate rule_within).1
+
+  among_here : (b : Bool) → passed ≡ b
+      → asked_among known choosing putting used (candidates_view rules name (drop i candidates))
+      ≡ asked_by known choosing putting used one ++ (if b then [] else asked_among known choosing putting used (candidates_view rules name (drop (i + 1) candidates)))
+  among_here b a =
+      among_from rules name known choosing putting used candidates i candidate one h is one_told b
+      (sym (at_some (candidate_view rules name candidate) (λ told. passed ≡ is_inferred known choosing used told) one one_told tells) ∙ a)
+
+  pub infers_later : (old now new : Tried) (least : ℕ) (all : List Asked) → passed ≡ false
+      → IsAsking rules known old now least all (asked_among known choosing putting used (candidates_view rules name (drop i candidates)))
+      → IfSome (candidate_view rules name candidate) (λ told. HasAnswered rules known now new least (asked_by known choosing putting used told)) → Keeps now new
+      → IsAsking rules known old new least all (asked_among known choosing putting used (candidates_view rules name (drop (i + 1) candidates)))
+  infers_later old now new least all a asks leaves keeps =
+      asking_more rules known least old now new all _ (asked_by known choosing putting used one) _ asks
+      (at_some (candidate_view rules name candidate) (λ told. HasAnswered rules known now new least (asked_by known choosing putting used told)) one one_told leaves) keeps (among_here false a)
+
+  pub infers_no_more : (old now new : Tried) (least : ℕ) (all : List Asked) → passed ≡ true
+      → IsAsking rules known old now least all (asked_among known choosing putting used (candidates_view rules name (drop i candidates)))
+      → IfSome (candidate_view rules name candidate) (λ told. HasAnswered rules known now new least (asked_by known choosing putting used told)) → Keeps now new
+      → HasAnswered rules known old new least all
+  infers_no_more old now new least all a asks leaves keeps =
+      asking_ends rules known least old new all []
+      (asking_more rules known least old now new all _ (asked_by known choosing putting used one) [] asks
+      (at_some (candidate_view rules name candidate) (λ told. HasAnswered rules known now new least (asked_by known choosing putting used told)) one one_told leaves) keeps (among_here true a)) refl
+
+-- what a candidate is that isn't last
+module _ (rules : List Rule) (known : List Text) (left : ℕ) (name : Text) (used chain : List ℕ) (candidate : HeldCandidate) (names : List (Vec ℕ Global)) (last : Bool)
+    (not_last : last ≡ false) (tells : IfSome (slice_get rules candidate.rule) (λ rule. last ≡ is_terminal rule.kind)) (chained : chain ≡ with_rule candidate.rule used)
+    (unknown : IfSome (candidate_view rules name candidate) (λ told. map (λ one. one.items) names ≡ unknown_needs known told)) where
+  abbrev whole_chain : (told : Candidate) → candidate_view rules name candidate ≡ Some told → chain ≡ with_rule told.rule used
+  whole_chain told e = chained ∙ ap (λ rule. with_rule rule used) (told_rule rules name candidate told e)
+
+  pub inferred_so : (all : Bool) → all ≡ list_all (λ n. is_some (fitting rules known left chain n)) (map (λ (one : Vec ℕ Global). one.items) names)
+      → IfSome (candidate_view rules name candidate) (λ told. all ≡ is_inferred known (fitting rules known left) used told)
+  inferred_so all found = if_some (candidate_view rules name candidate) (λ told. all ≡ is_inferred known (fitting rules known left) used told)
+      (λ told e. other_inferred known (fitting rules known left) used chain (map (λ (one : Vec ℕ Global). one.items) names) told all
+      (sym (told_last rules name candidate told e last tells) ∙ not_last) (whole_chain told e)
+      (at_some (candidate_view rules name candidate) (λ one. map (λ (n : Vec ℕ Global). n.items) names ≡ unknown_needs known one) told e unknown) found)
+
+  pub asked_so : (old new : Tried) → HasAnswered rules known old new (length chain) (asked_for (fitting rules known left) (asking rules known left) chain (map (λ (one : Vec ℕ Global). one.items) names))
+      → IfSome (candidate_view rules name candidate) (λ told. HasAnswered rules known old new (length used + 1) (asked_by known (fitting rules known left) (asking rules known left) used told))
+  asked_so old new leaves = if_some (candidate_view rules name candidate) (λ told. HasAnswered rules known old new (length used + 1) (asked_by known (fitting rules known left) (asking rules known left) used told))
+      (λ told e. subst (λ n. HasAnswered rules known old new n (asked_by known (fitting rules known left) (asking rules known left) used told))
+      (ap length chained ∙ length-with_rule candidate.rule used)
+      (subst (λ asked. HasAnswered rules known old new (length chain) asked)
+      (other_asked known (fitting rules known left) (asking rules known left) used chain (map (λ (one : Vec ℕ Global). one.items) names) told
+      (sym (told_last rules name candidate told e last tells) ∙ not_last) (whole_chain told e)
+      (at_some (candidate_view rules name candidate) (λ one. map (λ (n : Vec ℕ Global). n.items) names ≡ unknown_needs known one) told e unknown)) leaves))
+
+module _ (rules : List Rule) (known : List Text) where
+  -- a candidate is met
+  pub met_leaves : (tried : Tried) (least left : ℕ) (used : List ℕ) (name : Text) (candidates : List Candidate) (candidate : HeldCandidate) → IsRightFor rules known tried least
+      → IsFound rules name (find (is_met known) candidates) (Some candidate)
+      → HasAnswered rules known tried tried least (asked_inside known (fitting rules known left) (asking rules known left) used candidates)
+  met_leaves tried least left used name candidates candidate right found =
+      let none : asked_inside known (fitting rules known left) (asking rules known left) used candidates ≡ []
+      = ap (λ b. if b then [] else asked_among known (fitting rules known left) (asking rules known left) used candidates)
+      (sym (found_any (is_met known) candidates) ∙ found_some rules name (find (is_met known) candidates) (Some candidate) found) in
+      record { put = sym (ap (fold with_question (map question_view tried.questions.keys)) none); right = right }
+
+  -- none is met
+  pub unmet_asked : (left : ℕ) (used : List ℕ) (name : Text) (candidates : List Candidate) → IsFound rules name (find (is_met known) candidates) None
+      → asked_inside known (fitting rules known left) (asking rules known left) used candidates ≡ asked_among known (fitting rules known left) (asking rules known left) used candidates
+  unmet_asked left used name candidates found =
+      ap (λ b. if b then [] else asked_among known (fitting rules known left) (asking rules known left) used candidates)
+      (sym (found_any (is_met known) candidates) ∙ found_some rules name (find (is_met known) candidates) None found)
+
+  -- no rule may be added
+  pub none_fits : (left : ℕ) (used : List ℕ) (name : Text) → left ≡ 0 → IsFound rules name (fitting rules known left used name) None
+  unfolding fitting
+  none_fits left used name e = record { told = sym (ap (λ n. fitting rules known n used name) e); within = tt }
+
+  pub none_asked : (tried : Tried) (least left : ℕ) (used : List ℕ) (name : Text) → left ≡ 0 → IsRightFor rules known tried least
+      → HasAnswered rules known tried tried least (asked_besides rules known left used name)
+  unfolding asked_besides
+  none_asked tried least left used name e right = record {
+    put = sym (ap (λ n. fold with_question (map question_view tried.questions.keys) (asked_besides rules known n used name)) e);
+    right = right;
+  }
+
+  -- a rule may be added
+  pub fitting_is : (left : ℕ) (used : List ℕ) (name : Text) → (left ≡ 0 → ⊥)
+      → fitting rules known left used name ≡ chosen_of known (fitting rules known (left - 1)) used (open_candidates rules used name)
+  unfolding fitting
+  fitting_is zero used name h = absurd (h refl)
+  fitting_is (suc left) used name h =
+      let e : suc left - 1 ≡ left = omega arith in
+      ap (λ n. chosen_of known (fitting rules known n) used (open_candidates rules used name)) (sym e)
+
+  pub after_are : (left : ℕ) (used : List ℕ) (name : Text) → (left ≡ 0 → ⊥)
+      → asked_besides rules known left used name ≡ asked_inside known (fitting rules known (left - 1)) (asking rules known (left - 1)) used (open_candidates rules used name)
+  unfolding asked_besides
+  after_are zero used name h = absurd (h refl)
+  after_are (suc left) used name h =
+      let e : suc left - 1 ≡ left = omega arith in
+      ap (λ n. asked_inside known (fitting rules known n) (asking rules known n) used (open_candidates rules used name)) (sym e)

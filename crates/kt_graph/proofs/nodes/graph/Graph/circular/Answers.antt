@@ -1,0 +1,29 @@
+use Rattle.std.proofs.Common.{sym, subst}
+use Rattle.std.proofs.lemmas.Option.{MatchOption-at_none, MatchOption-at_some}
+use Rattle.kt_graph.specs.Reach.{IsGraph}
+use Rattle.kt_graph.proofs.lemmas.faults.CyclicLemmas.{first_cyclic, none_cyclic}
+use Rattle.kt_graph.proofs.lemmas.nodes.WholeLemmas.{needed_below}
+use Rattle.kt_graph.proofs.nodes.graph.Graph.circular.Goals as goal
+
+pub of-requires-clause-needed : goal.of-requires-clause-needed
+of-requires-clause-needed c =
+    needed_below c.self.inside.names c.self.inside.instances.keys c.self.inside.nodes c.self.inside.order.items c.self.invariant
+
+pub returns-in-Some : goal.returns-in-Some
+returns-in-Some c = λ rules known goals graph.
+    let held = c.self.inside in
+    let first = MatchOption-at_some _ _ c.in-Some.number c.in-Some.is c.in_ok-number.ensures in
+    rw (c.name_of.ensures, c.as_slice-in-Some.ensures.names)
+    (first_cyclic held.names held.instances.keys held.nodes held.order.items c.self.invariant rules known goals
+    (subst (IsGraph rules known goals) (sym c.self.view_is) graph) c.in_ok-edges.edges
+    c.in_ok-edges.ensures.edges c.in-Some.number
+    (rw c.as_slice.ensures.value at first))
+
+pub returns : goal.returns
+returns c = λ rules known goals graph.
+    let held = c.self.inside in
+    let none = MatchOption-at_none _ _ c.in-None.is c.in_ok-number.ensures in
+    none_cyclic held.names held.instances.keys held.nodes held.order.items c.self.invariant rules known goals
+    (subst (IsGraph rules known goals) (sym c.self.view_is) graph) c.in_ok-edges.edges
+    c.in_ok-edges.ensures.edges
+    (rw c.as_slice.ensures.value at none)

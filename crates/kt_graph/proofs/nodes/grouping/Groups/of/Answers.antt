@@ -1,0 +1,7 @@
+use Rattle.kt_graph.specs.inner.faults.Edges.{rows_held}
+use Rattle.kt_graph.proofs.lemmas.nodes.GroupingLemmas.{groups_are}
+use Rattle.kt_graph.proofs.nodes.grouping.Groups.of.Goals as goal
+
+pub returns : goal.returns
+returns c =
+    groups_are c.args.names.now c.args.instances.now c.args.nodes.now c.args.order.now c.requires (rows_held c.in_ok-members.members.items) c.in_ok-members.ensures

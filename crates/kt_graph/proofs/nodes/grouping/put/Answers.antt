@@ -1,0 +1,22 @@
+use Rattle.std.proofs.Common.{◌∷◌, ◌++◌, ◌<◌, ◌∙◌, [], Option, arith, length, option_map, sym, ap}
+use Rattle.std.specs.List.{cons_option}
+use Rattle.std.proofs.lemmas.List.{append-nil}
+use Rattle.std.proofs.lemmas.Option.{slice_get_past}
+use Rattle.kt_graph.specs.inner.nodes.Stored.{StoredNode}
+use Rattle.kt_graph.specs.nodes.Node.{Node}
+use Rattle.kt_graph.specs.nodes.Views.{node_view}
+use Rattle.kt_graph.proofs.lemmas.nodes.StoredLemmas.{stored_there}
+use Rattle.kt_graph.proofs.nodes.grouping.put.Goals as goal
+
+pub returns-in_ok-push : goal.returns-in_ok-push
+returns-in_ok-push c =
+    let within : c.args.number < length c.args.nodes.now = omega arith in
+    c.in_ok-push.ensures.items
+    ∙ ap (λ (node : Node). c.args.group.now.items ++ node ∷ []) c.new.ensures
+    ∙ sym (ap (λ (o : Option StoredNode). c.args.group.now.items ++ cons_option (option_map (node_view c.args.names.now c.args.instances.now c.args.number) o) []) (stored_there c.args.nodes.now c.args.number within))
+
+pub returns-else-number-len : goal.returns-else-number-len
+returns-else-number-len c =
+    sym (append-nil c.args.group.now.items)
+    ∙ sym (ap (λ (o : Option StoredNode). c.args.group.now.items ++ cons_option (option_map (node_view c.args.names.now c.args.instances.now c.args.number) o) [])
+    (slice_get_past c.args.nodes.now c.args.number (omega arith)))

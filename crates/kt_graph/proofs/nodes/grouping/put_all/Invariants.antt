@@ -1,0 +1,7 @@
+use Rattle.std.proofs.Common.{◌≡◌, ◌++◌, drop}
+use Rattle.kt_graph.specs.nodes.Views.{nodes_view}
+use Rattle.kt_graph.proofs.nodes.grouping.put_all.Given as goal
+
+abbrev pub invariant-loop-number : goal.invariant-loop-number
+invariant-loop-number l =
+    l.group.items ++ nodes_view l.names l.instances l.nodes (drop l.number-index l.numbers) ≡ l.fn.group.items ++ nodes_view l.names l.instances l.nodes l.numbers

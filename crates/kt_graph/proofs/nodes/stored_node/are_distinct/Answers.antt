@@ -1,0 +1,14 @@
+use Rattle.std.proofs.Common.{sym, ◌∙◌, ap, subst}
+use Rattle.std.specs.List.Sorted.{IsPermutation}
+use Rattle.kt_graph.specs.inner.nodes.Numbering.{rise}
+use Rattle.kt_graph.proofs.lemmas.nodes.StoredNodeLemmas.{rising_distinct, sorted_distinct}
+use Rattle.kt_graph.proofs.nodes.stored_node.are_distinct.Goals as goal
+
+pub returns-then-rise : goal.returns-then-rise
+returns-then-rise c = λ _. rising_distinct c.args.numbers.now (sym c.rise.ensures ∙ c.if-rise.true)
+
+pub returns : goal.returns
+returns c = λ told.
+    let moved = subst (λ xs. IsPermutation xs c.sort_unstable.new.self.items) c.in_ok-sorted.ensures.items c.sort_unstable.ensures.permutation in
+    sorted_distinct c.args.numbers.now c.sort_unstable.new.self.items moved
+    (ap rise (sym c.as_slice.ensures.value) ∙ sym c.rise-2.ensures ∙ told)

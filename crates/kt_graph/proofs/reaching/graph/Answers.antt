@@ -1,5 +1,0 @@
-use Rattle.kt_graph.proofs.MadeLemmas.{made_inputs}
-use Rattle.kt_graph.proofs.reaching.graph.Goals as goal
-
-pub returns-clause-inputs : goal.returns-clause-inputs
-returns-clause-inputs c = λ files told. made_inputs _ _ _ _ files c.in_ok-graph.ensures told

@@ -1,0 +1,25 @@
+use Rattle.std.proofs.Common.{◌<◌, ◌++◌, ap, length, sym, ◌∙◌, arith}
+use Rattle.std.proofs.lemmas.List.{append-nil, drop_all}
+use Rattle.kt_graph.specs.inner.search.Ends.{candidates_numbered}
+use Rattle.kt_graph.specs.search.Views.{candidates_view}
+use Rattle.kt_graph.proofs.lemmas.search.EndLemmas.{numbered_more, within_with}
+use Rattle.kt_graph.proofs.lemmas.search.CandidateViewLemmas.{read_itself}
+use Rattle.kt_graph.proofs.search.candidates.of_numbers.Goals as goal
+
+pub loop-number-preserved : goal.loop-number-preserved
+loop-number-preserved c =
+    let i = c.loop-number.number-index in
+    let within : i < length c.args.numbers.now = omega arith in
+    record {
+      left = numbered_more c.args.patterns.now c.args.name.now c.args.numbers.now i _ c.loop-number.candidates.items c.add.new.candidates.items c.candidate_numbered.result
+          within (read_itself c.args.numbers.now i _ within) c.candidate_numbered.ensures.candidate c.in_ok-add.ensures ∙ c.loop-number.invariant.left;
+      within = within_with c.args.patterns.now c.args.name.now c.loop-number.candidates.items c.add.new.candidates.items c.candidate_numbered.result
+          c.candidate_numbered.ensures.within c.in_ok-add.ensures c.loop-number.invariant.within;
+    }
+
+pub returns-clause-matching : goal.returns-clause-matching
+returns-clause-matching c =
+    sym (ap (λ rest. candidates_view c.args.patterns.now c.args.name.now c.loop-number.candidates.items ++ candidates_numbered c.args.patterns.now c.args.name.now rest)
+    (drop_all c.loop-number.number-index c.args.numbers.now (omega arith))
+    ∙ append-nil (candidates_view c.args.patterns.now c.args.name.now c.loop-number.candidates.items))
+    ∙ c.loop-number.invariant.left

@@ -1,0 +1,11 @@
+use Rattle.std.proofs.Common.{◌≡◌, ◌++◌, drop}
+use Rattle.kt_graph.specs.inner.search.Ends.{candidates_numbered}
+use Rattle.kt_graph.specs.search.Views.{AreWithin, candidates_view}
+use Rattle.kt_graph.proofs.search.candidates.of_numbers.Given as goal
+
+abbrev pub invariant-loop-number : goal.invariant-loop-number
+invariant-loop-number l = record {
+  left : candidates_view l.patterns l.name l.candidates.items ++ candidates_numbered l.patterns l.name (drop l.number-index l.numbers)
+      ≡ candidates_numbered l.patterns l.name l.numbers;
+  within : AreWithin l.patterns l.name l.candidates.items;
+}

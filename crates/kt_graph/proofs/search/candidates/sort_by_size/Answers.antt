@@ -1,0 +1,16 @@
+use Rattle.std.proofs.Common.{rules}
+use Rattle.std.proofs.lemmas.List.Sorted.{IsNonDecreasingBy-from_sort_by_key, answers_always}
+use Rattle.std.proofs.lemmas.Result.{on_ok_weaker}
+use Rattle.kt_graph.specs.declared.search.candidate.Candidate.{Candidate}
+use Rattle.kt_graph.specs.search.Views.{fit_size}
+use Rattle.kt_graph.proofs.lemmas.search.CandidateLemmas.{sorted_by_size}
+use Rattle.kt_graph.proofs.search.candidates.sort_by_size.Goals as goal
+
+pub returns-clause-sorted : goal.returns-clause-sorted
+returns-clause-sorted c =
+    on_ok_weaker c.sort_by_key.result
+    (λ sorted. sorted_by_size c.args.candidates.now.items c.sort_by_key.new.self.items
+    (IsNonDecreasingBy-from_sort_by_key (λ (one : Candidate). fit_size one.fit) _ sorted (λ a r q k. search rules))
+    (c.sort_by_key.ensures.stable (λ (one : Candidate). fit_size one.fit) (answers_always _ _ _ (λ f a r g h. search rules)))
+    c.sort_by_key.ensures.permutation)
+    c.sort_by_key.ensures.sorted

@@ -1,0 +1,26 @@
+use Rattle.std.proofs.Common.{◌+◌, ◌<◌, ℕ, Vec, Global, length, map, drop, sym, ap, ◌∙◌, arith}
+use Rattle.std.specs.Prelude.{fold}
+use Rattle.kt_rules.specs.Names.{with_name}
+use Rattle.kt_graph.specs.search.Candidates.{needed_name, needed_names}
+use Rattle.kt_graph.specs.Known.{unknown_of}
+use Rattle.kt_graph.proofs.lemmas.search.UnknownLemmas.{unknown_past, unknown_step}
+use Rattle.kt_graph.proofs.search.chains.Chains.add_unknown.Goals as goal
+
+pub loop-name-preserved : goal.loop-name-preserved
+loop-name-preserved c =
+    let known = c.args.self.now.known.now in
+    let directory = c.args.stemming.directory.now in
+    let stem = c.args.stemming.stem.now in
+    let i = c.loop-name.name-index in
+    let h : i < length c.args.names.now = omega arith in
+    ap (λ names. fold with_name names (unknown_of known (needed_names directory stem (drop (i + 1) c.args.names.now)))) c.in_ok-add_if_unknown.ensures
+    ∙ sym (unknown_step known directory stem c.args.names.now (map (λ (name : Vec ℕ Global). name.items) c.loop-name.unknown.keys) i c.name-item.result c.in_ok-needed.needed.items h c.name-item.is
+    (c.in_ok-needed.ensures ∙ ap (needed_name directory stem) c.as_slice.ensures))
+    ∙ c.loop-name.invariant
+
+pub returns : goal.returns
+returns c =
+    let known = c.args.self.now.known.now in
+    sym (ap (fold with_name (map (λ (name : Vec ℕ Global). name.items) c.loop-name.unknown.keys))
+    (unknown_past known c.args.stemming.directory.now c.args.stemming.stem.now c.args.names.now c.loop-name.name-index (omega arith)))
+    ∙ c.loop-name.invariant

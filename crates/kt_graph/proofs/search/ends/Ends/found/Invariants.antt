@@ -1,0 +1,6 @@
+use Rattle.std.proofs.Common.{take}
+use Rattle.kt_graph.specs.inner.search.Ends.{HasAll}
+use Rattle.kt_graph.proofs.search.ends.Ends.found.Given as goal
+
+abbrev pub invariant-loop-length : goal.invariant-loop-length
+invariant-loop-length l = HasAll l.self l.name (take l.length-index l.length-items) l.found.items

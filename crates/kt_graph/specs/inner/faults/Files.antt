@@ -1,0 +1,48 @@
+-- The files of made names, as the code counts them, and the order of names (kati's own).
+use Rattle.std.specs.Prelude.{◌≡◌, ◌↔◌, ℕ, ◌<◌, Bool, nat_eq, nat_lt, List, length, map, filter, bytes_eq, Option, None}
+use Rattle.std.specs.Prelude.{Some, if◌then◌else◌}
+use Rattle.std.specs.List.{Contains}
+use Rattle.std.specs.Map.{lookup}
+use Rattle.std.specs.List.Sorted.{IsStrictlySortedBy}
+use Rattle.std.specs.Ordering.{nat_cmp}
+use Rattle.std.specs.Cmp.Lexicographic.{slice_cmp}
+use Rattle.std.specs.declared.vec.Vec.{Vec}
+use Rattle.std.specs.declared.alloc.Global.{Global}
+use Rattle.kt_text.specs.Words.{Text}
+use Rattle.kt_graph.specs.declared.faults.files.Files.{Files}
+use Rattle.kt_graph.specs.nodes.Groups.{made_nodes}
+use Rattle.kt_graph.specs.nodes.Node.{Node}
+use Rattle.kt_graph.specs.faults.Paths.{canon_of}
+use Rattle.kt_graph.specs.nodes.Views.{name_at, names_at}
+
+-- how many of some names are names of a file
+abbrev pub count_of : List Text → Text → ℕ
+count_of names file = length (filter (λ name. bytes_eq (canon_of name) file) names)
+
+-- a name has a file that others of these names have, too
+abbrev pub is_repeated : List Text → Text → Bool
+is_repeated names name = nat_lt 1 (count_of names (canon_of name))
+
+abbrev pub made_names : List Node → List Text
+made_names nodes = map (λ node. node.name) (made_nodes nodes)
+
+-- whether several of these names have a file, if any has it
+abbrev pub several_in : List Text → Text → Option Bool
+several_in names file = if nat_eq (count_of names file) 0 then None else Some (nat_lt 1 (count_of names file))
+
+abbrev pub held_for : List (Vec ℕ Global × Bool) → Text → Option Bool
+held_for entries file = lookup (λ key. bytes_eq file key.items) entries
+
+-- this is held of each file
+abbrev pub HasFiles : Files → List Text → Type 0
+HasFiles files names = (file : Text) → held_for files.several.entries file ≡ several_in names file
+
+-- no two names are equal
+abbrev pub AreDistinct : List Text → Type 0
+AreDistinct names = (one other : ℕ) → one < length names → other < length names
+    → name_at names one ≡ name_at names other → one ≡ other
+
+-- the numbers of all names, in byte order of these
+pub record IsByteOrder (names : List Text) (order : List ℕ) : Type 0 where
+  pub rises : IsStrictlySortedBy (slice_cmp nat_cmp) (names_at names order)
+  pub all : (number : ℕ) → Contains order number ↔ (number < length names)

@@ -1,0 +1,40 @@
+-- What a graph holds by numbers: names, makings and nodes (kati's own).
+use Rattle.std.specs.Prelude.{◌≡◌, ℕ, ◌<◌, Bool, false, not, bytes_eq, find, List, length, All, Some}
+use Rattle.std.specs.Option.{option_map_or}
+use Rattle.kt_graph.specs.declared.nodes.node.Instance.{Instance as Held}
+use Rattle.kt_graph.specs.inner.nodes.Stored.{StoredNode}
+use Rattle.kt_graph.specs.inner.faults.Files.{AreDistinct, IsByteOrder}
+use Rattle.kt_text.specs.Words.{Text}
+use Rattle.kt_graph.specs.nodes.Node.{Node, is_leaf}
+use Rattle.kt_graph.specs.inner.nodes.Numbering.{HasNumbers}
+use Rattle.kt_graph.specs.nodes.Views.{instance_at}
+
+-- no two makings are equal
+abbrev pub AreApart : List Held → Type 0
+AreApart instances =
+    (one other : ℕ) → one < length instances → other < length instances → instance_at instances (Some one)
+    ≡ instance_at instances (Some other) → one ≡ other
+
+-- a node's numbers are those of names and makings, and no two of these are equal
+pub record IsHeld (names : List Text) (instances : List Held) (node : StoredNode) : Type 0 where
+  pub distinct : AreDistinct names
+  pub apart : AreApart instances
+  pub numbers : HasNumbers (length names) (length instances) node
+
+-- so are those of several
+pub record AreHeld (names : List Text) (instances : List Held) (nodes : List StoredNode) : Type 0 where
+  pub distinct : AreDistinct names
+  pub apart : AreApart instances
+  pub numbers : All (HasNumbers (length names) (length instances)) nodes
+
+-- each name has its node, and the order is that of the names
+pub record IsWhole (names : List Text) (instances : List Held) (nodes : List StoredNode)
+    (order : List ℕ) : Type 0 where
+  pub held : AreHeld names instances nodes
+  pub as_many : length nodes ≡ length names
+  pub rises : IsByteOrder names order
+
+-- whether a rule makes a name, as nodes tell it
+abbrev pub makes_among : List Node → Text → Bool
+makes_among nodes name = option_map_or
+    (λ node. not (is_leaf node.kind)) (find (λ node. bytes_eq name node.name) nodes) false

@@ -1,0 +1,58 @@
+-- The names that were reached so far, and the nodes of the first of them, as the code holds them (kati's own).
+use Rattle.std.specs.Prelude.{◌≡◌, ℕ, ◌≤◌, List, [], length, fold, take, All, Some, slice_get}
+use Rattle.std.specs.List.{Contains}
+use Rattle.kt_text.specs.Words.{Text}
+use Rattle.kt_rules.specs.Book.{patterns_of}
+use Rattle.kt_rules.specs.Entry.{Rule}
+use Rattle.kt_rules.specs.Names.{with_name}
+use Rattle.kt_graph.specs.declared.nodes.node.Instance.{Instance as Held}
+use Rattle.kt_graph.specs.inner.nodes.Stored.{StoredNode}
+use Rattle.kt_graph.specs.declared.nodes.graph_builder.GraphBuilder.{GraphBuilder}
+use Rattle.kt_graph.specs.nodes.Node.{node_of}
+use Rattle.kt_graph.specs.inner.nodes.Numbering.{Says, SaysNode}
+use Rattle.kt_graph.specs.Reach.{IsReached}
+use Rattle.kt_graph.specs.nodes.Views.{name_at}
+
+-- rules are searched for in the book, over its known names
+pub record IsOver (builder : GraphBuilder) : Type 0 where
+  pub rules : builder.search.rules ≡ patterns_of builder.book.now
+  pub known_names : builder.search.known ≡ builder.known.now
+
+-- names are reached; those that were reached before keep their numbers, as makings do, and all else stays
+pub record ReachesMore (old : GraphBuilder) (needed : List Text) (new : GraphBuilder) : Type 0 where
+  pub book : new.book ≡ old.book
+  pub known_names : new.known ≡ old.known
+  pub searched_rules : new.search.rules ≡ old.search.rules
+  pub searched_names : new.search.known ≡ old.search.known
+  pub nodes : new.nodes ≡ old.nodes
+  pub names : new.numbers ≡ fold with_name old.numbers needed
+  pub instances : take (length old.instances.keys) new.instances.keys ≡ old.instances.keys
+
+-- goals are reached, and no node is built yet
+pub record IsBegun (goals : List Text) (builder : GraphBuilder) : Type 0 where
+  pub names : builder.numbers ≡ fold with_name [] goals
+  pub nodes : builder.nodes ≡ []
+
+-- what was reached is needed by goals, and what has a node has the right one
+pub record IsUnderWay (rules : List Rule) (known goals names : List Text) (instances : List Held)
+    (nodes : List StoredNode) : Type 0 where
+  pub reached : All (IsReached rules known goals) names
+  pub named : All (Contains names) goals
+  pub within : length nodes ≤ length names
+  pub stored : (number : ℕ) (name : Text) (node : StoredNode) → slice_get names number ≡ Some name
+      → slice_get nodes number ≡ Some node
+      → SaysNode names instances (node_of rules known name) node
+
+-- each name has its node
+pub record IsDone (rules : List Rule) (known goals : List Text) (names : List Text) (instances : List Held)
+    (nodes : List StoredNode) : Type 0 where
+  pub reached : All (IsReached rules known goals) names
+  pub named : All (Contains names) goals
+  pub stored : (number : ℕ) (node : StoredNode) → slice_get nodes number ≡ Some node
+      → Says names instances (name_at names number) (node_of rules known (name_at names number)) node
+  pub all : length nodes ≡ length names
+
+-- no node is left to be built
+abbrev pub IsBuilt : List Rule → List Text → List Text → GraphBuilder → Type 0
+IsBuilt rules known goals builder =
+    IsDone rules known goals builder.numbers builder.instances.keys builder.nodes

@@ -1,0 +1,50 @@
+-- What a chosen pattern rule gives to a name, as the code holds it (kati's own).
+use Rattle.std.specs.Prelude.{◌≡◌, nat_lt, List, [], ◌∷◌, ◌++◌, length, Option, Some, None, MatchOption, option_map}
+use Rattle.std.specs.Prelude.{slice_get, if◌then◌else◌}
+use Rattle.kt_text.specs.Words.{Text}
+use Rattle.kt_rules.specs.declared.entry.Target.{Target}
+use Rattle.kt_rules.specs.Entry.{Rule}
+use Rattle.kt_graph.specs.declared.search.choice.Chosen.{Chosen}
+use Rattle.kt_graph.specs.declared.nodes.inferring.Inferred.{Inferred}
+use Rattle.kt_graph.specs.declared.nodes.node.NodeKind.TheVariants.{Implicit}
+use Rattle.kt_graph.specs.search.Candidates.{Candidate, needs_with}
+use Rattle.kt_graph.specs.nodes.Node.{Instance, Node, of_pattern, implicit_node, joined_needs, needs_after}
+use Rattle.kt_graph.specs.nodes.Views.{instance_view}
+
+-- the making of a pattern rule with several targets
+abbrev pub pattern_making : Rule → Chosen → Option Instance
+pattern_making rule chosen = if nat_lt 1 (length rule.targets)
+    then Some (of_pattern chosen.rule chosen.directory chosen.stem) else None
+
+-- what a rule gives that was chosen
+pub record GivesChosen (rule : Rule) (chosen : Chosen) (inferred : Inferred) : Type 0 where
+  pub recipe : option_map (λ lines. lines.now) inferred.recipe ≡ rule.recipe
+  pub stem : inferred.stem ≡ chosen.directory ++ chosen.stem
+  pub needs : inferred.needs ≡ needs_with chosen.directory chosen.stem rule.needs
+  pub making : option_map instance_view inferred.making ≡ pattern_making rule chosen
+
+-- what the rule gives that has the chosen number, if there is such a rule
+abbrev pub Infers : List Rule → Chosen → Option Inferred → Type 0
+Infers rules chosen inferred =
+    MatchOption inferred (slice_get rules chosen.rule ≡ None) (λ some. (rule : Rule)
+    × (slice_get rules chosen.rule ≡ Some rule) × GivesChosen rule chosen some)
+
+-- the node of a name to which it is given
+abbrev pub inferred_node : Text → List (Rule × Target) → Inferred → Node
+inferred_node name rules inferred = record {
+  name = name;
+  kind = Implicit;
+  parts = record {
+    recipe = option_map (λ lines. lines.now) inferred.recipe;
+    stem = inferred.stem;
+    needs = needs_after inferred.needs (joined_needs rules);
+  } ∷ [];
+  made_with = option_map instance_view inferred.making;
+}
+
+-- what is given is that of the candidate that the search finds, with its rule
+abbrev pub InfersFrom : Option (Candidate × Rule) → Option Inferred → Type 0
+InfersFrom found inferred =
+    MatchOption inferred (found ≡ None) (λ some. (one : Candidate × Rule) × (found ≡ Some one)
+    × ((name : Text) (rules : List (Rule × Target)) → inferred_node name rules some
+    ≡ implicit_node name rules one.0 one.1))

@@ -1,0 +1,97 @@
+-- The questions of a search with their answers, as the code holds them (kati's own).
+use Rattle.std.specs.Prelude.{◌≡◌, ℕ, zero, suc, ◌-◌, ◌<◌, ◌≤◌, true, false, List, [], ◌∷◌, ◌++◌, length, map, take}
+use Rattle.std.specs.Prelude.{fold, Option, Some, None, IfSome, unwrap_or, slice_get}
+use Rattle.std.specs.List.{Contains, list_any}
+use Rattle.kt_text.specs.Words.{Text}
+use Rattle.kt_rules.specs.Entry.{Rule}
+use Rattle.kt_graph.specs.declared.search.candidate.Candidate.{Candidate as HeldCandidate}
+use Rattle.kt_graph.specs.declared.search.question.Question.{Question}
+use Rattle.kt_graph.specs.declared.search.tried.Tried.{Tried}
+use Rattle.kt_graph.specs.declared.search.tried.Placed.{Placed}
+use Rattle.kt_graph.specs.declared.search.tried.Placed.TheVariants.{Before, Last}
+use Rattle.kt_graph.specs.search.Candidates.{Candidate}
+use Rattle.kt_graph.specs.search.Search.{Asked, asked_eq, asked_inside, asking, chain_limit, fitting, open_candidates}
+use Rattle.kt_graph.specs.search.Search.{with_question}
+use Rattle.kt_graph.specs.search.Views.{IsWithin, question_view, found_view}
+
+-- what was found for a name is this candidate; it is one of a rule, and its places lie in the name
+pub record IsFound (rules : List Rule) (name : Text) (expected : Option Candidate)
+    (found : Option HeldCandidate) : Type 0 where
+  pub told : found_view rules name found ≡ expected
+  pub within : IfSome found (λ candidate. (candidate.rule < length rules) × IsWithin name candidate.fit)
+
+-- how many rules may be added to a question's chain
+abbrev pub left_for : Question → ℕ
+left_for question = chain_limit - length question.used.items
+
+-- what the search finds for a question
+abbrev pub expected_for : List Rule → List Text → Question → Option Candidate
+expected_for rules known question = fitting rules known (left_for question) question.used.items question.name
+
+-- what a question asks besides itself
+unfoldable pub asked_besides : List Rule → List Text → ℕ → List ℕ → Text → List Asked
+asked_besides rules known zero used name = []
+asked_besides rules known (suc left) used name =
+    asked_inside known (fitting rules known left) (asking rules known left) used (open_candidates rules used name)
+
+-- the questions with at least a given number of rules in their chains have their answers, and stand with all that these
+-- asked for; those with fewer may still be open
+pub record IsRight (rules : List Rule) (known : List Text) (tried : List Question)
+    (answers : List (Option HeldCandidate)) (least : ℕ) : Type 0 where
+  pub as_many : length answers ≡ length tried
+  pub found : (place : ℕ) (question : Question) → slice_get tried place ≡ Some question
+      → least ≤ length question.used.items
+      → IsFound rules question.name (expected_for rules known question) (unwrap_or (slice_get answers place) None)
+  pub closed : (place : ℕ) (question : Question) → slice_get tried place ≡ Some question
+      → least ≤ length question.used.items
+      → (asked : Asked) → Contains (asking rules known (left_for question) question.used.items question.name)
+      asked
+      → list_any (asked_eq asked) (map question_view tried) ≡ true
+
+abbrev pub IsRightFor : List Rule → List Text → Tried → ℕ → Type 0
+IsRightFor rules known tried least = IsRight rules known tried.questions.keys tried.answers.items least
+
+-- these questions were put, as far as they weren't before
+abbrev pub Asks : Tried → Tried → List Asked → Type 0
+Asks old new asked =
+    map question_view new.questions.keys ≡ fold with_question (map question_view old.questions.keys) asked
+
+-- what a step of the search leaves, where all that it asks has a given number of rules in its chain: it has asked this,
+-- and all of it has its answer
+pub record HasAnswered (rules : List Rule) (known : List Text) (old new : Tried) (least : ℕ)
+    (asked : List Asked) : Type 0 where
+  pub put : Asks old new asked
+  pub right : IsRightFor rules known new least
+
+-- the second begins with the first: whatever number of elements is taken from the front of both, within the first, they
+-- are the same
+abbrev pub IsPrefix : {A : Type 0} → List A → List A → Type 0
+IsPrefix old new = (length old ≤ length new) × ((count : ℕ) → count ≤ length old → take count new ≡ take count old)
+
+-- no question is taken back, and none that stood has another answer
+pub record Keeps (old new : Tried) : Type 0 where
+  pub questions : IsPrefix old.questions.keys new.questions.keys
+  pub answers : IsPrefix old.answers.items new.answers.items
+
+-- ---- how a question is placed
+
+-- it stood there before, with this answer
+pub record StoodBefore (old new : Tried) (question : Question) (answer : Option HeldCandidate) : Type 0 where
+  pub place : ℕ
+  pub one : Question
+  pub stands : slice_get old.questions.keys place ≡ Some one
+  pub same : question_view one ≡ question_view question
+  pub answered : answer ≡ unwrap_or (slice_get old.answers.items place) None
+  pub questions : new.questions.keys ≡ old.questions.keys
+  pub answers : new.answers.items ≡ old.answers.items
+
+-- it is new, and went after the others without an answer
+pub record StandsLast (old new : Tried) (question : Question) (place : ℕ) : Type 0 where
+  pub place_after : place ≡ length old.questions.keys
+  pub absent : list_any (asked_eq (question_view question)) (map question_view old.questions.keys) ≡ false
+  pub questions : new.questions.keys ≡ old.questions.keys ++ question ∷ []
+  pub answers : new.answers.items ≡ old.answers.items ++ None ∷ []
+
+abbrev pub IsPlaced : Tried → Tried → Question → Placed → Type 0
+IsPlaced old new question (Before answer) = StoodBefore old new question answer
+IsPlaced old new question (Last place) = StandsLast old new question place

@@ -1,0 +1,53 @@
+-- Rules by the ends of their targets, as the code holds them (kati's own).
+use Rattle.std.specs.Prelude.{◌≡◌, ℕ, ◌-◌, ◌≤◌, All, List, drop, length, filter_map, slice_get, Option, Some}
+use Rattle.std.specs.List.{Contains}
+use Rattle.std.specs.Option.{option_and_then}
+use Rattle.kt_text.specs.Words.{Text}
+use Rattle.kt_text.specs.Match.{pattern_back}
+use Rattle.kt_rules.specs.declared.entry.Target.{Target}
+use Rattle.kt_rules.specs.Entry.{Rule}
+use Rattle.kt_rules.specs.Indexes.{noted_at}
+use Rattle.kt_graph.specs.declared.search.ends.Ends.{Ends}
+use Rattle.kt_graph.specs.search.Candidates.{Candidate, candidate_of}
+
+-- the numbers of an end
+abbrev pub numbers_at : Ends → Text → List ℕ
+numbers_at ends end = noted_at ends.numbers end
+
+-- a number is there at an end, and the end's length
+abbrev pub IsNoted : Ends → Text → ℕ → Type 0
+IsNoted ends end number = Contains (numbers_at ends end) number × Contains ends.lengths.keys (length end)
+
+-- what was there stays
+abbrev pub KeepsNoted : Ends → Ends → Type 0
+KeepsNoted old new = (end : Text) (number : ℕ) → IsNoted old end number → IsNoted new end number
+
+pub record Notes (old new : Ends) (end : Text) (number : ℕ) : Type 0 where
+  pub noted : IsNoted new end number
+  pub kept : KeepsNoted old new
+
+-- a number is there at the ends of these targets
+abbrev pub AreNoted : Ends → List Target → ℕ → Type 0
+AreNoted ends targets number = All (λ target. IsNoted ends (pattern_back target.name) number) targets
+
+pub record NotesAll (old new : Ends) (targets : List Target) (number : ℕ) : Type 0 where
+  pub noted : AreNoted new targets number
+  pub kept : KeepsNoted old new
+
+-- each rule's number is there at the ends of its targets
+abbrev pub AreAllNoted : Ends → List Rule → Type 0
+AreAllNoted ends rules = (number : ℕ) (rule : Rule) → slice_get rules number ≡ Some rule
+    → AreNoted ends rule.targets number
+
+-- all that is there at an end of the name is found, where the end has one of these lengths
+abbrev pub HasAll : Ends → Text → List ℕ → List ℕ → Type 0
+HasAll ends name lengths found =
+    (length_of : ℕ) (number : ℕ) → Contains lengths length_of → length_of ≤ length name
+    → Contains (numbers_at ends (drop (length name - length_of) name)) number → Contains found number
+
+-- the rule of a number as it makes a name
+abbrev pub candidate_numbered : List Rule → Text → ℕ → Option Candidate
+candidate_numbered rules name number = option_and_then (λ rule. candidate_of number rule name) (slice_get rules number)
+
+abbrev pub candidates_numbered : List Rule → Text → List ℕ → List Candidate
+candidates_numbered rules name numbers = filter_map (candidate_numbered rules name) numbers

@@ -1,0 +1,76 @@
+-- Which made nodes one making makes (GNU make manual, "Multiple Targets in a Rule", "Introduction to Pattern Rules").
+use Rattle.std.specs.Prelude.{◌≡◌, ◌↔◌, Bool, false, not, ◌&&◌, ◌||◌, nat_eq, List, [], ◌∷◌, All, map, filter, find}
+use Rattle.std.specs.Prelude.{bytes_eq, Option, Some, None}
+use Rattle.std.specs.List.{Contains}
+use Rattle.std.specs.List.Sorted.{IsStrictlySortedBy}
+use Rattle.std.specs.Option.{option_map_or}
+use Rattle.std.specs.Ordering.{nat_cmp}
+use Rattle.std.specs.Cmp.Lexicographic.{slice_cmp}
+use Rattle.kt_text.specs.Words.{Text}
+use Rattle.kt_rules.specs.Entry.{Rule}
+use Rattle.kt_graph.specs.nodes.Node.{Instance, Node, of_group, of_pattern, is_leaf}
+use Rattle.kt_graph.specs.Reach.{IsInGroup}
+
+abbrev pub instance_eq : Instance → Instance → Bool
+instance_eq (of_group first) (of_group other) = bytes_eq first other
+instance_eq (of_group first) (of_pattern rule directory stem) = false
+instance_eq (of_pattern rule directory stem) (of_group first) = false
+instance_eq (of_pattern rule directory stem) (of_pattern other_rule other_directory other_stem) =
+    nat_eq rule other_rule && (bytes_eq directory other_directory && bytes_eq stem other_stem)
+
+-- two makings of several names are one
+abbrev pub is_one_making : Option Instance → Option Instance → Bool
+is_one_making None other = false
+is_one_making (Some making) None = false
+is_one_making (Some making) (Some other) = instance_eq making other
+
+-- two nodes stand in one group
+abbrev pub are_together : Node → Node → Bool
+are_together node other = bytes_eq node.name other.name || is_one_making node.made_with other.made_with
+
+abbrev pub made_nodes : List Node → List Node
+made_nodes nodes = filter (λ node. not (is_leaf node.kind)) nodes
+
+-- whether a node is the first of those that stand in one group with it
+abbrev pub is_leading : List Node → Node → Bool
+is_leading nodes node = option_map_or (λ first. bytes_eq first.name node.name) (find (are_together node) nodes) false
+
+-- a group for each node that leads it: all nodes that stand in one group with it, in order
+unfoldable pub groups_among : List Node → List (List Node)
+groups_among nodes = map (λ leader. filter (are_together leader) nodes) (filter (is_leading nodes) nodes)
+
+-- the groups of a graph's nodes
+abbrev pub groups_of : List Node → List (List Node)
+groups_of nodes = groups_among (made_nodes nodes)
+
+-- ---- the law of groups: they are those of `IsInGroup`
+
+abbrev pub HasBoth : List (List Node) → Node → Node → Type 0
+HasBoth groups one other = (group : List Node) × Contains groups group × Contains group one × Contains group other
+
+-- a node stands in exactly one of the groups
+pub record IsInOne (groups : List (List Node)) (node : Node) : Type 0 where
+  pub group : List Node
+  pub among : Contains groups group
+  pub stands : Contains group node
+  pub single : (other : List Node) → Contains groups other → Contains other node → other ≡ group
+
+abbrev pub leader_name : List Node → Text
+leader_name [] = []
+leader_name (node ∷ nodes) = node.name
+
+-- the groups of the nodes of a graph
+pub record AreGroups (rules : List Rule) (known goals : List Text) (nodes : List Node)
+    (groups : List (List Node)) : Type 0 where
+  -- each has a member
+  pub filled : (group : List Node) → Contains groups group → (node : Node) × Contains group node
+  -- they have made nodes alone, and each of these exactly once
+  pub made : (group : List Node) (node : Node) → Contains groups group → Contains group node
+      → Contains (made_nodes nodes) node
+  pub each : (node : Node) → Contains (made_nodes nodes) node → IsInOne groups node
+  -- two stand in one group exactly where one making makes both
+  pub together : (one other : Node) → Contains (made_nodes nodes) one → Contains (made_nodes nodes) other
+      → HasBoth groups one other ↔ IsInGroup rules known goals one.name other.name
+  -- the members rise by bytes, and the groups by their least members
+  pub members : All (λ group. IsStrictlySortedBy (slice_cmp nat_cmp) (map (λ node. node.name) group)) groups
+  pub leaders : IsStrictlySortedBy (slice_cmp nat_cmp) (map leader_name groups)

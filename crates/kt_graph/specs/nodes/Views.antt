@@ -1,0 +1,62 @@
+-- What the code's own types of nodes say (kati's own).
+use Rattle.std.specs.Prelude.{ℕ, List, [], map, filter_map, Option, option_map, unwrap_or, slice_get}
+use Rattle.std.specs.Option.{option_and_then}
+use Rattle.kt_text.specs.Words.{Text}
+use Rattle.kt_rules.specs.declared.entry.RecipeLine.{RecipeLine}
+use Rattle.kt_graph.specs.declared.nodes.node.Instance.{Instance as Held}
+use Rattle.kt_graph.specs.declared.nodes.node.Instance.TheVariants as held
+use Rattle.kt_graph.specs.inner.nodes.Stored.{StoredNode, StoredPart}
+use Rattle.kt_graph.specs.nodes.Node.{Instance, Node, Part, of_group, of_pattern}
+
+-- the name of a number
+abbrev pub name_at : List Text → ℕ → Text
+name_at names number = unwrap_or (slice_get names number) []
+
+abbrev pub names_at : List Text → List ℕ → List Text
+names_at names numbers = map (name_at names) numbers
+
+abbrev pub instance_view : Held → Instance
+instance_view (held.Group first) = of_group first.items
+instance_view (held.Pattern rule directory stem) = of_pattern rule directory.items stem.items
+
+abbrev pub instance_at : List Held → Option ℕ → Option Instance
+instance_at instances number = option_map instance_view (option_and_then (slice_get instances) number)
+
+abbrev pub part_view : List Text → StoredPart → Part
+part_view names part = record {
+  recipe = part.recipe;
+  stem = part.stem;
+  needs = record {
+    prerequisites = names_at names part.prerequisites;
+    order_only = names_at names part.order_only;
+  };
+}
+
+-- what is reported of a part; where there is no part there is nothing
+abbrev pub part_lines : Option Part → Option (List RecipeLine)
+part_lines part = option_and_then (λ some. some.recipe) part
+
+abbrev pub part_stem : Option Part → Text
+part_stem part = unwrap_or (option_map (λ some. some.stem) part) []
+
+abbrev pub part_needed : Option Part → List Text
+part_needed part = unwrap_or (option_map (λ some. some.needs.prerequisites) part) []
+
+abbrev pub part_order_only : Option Part → List Text
+part_order_only part = unwrap_or (option_map (λ some. some.needs.order_only) part) []
+
+-- the node of a number
+abbrev pub node_view : List Text → List Held → ℕ → StoredNode → Node
+node_view names instances number node = record {
+  name = name_at names number;
+  kind = node.kind;
+  parts = map (part_view names) node.parts;
+  made_with = instance_at instances node.made_with;
+}
+
+abbrev pub node_at : List Text → List Held → List StoredNode → ℕ → Option Node
+node_at names instances nodes number = option_map (node_view names instances number) (slice_get nodes number)
+
+-- the nodes of numbers, in order
+abbrev pub nodes_view : List Text → List Held → List StoredNode → List ℕ → List Node
+nodes_view names instances nodes order = filter_map (node_at names instances nodes) order

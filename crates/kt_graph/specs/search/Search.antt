@@ -1,0 +1,146 @@
+-- The search for a pattern rule that makes a name (GNU make manual, "Implicit Rule Search Algorithm", "Chains of
+-- Implicit Rules"). Which rules are numbered are those that `patterns_of` leaves of a makefile.
+use Rattle.std.specs.Prelude.{◌≡◌, ℕ, zero, suc, ◌↔◌, Bool, true, false, not, ◌&&◌, nat_eq, nat_lt, List, [], ◌∷◌, ◌++◌}
+use Rattle.std.specs.Prelude.{filter, find, fold, bytes_eq, All, Option, None, is_some, if◌then◌else◌}
+use Rattle.std.specs.List.{Contains, list_all, list_any}
+use Rattle.std.specs.Option.{option_or}
+use Rattle.std.specs.Cmp.Lexicographic.{pointwise}
+use Rattle.kt_text.specs.Words.{Text}
+use Rattle.kt_rules.specs.Names.{is_among, without_repeats}
+use Rattle.kt_rules.specs.Suffixes.{all_needs}
+use Rattle.kt_rules.specs.Entry.{Rule}
+use Rattle.kt_graph.specs.Known.{unknown_of}
+use Rattle.kt_graph.specs.search.Candidates.{Candidate, candidates_for}
+
+-- how many rules a chain has at most (kati's own)
+abbrev pub chain_limit : ℕ
+chain_limit = 8
+
+-- ---- the rules of a chain, by their numbers, rising
+
+abbrev pub is_used : List ℕ → ℕ → Bool
+is_used used rule = list_any (nat_eq rule) used
+
+-- with one more rule
+unfoldable pub with_rule : ℕ → List ℕ → List ℕ
+with_rule rule [] = rule ∷ []
+with_rule rule (first ∷ used) = if nat_lt rule first then rule ∷ first ∷ used else first ∷ with_rule rule used
+
+abbrev pub is_begun : List ℕ → Bool
+is_begun [] = false
+is_begun (rule ∷ used) = true
+
+-- ---- choices
+
+-- what makes a name after a chain of rules, if anything does
+abbrev pub Choosing : Type 0
+Choosing = List ℕ → Text → Option Candidate
+
+-- the candidates that may go on with a chain: no rule stands in it twice [Chains of Implicit Rules]
+abbrev pub open_candidates : List Rule → List ℕ → Text → List Candidate
+open_candidates rules used name =
+    filter (λ candidate. not (is_used used candidate.rule)) (candidates_for rules (is_begun used) name)
+
+-- whether all that a candidate needs is known
+abbrev pub is_met : List Text → Candidate → Bool
+is_met known candidate = list_all (is_among known) (all_needs candidate.needs)
+
+-- what it needs that isn't known, in order and each once
+abbrev pub unknown_needs : List Text → Candidate → List Text
+unknown_needs known candidate = without_repeats (unknown_of known (all_needs candidate.needs))
+
+-- whether each of these finds a rule
+abbrev pub are_inferred : List Text → Choosing → List ℕ → Candidate → Bool
+are_inferred known deeper used candidate =
+    list_all (λ name. is_some (deeper (with_rule candidate.rule used) name)) (unknown_needs known candidate)
+
+abbrev pub is_inferred : List Text → Choosing → List ℕ → Candidate → Bool
+is_inferred known deeper used candidate = not candidate.is_last && are_inferred known deeper used candidate
+
+-- the first candidate that is met, or else the first that is inferred
+abbrev pub chosen_of : List Text → Choosing → List ℕ → List Candidate → Option Candidate
+chosen_of known deeper used candidates =
+    option_or (find (is_met known) candidates) (find (is_inferred known deeper used) candidates)
+
+-- what makes a name after a chain to which a given number of rules may be added
+unfoldable pub fitting : List Rule → List Text → ℕ → Choosing
+fitting rules known zero used name = None
+fitting rules known (suc left) used name =
+    chosen_of known (fitting rules known left) used (open_candidates rules used name)
+
+-- the rule that makes a name, where no chain has begun: its choice is its own, whatever chains it stands in (kati's
+-- own)
+abbrev pub choice_of : List Rule → List Text → Text → Option Candidate
+choice_of rules known name = fitting rules known chain_limit [] name
+
+-- ---- what is asked for a choice
+
+-- a name, and the rules of a chain
+abbrev pub Asked : Type 0
+Asked = Text × List ℕ
+
+abbrev pub asked_eq : Asked → Asked → Bool
+asked_eq one other = bytes_eq one.0 other.0 && pointwise nat_eq one.1 other.1
+
+-- the questions that a question puts, itself first
+abbrev pub Asking : Type 0
+Asking = List ℕ → Text → List Asked
+
+-- for names in turn, and for none after one that finds no rule
+abbrev pub asked_for : Choosing → Asking → List ℕ → List Text → List Asked
+asked_for deeper asking used [] = []
+asked_for deeper asking used (name ∷ names) =
+    asking used name ++ (if is_some (deeper used name) then asked_for deeper asking used names else [])
+
+abbrev pub asked_by : List Text → Choosing → Asking → List ℕ → Candidate → List Asked
+asked_by known deeper asking used candidate =
+    if candidate.is_last then [] else asked_for deeper asking (with_rule candidate.rule used)
+    (unknown_needs known candidate)
+
+-- for candidates in turn, and for none after one that is inferred
+abbrev pub asked_among : List Text → Choosing → Asking → List ℕ → List Candidate → List Asked
+asked_among known deeper asking used [] = []
+asked_among known deeper asking used (candidate ∷ candidates) =
+    asked_by known deeper asking used candidate
+    ++ (if is_inferred known deeper used candidate then [] else asked_among known deeper asking used candidates)
+
+-- where a candidate is met nothing more is asked
+abbrev pub asked_inside : List Text → Choosing → Asking → List ℕ → List Candidate → List Asked
+asked_inside known deeper asking used candidates =
+    if list_any (is_met known) candidates then [] else asked_among known deeper asking used candidates
+
+unfoldable pub asking : List Rule → List Text → ℕ → Asking
+asking rules known zero used name = (name, used) ∷ []
+asking rules known (suc left) used name =
+    (name, used) ∷ asked_inside known (fitting rules known left) (asking rules known left) used
+    (open_candidates rules used name)
+
+-- a question after others, if it isn't among them
+abbrev pub with_question : List Asked → Asked → List Asked
+with_question asked question = if list_any (asked_eq question) asked then asked else asked ++ question ∷ []
+
+-- the questions that were put so far, after one more choice
+abbrev pub asked_after : List Rule → List Text → List Asked → Text → List Asked
+asked_after rules known asked name = fold with_question asked (asking rules known chain_limit [] name)
+
+-- what is searched, and what was asked so far, in order and each question once
+pub record Searching : Type 0 where
+  pub rules : List Rule
+  pub known : List Text
+  pub asked : List Asked
+
+-- ---- trees
+
+-- a finite tree of rules that makes a name after a chain: its root is a candidate for the name, and its branches are
+-- trees for what of its prerequisites isn't known. No path of it has a rule twice, or more rules than are left; a
+-- terminal rule has no branch. In which order candidates come doesn't matter here.
+unfoldable pub HasTree : List Rule → List Text → ℕ → List ℕ → Text → Type 0
+HasTree rules known zero used name = ⊥
+HasTree rules known (suc left) used name =
+    (root : Candidate) × Contains (candidates_for rules (is_begun used) name) root × (is_used used root.rule ≡ false)
+    × (root.is_last ≡ true → unknown_needs known root ≡ [])
+    × All (HasTree rules known left (with_rule root.rule used)) (unknown_needs known root)
+
+-- a name has a rule exactly where a tree makes it
+abbrev pub IsFoundByTrees : {A : Type 0} → List Rule → List Text → Text → Option A → Type 0
+IsFoundByTrees rules known name found = (is_some found ≡ true) ↔ HasTree rules known chain_limit [] name

@@ -1,0 +1,88 @@
+-- What the code's own types of a search say (kati's own).
+use Rattle.std.specs.Prelude.{◌≡◌, ℕ, ◌+◌, ◌-◌, ◌<◌, ◌≤◌, Bool, true, not, ◌||◌, ◌==◌, nat_le, All, List, length, take}
+use Rattle.std.specs.Prelude.{filter, flat_map, filter_map, Option, Some, None, option_map, unwrap_or, slice_get}
+use Rattle.std.specs.Prelude.{if◌then◌else◌}
+use Rattle.std.specs.List.{list_any, range_with_len, slice_range}
+use Rattle.std.specs.Option.{option_and_then}
+use Rattle.kt_text.specs.Words.{Text}
+use Rattle.kt_rules.specs.Entry.{Rule}
+use Rattle.kt_rules.specs.Patterns.{is_terminal}
+use Rattle.kt_graph.specs.declared.search.candidate.Candidate.{Candidate as HeldCandidate}
+use Rattle.kt_graph.specs.declared.search.candidate.Fit.{Fit}
+use Rattle.kt_graph.specs.declared.search.question.Question.{Question}
+use Rattle.kt_graph.specs.declared.search.choice.Chosen.{Chosen}
+use Rattle.kt_graph.specs.search.Candidates.{Candidate, needs_with}
+use Rattle.kt_graph.specs.search.Search.{Asked}
+
+-- ---- candidates
+-- the places of a fit lie in a name
+pub record IsWithin (name : Text) (fit : Fit) : Type 0 where
+  pub directory : fit.directory ≤ fit.start
+  pub stem : fit.start ≤ fit.end
+  pub name_end : fit.end ≤ length name
+  pub size : fit.size ≡ fit.directory + (fit.end - fit.start)
+
+abbrev pub fit_view : Text → Fit → Text × Text
+fit_view name fit = (take fit.directory name, slice_range name fit.start fit.end)
+
+abbrev pub fit_size : Fit → ℕ
+fit_size fit = fit.size
+
+-- a candidate of a rule
+abbrev pub candidate_at : Text → Rule → HeldCandidate → Candidate
+candidate_at name rule candidate = record {
+  rule = candidate.rule;
+  directory = take candidate.fit.directory name;
+  stem = slice_range name candidate.fit.start candidate.fit.end;
+  is_any = candidate.is_any;
+  is_last = is_terminal rule.kind;
+  needs = needs_with (take candidate.fit.directory name)
+      (slice_range name candidate.fit.start candidate.fit.end) rule.needs;
+}
+
+-- a candidate of the rule that has its number
+abbrev pub candidate_view : List Rule → Text → HeldCandidate → Option Candidate
+candidate_view rules name candidate = option_map
+    (λ rule. candidate_at name rule candidate) (slice_get rules candidate.rule)
+
+abbrev pub candidates_view : List Rule → Text → List HeldCandidate → List Candidate
+candidates_view rules name candidates = filter_map (candidate_view rules name) candidates
+
+abbrev pub found_view : List Rule → Text → Option HeldCandidate → Option Candidate
+found_view rules name found = option_and_then (candidate_view rules name) found
+
+-- each has a rule, and its places lie in the name
+abbrev pub AreWithin : List Rule → Text → List HeldCandidate → Type 0
+AreWithin rules name candidates = All (λ candidate. (candidate.rule < length rules)
+    × IsWithin name candidate.fit) candidates
+
+-- of two that there may be, the shorter, or the first
+abbrev pub shorter_of : Option HeldCandidate → Option HeldCandidate → Option HeldCandidate
+shorter_of best None = best
+shorter_of None (Some other) = Some other
+shorter_of (Some best) (Some other) = if nat_le (fit_size best.fit) (fit_size other.fit) then Some best else Some other
+
+-- whether the rule of a number is terminal; where there is none, nothing is searched for
+abbrev pub is_last_at : List Rule → ℕ → Bool
+is_last_at rules number = unwrap_or (option_map (λ rule. is_terminal rule.kind) (slice_get rules number)) true
+
+-- `without_any` and `by_size`, of candidates as they are held
+abbrev pub stays : List Rule → HeldCandidate → Bool
+stays rules candidate = not candidate.is_any || is_last_at rules candidate.rule
+
+abbrev pub held_without_any : List Rule → Bool → List HeldCandidate → List HeldCandidate
+held_without_any rules in_chain candidates =
+    if in_chain || list_any (λ candidate. not candidate.is_any) candidates then filter (stays rules) candidates
+    else candidates
+
+abbrev pub held_by_size : ℕ → List HeldCandidate → List HeldCandidate
+held_by_size longest candidates =
+    flat_map (λ size. filter (λ candidate. fit_size candidate.fit == size) candidates) (range_with_len 0 (longest + 1))
+
+-- the choice of a candidate, as definitions have it
+abbrev pub choice_view : Candidate → Chosen
+choice_view candidate = record { rule = candidate.rule; directory = candidate.directory; stem = candidate.stem }
+
+-- ---- questions
+abbrev pub question_view : Question → Asked
+question_view question = (question.name, question.used.items)

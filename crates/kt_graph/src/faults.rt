@@ -1,0 +1,16 @@
+//! What is wrong with a graph as a whole.
+//!
+//! In go the nodes of a graph and its goals. Out comes the first of: a goal that no rule makes, a
+//! name that needs itself, a reserved name, two names of one file; or that nothing is wrong.
+
+pub(crate) mod cycles;
+pub(crate) mod edges;
+pub(crate) mod fault;
+pub(crate) mod files;
+mod paths;
+pub(crate) mod rows;
+mod spelling;
+pub(crate) mod trouble;
+
+pub use fault::GraphFault;
+pub use paths::ALWAYS_BUILD;

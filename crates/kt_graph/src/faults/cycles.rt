@@ -1,0 +1,292 @@
+//! Names that need themselves.
+ghost use Rattle.std.specs.Prelude.{◌≡◌, ◌↔◌, ◌-◌, ◌&&◌, ℕ, [], All, IsTrue, MatchOption, fold, get_or, nat_eq};
+ghost use Rattle.std.specs.Prelude.{flat_map, replicate, set, false, true, IfOk, List, OnOk};
+ghost use Rattle.kt_graph.specs.inner.faults.Arrivals.{AreCounted, IsLeftIn, LeavesCircular, is_left, with_arrival};
+ghost use Rattle.kt_graph.specs.inner.faults.Arrivals.{without_arrival};
+ghost use Rattle.kt_graph.specs.inner.faults.Edges.{LeadToVertices, HoldsCircular, IsFirstBack, LeadsBack, Visits};
+ghost use Rattle.kt_graph.specs.inner.faults.Edges.{count_of, holds_in, next_of, rows_of, work_with};
+
+use crate::faults::edges::Edges;
+use crate::nodes::stored::StoredNodes;
+use std::alloc::{AllocError, Global};
+
+/// The first number of an order that leads back to itself, if one does.
+///
+/// That none does is found by counts: a vertex that none of the others leads to is taken away, again
+/// and again, until none is left. Only else edges are turned round, and the first is looked for among
+/// the vertices that lie on a way from one cycle to another.
+pub(crate) fn first_circular(
+    alloc: Global,
+    edges: &Edges<'_>,
+    none: &StoredNodes<'_>,
+    order: &[usize],
+) -> Result<Option<usize>, AllocError>
+    requires within { LeadToVertices edges.now }
+    requires none { none.now ≡ [] }
+    ensures { IfOk result (λ found. MatchOption found (All
+        (λ vertex. ¬ LeadsBack edges.now vertex) order.now) (IsFirstBack edges.now order.now)) }
+{
+    let arrivals = arrivals_left(alloc, edges)?;
+    if is_none_left(arrivals.as_slice()) {
+        return Ok(None);
+    }
+    let reversed = edges.reversed(none)?;
+    let departures = arrivals_left(alloc, &reversed)?;
+    let held = left_in_both(alloc, arrivals.as_slice(), departures.as_slice())?;
+    Left { alloc, held }.first_back(edges, order)
+}
+
+// How many of the vertices that are left lead to each, in the end. What has none is taken away.
+fn arrivals_left(alloc: Global, edges: &Edges<'_>) -> Result<Vec<usize>, AllocError>
+    ensures { IfOk result (λ counts. LeavesCircular edges.now counts.items) }
+{
+    let mut counts = arrivals(alloc, edges)?;
+    let mut work = Vec::new(alloc);
+    for vertex in 0..edges.count() {
+        leave(&mut counts, vertex, &mut work)?;
+        leave_after(edges, &mut counts, &mut work)?;
+    }
+    Ok(counts)
+}
+
+// How many edges lead to each vertex, and one more until it has its turn.
+fn arrivals(alloc: Global, edges: &Edges<'_>) -> Result<Vec<usize>, AllocError>
+    ensures { IfOk result (λ counts. counts.items
+        ≡ fold with_arrival (replicate (count_of edges.now) 1) (flat_map (λ row. row) (rows_of edges.now))) }
+{
+    let mut counts = vec![in alloc; 1usize; edges.count()]?;
+    for vertex in 0..edges.count() {
+        let (next, more) = edges.next(vertex);
+        arrive_all(&mut counts, next)?;
+        arrive_all(&mut counts, more)?;
+    }
+    Ok(counts)
+}
+
+fn arrive_all(counts: &mut Vec<usize>, vertices: &[usize]) -> Result<(), AllocError>
+    ensures { OnOk result (counts.new.items ≡ fold with_arrival counts.old.items vertices.now) }
+{
+    for vertex in vertices {
+        arrive(counts, *vertex)?;
+    }
+    Ok(())
+}
+
+// More edges than a number counts are more than memory holds.
+fn arrive(counts: &mut Vec<usize>, vertex: usize) -> Result<(), AllocError>
+    ensures { OnOk result (counts.new.items ≡ with_arrival counts.old.items vertex) }
+{
+    if let Some(count) = counts.get_mut(vertex) {
+        match count.checked_add(1) {
+            Some(more) => *count = more,
+            None => return Err(AllocError),
+        }
+    }
+    Ok(())
+}
+
+// Goes on with what vertices lead to that were taken away.
+fn leave_after(
+    edges: &Edges<'_>,
+    counts: &mut Vec<usize>,
+    work: &mut Vec<usize>,
+) -> Result<(), AllocError>
+    ensures done { OnOk result (work.new.items ≡ []) }
+    ensures counted { OnOk result ((rest : List ℕ) → AreCounted edges.now counts.old.items work.old.items rest
+        → AreCounted edges.now counts.new.items [] rest) }
+{
+    while let Some(vertex) = work.pop() {
+        let (next, more) = edges.next(vertex);
+        leave_all(counts, next, work)?;
+        leave_all(counts, more, work)?;
+    }
+    Ok(())
+}
+
+fn leave_all(
+    counts: &mut Vec<usize>,
+    vertices: &[usize],
+    work: &mut Vec<usize>,
+) -> Result<(), AllocError>
+    ensures { OnOk result ((counts.new.items, work.new.items)
+        ≡ fold without_arrival (counts.old.items, work.old.items) vertices.now) }
+{
+    for vertex in vertices {
+        leave(counts, *vertex, work)?;
+    }
+    Ok(())
+}
+
+// One arrival at a vertex is gone. Was it the last, the vertex is taken away.
+fn leave(counts: &mut Vec<usize>, vertex: usize, work: &mut Vec<usize>) -> Result<(), AllocError>
+    ensures { OnOk result ((counts.new.items, work.new.items)
+        ≡ without_arrival (counts.old.items, work.old.items) vertex) }
+{
+    if is_last(counts, vertex) {
+        work.push(vertex)?;
+    }
+    Ok(())
+}
+
+// Whether one arrival was left at a vertex, which it isn't from then on.
+fn is_last(counts: &mut Vec<usize>, vertex: usize) -> bool
+    ensures was { result ≡ nat_eq (get_or counts.old.items vertex 0) 1 }
+    ensures gone { counts.new.items ≡ set counts.old.items vertex (get_or counts.old.items vertex 0 - 1) }
+{
+    match counts.get_mut(vertex) {
+        Some(count) => {
+            let was = *count;
+            *count = was.saturating_sub(1);
+            was == 1
+        }
+        None => false,
+    }
+}
+
+fn is_none_left(counts: &[usize]) -> bool
+    ensures { IsTrue result ↔ All (λ count. count ≡ 0) counts.now }
+{
+    !counts.iter().any(|count| *count != 0)
+}
+
+// The vertices at which something arrives, and from which something departs.
+fn left_in_both(
+    alloc: Global,
+    arrivals: &[usize],
+    departures: &[usize],
+) -> Result<Vec<bool>, AllocError>
+    ensures { IfOk result (λ held. (vertex : ℕ) → IsLeftIn arrivals.now vertex → IsLeftIn departures.now vertex
+        → holds_in held.items vertex ≡ true) }
+{
+    let mut held = Vec::with_capacity(alloc, arrivals.len())?;
+    for vertex in 0..arrivals.len() {
+        held.push(are_both_left(arrivals, departures, vertex))?;
+    }
+    Ok(held)
+}
+
+fn are_both_left(arrivals: &[usize], departures: &[usize], vertex: usize) -> bool
+    ensures { result ≡ (is_left (get_or arrivals.now vertex 0) && is_left (get_or departures.now vertex 0)) }
+{
+    is_left(arrivals, vertex) && is_left(departures, vertex)
+}
+
+fn is_left(counts: &[usize], vertex: usize) -> bool
+    ensures { result ≡ is_left (get_or counts.now vertex 0) }
+{
+    counts.get(vertex).copied().unwrap_or(0) != 0
+}
+
+// The vertices that are left.
+#[derive(Drop)]
+struct Left {
+    alloc: Global,
+    held: Vec<bool>,
+}
+
+impl Left {
+    fn holds(&self, vertex: usize) -> bool
+        ensures { result ≡ holds_in self.now.held.items vertex }
+    {
+        self.held.as_slice().get(vertex).copied().unwrap_or(false)
+    }
+
+    // The first of an order that leads back to itself.
+    fn first_back(&self, edges: &Edges<'_>, order: &[usize]) -> Result<Option<usize>, AllocError>
+        requires { HoldsCircular edges.now self.now.held.items }
+        ensures { IfOk result (λ found. MatchOption found (All
+            (λ vertex. ¬ LeadsBack edges.now vertex) order.now) (IsFirstBack edges.now order.now)) }
+    {
+        for vertex in order {
+            if self.is_circular(edges, *vertex)? {
+                return Ok(Some(*vertex));
+            }
+        }
+        Ok(None)
+    }
+
+    // Whether a vertex leads to itself in one step or more.
+    fn is_circular(&self, edges: &Edges<'_>, vertex: usize) -> Result<bool, AllocError>
+        requires { HoldsCircular edges.now self.now.held.items }
+        ensures { IfOk result (λ leads. IsTrue leads ↔ LeadsBack edges.now vertex) }
+    {
+        if self.holds(vertex) {
+            self.leads_back(edges, vertex)
+        } else {
+            Ok(false)
+        }
+    }
+
+    // A vertex that leads to itself does so by vertices that are left.
+    fn leads_back(&self, edges: &Edges<'_>, vertex: usize) -> Result<bool, AllocError>
+        requires { HoldsCircular edges.now self.now.held.items }
+        ensures { IfOk result (λ leads. IsTrue leads ↔ LeadsBack edges.now vertex) }
+    {
+        let mut unvisited = Vec::from_slice(self.alloc, self.held.as_slice())?;
+        let mut work = Vec::new(self.alloc);
+        visit_next(edges, vertex, &mut unvisited, &mut work)?;
+        while let Some(other) = work.pop() {
+            if other == vertex {
+                return Ok(true);
+            }
+            visit_next(edges, other, &mut unvisited, &mut work)?;
+        }
+        Ok(false)
+    }
+}
+
+// Takes what a vertex leads to, as far as it wasn't visited, to the work.
+fn visit_next(
+    edges: &Edges<'_>,
+    vertex: usize,
+    unvisited: &mut Vec<bool>,
+    work: &mut Vec<usize>,
+) -> Result<(), AllocError>
+    ensures { OnOk result (Visits (next_of edges.now vertex) unvisited.old.items unvisited.new.items
+        work.old.items work.new.items) }
+{
+    let (next, more) = edges.next(vertex);
+    visit(next, unvisited, work)?;
+    visit(more, unvisited, work)?;
+    Ok(())
+}
+
+// Takes those of some vertices that weren't visited to the work.
+fn visit(
+    vertices: &[usize],
+    unvisited: &mut Vec<bool>,
+    work: &mut Vec<usize>,
+) -> Result<(), AllocError>
+    ensures { OnOk result (Visits vertices.now unvisited.old.items unvisited.new.items work.old.items work.new.items) }
+{
+    for vertex in vertices {
+        take(unvisited, *vertex, work)?;
+    }
+    Ok(())
+}
+
+// Takes a vertex to the work if it is marked, which it isn't from then on.
+fn take(marks: &mut Vec<bool>, vertex: usize, work: &mut Vec<usize>) -> Result<(), AllocError>
+    ensures taken { OnOk result (marks.new.items ≡ set marks.old.items vertex false) }
+    ensures noted { OnOk result (work.new.items ≡ work_with (holds_in marks.old.items vertex) work.old.items vertex) }
+{
+    if is_taken(marks, vertex) {
+        work.push(vertex)?;
+    }
+    Ok(())
+}
+
+// Whether a place was marked, which it isn't from then on.
+fn is_taken(marks: &mut Vec<bool>, place: usize) -> bool
+    ensures was { result ≡ holds_in marks.old.items place }
+    ensures taken { marks.new.items ≡ set marks.old.items place false }
+{
+    match marks.get_mut(place) {
+        Some(mark) => {
+            let was = *mark;
+            *mark = false;
+            was
+        }
+        None => false,
+    }
+}

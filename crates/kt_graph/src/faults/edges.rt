@@ -1,0 +1,149 @@
+//! Which names lead to which.
+ghost use Rattle.std.specs.Prelude.{◌≡◌, ◌++◌, [], IfOk, OnOk};
+ghost use Rattle.kt_graph.specs.inner.faults.Edges.{AreEdgesOf, AreMadeBelow, AreNeededBelow, AreReversed};
+ghost use Rattle.kt_graph.specs.inner.faults.Edges.{LeadToVertices, bare_rows, count_of, making_edges, makings_edges};
+ghost use Rattle.kt_graph.specs.inner.faults.Edges.{needed_numbers, next_of, numbers_after, one_at, row_of, rows_held};
+ghost use Rattle.kt_graph.specs.inner.faults.Edges.{with_edges};
+ghost use Rattle.kt_graph.specs.inner.nodes.Stored.{stored_at};
+
+use crate::faults::rows::{add_all, add_to, bare, row_at};
+use crate::nodes::stored::StoredNodes;
+use std::alloc::{AllocError, Global};
+use std::slice::from_ref;
+
+/// Where vertices lead, by numbers.
+///
+/// A vertex stands for a name, or after the names for a making of several: each of these leads to the
+/// making, and the making to all that they need. What a name needs stands in its node, so only makings
+/// have rows of their own.
+#[derive(Drop)]
+pub(crate) struct Edges<'n> {
+    alloc: Global,
+    nodes: &'n StoredNodes<'n>,
+    // The vertices of the makings.
+    makings: Vec<usize>,
+    rows: Vec<Vec<usize>>,
+}
+
+impl<'n> Edges<'n> {
+    /// The edges of nodes.
+    pub(crate) fn of(
+        alloc: Global,
+        nodes: &'n StoredNodes<'n>,
+        instances: usize,
+    ) -> Result<Edges<'n>, AllocError>
+        requires made { AreMadeBelow instances nodes.now }
+        requires needed { AreNeededBelow nodes.now }
+        ensures edges { IfOk result (AreEdgesOf nodes.now) }
+        ensures within { IfOk result LeadToVertices }
+    {
+        let makings = making_numbers(alloc, nodes.len(), instances)?;
+        let rows = making_rows(alloc, nodes, instances)?;
+        Ok(Edges {
+            alloc,
+            nodes,
+            makings,
+            rows,
+        })
+    }
+
+    /// How many vertices there are.
+    pub(crate) fn count(&self) -> usize
+        ensures { result ≡ count_of self.now }
+    {
+        self.nodes.len() + self.rows.len()
+    }
+
+    /// Where a vertex leads, in two parts.
+    pub(crate) fn next(&self, vertex: usize) -> (&[usize], &[usize])
+        ensures { result.0.now ++ result.1.now ≡ next_of self.now vertex }
+    {
+        if vertex < self.nodes.len() {
+            return self.next_by(vertex);
+        }
+        (row_at(self.rows.as_slice(), vertex - self.nodes.len()), &[])
+    }
+
+    /// The same edges, each in the other direction: rows of all vertices, after no nodes.
+    pub(crate) fn reversed<'e>(&self, none: &'e StoredNodes<'e>) -> Result<Edges<'e>, AllocError>
+        requires within { LeadToVertices self.now }
+        requires none { none.now ≡ [] }
+        ensures { IfOk result (AreReversed self.now) }
+    {
+        let mut rows = bare(self.alloc, self.count())?;
+        for vertex in 0..self.count() {
+            let (next, more) = self.next(vertex);
+            add_to(&mut rows, vertex, next)?;
+            add_to(&mut rows, vertex, more)?;
+        }
+        Ok(Edges {
+            alloc: self.alloc,
+            nodes: none,
+            makings: Vec::new(self.alloc),
+            rows,
+        })
+    }
+
+    // Where a name leads by its node.
+    fn next_by(&self, name: usize) -> (&[usize], &[usize])
+        ensures { result.0.now ++ result.1.now ≡ row_of self.now.makings.items (stored_at self.now.nodes.now name) }
+    {
+        match self.nodes.made_with(name) {
+            None => (self.nodes.inputs(name), self.nodes.order_only(name)),
+            Some(making) => (one_at(self.makings.as_slice(), making), &[]),
+        }
+    }
+}
+
+fn one_at(numbers: &[usize], place: usize) -> &[usize]
+    ensures { result.now ≡ one_at numbers.now place }
+{
+    match numbers.get(place) {
+        Some(number) => from_ref(number),
+        None => &[],
+    }
+}
+
+// The vertices of so many makings, after those of names.
+fn making_numbers(alloc: Global, names: usize, count: usize) -> Result<Vec<usize>, AllocError>
+    ensures { IfOk result (λ numbers. numbers.items ≡ numbers_after names count) }
+{
+    let mut numbers = Vec::new(alloc);
+    for making in 0..count {
+        match names.checked_add(making) {
+            Some(number) => numbers.push(number)?,
+            None => return Err(AllocError),
+        }
+    }
+    Ok(numbers)
+}
+
+// What the names of each making need.
+fn making_rows(
+    alloc: Global,
+    nodes: &StoredNodes,
+    count: usize,
+) -> Result<Vec<Vec<usize>>, AllocError>
+    ensures { IfOk result (λ rows. rows_held rows.items ≡ with_edges (bare_rows count) (makings_edges nodes.now)) }
+{
+    let mut rows = bare(alloc, count)?;
+    for number in 0..nodes.len() {
+        add_node(&mut rows, nodes, number)?;
+    }
+    Ok(rows)
+}
+
+fn add_node(
+    rows: &mut Vec<Vec<usize>>,
+    nodes: &StoredNodes,
+    number: usize,
+) -> Result<(), AllocError>
+    ensures { OnOk result (rows_held rows.new.items ≡ with_edges (rows_held rows.old.items)
+        (making_edges (stored_at nodes.now number).made_with (needed_numbers (stored_at nodes.now number)))) }
+{
+    if let Some(making) = nodes.made_with(number) {
+        add_all(rows, making, nodes.inputs(number))?;
+        add_all(rows, making, nodes.order_only(number))?;
+    }
+    Ok(())
+}

@@ -1,0 +1,140 @@
+//! The files that the names of a graph stand for.
+ghost use Rattle.std.specs.Prelude.{◌≡◌, ◌++◌, ◌∷◌, ◌&&◌, [], All, List, Some, false, true, bytes_eq, find, is_some};
+ghost use Rattle.std.specs.Prelude.{not, option_map, unwrap_or, IfOk, OnOk, if◌then◌else◌};
+ghost use Rattle.std.specs.List.{list_any};
+ghost use Rattle.kt_text.specs.Words.{Text};
+ghost use Rattle.kt_graph.specs.inner.faults.Files.{HasFiles, held_for, is_repeated, made_names};
+ghost use Rattle.kt_graph.specs.nodes.Node.{is_leaf};
+ghost use Rattle.kt_graph.specs.faults.Paths.{canon_of, is_reserved};
+
+use crate::faults::paths::{canon, is_always};
+use crate::faults::spelling::is_canonical;
+use crate::nodes::graph::Nodes;
+use crate::nodes::node::Node;
+use indexmap::IndexMap;
+use std::alloc::{AllocError, Global};
+
+/// Whether a name, made or not, is kati's own.
+pub(crate) fn has_always(alloc: Global, nodes: Nodes<'_>) -> Result<bool, AllocError>
+    ensures { IfOk result (λ has. has ≡ list_any (λ node. is_reserved node.name) nodes.entry) }
+{
+    for node in nodes {
+        if is_always_name(alloc, node.name())? {
+            return Ok(true);
+        }
+    }
+    Ok(false)
+}
+
+fn is_always_name(alloc: Global, name: &[u8]) -> Result<bool, AllocError>
+    ensures { IfOk result (λ is. is ≡ is_reserved name.now) }
+{
+    if is_canonical(name) {
+        return Ok(is_always(name));
+    }
+    let file = canon(alloc, name)?;
+    Ok(is_always(file.as_slice()))
+}
+
+/// Whether each made name is the one spelling of its file, so that no two of them have one file. Takes
+/// no memory.
+pub(crate) fn are_canonical(nodes: Nodes<'_>) -> bool
+    ensures { result ≡ true → All (λ name. canon_of name ≡ name) (made_names nodes.entry) }
+{
+    for node in nodes {
+        if !is_canonical_if_made(&node) {
+            return false;
+        }
+    }
+    true
+}
+
+fn is_canonical_if_made(node: &Node<'_>) -> bool
+    ensures { result ≡ true → All (λ name. canon_of name ≡ name) (made_names (node.now ∷ [])) }
+{
+    if !node.is_made() {
+        return true;
+    }
+    is_canonical(node.name())
+}
+
+/// The files of made names.
+#[derive(Drop)]
+pub(crate) struct Files {
+    alloc: Global,
+    // Each file with whether several made names have it.
+    several: IndexMap<Vec<u8>, bool>,
+}
+
+impl Files {
+    /// The files of nodes.
+    pub(crate) fn of(alloc: Global, nodes: Nodes<'_>) -> Result<Files, AllocError>
+        ensures { IfOk result (λ files. HasFiles files (made_names nodes.entry)) }
+    {
+        let mut files = Files {
+            alloc,
+            several: IndexMap::new(alloc),
+        };
+        for node in nodes {
+            files.add(&node)?;
+        }
+        Ok(files)
+    }
+
+    fn add(&mut self, node: &Node<'_>) -> Result<(), AllocError>
+        ensures { OnOk result ((names : List Text) → HasFiles self.old names
+            → HasFiles self.new (names ++ made_names (node.now ∷ []))) }
+    {
+        if !node.is_made() {
+            return Ok(());
+        }
+        let file = canon(self.alloc, node.name())?;
+        self.add_file(file)
+    }
+
+    fn add_file(&mut self, file: Vec<u8>) -> Result<(), AllocError>
+        ensures { OnOk result ((other : Text) → held_for self.new.several.entries other
+            ≡ (if bytes_eq other file.items then Some (is_some (held_for self.old.several.entries file.items))
+            else held_for self.old.several.entries other)) }
+    {
+        let is_known = self.several.contains_key(file.as_slice());
+        self.several.insert(file, is_known)?;
+        Ok(())
+    }
+
+    /// The first made name whose file has another made name.
+    pub(crate) fn first_repeated<'g>(
+        &self,
+        nodes: Nodes<'g>,
+    ) -> Result<Option<&'g [u8]>, AllocError>
+        ensures { IfOk result (λ found. (names : List Text) → HasFiles self.now names
+            → option_map (λ name. name.now) found ≡ find (is_repeated names) (made_names nodes.entry)) }
+    {
+        for node in nodes {
+            if self.is_repeated(&node)? {
+                return Ok(Some(node.name()));
+            }
+        }
+        Ok(None)
+    }
+
+    fn is_repeated(&self, node: &Node<'_>) -> Result<bool, AllocError>
+        ensures { IfOk result (λ is. (names : List Text) → HasFiles self.now names
+            → is ≡ (not (is_leaf node.now.kind) && is_repeated names node.now.name)) }
+    {
+        if !node.is_made() {
+            return Ok(false);
+        }
+        if is_canonical(node.name()) {
+            return Ok(self.is_several(node.name()));
+        }
+        let file = canon(self.alloc, node.name())?;
+        Ok(self.is_several(file.as_slice()))
+    }
+
+    fn is_several(&self, file: &[u8]) -> bool
+        ensures { result ≡ unwrap_or (held_for self.now.several.entries file.now) false }
+    {
+        self.several.get(file).copied().unwrap_or(false)
+    }
+}

@@ -1,0 +1,50 @@
+//! What is wrong with the names that goals need, without memory.
+ghost use Rattle.std.specs.Prelude.{◌≡◌};
+ghost use Rattle.kt_graph.specs.faults.Faults.{ReportsTrouble, kind_and_name};
+ghost use Rattle.kt_graph.specs.faults.Views.{trouble_view};
+
+use crate::faults::fault::GraphFault;
+use kt_list::Sequence;
+use kt_rules::FaultKind;
+use std::alloc::Global;
+
+/// What is wrong, with the name in its words.
+#[derive(Clone, Copy, Debug)]
+pub(crate) enum Trouble<'g> {
+    /// No rule makes a goal.
+    NoRule(&'g [u8]),
+    /// A name needs itself.
+    Circular(&'g [u8]),
+    /// A name is kati's own.
+    Reserved,
+    /// Two names of made targets are names of one file.
+    OneFile(&'g [u8]),
+}
+
+impl<'g> Trouble<'g> {
+    /// The fault that tells of it.
+    pub(crate) fn fault(self, alloc: Global) -> GraphFault
+        ensures { ReportsTrouble result (trouble_view self.entry) }
+    {
+        let (kind, name) = self.kind_and_name();
+        match kind.words_with(alloc, name) {
+            Ok(words) => GraphFault::Refused {
+                number: kind.number(),
+                words: Sequence::from(words),
+            },
+            Err(_refused) => GraphFault::Memory,
+        }
+    }
+
+    // The kind of its fault, and the name in its words, which is empty where there is none.
+    fn kind_and_name(self) -> (FaultKind, &'g [u8])
+        ensures { (result.0, result.1.now) ≡ kind_and_name (trouble_view self.entry) }
+    {
+        match self {
+            Trouble::NoRule(goal) => (FaultKind::NoRule, goal),
+            Trouble::Circular(name) => (FaultKind::Circular, name),
+            Trouble::Reserved => (FaultKind::ReservedName, b""),
+            Trouble::OneFile(name) => (FaultKind::TwoTargetsOfOneFile, name),
+        }
+    }
+}

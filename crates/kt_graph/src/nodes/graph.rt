@@ -1,0 +1,305 @@
+//! What makes each name that goals need, as the crates above see it.
+ghost use Rattle.std.specs.Prelude.{◌≡◌, ◌∷◌, [], All, List, MatchOption, bytes_eq, find, length, map, not, option_map};
+ghost use Rattle.std.specs.Prelude.{IfOk};
+ghost use Rattle.std.specs.Cmp.Lexicographic.{slice_cmp};
+ghost use Rattle.std.specs.Iterator.{YieldsFirstBy, item_count};
+ghost use Rattle.std.specs.List.Sorted.{IsStrictlySortedBy};
+ghost use Rattle.std.specs.Ordering.{nat_cmp};
+ghost use Rattle.kt_text.specs.Words.{Text};
+ghost use Rattle.kt_rules.specs.Entry.{Rule};
+ghost use Rattle.kt_graph.specs.faults.Faults.{IsFileTrouble};
+ghost use Rattle.kt_graph.specs.nodes.Groups.{groups_of};
+ghost use Rattle.kt_graph.specs.inner.faults.Files.{is_repeated, made_names};
+ghost use Rattle.kt_graph.specs.inner.nodes.Numbering.{HasNumbers};
+ghost use Rattle.kt_graph.specs.Reach.{ComesFirst, IsCyclic, IsFirst, IsGraph};
+ghost use Rattle.kt_graph.specs.inner.nodes.GraphBuilder.{IsDone};
+ghost use Rattle.kt_graph.specs.inner.nodes.Graph.{AreHeld, makes_among};
+ghost use Rattle.kt_graph.specs.nodes.Views.{node_at, nodes_view};
+ghost use Rattle.kt_graph.specs.faults.Views.{trouble_view};
+
+use crate::faults::cycles::first_circular;
+use crate::faults::edges::Edges;
+use crate::faults::files::{Files, are_canonical, has_always};
+use crate::faults::trouble::Trouble;
+use crate::known::Known;
+use crate::nodes::byte_order::byte_order;
+use crate::nodes::graph_builder::GraphBuilder;
+use crate::nodes::grouping::Groups;
+use crate::nodes::node::{Instance, Node, name_of};
+use crate::nodes::stored::StoredNodes;
+use indexmap::IndexSet;
+use kt_list::Names;
+use kt_rules::{Book, Name};
+use std::alloc::{AllocError, Global};
+use std::marker::Model;
+
+/// What makes each name that goals need, and what it needs.
+///
+/// Names have numbers, in the order in which they were reached.
+#[derive(Drop)]
+pub struct Graph<'a> {
+    alloc: Global,
+    names: Names,
+    nodes: StoredNodes<'a>,
+    instances: IndexSet<Instance>,
+    // The numbers in byte order of the names.
+    order: Vec<usize>,
+}
+
+impl<'a> Model for Graph<'a> {
+    ghost use Rattle.std.specs.Prelude.{List};
+    ghost use Rattle.kt_graph.specs.nodes.Node.{Node};
+
+    ghost Value = { List Node };
+
+    ghost use Rattle.kt_graph.specs.nodes.Views.{nodes_view};
+
+    ghost view = { λ graph. nodes_view graph.names graph.instances.keys graph.nodes graph.order.items };
+
+    ghost use Rattle.kt_graph.specs.inner.nodes.Graph.{IsWhole};
+
+    ghost invariant = { λ graph. IsWhole graph.names graph.instances.keys graph.nodes graph.order.items };
+}
+
+impl<'a> Graph<'a> {
+    /// The nodes, in byte order of their names.
+    pub fn nodes(&self) -> Nodes<'_>
+        ensures { result ≡ self.now }
+    {
+        Nodes {
+            names: self.names.as_slice(),
+            instances: self.instances.as_slice(),
+            nodes: &self.nodes,
+            numbers: self.order.as_slice(),
+        }
+    }
+
+    /// The node of a name, if goals need it.
+    pub fn node(&self, name: &[u8]) -> Option<Node<'_>>
+        ensures { result ≡ find (λ node. bytes_eq name.now node.name) self.now }
+    {
+        let names = self.names.as_slice();
+        let instances = self.instances.as_slice();
+        match self.names.number_of(name) {
+            Some(number) => node_at(names, instances, &self.nodes, number),
+            None => None,
+        }
+    }
+
+    /// The made nodes, those of one making together: the members in byte order, the groups in byte
+    /// order of their least members.
+    pub fn groups(&self) -> Result<Groups<'_>, AllocError>
+        ensures { IfOk result (λ groups. groups ≡ groups_of self.now) }
+    {
+        Groups::of(
+            self.alloc,
+            self.names.as_slice(),
+            self.instances.as_slice(),
+            &self.nodes,
+            self.order.as_slice(),
+        )
+    }
+
+    /// The graph, whatever is wrong with it.
+    pub(crate) fn reached(
+        alloc: Global,
+        book: &'a Book,
+        known: &'a Known,
+        goals: &[Name],
+    ) -> Result<Graph<'a>, AllocError>
+        ensures { IfOk result (IsGraph book.now known.now goals.now) }
+    {
+        let mut builder = GraphBuilder::new(alloc, book, known)?;
+        builder.reach(goals)?;
+        builder.build_all()?;
+        let GraphBuilder {
+            numbers,
+            nodes,
+            instances,
+            ..
+        } = builder;
+        Graph::whole(alloc, numbers.into_names(), nodes, instances)
+    }
+
+    // The graph of names and their nodes.
+    fn whole(
+        alloc: Global,
+        names: Names,
+        nodes: StoredNodes<'a>,
+        instances: IndexSet<Instance>,
+    ) -> Result<Graph<'a>, AllocError>
+        requires numbers { All (HasNumbers (length names) (length instances.keys)) nodes }
+        requires all { length nodes ≡ length names }
+        ensures { IfOk result (λ graph. (rules : List Rule) (known goals : List Text)
+            → IsDone rules known goals names instances.keys nodes.entry → IsGraph rules known goals graph) }
+    {
+        let order = byte_order(alloc, names.as_slice())?;
+        // A slice of a set tells that no two of its values are equal.
+        let _ = instances.as_slice();
+        Ok(Graph {
+            alloc,
+            names,
+            nodes,
+            instances,
+            order,
+        })
+    }
+
+    /// What comes first of what is wrong.
+    pub(crate) fn trouble<'g>(
+        &'g self,
+        goals: &'g [Name],
+    ) -> Result<Option<Trouble<'g>>, AllocError>
+        ensures { IfOk result (λ trouble. (rules : List Rule) (known : List Text)
+            → IsGraph rules known goals.now self.now
+            → ComesFirst rules known goals.now (option_map trouble_view trouble)) }
+    {
+        if let Some(goal) = self.unmade_goal(goals) {
+            return Ok(Some(Trouble::NoRule(goal.as_slice())));
+        }
+        if let Some(name) = self.circular()? {
+            return Ok(Some(Trouble::Circular(name)));
+        }
+        self.path_trouble()
+    }
+
+    // The first goal that no rule makes.
+    fn unmade_goal<'g>(&self, goals: &'g [Name]) -> Option<&'g Name>
+        ensures { option_map (λ goal. goal.now) result ≡ find (λ goal. not (makes_among self.now goal)) goals.now }
+    {
+        goals.iter().find(|goal| !self.makes(goal.as_slice()))
+    }
+
+    fn makes(&self, name: &[u8]) -> bool
+        ensures { result ≡ makes_among self.now name.now }
+    {
+        match self.node(name) {
+            Some(node) => node.is_made(),
+            None => false,
+        }
+    }
+
+    // The first name in byte order that needs itself.
+    fn circular(&self) -> Result<Option<&[u8]>, AllocError>
+        ensures { IfOk result (λ found. (rules : List Rule) (known goals : List Text)
+            → IsGraph rules known goals self.now
+            → MatchOption found ((name : Text) → ¬ IsCyclic rules known goals name)
+            (λ name. IsFirst (IsCyclic rules known goals) name.now)) }
+    {
+        let edges = Edges::of(self.alloc, &self.nodes, self.instances.len())?;
+        match first_circular(
+            self.alloc,
+            &edges,
+            &StoredNodes::new(self.alloc),
+            self.order.as_slice(),
+        )? {
+            Some(number) => Ok(Some(name_of(self.names.as_slice(), number))),
+            None => Ok(None),
+        }
+    }
+
+    // What is wrong with the files that names stand for.
+    fn path_trouble(&self) -> Result<Option<Trouble<'_>>, AllocError>
+        ensures { IfOk result (λ trouble. (rules : List Rule) (known goals : List Text)
+            → IsGraph rules known goals self.now
+            → IsFileTrouble rules known goals (option_map trouble_view trouble)) }
+    {
+        if has_always(self.alloc, self.nodes())? {
+            return Ok(Some(Trouble::Reserved));
+        }
+        match self.first_repeated()? {
+            Some(name) => Ok(Some(Trouble::OneFile(name))),
+            None => Ok(None),
+        }
+    }
+
+    // The first made name whose file has another made name.
+    fn first_repeated(&self) -> Result<Option<&[u8]>, AllocError>
+        ensures { IfOk result (λ found. IsStrictlySortedBy (slice_cmp nat_cmp) (map (λ node. node.name) self.now)
+            → option_map (λ name. name.now) found ≡ find (is_repeated (made_names self.now)) (made_names self.now)) }
+    {
+        // Names differ, so two of one file aren't both its one spelling.
+        if are_canonical(self.nodes()) {
+            return Ok(None);
+        }
+        let files = Files::of(self.alloc, self.nodes())?;
+        files.first_repeated(self.nodes())
+    }
+}
+
+/// The nodes of a graph, in byte order of their names.
+#[derive(Drop)]
+pub struct Nodes<'g> {
+    names: &'g [Name],
+    instances: &'g [Instance],
+    nodes: &'g StoredNodes<'g>,
+    numbers: &'g [usize],
+}
+
+impl<'g> Model for Nodes<'g> {
+    ghost use Rattle.std.specs.Prelude.{List};
+    ghost use Rattle.kt_graph.specs.nodes.Node.{Node};
+
+    ghost Value = { List Node };
+
+    ghost use Rattle.kt_graph.specs.nodes.Views.{nodes_view};
+
+    ghost view = { λ nodes. nodes_view nodes.names.now nodes.instances.now nodes.nodes.now nodes.numbers.now };
+
+    ghost use Rattle.kt_graph.specs.inner.nodes.Graph.{AreHeld};
+
+    ghost invariant = { λ nodes. AreHeld nodes.names.now nodes.instances.now nodes.nodes.now };
+}
+
+impl<'g> Iterator for Nodes<'g> {
+    type Item = Node<'g>;
+
+    ghost next_gives = { YieldsFirstBy (λ node. node) (λ nodes. nodes) };
+
+    ghost remaining = { item_count (λ nodes. nodes) };
+
+    fn next(&mut self) -> Option<Node<'g>> {
+        let (node, numbers) = first_node(self.names, self.instances, self.nodes, self.numbers)?;
+        self.numbers = numbers;
+        Some(node)
+    }
+}
+
+// The first node of numbers, and the numbers after it.
+fn first_node<'g>(
+    names: &'g [Name],
+    instances: &'g [Instance],
+    nodes: &'g StoredNodes<'g>,
+    numbers: &'g [usize],
+) -> Option<(Node<'g>, &'g [usize])>
+    requires { AreHeld names.now instances.now nodes.now }
+    ensures { MatchOption result (nodes_view names.now instances.now nodes.now numbers.now ≡ [])
+        (λ cut. nodes_view names.now instances.now nodes.now numbers.now ≡ cut.0
+        ∷ nodes_view names.now instances.now nodes.now cut.1.now) }
+{
+    let mut left = numbers;
+    while let [number, after @ ..] = left {
+        left = after;
+        if let Some(node) = node_at(names, instances, nodes, *number) {
+            return Some((node, after));
+        }
+    }
+    None
+}
+
+// The node of a number.
+fn node_at<'g>(
+    names: &'g [Name],
+    instances: &'g [Instance],
+    nodes: &'g StoredNodes<'g>,
+    number: usize,
+) -> Option<Node<'g>>
+    requires { AreHeld names.now instances.now nodes.now }
+    ensures { result ≡ node_at names.now instances.now nodes.now number }
+{
+    if number < nodes.len() {
+        Some(Node::new(names, instances, nodes, number))
+    } else {
+        None
+    }
+}

@@ -1,0 +1,294 @@
+//! Builds the node of each name that goals need, by a list of work.
+ghost use Rattle.std.specs.Prelude.{◌≡◌, ◌<◌, ◌^◌, [], List, None, fold, length, map, option_map, slice_get, take};
+ghost use Rattle.std.specs.Prelude.{IfOk, OnOk};
+ghost use Rattle.kt_text.specs.Words.{Text};
+ghost use Rattle.kt_rules.specs.Book.{explicit_rules, is_phony};
+ghost use Rattle.kt_rules.specs.Entry.{Rule};
+ghost use Rattle.kt_rules.specs.declared.entry.Target.{Target as HeldTarget};
+ghost use Rattle.kt_rules.specs.Names.{with_name};
+ghost use Rattle.kt_rules.specs.Slots.{rule_view};
+ghost use Rattle.kt_rules.specs.Suffixes.{suffixes_of};
+ghost use Rattle.kt_graph.specs.inner.nodes.Building.{IsCut};
+ghost use Rattle.kt_graph.specs.inner.nodes.Inferring.{Infers, InfersFrom, inferred_node};
+ghost use Rattle.kt_graph.specs.inner.nodes.Named.{named_view, needed_by};
+ghost use Rattle.kt_graph.specs.nodes.Node.{double_node, explicit_node, node_by, node_of, node_with, plain_node};
+ghost use Rattle.kt_graph.specs.nodes.Node.{searched};
+ghost use Rattle.kt_graph.specs.inner.nodes.Numbering.{IsMaking, SaysNode};
+ghost use Rattle.kt_graph.specs.inner.nodes.GraphBuilder.{ReachesMore, IsBegun, IsOver, IsBuilt};
+ghost use Rattle.kt_graph.specs.inner.nodes.Stored.{node_held};
+ghost use Rattle.kt_graph.specs.nodes.Views.{instance_view};
+
+use crate::known::Known;
+use crate::nodes::building::{
+    Used, double_node, explicit_node, has_double, plain_node, used_rule, with_needs,
+};
+use crate::nodes::inferring::Inferred;
+use crate::nodes::named::{Named, NamedPart};
+use crate::nodes::node::{Instance, NodeKind};
+use crate::nodes::numbering::NameNumbers;
+use crate::nodes::stored::StoredNodes;
+use crate::nodes::stored_node::BuiltNode;
+use crate::search::Search;
+use crate::search::choice::Chosen;
+use indexmap::IndexSet;
+use kt_rules::{Book, Name, NeedsView, TargetRule};
+use std::alloc::{AllocError, Global};
+
+/// The names that were reached so far, by numbers, and the nodes of the first of them.
+///
+/// The names after those that have nodes are the work that is left.
+#[derive(Drop)]
+pub(crate) struct GraphBuilder<'a> {
+    alloc: Global,
+    book: &'a Book,
+    known: &'a Known,
+    // Over this book and these names.
+    search: Search<'a>,
+    pub(crate) numbers: NameNumbers,
+    pub(crate) nodes: StoredNodes<'a>,
+    pub(crate) instances: IndexSet<Instance>,
+}
+
+impl<'a> GraphBuilder<'a> {
+    pub(crate) fn new(
+        alloc: Global,
+        book: &'a Book,
+        known: &'a Known,
+    ) -> Result<GraphBuilder<'a>, AllocError>
+        ensures over { IfOk result IsOver }
+        ensures begun { IfOk result (λ builder. (builder.book ≡ book.entry) × (builder.known ≡ known.entry)
+            × (builder.numbers ≡ []) × (builder.nodes ≡ []) × (builder.instances.keys ≡ [])) }
+    {
+        Ok(GraphBuilder {
+            alloc,
+            book,
+            known,
+            search: Search::new(alloc, book, known)?,
+            numbers: NameNumbers::new(alloc),
+            nodes: StoredNodes::new(alloc),
+            instances: IndexSet::new(alloc),
+        })
+    }
+
+    /// Reaches names.
+    pub(crate) fn reach(&mut self, goals: &[Name]) -> Result<(), AllocError>
+        ensures { OnOk result (self.new ≡ record self.old { numbers = fold with_name self.old.numbers goals.now }) }
+    {
+        self.numbers.reach(goals)
+    }
+
+    /// Builds the node of each name that was reached, and those that are reached by it.
+    pub(crate) fn build_all(&mut self) -> Result<(), AllocError>
+        requires { IsOver self.old }
+        ensures { OnOk result ((goals : List Text) → IsBegun goals self.old
+            → IsBuilt self.old.book.now self.old.known.now goals self.new) }
+    {
+        while let Some(name) = self.next_name()? {
+            let node = self.build(name.as_slice())?;
+            self.nodes.push(node)?;
+        }
+        Ok(())
+    }
+
+    // The first name that has no node yet.
+    fn next_name(&self) -> Result<Option<Name>, AllocError>
+        ensures next { IfOk result (λ name. name ≡ slice_get self.now.numbers (length self.now.nodes)) }
+        ensures small { length self.now.numbers < 2 ^ 63 }
+    {
+        let _count = self.numbers.len();
+        self.numbers.name(self.nodes.len())
+    }
+
+    // The node of a name. What it needs is reached from then on.
+    #[tactic(auto, unfolding(crate::specs::nodes::Node::node_of))]
+    fn build(&mut self, name: &[u8]) -> Result<BuiltNode<'a>, AllocError>
+        requires { IsOver self.old }
+        ensures says { IfOk result (λ node. SaysNode self.new.numbers self.new.instances.keys
+            (node_of self.old.book.now self.old.known.now name.now) (node_held node)) }
+        ensures grown { OnOk result (ReachesMore self.old
+            (needed_by (node_of self.old.book.now self.old.known.now name.now)) self.new) }
+    {
+        let rules = self.rules(name)?;
+        self.build_by(name, rules.as_slice())
+    }
+
+    // The node of a name that has these explicit rules.
+    fn build_by(
+        &mut self,
+        name: &[u8],
+        rules: &[TargetRule<'a>],
+    ) -> Result<BuiltNode<'a>, AllocError>
+        requires { IsOver self.old }
+        ensures says { IfOk result (λ node. SaysNode self.new.numbers self.new.instances.keys
+            (node_with self.old.book.now self.old.known.now name.now (map rule_view rules.now)) (node_held node)) }
+        ensures grown { OnOk result (ReachesMore self.old
+            (needed_by (node_with self.old.book.now self.old.known.now name.now (map rule_view rules.now))) self.new) }
+    {
+        if has_double(rules) {
+            return self.double_node(rules);
+        }
+        match used_rule(rules) {
+            Some(used) => self.explicit_node(used),
+            None => self.searched_node(name, rules),
+        }
+    }
+
+    fn double_node(&mut self, rules: &[TargetRule<'a>]) -> Result<BuiltNode<'a>, AllocError>
+        ensures says { IfOk result (λ node. (name : Text)
+            → SaysNode self.new.numbers self.new.instances.keys
+            (double_node (suffixes_of self.old.book.now) name (map rule_view rules.now)) (node_held node)) }
+        ensures grown { OnOk result ((name : Text)
+            → ReachesMore self.old (needed_by (double_node (suffixes_of self.old.book.now) name
+            (map rule_view rules.now)))
+            self.new) }
+    {
+        let named = double_node(self.alloc, self.book, rules)?;
+        self.hold(named)
+    }
+
+    fn explicit_node(&mut self, used: Used<'a, '_>) -> Result<BuiltNode<'a>, AllocError>
+        ensures says { IfOk result (λ node. (name : Text) (rules : List (Rule × HeldTarget)) → IsCut rules used.entry
+            → SaysNode self.new.numbers self.new.instances.keys (explicit_node (suffixes_of self.old.book.now) name
+            rules (rule_view used.entry.rule)) (node_held node)) }
+        ensures grown { OnOk result ((name : Text) (rules : List (Rule × HeldTarget)) → IsCut rules used.entry
+            → ReachesMore self.old (needed_by (explicit_node (suffixes_of self.old.book.now) name rules
+            (rule_view used.entry.rule))) self.new) }
+    {
+        let named = explicit_node(self.alloc, self.book, used)?;
+        self.hold(named)
+    }
+
+    // The explicit rules of a name.
+    fn rules(&self, name: &[u8]) -> Result<Vec<TargetRule<'a>>, AllocError>
+        ensures { IfOk result (λ rules. map rule_view rules.items ≡ explicit_rules self.now.book.now name.now) }
+    {
+        let mut rules = Vec::new(self.alloc);
+        for rule in self.book.explicit(name) {
+            rules.push(rule)?;
+        }
+        Ok(rules)
+    }
+
+    // The node of a name whose rules have no recipe.
+    fn searched_node(
+        &mut self,
+        name: &[u8],
+        rules: &[TargetRule<'a>],
+    ) -> Result<BuiltNode<'a>, AllocError>
+        requires { IsOver self.old }
+        ensures says { IfOk result (λ node. SaysNode self.new.numbers self.new.instances.keys
+            (node_by self.old.book.now name.now (map rule_view rules.now) None
+            (searched self.old.book.now self.old.known.now name.now)) (node_held node)) }
+        ensures grown { OnOk result (ReachesMore self.old
+            (needed_by (node_by self.old.book.now name.now (map rule_view rules.now) None
+            (searched self.old.book.now self.old.known.now name.now))) self.new) }
+    {
+        match self.inferred(name)? {
+            Some(inferred) => self.implicit_node(inferred, rules),
+            None => self.plain_node(name, rules),
+        }
+    }
+
+    fn plain_node(
+        &mut self,
+        name: &[u8],
+        rules: &[TargetRule<'a>],
+    ) -> Result<BuiltNode<'a>, AllocError>
+        ensures says { IfOk result (λ node. SaysNode self.new.numbers self.new.instances.keys
+            (plain_node (suffixes_of self.old.book.now) name.now (map rule_view rules.now)
+            (is_phony self.old.book.now name.now)) (node_held node)) }
+        ensures grown { OnOk result (ReachesMore self.old
+            (needed_by (plain_node (suffixes_of self.old.book.now) name.now (map rule_view rules.now)
+            (is_phony self.old.book.now name.now))) self.new) }
+    {
+        let is_phony = self.book.is_phony(name);
+        let named = plain_node(self.alloc, self.book, name, rules, is_phony)?;
+        self.hold(named)
+    }
+
+    // The chosen rule comes first with what it needs.
+    fn implicit_node(
+        &mut self,
+        inferred: Inferred<'a>,
+        rules: &[TargetRule<'a>],
+    ) -> Result<BuiltNode<'a>, AllocError>
+        ensures says { IfOk result (λ node. (name : Text)
+            → SaysNode self.new.numbers self.new.instances.keys
+            (inferred_node name (map rule_view rules.now) inferred.entry) (node_held node)) }
+        ensures grown { OnOk result ((name : Text)
+            → ReachesMore self.old (needed_by (inferred_node name (map rule_view rules.now) inferred.entry)) self.new) }
+    {
+        let Inferred {
+            recipe,
+            stem,
+            needs: first,
+            making,
+        } = inferred;
+        let needs = with_needs(self.alloc, NeedsView::of(&first), rules)?;
+        let part = NamedPart {
+            recipe,
+            stem,
+            needs,
+        };
+        let named = Named::of_part(self.alloc, NodeKind::Implicit, part, making)?;
+        self.hold(named)
+    }
+
+    // What the pattern rule gives that makes a name; for a phony name none is searched for.
+    fn inferred(&mut self, name: &[u8]) -> Result<Option<Inferred<'a>>, AllocError>
+        requires { IsOver self.old }
+        ensures tells { IfOk result (InfersFrom (searched self.old.book.now self.old.known.now name.now)) }
+        ensures kept { OnOk result (ReachesMore self.old [] self.new) }
+    {
+        if self.book.is_phony(name) {
+            return Ok(None);
+        }
+        match self.search.choose(name)? {
+            Some(chosen) => self.inference(chosen),
+            None => Ok(None),
+        }
+    }
+
+    // What a chosen rule gives.
+    fn inference(&self, chosen: Chosen) -> Result<Option<Inferred<'a>>, AllocError>
+        ensures { IfOk result (Infers self.now.search.rules chosen) }
+    {
+        match self.search.patterns().get(chosen.rule) {
+            Some(pattern) => Ok(Some(Inferred::of(self.alloc, pattern, chosen)?)),
+            None => Ok(None),
+        }
+    }
+
+    // A node with numbers. What it needs is reached from then on.
+    fn hold(&mut self, named: Named<'a, '_>) -> Result<BuiltNode<'a>, AllocError>
+        ensures says { IfOk result (λ node. (name : Text)
+            → SaysNode self.new.numbers self.new.instances.keys (named_view name named.entry) (node_held node)) }
+        ensures grown { OnOk result ((name : Text)
+            → ReachesMore self.old (needed_by (named_view name named.entry)) self.new) }
+    {
+        let Named {
+            kind,
+            parts,
+            making,
+        } = named;
+        let parts = self.numbers.parts(parts)?;
+        let made_with = self.making(making)?;
+        BuiltNode::new(self.alloc, kind, parts, made_with)
+    }
+
+    // The number of a making, if there is one.
+    fn making(&mut self, making: Option<Instance>) -> Result<Option<usize>, AllocError>
+        ensures making { IfOk result (IsMaking self.new.instances.keys (option_map instance_view making)) }
+        ensures kept { OnOk result (take (length self.old.instances.keys) self.new.instances.keys
+            ≡ self.old.instances.keys) }
+        ensures others { OnOk result (self.new ≡ record self.old { instances = self.new.instances }) }
+    {
+        match making {
+            Some(making) => {
+                let (number, _) = self.instances.insert_full(making)?;
+                Ok(Some(number))
+            }
+            None => Ok(None),
+        }
+    }
+}

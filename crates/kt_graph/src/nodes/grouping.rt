@@ -1,0 +1,226 @@
+//! The nodes of each making together.
+ghost use Rattle.std.specs.Prelude.{◌≡◌, ◌∷◌, ◌++◌, ◌&&◌, [], false, if◌then◌else◌, not, IfOk, OnOk};
+ghost use Rattle.std.specs.List.{prefix_len};
+ghost use Rattle.kt_graph.specs.inner.faults.Edges.{rows_held};
+ghost use Rattle.kt_graph.specs.inner.nodes.Grouping.{HasMembers, is_first, is_made_at, leads_at, leads_by, making_at};
+ghost use Rattle.kt_graph.specs.inner.nodes.Grouping.{members_of, with_member};
+ghost use Rattle.kt_graph.specs.nodes.Groups.{groups_of};
+ghost use Rattle.kt_graph.specs.nodes.Views.{nodes_view};
+ghost use Rattle.kt_graph.specs.inner.nodes.Graph.{AreHeld, IsWhole};
+
+use crate::faults::rows::{add, bare, row_at};
+use crate::nodes::node::{Instance, Node, NodeKind};
+use crate::nodes::stored::StoredNodes;
+use kt_rules::Name;
+use std::alloc::{AllocError, Global};
+use std::marker::Model;
+
+/// The made nodes of a graph that are left, those of one making together: the members in byte order,
+/// the groups in byte order of their least members.
+///
+/// A group is told by its least member, so one that has no other takes no memory.
+#[derive(Drop)]
+pub struct Groups<'g> {
+    names: &'g [Name],
+    instances: &'g [Instance],
+    nodes: &'g StoredNodes<'g>,
+    // The numbers that are left.
+    numbers: &'g [usize],
+    // The numbers that each making makes.
+    members: Vec<Vec<usize>>,
+}
+
+impl<'g> Model for Groups<'g> {
+    ghost use Rattle.std.specs.Prelude.{List};
+    ghost use Rattle.kt_graph.specs.nodes.Node.{Node};
+
+    ghost Value = { List (List Node) };
+
+    ghost use Rattle.kt_graph.specs.inner.faults.Edges.{rows_held};
+    ghost use Rattle.kt_graph.specs.inner.nodes.Grouping.{groups_left};
+
+    ghost view = { λ groups. groups_left groups.names.now groups.instances.now groups.nodes.now
+        (rows_held groups.members.items) groups.numbers.now };
+
+    ghost use Rattle.kt_graph.specs.inner.nodes.Graph.{AreHeld};
+
+    ghost invariant = { λ groups. AreHeld groups.names.now groups.instances.now groups.nodes.now };
+}
+
+impl<'g> Groups<'g> {
+    /// The groups of an order.
+    pub(crate) fn of(
+        alloc: Global,
+        names: &'g [Name],
+        instances: &'g [Instance],
+        nodes: &'g StoredNodes<'g>,
+        order: &'g [usize],
+    ) -> Result<Groups<'g>, AllocError>
+        requires { IsWhole names.now instances.now nodes.now order.now }
+        ensures { IfOk result (λ groups. groups
+            ≡ groups_of (nodes_view names.now instances.now nodes.now order.now)) }
+    {
+        let members = members_of(alloc, nodes, order, instances.len())?;
+        Ok(Groups {
+            names,
+            instances,
+            nodes,
+            numbers: order,
+            members,
+        })
+    }
+
+    /// Puts the nodes of the next group into a vector, in place of what stood there, if one is left.
+    /// Says whether one was.
+    pub fn next_into(&mut self, group: &mut Vec<Node<'g>>) -> Result<bool, AllocError>
+        ensures { IfOk result (λ some. self.old ≡ (if some then group.new.items ∷ self.new else [])) }
+    {
+        let numbers = self.numbers;
+        let place = leader(self.nodes, self.members.as_slice(), numbers);
+        match numbers.get(place) {
+            Some(number) => {
+                group.clear();
+                put_group(
+                    self.names,
+                    self.instances,
+                    self.nodes,
+                    self.members.as_slice(),
+                    *number,
+                    group,
+                )?;
+                self.numbers = &numbers[place + 1..];
+                Ok(true)
+            }
+            None => Ok(false),
+        }
+    }
+}
+
+// Those of the numbers that each making makes.
+fn members_of(
+    alloc: Global,
+    nodes: &StoredNodes,
+    numbers: &[usize],
+    makings: usize,
+) -> Result<Vec<Vec<usize>>, AllocError>
+    ensures { IfOk result (λ members. HasMembers nodes.now makings numbers.now (rows_held members.items)) }
+{
+    let mut members = bare(alloc, makings)?;
+    for number in numbers {
+        note(nodes, *number, &mut members)?;
+    }
+    Ok(members)
+}
+
+fn note(nodes: &StoredNodes, number: usize, members: &mut Vec<Vec<usize>>) -> Result<(), AllocError>
+    ensures { OnOk result (rows_held members.new.items ≡ with_member nodes.now (rows_held members.old.items) number) }
+{
+    if is_made_at(nodes, number) {
+        if let Some(making) = making_at(nodes, number) {
+            add(members, making, number)?;
+        }
+    }
+    Ok(())
+}
+
+// Whether a rule makes the node of a number.
+fn is_made_at(nodes: &StoredNodes, number: usize) -> bool
+    ensures { result ≡ is_made_at nodes.now number }
+{
+    !matches!(nodes.kind(number), NodeKind::Leaf)
+}
+
+// The making that makes other names, too.
+fn making_at(nodes: &StoredNodes, number: usize) -> Option<usize>
+    ensures { result ≡ making_at nodes.now number }
+{
+    nodes.made_with(number)
+}
+
+// The place of the first number that is the least of its group, or the end.
+fn leader(nodes: &StoredNodes, members: &[Vec<usize>], numbers: &[usize]) -> usize
+    ensures { result ≡ prefix_len (λ number. not (leads_at nodes.now (rows_held members.now) number)) numbers.now }
+{
+    numbers
+        .iter()
+        .take_while(|number| !leads_at(nodes, members, **number))
+        .count()
+}
+
+// Whether a number is the least of its group.
+fn leads_at(nodes: &StoredNodes, members: &[Vec<usize>], number: usize) -> bool
+    ensures { result ≡ leads_at nodes.now (rows_held members.now) number }
+{
+    is_made_at(nodes, number) && leads_by(members, number, making_at(nodes, number))
+}
+
+fn leads_by(members: &[Vec<usize>], number: usize, making: Option<usize>) -> bool
+    ensures { result ≡ leads_by (rows_held members.now) number making }
+{
+    match making {
+        None => true,
+        Some(making) => is_first(row_at(members, making), number),
+    }
+}
+
+fn is_first(numbers: &[usize], number: usize) -> bool
+    ensures { result ≡ is_first numbers.now number }
+{
+    match numbers {
+        [first, ..] => *first == number,
+        [] => false,
+    }
+}
+
+// Puts the nodes that stand in one group with a number behind others.
+fn put_group<'g>(
+    names: &'g [Name],
+    instances: &'g [Instance],
+    nodes: &'g StoredNodes<'g>,
+    members: &[Vec<usize>],
+    number: usize,
+    group: &mut Vec<Node<'g>>,
+) -> Result<(), AllocError>
+    requires { AreHeld names.now instances.now nodes.now }
+    ensures { OnOk result (group.new.items ≡ group.old.items ++ nodes_view names.now instances.now nodes.now
+        (members_of nodes.now (rows_held members.now) number)) }
+{
+    match making_at(nodes, number) {
+        Some(making) => put_all(names, instances, nodes, row_at(members, making), group),
+        None => put(names, instances, nodes, number, group),
+    }
+}
+
+fn put_all<'g>(
+    names: &'g [Name],
+    instances: &'g [Instance],
+    nodes: &'g StoredNodes<'g>,
+    numbers: &[usize],
+    group: &mut Vec<Node<'g>>,
+) -> Result<(), AllocError>
+    requires { AreHeld names.now instances.now nodes.now }
+    ensures { OnOk result (group.new.items
+        ≡ group.old.items ++ nodes_view names.now instances.now nodes.now numbers.now) }
+{
+    for number in numbers {
+        put(names, instances, nodes, *number, group)?;
+    }
+    Ok(())
+}
+
+fn put<'g>(
+    names: &'g [Name],
+    instances: &'g [Instance],
+    nodes: &'g StoredNodes<'g>,
+    number: usize,
+    group: &mut Vec<Node<'g>>,
+) -> Result<(), AllocError>
+    requires { AreHeld names.now instances.now nodes.now }
+    ensures { OnOk result (group.new.items
+        ≡ group.old.items ++ nodes_view names.now instances.now nodes.now (number ∷ [])) }
+{
+    if number < nodes.len() {
+        group.push(Node::new(names, instances, nodes, number))?;
+    }
+    Ok(())
+}

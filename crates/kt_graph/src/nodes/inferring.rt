@@ -1,0 +1,78 @@
+//! What a chosen pattern rule gives to a name.
+ghost use Rattle.std.specs.Prelude.{◌≡◌, ◌++◌, option_map, IfOk};
+ghost use Rattle.kt_graph.specs.inner.nodes.Inferring.{GivesChosen, pattern_making};
+ghost use Rattle.kt_graph.specs.nodes.Views.{instance_view};
+
+use crate::nodes::node::Instance;
+use crate::search::choice::Chosen;
+use crate::search::stemming::Stemming;
+use kt_rules::{Name, Needs, Pattern, RecipeLine};
+use std::alloc::{AllocError, Global};
+
+/// What a chosen pattern rule gives to a name.
+#[derive(Drop)]
+pub(crate) struct Inferred<'a> {
+    pub(crate) recipe: Option<&'a [RecipeLine]>,
+    pub(crate) stem: Name,
+    pub(crate) needs: Needs,
+    pub(crate) making: Option<Instance>,
+}
+
+impl<'a> Inferred<'a> {
+    pub(crate) fn of(
+        alloc: Global,
+        pattern: &Pattern<'a>,
+        chosen: Chosen,
+    ) -> Result<Inferred<'a>, AllocError>
+        ensures { IfOk result (GivesChosen pattern.now chosen) }
+    {
+        let stemming = Stemming {
+            directory: chosen.directory.as_slice(),
+            stem: chosen.stem.as_slice(),
+        };
+        let needs = stemming.needs(alloc, pattern.needs())?;
+        let stem = one_after_other(alloc, stemming.directory, stemming.stem)?;
+        Ok(Inferred {
+            recipe: pattern.recipe(),
+            stem,
+            needs,
+            making: pattern_making(alloc, pattern, &chosen)?,
+        })
+    }
+}
+
+// Most stems have no directory before them.
+fn one_after_other(alloc: Global, front: &[u8], back: &[u8]) -> Result<Name, AllocError>
+    ensures { IfOk result (λ name. name ≡ front.now ++ back.now) }
+{
+    match front {
+        [] => Name::copied(alloc, back),
+        _ => Ok(Name::from(appended(alloc, front, back)?)),
+    }
+}
+
+fn appended(alloc: Global, front: &[u8], back: &[u8]) -> Result<Vec<u8>, AllocError>
+    ensures { IfOk result (λ text. text.items ≡ front.now ++ back.now) }
+{
+    let mut text = Vec::from_slice(alloc, front)?;
+    text.extend_from_slice(back)?;
+    Ok(text)
+}
+
+// The making of a pattern rule with several targets.
+fn pattern_making(
+    alloc: Global,
+    pattern: &Pattern,
+    chosen: &Chosen,
+) -> Result<Option<Instance>, AllocError>
+    ensures { IfOk result (λ making. option_map instance_view making ≡ pattern_making pattern.now chosen.now) }
+{
+    if pattern.targets().len() <= 1 {
+        return Ok(None);
+    }
+    Ok(Some(Instance::Pattern {
+        rule: chosen.rule,
+        directory: Vec::from_slice(alloc, chosen.directory.as_slice())?,
+        stem: Vec::from_slice(alloc, chosen.stem.as_slice())?,
+    }))
+}

@@ -1,0 +1,243 @@
+//! What makes a name and what it needs.
+ghost use Rattle.std.specs.Prelude.{◌≡◌, length, not, option_map, slice_get};
+ghost use Rattle.std.specs.Iterator.{YieldsFirstRef, item_count};
+ghost use Rattle.kt_graph.specs.nodes.Node.{inputs_of, is_leaf, order_only_of};
+ghost use Rattle.kt_graph.specs.nodes.Views.{instance_view, name_at, part_lines, part_needed, part_order_only};
+ghost use Rattle.kt_graph.specs.nodes.Views.{part_stem};
+
+use crate::nodes::stored::StoredNodes;
+use kt_rules::{Name, RecipeLine};
+use std::marker::Model;
+
+/// What makes a name.
+#[derive(Clone, Copy, Debug, PartialEq, Eq)]
+pub enum NodeKind {
+    /// All its rules, which have two colons (GNU make manual, "Double-Colon Rules").
+    DoubleColon,
+    /// Rules that name it.
+    Explicit,
+    /// A pattern rule, which was searched for (GNU make manual, "Using Implicit Rules").
+    Implicit,
+    /// That it is phony, and nothing else (GNU make manual, "Phony Targets").
+    Phony,
+    /// Nothing.
+    Leaf,
+}
+
+/// One making of several names.
+#[derive(Debug, PartialEq, Eq, Hash, Drop)]
+pub enum Instance {
+    /// A group, by its first target: no other group has that target (GNU make manual, "Multiple
+    /// Targets in a Rule").
+    Group(Vec<u8>),
+    /// A pattern rule with several targets, by its number among the book's `patterns`, for a directory
+    /// and a stem (GNU make manual, "Introduction to Pattern Rules").
+    Pattern {
+        rule: usize,
+        directory: Vec<u8>,
+        stem: Vec<u8>,
+    },
+}
+
+/// A name with what makes it and what it needs.
+///
+/// A double-colon node has a part for each of its rules, numbered from 0; any other node has part 0
+/// alone. Of a part that it doesn't have, a node tells nothing.
+#[derive(Drop)]
+pub struct Node<'g> {
+    names: &'g [Name],
+    instances: &'g [Instance],
+    nodes: &'g StoredNodes<'g>,
+    number: usize,
+}
+
+impl<'g> Model for Node<'g> {
+    ghost use Rattle.kt_graph.specs.nodes.Node.{Node};
+
+    ghost Value = { Node };
+
+    ghost use Rattle.kt_graph.specs.nodes.Views.{node_view};
+    ghost use Rattle.kt_graph.specs.inner.nodes.Stored.{stored_at};
+
+    ghost view = { λ node. node_view node.names.now node.instances.now node.number
+        (stored_at node.nodes.now node.number) };
+
+    ghost use Rattle.kt_graph.specs.inner.nodes.Graph.{IsHeld};
+
+    ghost invariant = { λ node. IsHeld node.names.now node.instances.now (stored_at node.nodes.now node.number) };
+}
+
+impl<'g> Node<'g> {
+    ghost use Rattle.kt_graph.specs.nodes.Views.{node_view};
+    ghost use Rattle.kt_graph.specs.inner.nodes.Stored.{stored_at};
+    ghost use Rattle.kt_graph.specs.inner.nodes.Graph.{IsHeld};
+
+    pub(crate) fn new(
+        names: &'g [Name],
+        instances: &'g [Instance],
+        nodes: &'g StoredNodes<'g>,
+        number: usize,
+    ) -> Node<'g>
+        requires { IsHeld names.now instances.now (stored_at nodes.now number) }
+        ensures { result ≡ node_view names.now instances.now number (stored_at nodes.now number) }
+    {
+        Node {
+            names,
+            instances,
+            nodes,
+            number,
+        }
+    }
+
+    pub fn name(&self) -> &'g [u8]
+        ensures { result.now ≡ self.now.name }
+    {
+        name_of(self.names, self.number)
+    }
+
+    pub fn kind(&self) -> NodeKind
+        ensures { result ≡ self.now.kind }
+    {
+        self.nodes.kind(self.number)
+    }
+
+    /// Whether a rule makes it.
+    pub fn is_made(&self) -> bool
+        ensures { result ≡ not (is_leaf self.now.kind) }
+    {
+        !matches!(self.nodes.kind(self.number), NodeKind::Leaf)
+    }
+
+    /// The making that it shares with other names, if they are reached too.
+    pub fn instance(&self) -> Option<&'g Instance>
+        ensures { option_map (λ instance. instance_view instance.now) result ≡ self.now.made_with }
+    {
+        self.instances.get(self.nodes.made_with(self.number)?)
+    }
+
+    /// How many parts it has.
+    pub fn parts(&self) -> usize
+        ensures { result ≡ length self.now.parts }
+    {
+        self.nodes.parts(self.number)
+    }
+
+    /// The recipe of a part, if it has one.
+    pub fn recipe(&self, part: usize) -> Option<&'g [RecipeLine]>
+        ensures { option_map (λ lines. lines.now) result ≡ part_lines (slice_get self.now.parts part) }
+    {
+        self.nodes.part(self.number, part)?.recipe
+    }
+
+    /// The stem of a part, as `$*` gives it (GNU make manual, "Automatic Variables").
+    pub fn stem(&self, part: usize) -> &'g [u8]
+        ensures { result.now ≡ part_stem (slice_get self.now.parts part) }
+    {
+        match self.nodes.part(self.number, part) {
+            Some(part) => part.stem,
+            None => b"",
+        }
+    }
+
+    /// The prerequisites of a part, in order and with repeats.
+    pub fn prerequisites(&self, part: usize) -> Inputs<'g>
+        ensures { result ≡ part_needed (slice_get self.now.parts part) }
+    {
+        match self.nodes.part(self.number, part) {
+            Some(part) => Inputs::of(self.names, part.prerequisites),
+            None => Inputs::of(self.names, &[]),
+        }
+    }
+
+    /// The order-only prerequisites of a part, in order and with repeats.
+    pub fn order_only_prerequisites(&self, part: usize) -> Inputs<'g>
+        ensures { result ≡ part_order_only (slice_get self.now.parts part) }
+    {
+        match self.nodes.part(self.number, part) {
+            Some(part) => Inputs::of(self.names, part.order_only),
+            None => Inputs::of(self.names, &[]),
+        }
+    }
+
+    /// The prerequisites of all parts, each once.
+    pub fn inputs(&self) -> Inputs<'g>
+        ensures { result ≡ inputs_of self.now }
+    {
+        Inputs::of(self.names, self.nodes.inputs(self.number))
+    }
+
+    /// The order-only ones, each once, without the inputs.
+    pub fn order_only(&self) -> Inputs<'g>
+        ensures { result ≡ order_only_of self.now }
+    {
+        Inputs::of(self.names, self.nodes.order_only(self.number))
+    }
+}
+
+/// Names that a node needs, in order.
+#[derive(Drop)]
+pub struct Inputs<'g> {
+    names: &'g [Name],
+    numbers: &'g [usize],
+}
+
+impl<'g> Model for Inputs<'g> {
+    ghost use Rattle.std.specs.Prelude.{ℕ, List};
+
+    ghost Value = { List (List ℕ) };
+
+    ghost use Rattle.kt_graph.specs.nodes.Views.{names_at};
+
+    ghost view = { λ inputs. names_at inputs.names.now inputs.numbers.now };
+}
+
+impl<'g> Inputs<'g> {
+    ghost use Rattle.kt_graph.specs.nodes.Views.{names_at};
+
+    fn of(names: &'g [Name], numbers: &'g [usize]) -> Inputs<'g>
+        ensures { result ≡ names_at names.now numbers.now }
+    {
+        Inputs { names, numbers }
+    }
+
+    /// How many names are left. Takes no memory.
+    pub fn len(&self) -> usize
+        ensures { result ≡ length self.now }
+    {
+        self.numbers.len()
+    }
+
+    /// The name at a place of those that are left, if there are so many. Takes no memory.
+    pub fn name(&self, place: usize) -> Option<&'g [u8]>
+        ensures { option_map (λ name. name.now) result ≡ slice_get self.now place }
+    {
+        match self.numbers.get(place) {
+            Some(number) => Some(name_of(self.names, *number)),
+            None => None,
+        }
+    }
+}
+
+impl<'g> Iterator for Inputs<'g> {
+    type Item = &'g [u8];
+
+    ghost next_gives = { YieldsFirstRef (λ inputs. inputs) };
+
+    ghost remaining = { item_count (λ inputs. inputs) };
+
+    fn next(&mut self) -> Option<&'g [u8]> {
+        let (number, after) = self.numbers.split_first()?;
+        self.numbers = after;
+        Some(name_of(self.names, *number))
+    }
+}
+
+/// The name of a number.
+pub(crate) fn name_of(names: &[Name], number: usize) -> &[u8]
+    ensures { result.now ≡ name_at names.now number }
+{
+    match names.get(number) {
+        Some(name) => name.as_slice(),
+        None => b"",
+    }
+}

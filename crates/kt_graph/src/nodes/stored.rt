@@ -1,0 +1,289 @@
+//! Nodes as the graph holds them, all in three lists: names by their numbers.
+ghost use Rattle.std.specs.Prelude.{◌≡◌, ◌++◌, ◌∷◌, ◌<◌, ◌^◌, [], All, IfOk, OnOk, length, option_map, slice_get};
+ghost use Rattle.kt_graph.specs.inner.nodes.Stored.{ArePartsOf, Grew, HasMore, IsHeadOf, IsPartWithin, IsSpanOf};
+ghost use Rattle.kt_graph.specs.inner.nodes.Stored.{IsWithin, PutsPart, cut, node_held, part_held, part_seen};
+ghost use Rattle.kt_graph.specs.inner.nodes.Stored.{parts_held, stored_at};
+
+use crate::nodes::node::NodeKind;
+use crate::nodes::stored_node::{BuiltNode, Numbered, Part};
+use kt_rules::{Name, RecipeLine};
+use std::alloc::{AllocError, Global};
+use std::marker::Model;
+
+/// The nodes of the names that were reached first, in the order in which they were.
+///
+/// Lists of one node after another stand in one vector, and a node has their places in it.
+#[derive(Drop)]
+pub(crate) struct StoredNodes<'a> {
+    heads: Vec<Head>,
+    parts: Vec<HeldPart<'a>>,
+    // What parts need, and the inputs of nodes where they differ from it.
+    numbers: Vec<usize>,
+}
+
+/// A node but for its lists.
+#[derive(Drop)]
+pub(crate) struct Head {
+    kind: NodeKind,
+    made_with: Option<u32>,
+    parts: Span,
+    inputs: Span,
+    order_only: Span,
+}
+
+/// A part but for its lists.
+#[derive(Drop)]
+pub(crate) struct HeldPart<'a> {
+    recipe: Option<&'a [RecipeLine]>,
+    stem: Name,
+    prerequisites: Span,
+    order_only: Span,
+}
+
+/// The places of a list among those of all nodes.
+#[derive(Clone, Copy)]
+pub(crate) struct Span {
+    start: u32,
+    end: u32,
+}
+
+/// A part as it is seen.
+#[derive(Clone, Copy)]
+pub(crate) struct SeenPart<'g> {
+    pub(crate) recipe: Option<&'g [RecipeLine]>,
+    pub(crate) stem: &'g [u8],
+    pub(crate) prerequisites: &'g [usize],
+    pub(crate) order_only: &'g [usize],
+}
+
+impl<'a> Model for StoredNodes<'a> {
+    ghost use Rattle.std.specs.Prelude.{List};
+    ghost use Rattle.kt_graph.specs.inner.nodes.Stored.{AreStored, StoredNode, nodes_stored};
+
+    ghost Value = { List StoredNode };
+
+    ghost view = { λ nodes. nodes_stored nodes.parts.items nodes.numbers.items nodes.heads.items };
+
+    ghost invariant = { λ nodes. AreStored nodes.parts.items nodes.numbers.items nodes.heads.items };
+}
+
+impl<'a> StoredNodes<'a> {
+    pub(crate) fn new(alloc: Global) -> StoredNodes<'a>
+        ensures { result ≡ [] }
+    {
+        StoredNodes {
+            heads: Vec::new(alloc),
+            parts: Vec::new(alloc),
+            numbers: Vec::new(alloc),
+        }
+    }
+
+    /// How many nodes there are.
+    pub(crate) fn len(&self) -> usize
+        ensures len { result ≡ length self.now }
+        ensures small { result < 2 ^ 63 }
+    {
+        self.heads.len()
+    }
+
+    /// Puts a node after the others. Beyond 4,294,967,295 numbers or parts none is held, as if memory were refused for
+    /// it.
+    pub(crate) fn push(&mut self, node: BuiltNode<'a>) -> Result<(), AllocError>
+        ensures { OnOk result (self.new ≡ self.old ++ node_held node.entry ∷ []) }
+    {
+        let head = put_node(&mut self.parts, &mut self.numbers, node)?;
+        self.heads.push(head)?;
+        Ok(())
+    }
+
+    /// The kind of a node. Of a node that there isn't, here and below, as of a leaf that needs nothing.
+    pub(crate) fn kind(&self, number: usize) -> NodeKind
+        ensures { result ≡ (stored_at self.now number).kind }
+    {
+        match self.heads.get(number) {
+            Some(head) => head.kind,
+            None => NodeKind::Leaf,
+        }
+    }
+
+    /// The number of the making that makes other names, too.
+    pub(crate) fn made_with(&self, number: usize) -> Option<usize>
+        ensures { result ≡ (stored_at self.now number).made_with }
+    {
+        match self.heads.get(number)?.made_with {
+            Some(making) => Some(making as usize),
+            None => None,
+        }
+    }
+
+    /// How many parts a node has.
+    pub(crate) fn parts(&self, number: usize) -> usize
+        ensures { result ≡ length (stored_at self.now number).parts }
+    {
+        match self.heads.get(number) {
+            Some(head) => cut(self.parts.as_slice(), head.parts).len(),
+            None => 0,
+        }
+    }
+
+    /// A part of a node, if it has that.
+    pub(crate) fn part(&self, number: usize, part: usize) -> Option<SeenPart<'_>>
+        ensures { option_map part_seen result ≡ slice_get (stored_at self.now number).parts part }
+    {
+        let head = self.heads.get(number)?;
+        let part = cut(self.parts.as_slice(), head.parts).get(part)?;
+        Some(SeenPart {
+            recipe: part.recipe,
+            stem: part.stem.as_slice(),
+            prerequisites: cut(self.numbers.as_slice(), part.prerequisites),
+            order_only: cut(self.numbers.as_slice(), part.order_only),
+        })
+    }
+
+    /// The prerequisites of all parts of a node, each once.
+    pub(crate) fn inputs(&self, number: usize) -> &[usize]
+        ensures { result.now ≡ (stored_at self.now number).inputs }
+    {
+        match self.heads.get(number) {
+            Some(head) => cut(self.numbers.as_slice(), head.inputs),
+            None => &[],
+        }
+    }
+
+    /// The order-only ones, each once and without the inputs.
+    pub(crate) fn order_only(&self, number: usize) -> &[usize]
+        ensures { result.now ≡ (stored_at self.now number).order_only }
+    {
+        match self.heads.get(number) {
+            Some(head) => cut(self.numbers.as_slice(), head.order_only),
+            None => &[],
+        }
+    }
+}
+
+// A list among those of all nodes.
+fn cut<T>(items: &[T], span: Span) -> &[T]
+    requires { IsWithin (length items.now) span }
+    ensures { result.now ≡ cut items.now span }
+{
+    &items[span.start as usize..span.end as usize]
+}
+
+// Puts the lists of a node after those of others.
+fn put_node<'a>(
+    parts: &mut Vec<HeldPart<'a>>,
+    numbers: &mut Vec<usize>,
+    node: BuiltNode<'a>,
+) -> Result<Head, AllocError>
+    requires { All (IsPartWithin (length numbers.old.items)) parts.old.items }
+    ensures grew { Grew parts.old.items numbers.old.items parts.new.items numbers.new.items }
+    ensures head { IfOk result (IsHeadOf parts.new.items numbers.new.items (node_held node.entry)) }
+{
+    let made_with = narrow_making(node.made_with)?;
+    let span = put_parts(parts, numbers, node.parts)?;
+    let inputs = put_inputs(parts.as_slice(), numbers, span, node.inputs.as_slice())?;
+    let order_only = put(numbers, node.order_only.as_slice())?;
+    Ok(Head {
+        kind: node.kind,
+        made_with,
+        parts: span,
+        inputs,
+        order_only,
+    })
+}
+
+// Puts parts after others.
+fn put_parts<'a>(
+    held: &mut Vec<HeldPart<'a>>,
+    numbers: &mut Vec<usize>,
+    parts: Vec<Part<'a>>,
+) -> Result<Span, AllocError>
+    requires { All (IsPartWithin (length numbers.old.items)) held.old.items }
+    ensures grew { Grew held.old.items numbers.old.items held.new.items numbers.new.items }
+    ensures span { IfOk result (ArePartsOf held.new.items numbers.new.items (parts_held parts.entry.items)) }
+{
+    let start = held.len();
+    for part in parts {
+        put_part(held, numbers, part)?;
+    }
+    span_of(start, held.len())
+}
+
+// Puts a part after others.
+fn put_part<'a>(
+    held: &mut Vec<HeldPart<'a>>,
+    numbers: &mut Vec<usize>,
+    part: Part<'a>,
+) -> Result<(), AllocError>
+    ensures grew { Grew held.old.items numbers.old.items held.new.items numbers.new.items }
+    ensures put { OnOk result (PutsPart held.old.items held.new.items numbers.new.items (part_held part.entry)) }
+{
+    let prerequisites = put(numbers, part.needs.prerequisites.as_slice())?;
+    let order_only = put(numbers, part.needs.order_only.as_slice())?;
+    held.push(HeldPart {
+        recipe: part.recipe,
+        stem: part.stem,
+        prerequisites,
+        order_only,
+    })?;
+    Ok(())
+}
+
+// Puts inputs after other numbers, unless they are the prerequisites of the one part.
+fn put_inputs(
+    held: &[HeldPart],
+    numbers: &mut Vec<usize>,
+    parts: Span,
+    inputs: &[usize],
+) -> Result<Span, AllocError>
+    requires parts { IsWithin (length held.now) parts }
+    requires within { All (IsPartWithin (length numbers.old.items)) held.now }
+    ensures grew { HasMore numbers.old.items numbers.new.items }
+    ensures span { IfOk result (IsSpanOf numbers.new.items inputs.now) }
+{
+    if let [part] = cut(held, parts) {
+        if cut(numbers.as_slice(), part.prerequisites) == inputs {
+            return Ok(part.prerequisites);
+        }
+    }
+    put(numbers, inputs)
+}
+
+// Puts numbers after others.
+fn put(numbers: &mut Vec<usize>, more: &[usize]) -> Result<Span, AllocError>
+    ensures grew { HasMore numbers.old.items numbers.new.items }
+    ensures span { IfOk result (IsSpanOf numbers.new.items more.now) }
+{
+    let start = numbers.len();
+    numbers.extend_from_slice(more)?;
+    span_of(start, numbers.len())
+}
+
+// The places from one to another.
+fn span_of(start: usize, end: usize) -> Result<Span, AllocError>
+    ensures { IfOk result (λ span. (span.start ≡ start) × (span.end ≡ end)) }
+{
+    Ok(Span {
+        start: narrow(start)?,
+        end: narrow(end)?,
+    })
+}
+
+fn narrow_making(making: Option<usize>) -> Result<Option<u32>, AllocError>
+    ensures { IfOk result (λ narrowed. narrowed ≡ making) }
+{
+    match making {
+        Some(number) => Ok(Some(narrow(number)?)),
+        None => Ok(None),
+    }
+}
+
+// A number in 32 bits. A larger one has none, as if memory were refused for it.
+fn narrow(number: usize) -> Result<u32, AllocError>
+    ensures { IfOk result (λ narrowed. narrowed ≡ number) }
+{
+    if number as u64 > 4_294_967_295 {
+        return Err(AllocError);
+    }
+    Ok(number as u32)
+}

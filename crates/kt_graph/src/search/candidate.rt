@@ -1,0 +1,99 @@
+//! How a pattern matches a name.
+ghost use Rattle.std.specs.Prelude.{◌≡◌, ◌≤◌, drop, length, take, option_map, IfSome};
+ghost use Rattle.std.specs.List.{slice_range};
+ghost use Rattle.kt_text.specs.Functions.{name_place};
+ghost use Rattle.kt_graph.specs.search.Candidates.{fit_of, has_slash, left_out, matched_part};
+ghost use Rattle.kt_graph.specs.search.Views.{IsWithin, fit_view};
+
+use kt_text::match_pattern;
+use memchr::{memchr, memrchr};
+
+/// A pattern rule, by its number, in the place in which it makes a name.
+#[derive(Clone, Copy, Debug)]
+pub(crate) struct Candidate {
+    pub(crate) rule: usize,
+    pub(crate) fit: Fit,
+    /// The target that matches is `%` alone.
+    pub(crate) is_any: bool,
+}
+
+/// The places in a name of what a pattern leaves out and of its stem.
+#[derive(Clone, Copy, Debug)]
+pub(crate) struct Fit {
+    /// How many bytes stand in the directory that a pattern without a slash leaves out.
+    pub(crate) directory: usize,
+    pub(crate) start: usize,
+    pub(crate) end: usize,
+    /// How long the stem is, with the directory.
+    pub(crate) size: usize,
+}
+
+impl Fit {
+    /// The directory that is left out of a name, with its slash.
+    pub(crate) fn directory<'n>(&self, name: &'n [u8]) -> &'n [u8]
+        requires { IsWithin name.now self.now }
+        ensures { result.now ≡ take self.now.directory name.now }
+    {
+        &name[..self.directory]
+    }
+
+    /// The stem in a name.
+    pub(crate) fn stem<'n>(&self, name: &'n [u8]) -> &'n [u8]
+        requires { IsWithin name.now self.now }
+        ensures { result.now ≡ slice_range name.now self.now.start self.now.end }
+    {
+        &name[self.start..self.end]
+    }
+}
+
+/// How a pattern matches a name with a stem of at least one byte (GNU make manual, "How Patterns
+/// Match").
+///
+/// A pattern without a slash is matched against the part after the last slash.
+pub(crate) fn fit_of(pattern: &[u8], name: &[u8]) -> Option<Fit>
+    ensures fit { option_map (fit_view name.now) result ≡ fit_of pattern.now name.now }
+    ensures within { IfSome result (IsWithin name.now) }
+{
+    let directory = left_out(pattern, name);
+    let stem = match_pattern(pattern, &name[directory..])?;
+    if stem.is_empty() {
+        return None;
+    }
+    Some(Fit {
+        directory,
+        start: directory + stem.start,
+        end: directory + stem.end,
+        size: directory + (stem.end - stem.start),
+    })
+}
+
+// How many bytes of a name a pattern leaves out.
+fn left_out(pattern: &[u8], name: &[u8]) -> usize
+    ensures directory { take result name.now ≡ left_out pattern.now name.now }
+    ensures rest { drop result name.now ≡ matched_part pattern.now name.now }
+    ensures bound { result ≤ length name.now }
+{
+    if has_slash(pattern) {
+        0
+    } else {
+        directory_len(name)
+    }
+}
+
+fn has_slash(text: &[u8]) -> bool
+    ensures { result ≡ has_slash text.now }
+{
+    memchr(b'/', text).is_some()
+}
+
+// How many bytes a name has through its last slash.
+#[tactic(auto, using(kt_text::proofs::NameLemmas::name_places))]
+fn directory_len(name: &[u8]) -> usize
+    ensures value { result ≡ name_place name.now }
+    ensures bound { result ≤ length name.now }
+{
+    match memrchr(b'/', name) {
+        Some(place) => place + 1,
+        None => 0,
+    }
+}

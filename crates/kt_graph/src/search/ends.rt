@@ -1,0 +1,86 @@
+//! Pattern rules by what stands after the percent signs of their targets.
+ghost use Rattle.std.specs.Prelude.{◌≡◌, ◌++◌, ◌∷◌, [], ℕ, List, IfOk, OnOk};
+ghost use Rattle.kt_text.specs.Match.{pattern_back};
+ghost use Rattle.kt_graph.specs.inner.search.Ends.{HasAll, Notes, NotesAll};
+
+use indexmap::IndexSet;
+use kt_rules::{Index, Target};
+use memchr::memchr;
+use std::alloc::{AllocError, Global};
+
+/// The numbers of rules by the ends of their targets.
+#[derive(Drop)]
+pub(crate) struct Ends {
+    alloc: Global,
+    // How long ends are: a name is looked up once for each length, and not once for each end.
+    lengths: IndexSet<usize>,
+    numbers: Index<usize>,
+}
+
+impl Ends {
+    pub(crate) fn none(alloc: Global) -> Ends {
+        Ends {
+            alloc,
+            lengths: IndexSet::new(alloc),
+            numbers: Index::new(alloc),
+        }
+    }
+
+    /// Notes the number of a rule at the ends of its targets.
+    pub(crate) fn note_targets(
+        &mut self,
+        targets: &[Target],
+        number: usize,
+    ) -> Result<(), AllocError>
+        ensures { OnOk result (NotesAll self.old self.new targets.now number) }
+    {
+        for target in targets {
+            self.note(end_of(target.name.as_slice()), number)?;
+        }
+        Ok(())
+    }
+
+    fn note(&mut self, end: &[u8], number: usize) -> Result<(), AllocError>
+        ensures { OnOk result (Notes self.old self.new end.now number) }
+    {
+        self.lengths.insert(end.len())?;
+        self.numbers.note(end, number)
+    }
+
+    /// The numbers that were noted at ends of a name, in no order.
+    pub(crate) fn found(&self, name: &[u8]) -> Result<Vec<usize>, AllocError>
+        ensures { IfOk result (λ found. HasAll self.now name.now self.now.lengths.keys found.items) }
+    {
+        let mut found = Vec::new(self.alloc);
+        for length in self.lengths.as_slice() {
+            self.add_found(name, *length, &mut found)?;
+        }
+        Ok(found)
+    }
+
+    // Adds the numbers that were noted at the end of a name that has a length.
+    fn add_found(
+        &self,
+        name: &[u8],
+        length: usize,
+        found: &mut Vec<usize>,
+    ) -> Result<(), AllocError>
+        ensures { OnOk result ((lengths : List ℕ) → HasAll self.now name.now lengths found.old.items
+            → HasAll self.now name.now (lengths ++ length ∷ []) found.new.items) }
+    {
+        if length <= name.len() {
+            found.extend_from_slice(self.numbers.noted(&name[name.len() - length..]))?;
+        }
+        Ok(())
+    }
+}
+
+// What stands after the first percent sign of a pattern.
+fn end_of(pattern: &[u8]) -> &[u8]
+    ensures { result.now ≡ pattern_back pattern.now }
+{
+    match memchr(b'%', pattern) {
+        Some(place) => &pattern[place + 1..],
+        None => &[],
+    }
+}

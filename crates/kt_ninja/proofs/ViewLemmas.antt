@@ -1,0 +1,39 @@
+-- A statement that is seen by its place, and its texts.
+use Rattle.std.proofs.Common.{◌≡◌, ℕ, List, Some, Option, ap, ◌∙◌, subst}
+use Rattle.kt_ninja.specs.declared.block.Block.{Block}
+use Rattle.kt_ninja.specs.declared.plan.Made.{Made}
+use Rattle.kt_ninja.specs.declared.plan.Statement.{Statement}
+use Rattle.kt_ninja.specs.Blocks.{Puts}
+use Rattle.kt_ninja.specs.Text.{marked_text, names_text, rule_name_text, rule_text}
+use Rattle.kt_ninja.specs.View.{made_at, made_by, names_at}
+use Rattle.kt_ninja.specs.Written.{SinkSeen}
+
+module _ {S : Type 0} (seen : S → SinkSeen) (old new : Block S) (found : Option Statement) (s : Statement) (is : found ≡ Some s) where
+  pub names_put : (names : Statement → List (List ℕ)) → Puts seen old new (names_text (names_at names found)) → Puts seen old new (names_text (names s))
+  names_put names h = subst (λ (o : Option Statement). Puts seen old new (names_text (names_at names o))) is h
+
+  pub marked_put : (mark : List ℕ) (names : Statement → List (List ℕ)) → Puts seen old new (marked_text mark (names_at names found))
+      → Puts seen old new (marked_text mark (names s))
+  marked_put mark names h = subst (λ (o : Option Statement). Puts seen old new (marked_text mark (names_at names o))) is h
+
+  pub rule_name_put : (number : ℕ) (command : Option (List ℕ)) → made_by command ≡ made_at found → Puts seen old new (rule_name_text number (made_by command))
+      → Puts seen old new (rule_name_text number s.made)
+  rule_name_put number command same h = subst (λ (made : Made). Puts seen old new (rule_name_text number made)) (same ∙ ap made_at is) h
+
+  pub rule_put : (number : ℕ) (command : Option (List ℕ)) → made_by command ≡ made_at found → Puts seen old new (rule_text number (made_by command))
+      → Puts seen old new (rule_text number s.made)
+  rule_put number command same h = subst (λ (made : Made). Puts seen old new (rule_text number made)) (same ∙ ap made_at is) h
+
+-- ---- the statement at a place, list by list
+
+abbrev pub shown_at : Option Statement → Statement
+shown_at found = record {
+  outs = names_at (λ s. s.outs) found;
+  made = made_at found;
+  inputs = names_at (λ s. s.inputs) found;
+  implicit = names_at (λ s. s.implicit) found;
+  order_only = names_at (λ s. s.order_only) found;
+}
+
+pub shown_there : (found : Option Statement) (s : Statement) → found ≡ Some s → shown_at found ≡ s
+shown_there found s is = ap shown_at is

@@ -1,0 +1,32 @@
+use Rattle.std.proofs.Common.{◌≡◌, ◌∙◌, List, ap, sym, not, rules, take, true, false}
+use Rattle.std.proofs.lemmas.List.{take_all}
+use Rattle.kt_list.specs.Names.{is_among}
+use Rattle.kt_ninja.specs.Plan.{outputs}
+use Rattle.kt_ninja.specs.declared.plan.Statement.{Statement}
+use Rattle.kt_ninja.proofs.Places.{found_here, found_later}
+use Rattle.kt_ninja.proofs.checking.first_not_made.Goals as goal
+
+pub returns-then-not-is_output : goal.returns-then-not-is_output
+returns-then-not-is_output g c =
+    let plan = g.V.PlanView.plan c.args.view.now in
+    let name = c.name-name.result.now in
+    let all : take c.statement_count-statements.result plan.statements ≡ plan.statements = take_all _ plan.statements (search rules) in
+    let told : c.is_output.result ≡ false = search rules in
+    let out : is_among (outputs plan.statements) name ≡ false =
+    sym (ap (λ (ss : List Statement). is_among (outputs ss) name) all) ∙ sym c.is_output.ensures ∙ told in
+    found_here (λ n. not (is_among (outputs plan.statements) n)) plan.defaults c.loop-place.place name
+    c.name-name.ensures (ap not out) c.loop-place.invariant.looks
+
+pub loop-place-preserved : goal.loop-place-preserved
+loop-place-preserved g c =
+    let plan = g.V.PlanView.plan c.args.view.now in
+    let name = c.name-name.result.now in
+    let all : take c.statement_count-statements.result plan.statements ≡ plan.statements = take_all _ plan.statements (search rules) in
+    let told : c.is_output.result ≡ true = search rules in
+    let out : is_among (outputs plan.statements) name ≡ true =
+    sym (ap (λ (ss : List Statement). is_among (outputs ss) name) all) ∙ sym c.is_output.ensures ∙ told in
+    record {
+      within = search rules;
+      looks = found_later (λ n. not (is_among (outputs plan.statements) n)) plan.defaults c.loop-place.place name
+          c.name-name.ensures (ap not out) c.loop-place.invariant.looks;
+    }

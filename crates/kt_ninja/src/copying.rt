@@ -1,0 +1,84 @@
+//! Plans that are built from views of them.
+ghost use Rattle.std.specs.Prelude.{◌≡◌, IfOk, slice_get};
+ghost use Rattle.kt_ninja.specs.declared.view.Listed.TheVariants.{Implicit, Inputs, OrderOnly, Outputs};
+ghost use Rattle.kt_ninja.specs.View.{made_at, names_listed};
+
+use crate::plan::{Made, Name, Plan, Statement};
+use crate::view::{Listed, PlanView};
+use kt_list::Sequence;
+use std::alloc::{AllocError, Global};
+
+/// The plan that a view shows, with texts of its own.
+pub fn copied_plan<V: PlanView>(alloc: Global, view: &V) -> Result<Plan, AllocError>
+    ensures { IfOk result (λ plan. plan ≡ V.plan view.now) }
+{
+    let statements = copied_statements(alloc, view)?;
+    let defaults = copied_names(alloc, view, Listed::Defaults)?;
+    Ok(Plan {
+        statements: Sequence::from(statements),
+        defaults,
+    })
+}
+
+fn copied_statements<V: PlanView>(alloc: Global, view: &V) -> Result<Vec<Statement>, AllocError>
+    ensures { IfOk result (λ statements. statements.items ≡ (V.plan view.now).statements) }
+{
+    let count = view.statement_count();
+    let mut statements = Vec::with_capacity(alloc, count)?;
+    for place in 0..count {
+        statements.push(copied_statement(alloc, view, place)?)?;
+    }
+    Ok(statements)
+}
+
+fn copied_statement<V: PlanView>(
+    alloc: Global,
+    view: &V,
+    place: usize,
+) -> Result<Statement, AllocError>
+    ensures { IfOk result (λ statement. statement ≡ record {
+      outs = names_listed (V.plan view.now) (Outputs place);
+      made = made_at (slice_get (V.plan view.now).statements place);
+      inputs = names_listed (V.plan view.now) (Inputs place);
+      implicit = names_listed (V.plan view.now) (Implicit place);
+      order_only = names_listed (V.plan view.now) (OrderOnly place);
+    }) }
+{
+    let outs = copied_names(alloc, view, Listed::Outputs(place))?;
+    let made = copied_made(alloc, view, place)?;
+    let inputs = copied_names(alloc, view, Listed::Inputs(place))?;
+    let implicit = copied_names(alloc, view, Listed::Implicit(place))?;
+    let order_only = copied_names(alloc, view, Listed::OrderOnly(place))?;
+    Ok(Statement {
+        outs,
+        made,
+        inputs,
+        implicit,
+        order_only,
+    })
+}
+
+fn copied_made<V: PlanView>(alloc: Global, view: &V, place: usize) -> Result<Made, AllocError>
+    ensures { IfOk result (λ made. made ≡ made_at (slice_get (V.plan view.now).statements place)) }
+{
+    match view.command(place) {
+        Some(command) => Ok(Made::Command(Sequence::from(Vec::from_slice(alloc, command)?))),
+        None => Ok(Made::Phony),
+    }
+}
+
+#[tactic(auto, using(crate::proofs::Places::take_at))]
+fn copied_names<V: PlanView>(
+    alloc: Global,
+    view: &V,
+    list: Listed,
+) -> Result<Sequence<Name>, AllocError>
+    ensures { IfOk result (λ names. names ≡ names_listed (V.plan view.now) list) }
+{
+    let count = view.name_count(list);
+    let mut names = Vec::with_capacity(alloc, count)?;
+    for place in 0..count {
+        names.push(Name::copied(alloc, view.name(list, place))?)?;
+    }
+    Ok(Sequence::from(names))
+}

@@ -1,0 +1,76 @@
+-- The automatic macros of a recipe (POSIX.1-2024 make, "Internal Macros"; GNU make manual, "Automatic Variables").
+use Rattle.std.specs.Prelude.{ℕ, Bool, true, false, not, List, [], ◌∷◌, map, flat_map, filter, take, slice_get, codes}
+use Rattle.kt_text.specs.Words.{Text, is_nonempty}
+use Rattle.kt_rules.specs.declared.entry.Needs.{Needs}
+use Rattle.kt_rules.specs.Names.{is_among, without_repeats}
+use Rattle.kt_eval.specs.files.Files.{Store}
+use Rattle.kt_graph.specs.nodes.Node.{Node}
+use Rattle.kt_graph.specs.nodes.Views.{part_needed, part_order_only, part_stem}
+use Rattle.kt_recipe.specs.declared.forms.Form.{Form}
+use Rattle.kt_recipe.specs.declared.forms.Form.TheVariants.{Whole, Directory, File}
+use Rattle.kt_recipe.specs.declared.subjects.Subject.{Subject}
+use Rattle.kt_recipe.specs.declared.subjects.Subject.TheVariants.{Target, First, Each, Every, OrderOnly, Stem, Member}
+use Rattle.kt_recipe.specs.Forms.{text_of}
+
+-- the marks `@ < ^ + | * %` and the question mark, and what each asks for; no file is looked at, so all prerequisites
+-- count as newer
+-- (kati's own)
+abbrev pub marks : List (ℕ × Subject)
+marks =
+    (64, Target) ∷ (60, First) ∷ (94, Each) ∷ (63, Each) ∷ (43, Every) ∷ (124, OrderOnly) ∷ (42, Stem)
+    ∷ (37, Member) ∷ []
+
+-- whether a `D` or `F` may stand after the mark; after `|` none may [Automatic Variables], nor after `%` (kati's
+-- own)
+abbrev pub has_parts : Subject → Bool
+has_parts Target = true
+has_parts First = true
+has_parts Each = true
+has_parts Every = true
+has_parts OrderOnly = false
+has_parts Stem = true
+has_parts Member = false
+
+-- what may stand after a mark, and the form that it asks for
+abbrev pub endings : Bool → List (Text × Form)
+endings true = ([], Whole) ∷ (codes "D", Directory) ∷ (codes "F", File) ∷ []
+endings false = ([], Whole) ∷ []
+
+-- the names that a rule tells of a target; an empty stem is no name, and a name that is needed otherwise is not
+-- order-only [Types of Prerequisites]
+unfoldable pub names_of : Text → Text → Needs → Subject → List Text
+names_of target stem needs Target = target ∷ []
+names_of target stem needs First = take 1 needs.prerequisites
+names_of target stem needs Each = without_repeats needs.prerequisites
+names_of target stem needs Every = needs.prerequisites
+names_of target stem needs OrderOnly =
+    filter (λ name. not (is_among (without_repeats needs.prerequisites) name)) (without_repeats needs.order_only)
+names_of target stem needs Stem = filter is_nonempty (stem ∷ [])
+names_of target stem needs Member = []
+
+-- those that a part of a node tells, which has the lists of its own rule alone [Double-Colon Rules]; nothing is told
+-- of a part that the node doesn't have
+abbrev pub needs_in : Node → ℕ → Needs
+needs_in node part =
+    record {
+      prerequisites = part_needed (slice_get node.parts part);
+      order_only = part_order_only (slice_get node.parts part);
+    }
+
+abbrev pub names_in : Node → ℕ → Subject → List Text
+names_in node part subject = names_of node.name (part_stem (slice_get node.parts part)) (needs_in node part) subject
+
+-- the macros of a mark, by what stands after it
+abbrev pub of_mark : Node → ℕ → Subject → Store
+of_mark node part subject =
+    map (λ ending. (ending.0, text_of ending.1 (names_in node part subject))) (endings (has_parts subject))
+
+-- the automatic macros in the recipe of a part of a node: their names, and what they stand for
+unfoldable pub automatic_in : Node → ℕ → Store
+automatic_in node part =
+    flat_map (λ mark. map (λ macro. (mark.0 ∷ macro.0, macro.1)) (of_mark node part mark.1)) marks
+
+-- a node's part as its automatic macros are held
+pub record MacrosOf : Type 0 where
+  pub node : Node
+  pub part : ℕ

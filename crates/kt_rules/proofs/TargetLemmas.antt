@@ -1,0 +1,43 @@
+-- Targets and what they need, as their entry tells them.
+use Rattle.std.proofs.Common.{◌≡◌, false, List, [], ◌∷◌, length, Option, Some, None, refl, arith}
+use Rattle.std.specs.Borrow.{Bor}
+use Rattle.kt_text.specs.Words.{Text}
+use Rattle.kt_text.specs.Match.{has_percent}
+use Rattle.kt_text.specs.Functions.{with_stem}
+use Rattle.std.proofs.lemmas.List.{length-map}
+use Rattle.kt_rules.specs.Entry.{stemmed_names}
+use Rattle.kt_rules.specs.Names.{without_dots}
+use Rattle.kt_rules.specs.Suffixes.{is_empty}
+use Rattle.kt_rules.specs.Targets.{name_put, names_put}
+
+-- the first of names that are needed, and the others
+pub first_put : (stem : Option (Bor Text)) (name : Text) (names : List Text) → names_put stem (name ∷ names) ≡ name_put stem name ∷ names_put stem names
+unfolding stemmed_names
+first_put None name names = refl
+first_put (Some stem) name names = refl
+
+pub none_put : (stem : Option (Bor Text)) → names_put stem [] ≡ []
+unfolding stemmed_names
+none_put None = refl
+none_put (Some stem) = refl
+
+pub none_left : (stem : Option (Bor Text)) (names : List Text) → length names ≡ 0 → names_put stem names ≡ []
+none_left stem [] none = none_put stem
+none_left stem (name ∷ names) none = absurd (omega arith)
+
+-- a stem makes no name go
+pub empty_put : (stem : Option (Bor Text)) (names : List Text) → is_empty (names_put stem names) ≡ is_empty names
+unfolding stemmed_names
+empty_put None names = refl
+empty_put (Some stem) [] = refl
+empty_put (Some stem) (name ∷ names) = refl
+
+-- nor any come
+pub count_put : (stem : Option (Bor Text)) (names : List Text) → length (names_put stem names) ≡ length names
+unfolding stemmed_names
+count_put None names = refl
+count_put (Some stem) names = length-map names (λ name. without_dots (with_stem name stem.now))
+
+-- a name without percent sign takes no stem
+pub plain_put : (stem name : Text) → has_percent name ≡ false → without_dots name ≡ without_dots (with_stem name stem)
+plain_put stem name plain = rw plain refl

@@ -1,0 +1,31 @@
+-- What a text holds where the appending of more was cut off.
+use Rattle.std.proofs.Common.{◌≡◌, [], ◌++◌, Result, Ok, Err, OnErr, refl, sym, ap, ◌∙◌, append_assoc, append-nil}
+use Rattle.kt_text.specs.Begun.{HasBegun}
+use Rattle.kt_text.specs.Words.{Text}
+
+-- where a call failed, what holds anyway
+pub on_err : {T E P : Type 0} (r : Result T E) → P → OnErr r P
+on_err (Ok x) p = tt
+on_err (Err e) p = p
+
+-- nothing more
+pub begun : (whole old new : Text) → new ≡ old → HasBegun whole old new
+begun whole old new same = ([], whole, same ∙ sym (append-nil old), refl)
+
+-- a prefix of the first part
+pub begun_front : (part back old new : Text) → HasBegun part old new → HasBegun (part ++ back) old new
+begun_front part back old new cut = (
+  cut.0,
+  cut.1 ++ back,
+  cut.2,
+  sym (append_assoc cut.0 cut.1 back) ∙ ap (λ t. t ++ back) cut.3,
+)
+
+-- the first part, and a prefix of what comes after it
+pub begun_after : (front part old middle new : Text) → middle ≡ old ++ front → HasBegun part middle new → HasBegun (front ++ part) old new
+begun_after front part old middle new grown cut = (
+  front ++ cut.0,
+  cut.1,
+  cut.2 ∙ ap (λ t. t ++ cut.0) grown ∙ append_assoc old front cut.0,
+  append_assoc front cut.0 cut.1 ∙ ap (λ t. front ++ t) cut.3,
+)
