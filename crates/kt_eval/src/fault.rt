@@ -40,7 +40,7 @@ impl Fault {
     }
 
     /// Appends the line that tells of the fault: `FILE:LINE: *** WORDS [Enn]`, without its newline. Where the fault is
-    /// at no line, the program's name stands for its place. Where memory is refused, the text holds a prefix of the line
+    /// at no line, the program's name stands for its place. Where memory is refused, the text holds a prefix of it
     /// more.
     pub fn append_to(&self, text: &mut Vec<u8>) -> Result<(), AllocError>
         ensures appended { OnOk result (text.new.items ≡ text.old.items ++ fault_line self.now) }

@@ -40,8 +40,8 @@ impl<'m> Commands<'m> {
         Ok(some_text(command))
     }
 
-    /// The same, in place of what a text held, which is empty where no recipe has a piece. So one text can serve for the
-    /// commands of many nodes, one after the other.
+    /// The same, in place of what a text held, which is empty where no recipe has a piece. So one text can serve for
+    /// the commands of many nodes, one after the other.
     #[tactic(auto, unfolding(crate::specs::Shell::shell_of))]
     pub fn write(
         &self,

@@ -27,7 +27,7 @@ impl Model for Mark {
 }
 
 impl Mark {
-    /// The mark of a line. One beyond the first 4,294,967,295 bytes or lines has none, as if memory were refused for it.
+    /// The mark of a line. One beyond the first 4,294,967,295 bytes or lines has none, as if memory were refused.
     pub fn of(line: &Line) -> Result<Mark, AllocError>
         ensures { IfOk result (λ mark. mark ≡ line.now) }
     {

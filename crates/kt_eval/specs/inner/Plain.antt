@@ -1,5 +1,5 @@
--- What a term gives without a level of its own: a literal, and the value of a plainly named macro that stands for itself
--- (kati's own).
+-- What a term gives without a level of its own: a literal, and the value of a plainly named macro that stands for
+-- itself (kati's own).
 use Rattle.std.specs.Prelude.{ℕ, Bool, true, not, ◌&&◌, ◌==◌, [], ◌++◌, length, Option, Some, None, codes}
 use Rattle.std.specs.Prelude.{if◌then◌else◌}
 use Rattle.std.specs.List.{list_all, list_any}
