@@ -1,6 +1,6 @@
 -- The text of a recipe line, as cuts of its physical lines with their mask beside them (GNU make manual, "Splitting
 -- Recipe Lines"; that a continuation goes outside references, too, and carriage returns are kati's own).
-use Rattle.std.specs.Prelude.{◌≡◌, ◌≢◌, ◌⊎◌, ℕ, ◌+◌, ◌-◌, true, false, List, [], ◌∷◌, ◌++◌, length, drop, slice_index}
+use Rattle.std.specs.Prelude.{◌≡◌, ◌≢◌, ◌⊎◌, ℕ, ◌-◌, true, false, List, [], ◌∷◌, ◌++◌, length, drop, slice_index}
 use Rattle.std.specs.List.{flat_map, list_any}
 use Rattle.kt_text.specs.Words.{Text}
 use Rattle.kt_text.specs.Lines.{is_continued_text, pieces_of}
