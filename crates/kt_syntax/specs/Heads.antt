@@ -8,8 +8,8 @@ use Rattle.std.specs.List.{starts_with, position_or_len, slice_range}
 use Rattle.std.specs.Str.{bytes_eq}
 use Rattle.kt_text.specs.Words.{Text}
 use Rattle.kt_text.specs.Lines.{condensed_of}
-use Rattle.kt_syntax.specs.declared.rule_line.RuleParts.{RuleParts}
-use Rattle.kt_syntax.specs.declared.rule_line.TargetSpecific.{TargetSpecific}
+use Rattle.kt_syntax.specs.declared.heads.RuleParts.{RuleParts}
+use Rattle.kt_syntax.specs.declared.heads.TargetSpecific.{TargetSpecific}
 use Rattle.kt_syntax.specs.Mask.{mask_of}
 use Rattle.kt_syntax.specs.Kinds.{assignment_parts, comment_place, past_blanks, past_word}
 

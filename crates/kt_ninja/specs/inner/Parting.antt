@@ -1,6 +1,6 @@
 -- Lines cut off part by part (the reader's own).
 use Rattle.std.specs.Prelude.{◌≡◌, ◌<◌, ◌≤◌, ℕ, List, [], ◌∷◌, drop, length}
-use Rattle.kt_ninja.specs.declared.reader.PartLines.{PartLines}
+use Rattle.kt_ninja.specs.declared.ninja_read.PartLines.{PartLines}
 use Rattle.kt_ninja.specs.JoinedLines.{Line}
 use Rattle.kt_ninja.specs.NinjaRead.{cut_lines}
 use Rattle.kt_ninja.specs.Reading.{part_of}

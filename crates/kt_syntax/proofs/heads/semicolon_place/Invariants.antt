@@ -1,0 +1,10 @@
+use Rattle.std.proofs.Common.{◌≡◌, ◌+◌, ◌==◌, length}
+use Rattle.std.specs.List.{position_or_len}
+use Rattle.kt_syntax.specs.Heads.{head_end}
+use Rattle.kt_syntax.proofs.heads.semicolon_place.Given as goal
+
+abbrev pub invariant-loop-symbol : goal.invariant-loop-symbol
+invariant-loop-symbol l = record {
+  size : l.place + length l.symbol-iterator ≡ l.comment;
+  value : l.place + position_or_len (λ symbol. symbol == 59) l.symbol-iterator ≡ head_end l.text;
+}
