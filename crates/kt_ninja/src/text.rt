@@ -73,7 +73,8 @@ impl<'a, W: Sink> Block<'a, W> {
     }
 
     fn put_rule(&mut self, number: usize, command: Option<&[u8]>)
-        ensures { Puts W.seen self.old self.new (rule_text number (made_by (option_map (λ text. text.now) command.entry))) }
+        ensures { Puts W.seen self.old self.new
+            (rule_text number (made_by (option_map (λ text. text.now) command.entry))) }
     {
         if let Some(command) = command {
             self.put(b"rule r");
