@@ -1,10 +1,10 @@
--- What `add` answers.
+-- What `add` returns.
 use Rattle.std.proofs.Common.{◌≡◌, Result, Err, sym, ap, ◌∙◌}
 use Rattle.kt_rules.specs.declared.fault.RuleFault.{RuleFault}
 use Rattle.kt_rules.specs.declared.fault.RuleFault.TheVariants.{Memory, Refused}
 use Rattle.kt_rules.specs.Refusals.{Fault, ReportsFault, Answers}
 
--- a fault that is told is what is answered
+-- a reported fault is the expected result
 pub answers_refused : {A : Type 0} (fault : RuleFault) (expected : Result A Fault) (told : Fault) → ReportsFault fault told → expected ≡ Err told
     → Answers {A = A} (Err fault) expected
 answers_refused Memory expected told h e = tt

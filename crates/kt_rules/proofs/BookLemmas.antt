@@ -1,5 +1,5 @@
 -- What a book keeps beside its rules, as rules are added.
-use Rattle.std.proofs.Common.{◌≡◌, ℕ, ◌+◌, Bool, true, false, cond, ◌&&◌, ◌||◌, if◌then◌else◌, List, [], ◌∷◌, ◌++◌, length, map, filter, fold, find, drop, Option, Some, None, refl, sym, ap, ◌∙◌, arith, subst, is_some, is_none, ◌⊎◌, inl, inr, ⊎_elim, length-append, true≢false}
+use Rattle.std.proofs.Common.{◌≡◌, ℕ, ◌+◌, Bool, true, false, cond, ◌&&◌, ◌||◌, if◌then◌else◌, List, [], ◌∷◌, ◌++◌, length, map, filter, fold, find, drop, set, ◌≤◌, Option, Some, None, refl, sym, ap, ◌∙◌, arith, subst, is_some, is_none, ◌⊎◌, inl, inr, ⊎_elim, length-append, true≢false}
 use Rattle.std.specs.Option.{option_map, option_and_then, option_or, option_map_or}
 use Rattle.std.specs.List.{flat_map, cons_option, list_any}
 use Rattle.std.specs.Str.{bytes_eq}
@@ -12,16 +12,18 @@ use Rattle.std.proofs.lemmas.Slice.Eq.{bytes_eq-Decides}
 use Rattle.kt_text.specs.Words.{Text}
 use Rattle.kt_rules.specs.declared.entry.Target.{Target}
 use Rattle.kt_rules.specs.declared.book.spot.Spot.{Spot}
+use Rattle.kt_rules.specs.inner.Held.{GotNames, HoldsAll}
 use Rattle.kt_rules.specs.inner.Lists.{Notes}
 use Rattle.kt_rules.specs.Entry.{Rule}
 use Rattle.kt_rules.specs.Refusals.{bad_group, both_colons, two_recipes}
 use Rattle.kt_rules.specs.Names.{is_among, with_name}
 use Rattle.kt_rules.specs.Suffixes.{suffixes_of, suffixes_after, start_suffixes}
 use Rattle.kt_rules.specs.Book.{AreApart, GroupsStandAlone, is_made, made_targets, target_rules, rules_of, recipes_of, has_recipe, is_double, is_group, phony_of, is_phony, xor, differ_in_colons, is_beside_group, both_colons_in, beside_group_in, two_recipes_in, refusal_of}
-use Rattle.kt_rules.specs.Slots.{spots_at, rules_in, target_rule, spot_rule, found, first_of, spot_at, target_spots, spots_from, spots_for, AreBefore, AreIn, GrewIn, GotSpots, GotRecipes, AreAlike, IsIndexOf, IsKept}
+use Rattle.kt_rules.specs.Slots.{spots_at, rules_in, slot_rule, target_rule, spot_rule, found, first_of, spot_at, target_spots, spots_from, spots_for, AreBefore, AreIn, GrewIn, GotSpots, GotRecipes, AreAlike, IsIndexOf, IsKept}
 use Rattle.kt_rules.proofs.FindLemmas.{find_none, or_split, some_none}
 use Rattle.kt_rules.proofs.GroupLemmas.{apart_last}
-use Rattle.kt_rules.proofs.SlotLemmas.{rules_in-none, rules_in-some, found-before, found-in_none, found-append, before_more, before_in, before_append, in_spots_from, first_target, slot_last}
+use Rattle.kt_rules.proofs.NoteLemmas.{names_after}
+use Rattle.kt_rules.proofs.SlotLemmas.{rules_in-none, rules_in-some, found-before, found-in_none, found-append, before_more, before_in, before_append, in_spots_from, first_target, put_last, slot_last}
 
 -- the rules of a name among those of one rule
 abbrev of_name : Rule → Text → List (Rule × Target)
@@ -96,7 +98,7 @@ unfolding found
 found-for slots rule name true = found-own slots rule name 0 rule.targets refl
 found-for slots rule name false = refl
 
--- ---- what an index tells
+-- ---- what an index finds
 
 longer : {A : Type 0} (xs : List A) (x : A) → length (xs ++ x ∷ []) ≡ length xs + 1
 longer xs x = length-append xs (x ∷ [])
@@ -106,7 +108,7 @@ before_new : (slots : List (Option Rule)) (slot : Option Rule) (spots more : Lis
 before_new slots slot spots more h k =
     rw (longer slots slot) (before_append (length slots + 1) spots more (before_more (length slots) spots h) (before_in (length slots) more k))
 
--- an entry that stays out leaves an index as it was, whatever was noted
+-- an entry that isn't added leaves what an index finds, whatever was noted
 pub tells_none : (slots : List (Option Rule)) (old new : Notes) (rules : Text → List (Rule × Target))
     → IsIndexOf slots old rules → GrewIn (length slots) old new → IsIndexOf (slots ++ None ∷ []) new rules
 tells_none slots old new rules told grew = record {
@@ -127,7 +129,7 @@ in_if_spots : (rule : Rule) (place : ℕ) (name : Text) (b : Bool) → AreIn pla
 in_if_spots rule place name true = in_spots_from rule place 0 rule.targets name
 in_if_spots rule place name false = tt
 
--- one more rule is told
+-- one more rule is found
 pub tells_more : (slots : List (Option Rule)) (rule : Rule) (old new : Notes) (first later : Text → List (Rule × Target)) (b : Bool)
     → IsIndexOf slots old first
     → ((name : Text) → spots_at new name ≡ spots_at old name ++ (if b then spots_for rule (length slots) name else []))
@@ -147,7 +149,7 @@ tells_more slots rule old new first later b told got is = record {
 
 -- ---- rules that are alike
 
-or_false : (b : Bool) → (b || false) ≡ b
+pub or_false : (b : Bool) → (b || false) ≡ b
 or_false true = refl
 or_false false = refl
 
@@ -155,7 +157,7 @@ or_same : (b : Bool) → (b || b) ≡ b
 or_same true = refl
 or_same false = refl
 
-or_assoc : (a b c : Bool) → ((a || b) || c) ≡ (a || (b || c))
+pub or_assoc : (a b c : Bool) → ((a || b) || c) ≡ (a || (b || c))
 or_assoc true b c = refl
 or_assoc false b c = refl
 
@@ -178,7 +180,7 @@ all_same f test t (y ∷ ys) h =
     ap (λ c. f t || (f c || list_any (λ z. f (test z)) ys)) one.0
     ∙ ap (λ c. f t || c) (all_same f test t ys one.1) ∙ or_same (f t)
 
--- the first tells of all
+-- the first one decides for all
 pub alike_first : {A : Type 0} (f : Bool → Bool) (test : A → Bool) (xs : List A) → AreAlike test xs
     → list_any (λ x. f (test x)) xs ≡ option_map_or (λ x. f (test x)) (first_of xs) false
 alike_first f test [] h = refl
@@ -277,7 +279,7 @@ refused_none rules rule h =
 
 -- ---- names
 
-among_with : (names : List Text) (name other : Text) → is_among (with_name names name) other ≡ (is_among names other || bytes_eq other name)
+pub among_with : (names : List Text) (name other : Text) → is_among (with_name names name) other ≡ (is_among names other || bytes_eq other name)
 among_with names name other = by (is_among names name) refl
   where
     known : is_among names name ≡ true → (b : Bool) → bytes_eq other name ≡ b → is_among names other ≡ (is_among names other || b)
@@ -290,7 +292,7 @@ among_with names name other = by (is_among names name) refl
     by true e = known e (bytes_eq other name) refl
     by false e = list_any-append (bytes_eq other) names (name ∷ []) ∙ ap (λ c. is_among names other || c) (or_false (bytes_eq other name))
 
-among_fold : (names added : List Text) (other : Text) → is_among (fold with_name names added) other ≡ (is_among names other || is_among added other)
+pub among_fold : (names added : List Text) (other : Text) → is_among (fold with_name names added) other ≡ (is_among names other || is_among added other)
 among_fold names [] other = sym (or_false (is_among names other))
 among_fold names (name ∷ added) other =
     among_fold (with_name names name) added other
@@ -334,7 +336,38 @@ kept_made slots targets recipes phony suffixes s t r p f =
     (subst (λ xs. IsKept [] targets recipes xs suffixes) (sym p)
     (subst (λ xs. IsKept [] targets recipes [] xs) (sym f) (kept_new targets recipes t r)))
 
--- an entry that stays out
+-- names that are added at the end change nothing
+tells_same : (slots : List (Option Rule)) (old new : Notes) (rules : Text → List (Rule × Target)) → ((name : Text) → spots_at new name ≡ spots_at old name)
+    → IsIndexOf slots old rules → IsIndexOf slots new rules
+tells_same slots old new rules same told = record {
+  all = λ name. ap (found slots) (same name) ∙ told.all name;
+  before = λ name. subst (AreBefore (length slots)) (sym (same name)) (told.before name);
+}
+
+pub holds_grown : (old new : List Text × List (Option Rule)) (targets recipes : List (List Spot)) (phony suffixes : List Text)
+    → GotNames old.0 new.0 → new.1 ≡ old.1 → HoldsAll old targets recipes phony suffixes → HoldsAll new targets recipes phony suffixes
+holds_grown old new targets recipes phony suffixes got same holds =
+    let longer : length new.0 ≡ length old.0 + length got.0 = ap length got.1 ∙ length-append old.0 got.0 in
+    let kept = holds.kept in
+    let t : (name : Text) → spots_at (new.0, targets) name ≡ spots_at (old.0, targets) name
+    = λ name. ap (λ ns. spots_at (ns, targets) name) got.1 ∙ names_after old.0 got.0 targets name holds.targets_within in
+    let r : (name : Text) → spots_at (new.0, recipes) name ≡ spots_at (old.0, recipes) name
+    = λ name. ap (λ ns. spots_at (ns, recipes) name) got.1 ∙ names_after old.0 got.0 recipes name holds.recipes_within in
+    record {
+      kept = subst (λ slots. IsKept slots (new.0, targets) (new.0, recipes) phony suffixes) (sym same) (record {
+        targets_view = tells_same old.1 (old.0, targets) (new.0, targets) _ t kept.targets_view;
+        recipes_told = tells_same old.1 (old.0, recipes) (new.0, recipes) _ r kept.recipes_told;
+        phony_told = kept.phony_told;
+        suffixes_told = kept.suffixes_told;
+        colons = kept.colons;
+        groups = kept.groups;
+        apart = kept.apart;
+      });
+      targets_within = omega (arith, holds.targets_within, longer);
+      recipes_within = omega (arith, holds.recipes_within, longer);
+    }
+
+-- an entry that isn't added
 pub kept_none : (slots : List (Option Rule)) (targets targets' recipes recipes' : Notes) (phony phony' suffixes suffixes' : List Text)
     → IsKept slots targets recipes phony suffixes
     → GrewIn (length slots) targets targets' → GrewIn (length slots) recipes recipes' → phony' ≡ phony → suffixes' ≡ suffixes
@@ -381,3 +414,56 @@ kept_some slots rule targets targets' recipes recipes' phony phony' suffixes suf
           (groups_more (rules_in slots) rule name (is_some rule.recipe) refl (kept.groups name) none.1));
       apart = subst GroupsStandAlone (sym e) (all_pairs_push AreApart (rules_in slots) rule kept.apart (apart_last (rules_in slots) rule none.1));
     }
+
+-- ---- a rule that a book got, with its names
+
+module _ (old pushed : List Text × List (Option Rule)) (entry : Rule) (place : ℕ) (targets targets' recipes recipes' : List (List Spot))
+    (phony phony' suffixes suffixes' : List Text) (holds : HoldsAll old targets recipes phony suffixes) (got : GotNames old.0 pushed.0)
+    (is : pushed.1 ≡ old.1 ++ Some entry ∷ []) (at : place ≡ length old.1) where
+  -- it is in its slot
+  pub pushed_rule : slot_rule pushed.1 place ≡ Some entry
+  pushed_rule = ap (λ slots. slot_rule slots place) is ∙ ap (slot_rule (old.1 ++ Some entry ∷ [])) at ∙ slot_last old.1 (Some entry)
+
+  named : HoldsAll (pushed.0, old.1) targets recipes phony suffixes
+  named = holds_grown old (pushed.0, old.1) targets recipes phony suffixes got refl holds
+
+  -- what it says was added
+  pub holds_learned : refusal_of (rules_in old.1) entry ≡ None
+      → GotSpots entry place (pushed.0, targets) (pushed.0, targets') → GotRecipes entry place (pushed.0, recipes) (pushed.0, recipes')
+      → phony' ≡ fold with_name phony (phony_of entry) → suffixes' ≡ suffixes_after suffixes entry
+      → (length targets ≤ length pushed.0 → length targets' ≤ length pushed.0) → (length recipes ≤ length pushed.0 → length recipes' ≤ length pushed.0)
+      → HoldsAll pushed targets' recipes' phony' suffixes'
+  holds_learned fine t r p s targets_in recipes_in = record {
+    kept = subst (λ slots. IsKept slots (pushed.0, targets') (pushed.0, recipes') phony' suffixes') (sym is)
+        (kept_some old.1 entry (pushed.0, targets) (pushed.0, targets') (pushed.0, recipes) (pushed.0, recipes') phony phony' suffixes suffixes' named.kept fine
+        (subst (λ n. GotSpots entry n (pushed.0, targets) (pushed.0, targets')) at t)
+        (subst (λ n. GotRecipes entry n (pushed.0, recipes) (pushed.0, recipes')) at r) p s);
+    targets_within = targets_in named.targets_within;
+    recipes_within = recipes_in named.recipes_within;
+  }
+
+  -- its slot was emptied
+  pub holds_emptied : (new : List Text × List (Option Rule)) → new.0 ≡ pushed.0 → new.1 ≡ set pushed.1 place None
+      → GrewIn place (pushed.0, targets) (pushed.0, targets') → GrewIn place (pushed.0, recipes) (pushed.0, recipes') → phony' ≡ phony → suffixes' ≡ suffixes
+      → (length targets ≤ length pushed.0 → length targets' ≤ length pushed.0) → (length recipes ≤ length pushed.0 → length recipes' ≤ length pushed.0)
+      → HoldsAll new targets' recipes' phony' suffixes'
+  holds_emptied new same emptied t r p s targets_in recipes_in =
+      let slots : new.1 ≡ old.1 ++ None ∷ [] = emptied ∙ put_last old.1 pushed.1 place (Some entry) None is at in
+      let kept : IsKept (old.1 ++ None ∷ []) (pushed.0, targets') (pushed.0, recipes') phony' suffixes'
+      = kept_none old.1 (pushed.0, targets) (pushed.0, targets') (pushed.0, recipes) (pushed.0, recipes') phony phony' suffixes suffixes' named.kept
+      (subst (λ n. GrewIn n (pushed.0, targets) (pushed.0, targets')) at t)
+      (subst (λ n. GrewIn n (pushed.0, recipes) (pushed.0, recipes')) at r) p s in
+      record {
+        kept = subst (λ names. IsKept new.1 (names, targets') (names, recipes') phony' suffixes') (sym same)
+            (subst (λ xs. IsKept xs (pushed.0, targets') (pushed.0, recipes') phony' suffixes') (sym slots) kept);
+        targets_within = subst (λ (names : List Text). length targets' ≤ length names) (sym same) (targets_in named.targets_within);
+        recipes_within = subst (λ (names : List Text). length recipes' ≤ length names) (sym same) (recipes_in named.recipes_within);
+      }
+
+  -- the rules are as they were
+  pub rules_emptied : (new : List (Option Rule)) → new ≡ set pushed.1 place None → rules_in new ≡ rules_in old.1
+  rules_emptied new emptied = ap rules_in (emptied ∙ put_last old.1 pushed.1 place (Some entry) None is at) ∙ rules_in-none old.1
+
+  -- there is one rule more
+  pub rules_learned : rules_in pushed.1 ≡ rules_in old.1 ++ entry ∷ []
+  rules_learned = ap rules_in is ∙ rules_in-some old.1 entry

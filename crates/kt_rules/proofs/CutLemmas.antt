@@ -81,7 +81,7 @@ no_colon false byte true e h = (eqb-true byte 58 e, refl)
 colon_is : (before : Bool) (byte : ℕ) → cuts Colon before byte ≡ true → (byte ≡ 58) × (before ≡ false)
 colon_is before byte h = no_colon before byte (byte == 58) refl h
 
--- and one that doesn't has one
+-- a colon that doesn't cut has one
 colon_quoted : (before : Bool) (byte : ℕ) → cuts Colon before byte ≡ false → byte ≡ 58 → before ≡ true
 colon_quoted true byte h e = refl
 colon_quoted false byte h e = absurd (true≢false (rw e at h))
@@ -141,7 +141,7 @@ cuts_at_first text = subst (FindsColon false text) (sym (placed_open false text)
 
 -- ---- leading `./`
 
--- what is left after slashes, where a `./` stands before them, and then after each `./` with its slashes
+-- the rest of a name: after slashes, if a `./` is before them, and then after each `./` with its slashes
 record LeftBehind (past : Bool) (name left : Text) : Type 0 where
   front : Text
   slashes : List Text
@@ -230,7 +230,7 @@ left_after past (byte ∷ []) = left_one past byte (past && byte == 47) refl
 left_after past (byte ∷ next ∷ text) =
     left_more past byte next text (past && byte == 47) (byte == 46 && next == 47) refl refl (left_after true (next ∷ text)) (left_after true text)
 
--- leading `./` go with all slashes after them, and nothing else
+-- each leading `./` is removed with all slashes after it, and nothing else is
 pub drops_dots : (name : Text) → IsLeft name (after_dots false name)
 drops_dots name =
     let all = left_after false name in

@@ -22,19 +22,19 @@ no_dots [] h = refl
 no_dots (byte ∷ []) h = refl
 no_dots (byte ∷ next ∷ text) h = rw (both (byte == 46) (next == 47) false h) refl
 
--- one that fails decides
+-- a last test that fails decides
 false_right : (a : Bool) → (a && false) ≡ false
 false_right true = refl
 false_right false = refl
 
--- a `./` in front is removed with the slashes after it
+-- a leading `./` is removed with the slashes after it
 pub one_dot : (name : Text) → pointwise nat_eq (take 2 name) (46 ∷ 47 ∷ []) ≡ true → after_dots false name ≡ after_dots true (drop 2 name)
 unfolding after_dots
 one_dot [] h = absurd (false≢true h)
 one_dot (byte ∷ []) h = absurd (false≢true (sym (false_right (byte == 46)) ∙ h))
 one_dot (byte ∷ next ∷ text) h = rw (both (byte == 46) (next == 47) true h) refl
 
--- slashes in front go
+-- leading slashes are removed
 pub no_slashes : (text : Text) → after_dots true text ≡ after_dots false (drop (prefix_len (λ byte. byte == 47) text) text)
 unfolding after_dots
 no_slashes [] = refl
@@ -42,7 +42,7 @@ no_slashes (byte ∷ []) = ⊎_elim (λ h. rw h refl) (λ h. rw h refl) (cases_B
 no_slashes (byte ∷ next ∷ text) =
     ⊎_elim (λ h. rw (drop-prefix_len (λ b. b == 47) byte (next ∷ text) h) (rw h (no_slashes (next ∷ text)))) (λ h. rw h refl) (cases_Bool (byte == 47))
 
--- a `./` in front is removed with the slashes after it, so many as stand there
+-- a leading `./` is removed with the slashes after it, however many there are
 pub past_slashes : (name after : Text) (slashes : ℕ) → pointwise nat_eq (take 2 name) (46 ∷ 47 ∷ []) ≡ true → after ≡ drop 2 name
     → slashes ≡ prefix_len (λ byte. byte == 47) after → after_dots false name ≡ after_dots false (take (length after - slashes) (drop slashes after))
 past_slashes name after slashes h a s =

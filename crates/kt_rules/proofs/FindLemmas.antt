@@ -1,4 +1,4 @@
--- Searches, and names put after others.
+-- Searches, and names added after others.
 use Rattle.std.proofs.Common.{◌≡◌, ℕ, ◌+◌, ◌<◌, Bool, true, false, cond, if◌then◌else◌, List, [], ◌∷◌, ◌++◌, fold, find, filter, map, take, drop, length, get_or, ◌&&◌, ◌||◌, Option, Some, None, refl, sym, ap, ◌∙◌, true≢false}
 use Rattle.std.proofs.lemmas.List.{append-nil, append_assoc, drop_more}
 use Rattle.kt_text.specs.Words.{Text}
@@ -8,7 +8,7 @@ one_grows : (names : List Text) (name : Text) (b : Bool) → (more : List Text) 
 one_grows names name true = ([], sym (append-nil names))
 one_grows names name false = (name ∷ [], refl)
 
--- names that are added stand after the others
+-- added names are after the others
 pub names_grow : (names added : List Text) → (more : List Text) × (fold with_name names added ≡ names ++ more)
 names_grow names [] = ([], sym (append-nil names))
 names_grow names (name ∷ added) =
@@ -38,7 +38,7 @@ find_at made test xs i x h e =
     by true b f = ap (λ c. cond c (Some x) (find test (filter made (drop (i + 1) xs)))) f
     by false b f = refl
 
--- the same of a list that is left
+-- the same for the rest of a list
 pub find_left : {A : Type 0} (made test : A → Bool) (left rest : List A) (x : A) (b : Bool) → left ≡ x ∷ rest → b ≡ (made x && test x)
     → find test (filter made left) ≡ cond b (Some x) (find test (filter made rest))
 find_left made test left rest x b is told =

@@ -1,9 +1,8 @@
--- Explicit rules and goals, slot by slot.
-use Rattle.std.proofs.Common.{◌≡◌, ℕ, ◌+◌, ◌<◌, ◌≤◌, length, drop, get_or, Bool, true, false, cond, not, ◌&&◌, ◌||◌, if◌then◌else◌, List, [], ◌∷◌, ◌++◌, filter, find, Option, Some, None, refl, sym, ap, ◌∙◌, is_some}
+-- Explicit rules and goals, rule by rule.
+use Rattle.std.proofs.Common.{◌≡◌, Bool, true, false, cond, not, ◌&&◌, ◌||◌, if◌then◌else◌, List, [], ◌∷◌, ◌++◌, filter, find, Option, Some, None, refl, sym, ap, ◌∙◌, is_some}
 use Rattle.std.proofs.lemmas.Bool.{false≢true}
 use Rattle.std.specs.Option.{option_map, option_or, option_map_or}
 use Rattle.std.specs.List.{filter_map, flat_map, cons_option, list_any}
-use Rattle.std.proofs.lemmas.List.{drop_more, drop_all}
 use Rattle.kt_text.specs.Words.{Text}
 use Rattle.kt_rules.specs.declared.entry.Target.{Target}
 use Rattle.kt_rules.specs.declared.book.spot.Spot.{Spot}
@@ -11,8 +10,8 @@ use Rattle.kt_rules.specs.inner.Lists.{Notes}
 use Rattle.kt_rules.specs.Entry.{Rule}
 use Rattle.kt_rules.specs.inner.SuffixCuts.{is_bare_at}
 use Rattle.kt_rules.specs.Suffixes.{is_bare, suffix_patterns, suffixes_of}
-use Rattle.kt_rules.specs.Book.{is_goal, first_goal_by, target_rules, explicit_rules, rules_of, recipes_of, is_double, is_group, xor, differ_in_colons, is_beside_group}
-use Rattle.kt_rules.specs.Slots.{spots_at, rules_in, slot_goal, found, first_of, first_found, spot_rule, unless, explicit_left, IsKept}
+use Rattle.kt_rules.specs.Book.{goal_in, is_goal, first_goal_by, target_rules, explicit_rules, rules_of, recipes_of, is_double, is_group, xor, differ_in_colons, is_beside_group}
+use Rattle.kt_rules.specs.Slots.{spots_at, rules_in, found, first_of, first_found, spot_rule, unless, explicit_left, IsKept}
 use Rattle.kt_rules.proofs.FindLemmas.{or_split}
 use Rattle.kt_rules.proofs.BookLemmas.{alike_first}
 
@@ -26,25 +25,17 @@ goal_append : {A B : Type 0} (test : A → Bool) (f : A → B) (xs ys : List A)
 goal_append test f [] ys = refl
 goal_append test f (x ∷ xs) ys = goal_step f x (find test (xs ++ ys)) (find test xs) (find test ys) (test x) (goal_append test f xs ys)
 
--- the goal of the first slot, or else that of the others
-pub goal_cons : (suffixes : List Text) (slot : Option Rule) (slots : List (Option Rule))
-    → first_goal_by suffixes (rules_in (slot ∷ slots)) ≡ option_or (slot_goal suffixes slot) (first_goal_by suffixes (rules_in slots))
+-- the goal of the first remaining rule, or else that of the others
+pub goal_left : (suffixes : List Text) (left rest : List Rule) (rule : Rule) → left ≡ rule ∷ rest
+    → first_goal_by suffixes left ≡ option_or (goal_in suffixes rule) (first_goal_by suffixes rest)
 unfolding first_goal_by
-goal_cons suffixes None slots = refl
-goal_cons suffixes (Some rule) slots =
-    goal_append (is_goal suffixes) (λ (made : Rule × Target). made.1.name) (target_rules rule) (flat_map target_rules (rules_in slots))
+goal_left suffixes left rest rule is =
+    ap (λ rules. option_map (λ (made : Rule × Target). made.1.name) (find (is_goal suffixes) (flat_map target_rules rules))) is
+    ∙ goal_append (is_goal suffixes) (λ (made : Rule × Target). made.1.name) (target_rules rule) (flat_map target_rules rest)
 
--- the goal of the slots from a place on
-pub goal_at : (suffixes : List Text) (slots : List (Option Rule)) (i : ℕ) (slot : Option Rule) → i < length slots → slot ≡ get_or slots i slot
-    → first_goal_by suffixes (rules_in (drop i slots)) ≡ option_or (slot_goal suffixes slot) (first_goal_by suffixes (rules_in (drop (i + 1) slots)))
-goal_at suffixes slots i slot h e =
-    ap (λ xs. first_goal_by suffixes (rules_in xs)) (drop_more slots i slot h)
-    ∙ ap (λ x. first_goal_by suffixes (rules_in (x ∷ drop (i + 1) slots))) (sym e)
-    ∙ goal_cons suffixes slot (drop (i + 1) slots)
-
-pub goal_end : (suffixes : List Text) (slots : List (Option Rule)) (i : ℕ) → length slots ≤ i → first_goal_by suffixes (rules_in (drop i slots)) ≡ None
+pub goal_none : (suffixes : List Text) (left : List Rule) → left ≡ [] → first_goal_by suffixes left ≡ None
 unfolding first_goal_by
-goal_end suffixes slots i h = ap (λ xs. first_goal_by suffixes (rules_in xs)) (drop_all i slots h)
+goal_none suffixes left is = ap (λ rules. option_map (λ (made : Rule × Target). made.1.name) (find (is_goal suffixes) (flat_map target_rules rules))) is
 
 unless_kept : {B : Type 0} (test : B → Bool) (y : B) (rest : List B) (b : Bool)
     → cons_option (if b then None else Some y) rest ≡ cond (not b) (y ∷ rest) rest
@@ -69,7 +60,7 @@ explicit_found skips slots spots = filter_unless (λ made. is_bare made && skips
 
 module _ (slots : List (Option Rule)) (targets recipes : Notes) (phony suffixes : List Text) (kept : IsKept slots targets recipes phony suffixes)
     (rules : List Rule) (view : rules_in slots ≡ rules) (rule : Rule) (name : Text) (first : Option (Rule × Target)) where
-  -- the first rule of a target tells of its colons
+  -- the first rule of a target decides how many colons its rules have
   pub colons_by_first : first ≡ first_found slots (spots_at targets name)
       → option_map_or (λ (made : Rule × Target). xor (is_double made.0.kind) (is_double rule.kind)) first false ≡ list_any (differ_in_colons rule) (rules_of rules name)
   colons_by_first at =
@@ -77,7 +68,7 @@ module _ (slots : List (Option Rule)) (targets recipes : Notes) (phony suffixes 
       ∙ sym (alike_first (λ t. xor t (is_double rule.kind)) (λ (made : Rule × Target). is_double made.0.kind) (rules_of (rules_in slots) name) (kept.colons name))
       ∙ ap (λ rs. list_any (differ_in_colons rule) (rules_of rs name)) view
 
-  -- the first rule with a recipe tells of groups
+  -- the first rule with a recipe decides whether they are groups
   pub group_by_first : first ≡ first_found slots (spots_at recipes name)
       → option_map_or (λ (made : Rule × Target). is_group rule.kind || is_group made.0.kind) first false ≡ list_any (is_beside_group rule) (recipes_of rules name)
   group_by_first at =
@@ -90,7 +81,7 @@ bare_cons : (one : Option (Rule × Target)) (rest : List (Rule × Target)) (b : 
 bare_cons None rest b h = h
 bare_cons (Some made) rest b h = ap (λ c. is_bare made || c) h
 
--- the rules at spots are asked as they are found
+-- testing the rules at spots is testing the rules found there
 bare_found : (slots : List (Option Rule)) (spots : List Spot) → list_any (is_bare_at slots) spots ≡ list_any is_bare (found slots spots)
 unfolding found
 bare_found slots [] = refl
@@ -101,7 +92,7 @@ keep_one : (made : Rule × Target) (rest one other : List (Rule × Target)) (ski
 keep_one made rest one other skips true b e h same = absurd (false≢true (sym h))
 keep_one made rest one other skips false b e h same = ap (λ xs. made ∷ xs) same
 
--- where no rule has the form of a suffix rule, none is left out
+-- if no rule has the form of a suffix rule, none is skipped
 none_bare : (skips : Bool) (rules : List (Rule × Target)) → list_any is_bare rules ≡ false
     → filter (λ made. not (is_bare made && false)) rules ≡ filter (λ made. not (is_bare made && skips)) rules
 none_bare skips [] h = refl

@@ -10,7 +10,7 @@ use Rattle.kt_rules.specs.Entry.{Rule}
 use Rattle.kt_rules.specs.Book.{AreApart, beside_group_in, has_recipe, is_beside_group, is_group, made_targets, makes, recipes_of, rules_of, target_rules, two_recipes_in}
 use Rattle.kt_rules.proofs.FindLemmas.{find_none, or_split}
 
--- where none passes a test, none passes one that asks for more
+-- if none passes a test, none passes a stricter one
 none_left : (test other : Target → Bool) → ((target : Target) → test target ≡ false → other target ≡ false) → (targets : List Target)
     → find test targets ≡ None → list_any other targets ≡ false
 none_left test other h [] e = refl

@@ -112,7 +112,7 @@ are_written : (text leading : Text) (parts : List Part) → text ≡ leading ++ 
 are_written text leading parts e gap each apart =
     ap written_words e ∙ gap_skipped leading (flat_map part_text parts) gap ∙ words_of_parts parts each apart
 
--- a text cut up after a byte: what is left of a word, separators, and parts
+-- a text cut up after a byte: the rest of a word, separators, and parts
 record CutUp (before : Bool) (text : Text) : Type 0 where
   first : Text
   gap : Text
@@ -211,7 +211,7 @@ from_all text leading parts e gap each apart = record {
   apart = apart;
 }
 
--- from the begin: the first word may be missing
+-- from the start: the first word may be missing
 from_parts : (text first gap : Text) (parts : List Part) → text ≡ first ++ (gap ++ flat_map part_text parts)
     → HoldsNoSeparator false first → AreSeparators gap → QuotesNone false first gap → All IsPart parts → AreApart parts
     → Goes gap parts → AreWords text (written_words text)

@@ -1,4 +1,4 @@
--- As of names, through changes of the map that holds them.
+-- Lists at names, as the map that holds them changes.
 use Rattle.std.proofs.Common.{◌≡◌, Bool, true, false, if◌then◌else◌, List, [], ◌++◌, Option, Some, None, Vec, Global, refl, sym, ap, ◌∙◌, subst}
 use Rattle.std.specs.Str.{bytes_eq}
 use Rattle.std.specs.Option.{unwrap_or, option_map}
@@ -17,7 +17,7 @@ Entries A = List (Text × Vec A Global)
 abbrev pub items_of : {A : Type 0} → Option (Vec A Global) → List A
 items_of {A} found = unwrap_or (option_map (λ (items : Vec A Global). items.items) found) []
 
--- where two names are two, no key is both
+-- if two names differ, no key is both
 apart : (name other : Text) → bytes_eq other name ≡ false → (key : Text) → bytes_eq name key ≡ true → bytes_eq other key ≡ false
 apart name other differ key is =
     nat_list_eq_equiv.symm other key
@@ -45,7 +45,7 @@ noted {A} old new name items more others found grown other = by (bytes_eq other 
         (λ key h. apart name other e key h))
         ∙ sym (append-nil _)
 
--- nothing more was noted at a name, and all others keep theirs
+-- nothing was noted at a name, and all others keep theirs
 pub kept : {A : Type 0} (old new : Entries A) (name : Text) (items : Vec A Global)
     → KeepsOthers (λ (x y : Text). bytes_eq x y) (λ (key : Text). bytes_eq name key) old new
     → lookup (λ (key : Text). bytes_eq name key) new ≡ Some items
@@ -58,7 +58,7 @@ kept {A} old new name items others found same other =
     none true xs = append-nil xs
     none false xs = append-nil xs
 
--- the same where the key is the name
+-- the same if the key is the name
 pub noted_by : {A : Type 0} (old new : Entries A) (key name : Text) (items : Vec A Global) (more : List A) → key ≡ name
     → KeepsOthers (λ (x y : Text). bytes_eq x y) (λ (k : Text). bytes_eq key k) old new
     → lookup (λ (k : Text). bytes_eq key k) new ≡ Some items

@@ -12,9 +12,12 @@ pub mod SlotLemmas
 pub mod FindLemmas
 pub mod NoteLemmas
 pub mod TargetLemmas
+pub mod HeldLemmas
+mod TableLemmas
 pub mod StartLemmas
 pub mod GroupLemmas
 pub mod BookLemmas
+pub mod MarkLemmas
 pub mod GoalLemmas
 pub mod NumberLemmas
 pub mod AddLemmas

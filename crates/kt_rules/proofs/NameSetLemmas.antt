@@ -12,7 +12,7 @@ pub among_keys : (keys : List (Vec ℕ Global)) (name : Text)
 among_keys [] name = refl
 among_keys (key ∷ keys) name = ap (λ rest. bytes_eq name key.items || rest) (among_keys keys name)
 
--- a key that wasn't there goes last
+-- a new key is added at the end
 pub new_key : (old new : List (Vec ℕ Global)) (key : Vec ℕ Global) (name : Text) → key.items ≡ name
     → is_among (map (λ k. k.items) old) name ≡ false
     → new ≡ (if list_any (λ (k : Vec ℕ Global). bytes_eq key.items k.items) old then old else old ++ key ∷ [])

@@ -8,14 +8,14 @@ use Rattle.kt_rules.specs.declared.entry.Needs.{Needs}
 use Rattle.kt_rules.specs.Names.{name_of}
 use Rattle.kt_rules.specs.RuleLine.{is_bar, needs_of}
 
--- what words are needs after some that were read: the bar was met or not
+-- the prerequisites that words add to those read so far, whether `|` was read or not
 unfoldable pub needs_from : Bool → List Text → List Text → List Text → Needs
 needs_from past before after [] = record { prerequisites = before; order_only = after }
 needs_from true before after (word ∷ words) = needs_from true before (after ++ name_of word ∷ []) words
 needs_from false before after (word ∷ words) =
     if is_bar word then needs_from true before after words else needs_from false (before ++ name_of word ∷ []) after words
 
--- after the bar all is order-only
+-- after `|` all are order-only
 after_all : (before after words : List Text) → needs_from true before after words ≡ record { prerequisites = before; order_only = after ++ map name_of words }
 unfolding needs_from
 after_all before after [] = ap (λ l. record { prerequisites = before; order_only = l }) (sym (append-nil after))
@@ -23,7 +23,7 @@ after_all before after (word ∷ words) =
     after_all before (after ++ name_of word ∷ []) words
     ∙ ap (λ l. record { prerequisites = before; order_only = l }) (append_assoc after (name_of word ∷ []) (map name_of words))
 
--- a word that is no bar stands before it
+-- a word that isn't `|` is before it
 before-cons : (word : Text) (words : List Text) → is_bar word ≡ false → before_first is_bar (word ∷ words) ≡ word ∷ before_first is_bar words
 before-cons word words h = rw h (grind arith)
 
@@ -31,7 +31,7 @@ before-cons word words h = rw h (grind arith)
 after-cons : (word : Text) (words : List Text) → is_bar word ≡ false → after_first is_bar (word ∷ words) ≡ after_first is_bar words
 after-cons word words h = rw h (grind arith)
 
--- before the bar was met
+-- before `|` was read
 before_all : (before words : List Text) → needs_from false before [] words ≡ record { prerequisites = before ++ map name_of (before_first is_bar words); order_only = map name_of (after_first is_bar words) }
 unfolding needs_from
 before_all before [] = ap (λ l. record { prerequisites = l; order_only = [] }) (sym (append-nil before))
@@ -41,7 +41,7 @@ before_all before (word ∷ words) =
     ∙ ap (λ l. record { prerequisites = l; order_only = map name_of (after_first is_bar words) }) (append_assoc before (name_of word ∷ []) (map name_of (before_first is_bar words))))))
     (cases_Bool (is_bar word))
 
--- read from the begin they are the needs of the words
+-- read from the start, they are the prerequisites of the words
 pub needs_from_start : (words : List Text) → needs_from false [] [] words ≡ needs_of words
 unfolding needs_of
 needs_from_start words = before_all [] words

@@ -1,22 +1,23 @@
 -- Spots of names, by the names' places in a list.
-use Rattle.std.proofs.Common.{◌≡◌, ℕ, zero, suc, ◌+◌, ◌<◌, ◌≤◌, Bool, true, false, nat_eq, if◌then◌else◌, List, [], ◌∷◌, ◌++◌, length, Option, Some, None, slice_get, set, refl, sym, ap, ◌∙◌, subst, arith, length-append}
+use Rattle.std.proofs.Common.{◌≡◌, ℕ, zero, suc, ◌+◌, ◌<◌, ◌≤◌, Bool, true, false, nat_eq, if◌then◌else◌, List, [], ◌∷◌, ◌++◌, length, map, drop, get_or, Option, Some, None, slice_get, refl, sym, ap, ◌∙◌, subst, arith, length-append}
 use Rattle.std.specs.Str.{bytes_eq}
 use Rattle.std.specs.List.{AllByRecursion, IsDistinct, position_from}
 use Rattle.std.specs.Option.{option_or}
 use Rattle.std.proofs.lemmas.Bool.{eqb-true, eq-eqb}
 use Rattle.std.proofs.lemmas.Cmp.{nat_list_eq_equiv}
-use Rattle.std.proofs.lemmas.List.{append-nil, append_assoc, get_or_past, get_or-set_same, get_or-set_other}
+use Rattle.std.proofs.lemmas.List.{append-nil, append_assoc, get_or_past, drop_all}
 use Rattle.std.proofs.lemmas.Map.Keys.{IsDistinct-head, IsDistinct-tail}
 use Rattle.std.proofs.lemmas.Iterator.Adapters.{position_from-zero}
 use Rattle.std.proofs.lemmas.Slice.Eq.{bytes_eq-Decides}
-use Rattle.kt_list.specs.Names.{is_among, with_name, place_of}
+use Rattle.kt_list.specs.Names.{place_of}
 use Rattle.kt_list.proofs.NameLemmas.{number_found}
 use Rattle.kt_text.specs.Words.{Text}
 use Rattle.kt_rules.specs.declared.entry.Target.{Target}
 use Rattle.kt_rules.specs.declared.book.spot.Spot.{Spot}
 use Rattle.kt_rules.specs.inner.Lists.{Notes, list_at}
+use Rattle.kt_rules.specs.Book.{is_made}
 use Rattle.kt_rules.specs.Entry.{Rule}
-use Rattle.kt_rules.specs.Slots.{list_of, spots_at, spot_at, target_spots, spots_from, spots_for, AreIn, GrewIn}
+use Rattle.kt_rules.specs.Slots.{list_of, spots_at, spot_at, target_spots, spots_from, spots_for, AreIn, GrewAt, GrewIn}
 use Rattle.kt_rules.proofs.SlotLemmas.{in_append, in_target_spots}
 
 -- ---- names in a list
@@ -27,7 +28,7 @@ at_place P [] n name all is = absurd (let e : None ≡ Some name = is in cc)
 at_place P (first ∷ names) zero name all is = let e : first ≡ name = cc in subst P e all.0
 at_place P (first ∷ names) (suc n) name all is = at_place P names n name all.1 is
 
--- the place of a name that stands at one, where names differ
+-- where names differ, the place of a name is the one that it is at
 from_place : (i : ℕ) (names : List Text) (name : Text) (n : ℕ) → IsDistinct bytes_eq names → slice_get names n ≡ Some name
     → position_from (bytes_eq name) i names ≡ Some (i + n)
 from_place i [] name n differ is = absurd (let e : None ≡ Some name = is in cc)
@@ -47,7 +48,7 @@ place_at names name n differ is =
     let whole : 0 + n ≡ n = omega arith in
     position_from-zero (bytes_eq name) names ∙ from_place 0 names name n differ is ∙ ap Some whole
 
--- one more name stands last
+-- one more name is at the end
 place_more : (i : ℕ) (names : List Text) (name other : Text)
     → position_from (bytes_eq other) i (names ++ name ∷ [])
     ≡ option_or (position_from (bytes_eq other) i names) (if bytes_eq other name then Some (i + length names) else None)
@@ -66,7 +67,7 @@ place_more i (first ∷ names) name other = by (bytes_eq other first) refl (plac
 
 -- ---- lists at names
 
--- at a name that comes last nothing was noted
+-- nothing was noted at a name that is added at the end
 nothing_last : (lists : List (List Spot)) (n : ℕ) (found : Option ℕ) (b : Bool) → length lists ≤ n
     → list_of (option_or found (if b then Some n else None)) lists ≡ list_of found lists
 nothing_last lists n (Some m) b within = refl
@@ -74,24 +75,29 @@ nothing_last lists n None true within = get_or_past lists n [] within
 nothing_last lists n None false within = refl
 
 -- one more name changes nothing
-pub name_more : (names new : List Text) (lists : List (List Spot)) (name other : Text) → length lists ≤ length names
-    → new ≡ with_name names name
-    → list_of (place_of new other) lists ≡ list_of (place_of names other) lists
-name_more names new lists name other within grown = ap (λ ns. list_of (place_of ns other) lists) grown ∙ by (is_among names name)
-  where
-    by : (b : Bool) → list_of (place_of (if b then names else names ++ name ∷ []) other) lists ≡ list_of (place_of names other) lists
-    by true = refl
-    by false =
-        let short : length lists ≤ 0 + length names = omega arith in
-        ap (λ found. list_of found lists) (position_from-zero (bytes_eq other) (names ++ name ∷ []) ∙ place_more 0 names name other)
-        ∙ nothing_last lists (0 + length names) (position_from (bytes_eq other) 0 names) (bytes_eq other name) short
-        ∙ ap (λ found. list_of found lists) (sym (position_from-zero (bytes_eq other) names))
+last_name : (names : List Text) (lists : List (List Spot)) (name other : Text) → length lists ≤ length names
+    → list_of (place_of (names ++ name ∷ []) other) lists ≡ list_of (place_of names other) lists
+last_name names lists name other within =
+    let short : length lists ≤ 0 + length names = omega arith in
+    ap (λ found. list_of found lists) (position_from-zero (bytes_eq other) (names ++ name ∷ []) ∙ place_more 0 names name other)
+    ∙ nothing_last lists (0 + length names) (position_from (bytes_eq other) 0 names) (bytes_eq other name) short
+    ∙ ap (λ found. list_of found lists) (sym (position_from-zero (bytes_eq other) names))
 
-no_two : (b : Bool) → b ≡ true → b ≡ false → (P : Type 0) → P
+-- nor do several
+pub names_after : (names more : List Text) (lists : List (List Spot)) (other : Text) → length lists ≤ length names
+    → list_of (place_of (names ++ more) other) lists ≡ list_of (place_of names other) lists
+names_after names [] lists other within = ap (λ ns. list_of (place_of ns other) lists) (append-nil names)
+names_after names (name ∷ more) lists other within =
+    let longer : length (names ++ name ∷ []) ≡ length names + 1 = length-append names (name ∷ []) in
+    ap (λ ns. list_of (place_of ns other) lists) (sym (append_assoc names (name ∷ []) more))
+    ∙ names_after (names ++ name ∷ []) more lists other (omega (arith, longer))
+    ∙ last_name names lists name other within
+
+pub no_two : (b : Bool) → b ≡ true → b ≡ false → (P : Type 0) → P
 no_two b h k P = absurd (let e : true ≡ false = sym h ∙ k in cc)
 
--- two names have one place exactly where they are one
-same_place : (names : List Text) (name other : Text) (n m : ℕ) → place_of names name ≡ Some n → slice_get names n ≡ Some name → place_of names other ≡ Some m
+-- two names have the same place exactly if they are equal
+pub same_place : (names : List Text) (name other : Text) (n m : ℕ) → place_of names name ≡ Some n → slice_get names n ≡ Some name → place_of names other ≡ Some m
     → nat_eq m n ≡ bytes_eq other name
 same_place names name other n m at is found = by (bytes_eq other name) refl
   where
@@ -131,83 +137,44 @@ noted_more names old new name n more differ is step other = by (place_of names o
     by None absent = none (bytes_eq other name) refl absent
     by (Some m) found = step m ∙ ap (λ b. list_at old m ++ (if b then more else [])) (same_place names name other n m at is found)
 
--- a name may be new, and then more is noted at it
-pub noted_new : (names new : List Text) (old later : List (List Spot)) (name : Text) (n : ℕ) (more : List Spot) → length old ≤ length names
-    → new ≡ with_name names name → IsDistinct bytes_eq new → slice_get new n ≡ Some name
-    → ((m : ℕ) → list_at later m ≡ list_at old m ++ (if nat_eq m n then more else []))
-    → (other : Text) → list_of (place_of new other) later ≡ list_of (place_of names other) old ++ (if bytes_eq other name then more else [])
-noted_new names new old later name n more within grown differ is step other =
-    noted_more new old later name n more differ is step other
-    ∙ ap (λ xs. xs ++ (if bytes_eq other name then more else [])) (name_more names new old name other within grown)
+-- ---- what one target adds
 
--- a name may be new, and no list changes
-pub same_new : (names new : List Text) (old later : List (List Spot)) (name : Text) → length old ≤ length names
-    → new ≡ with_name names name → ((m : ℕ) → list_at later m ≡ list_at old m)
-    → (other : Text) → list_of (place_of new other) later ≡ list_of (place_of names other) old
-same_new names new old later name within grown same other = by (place_of new other) ∙ name_more names new old name other within grown
+-- one spot that is noted at a number
+pub grew_at_one : (place number : ℕ) (old new : List (List Spot)) (spot : Spot) → spot.entry ≡ place
+    → ((other : ℕ) → list_at new other ≡ list_at old other ++ (if nat_eq other number then spot ∷ [] else [])) → GrewAt place old new
+grew_at_one place number old new spot at step = λ other. ((if nat_eq other number then spot ∷ [] else []), step other, by (nat_eq other number))
   where
-    by : (found : Option ℕ) → list_of found later ≡ list_of found old
+    by : (b : Bool) → AreIn place (if b then spot ∷ [] else [])
+    by true = (at, tt)
+    by false = tt
+
+-- what grew at numbers grew at their names
+pub grew_at_names : (names : List Text) (place : ℕ) (old new : List (List Spot)) → GrewAt place old new → GrewIn place (names, old) (names, new)
+grew_at_names names place old new grew = λ name. by (place_of names name)
+  where
+    by : (found : Option ℕ) → (more : List Spot) × (list_of found new ≡ list_of found old ++ more) × AreIn place more
+    by None = ([], refl, tt)
+    by (Some number) = grew number
+
+-- the spot of a target that is made
+pub target_noted : (names : List Text) (rule : Rule) (target : Target) (number : ℕ) (spot : Spot) (b : Bool) (old new : List (List Spot)) → IsDistinct bytes_eq names
+    → slice_get names number ≡ Some target.name → is_made rule target ≡ true
+    → ((other : ℕ) → list_at new other ≡ list_at old other ++ (if b then (if nat_eq other number then spot ∷ [] else []) else []))
+    → (name : Text) → spots_at (names, new) name ≡ spots_at (names, old) name ++ (if b then target_spots rule target spot name else [])
+target_noted names rule target number spot true old new differ is made step = λ name.
+    noted_more names old new target.name number (spot ∷ []) differ is step name
+    ∙ sym (ap (λ m. spots_at (names, old) name ++ (if m then (if bytes_eq name target.name then spot ∷ [] else []) else [])) made)
+target_noted names rule target number spot false old new differ is made step = λ name. by (place_of names name)
+  where
+    by : (found : Option ℕ) → list_of found new ≡ list_of found old ++ []
     by None = refl
-    by (Some m) = same m
-
--- there are no fewer names
-pub many_more : (names new : List Text) (name : Text) (count : ℕ) → new ≡ with_name names name → count ≤ length names → count ≤ length new
-many_more names new name count grown within = subst (λ ns. count ≤ length ns) (sym grown) (by (is_among names name))
-  where
-    by : (b : Bool) → count ≤ length (if b then names else names ++ name ∷ [])
-    by true = within
-    by false = let longer : length (names ++ name ∷ []) ≡ length names + 1 = length-append names (name ∷ []) in omega arith
-
-module _ (names new : List Text) (old later : List (List Spot)) (both : Notes) (name : Text) (is : (names, old) ≡ both) (within : length old ≤ length names)
-    (grown : new ≡ with_name names name) where
-  -- what a spot that was noted adds
-  pub spot_noted : (n : ℕ) (spot : Spot) → IsDistinct bytes_eq new → slice_get new n ≡ Some name
-      → ((m : ℕ) → list_at later m ≡ list_at old m ++ (if nat_eq m n then spot ∷ [] else []))
-      → (other : Text) → spots_at (new, later) other ≡ spots_at both other ++ (if bytes_eq other name then spot ∷ [] else [])
-  spot_noted n spot differ at step other =
-      noted_new names new old later name n (spot ∷ []) within grown differ at step other
-      ∙ ap (λ notes. spots_at notes other ++ (if bytes_eq other name then spot ∷ [] else [])) is
-
-  -- nothing is added
-  pub spots_same : ((m : ℕ) → list_at later m ≡ list_at old m) → (other : Text) → spots_at (new, later) other ≡ spots_at both other
-  spots_same same other = same_new names new old later name within grown same other ∙ ap (λ notes. spots_at notes other) is
-
--- ---- a list at a number
-
--- an empty list more
-pub list_more : (lists : List (List Spot)) (n : ℕ) → list_at (lists ++ [] ∷ []) n ≡ list_at lists n
-list_more [] zero = refl
-list_more [] (suc n) = refl
-list_more (list ∷ lists) zero = refl
-list_more (list ∷ lists) (suc n) = list_more lists n
-
--- a list that got longer
-pub list_set : (lists : List (List Spot)) (n : ℕ) (list more : List Spot) (other : ℕ) → n < length lists → list ≡ list_at lists n ++ more
-    → list_at (set lists n list) other ≡ list_at lists other ++ (if nat_eq other n then more else [])
-list_set lists n list more other within is = by (nat_eq other n) refl
-  where
-    by : (b : Bool) → nat_eq other n ≡ b → list_at (set lists n list) other ≡ list_at lists other ++ (if b then more else [])
-    by true e =
-        let one : other ≡ n = eqb-true other n e in
-        ap (list_at (set lists n list)) one ∙ get_or-set_same lists n list [] within ∙ is ∙ ap (λ m. list_at lists m ++ more) (sym one)
-    by false e =
-        get_or-set_other lists n other list [] (λ one. no_two (nat_eq other n) (eq-eqb other n one) e _)
-        ∙ sym (append-nil (list_at lists other))
+    by (Some n) = step n
 
 -- ---- spots of a rule
 
 -- where nothing more was noted
 pub grew_none : (place : ℕ) (old new : Notes) → ((name : Text) → spots_at new name ≡ spots_at old name) → GrewIn place old new
 grew_none place old new same = λ name. ([], same name ∙ sym (append-nil (spots_at old name)), tt)
-
--- where one spot was
-pub grew_one : (place : ℕ) (old new : Notes) (name : Text) (spot : Spot) → spot.entry ≡ place
-    → ((other : Text) → spots_at new other ≡ spots_at old other ++ (if bytes_eq other name then spot ∷ [] else [])) → GrewIn place old new
-grew_one place old new name spot at step = λ other. ((if bytes_eq other name then spot ∷ [] else []), step other, by (bytes_eq other name))
-  where
-    by : (b : Bool) → AreIn place (if b then spot ∷ [] else [])
-    by true = (at, tt)
-    by false = tt
 
 -- one after another
 pub grew_both : (place : ℕ) (old now new : Notes) → GrewIn place old now → GrewIn place now new → GrewIn place old new
@@ -216,7 +183,7 @@ grew_both place old now new first later = λ name.
     let two = later name in
     (one.0 ++ two.0, two.1 ∙ ap (λ xs. xs ++ two.0) one.1 ∙ append_assoc (spots_at old name) one.0 two.0, in_append place one.0 two.0 one.2 two.2)
 
--- the spots of the targets that are left are still to come, if any are noted
+-- the spots of the remaining targets are still to be noted, if any are noted
 abbrev pub IsNotedFrom : Bool → Rule → ℕ → ℕ → List Target → Notes → Notes → Type 0
 IsNotedFrom b rule place number left old now =
     (name : Text) → spots_at now name ++ (if b then spots_from rule place number left name else [])
@@ -259,3 +226,20 @@ pub grew_target : (b : Bool) (rule : Rule) (place number : ℕ) (target : Target
 grew_target true rule place number target now new step = λ name.
     (target_spots rule target (spot_at place number) name, step name, in_target_spots rule target place number name)
 grew_target false rule place number target now new step = λ name. ([], step name, tt)
+
+-- ---- targets by numbers
+
+-- the target of a number, and those after it
+pub target_left : {A B C : Type 0} (f : B → C) (g : A → B) (xs : List A) (i : ℕ) (x : A) → i < length xs → x ≡ get_or xs i x
+    → drop i (map f (map g xs)) ≡ f (g x) ∷ drop (i + 1) (map f (map g xs))
+target_left f g [] i x h e = absurd (omega arith)
+target_left f g (y ∷ ys) zero x h e = ap (λ z. f (g z) ∷ map f (map g ys)) (sym e)
+target_left f g (y ∷ ys) (suc i) x h e =
+    let on : suc i + 1 ≡ suc (i + 1) = omega arith in
+    target_left f g ys i x (omega arith) e ∙ sym (ap (λ n. f (g x) ∷ drop n (map f (map g (y ∷ ys)))) on)
+
+-- none remains at the end
+pub target_end : {A B C : Type 0} (f : B → C) (g : A → B) (xs : List A) (i : ℕ) → length xs ≤ i → drop i (map f (map g xs)) ≡ []
+target_end f g [] i h = drop_all i [] h
+target_end f g (y ∷ ys) zero h = absurd (omega arith)
+target_end f g (y ∷ ys) (suc i) h = target_end f g ys i (omega arith)

@@ -1,4 +1,4 @@
--- The numbers of the entries that explicit rules are of.
+-- The numbers of the entries of explicit rules.
 use Rattle.std.proofs.Common.{◌≡◌, ℕ, ◌+◌, ◌<◌, ◌≤◌, ◌&&◌, not, Bool, true, false, cond, if◌then◌else◌, List, [], ◌∷◌, ◌++◌, length, map, filter, drop, get_or, suc, Option, Some, None, slice_get, refl, sym, ap, ◌∙◌, arith}
 use Rattle.std.specs.List.{enumerate_from, flat_map}
 use Rattle.std.specs.Str.{bytes_eq}
@@ -25,7 +25,7 @@ numbers_at {A} test n xs i x h e =
     by true = refl
     by false = refl
 
--- the same of a list that is left
+-- the same for the rest of a list
 pub numbers_left : {A : Type 0} (test : A → Bool) (n : ℕ) (left rest : List A) (x : A) → left ≡ x ∷ rest
     → map (λ y. n) (filter test left) ≡ (if test x then n ∷ [] else []) ++ map (λ y. n) (filter test rest)
 numbers_left {A} test n left rest x is = ap (λ ys. map (λ (y : A). n) (filter test ys)) is ∙ by (test x)
@@ -58,7 +58,7 @@ rules_fit (Some rule ∷ slots) = let fit : length (rules_in slots) ≤ length s
 
 -- ---- the rules at the numbers
 
--- an item, and those after it, by what the tests tell of it
+-- an item and those after it, from the results of the tests
 module _ {A B C D : Type 0} (make : A → B) (made test : A → Bool) (named kept : B → Bool) (f : B → D) (g : A → C) (h : C → D) where
   picked_step : (b a k : Bool) (x : A) (those ours : List A) → named (make x) ≡ a → kept (make x) ≡ k → test x ≡ (a && (b && k)) → f (make x) ≡ h (g x)
       → map f (filter kept (filter named (map make those))) ≡ map h (map g ours)

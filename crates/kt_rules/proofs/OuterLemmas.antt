@@ -18,7 +18,7 @@ take_none : (n : ℕ) → take {A = ℕ} n [] ≡ []
 take_none zero = refl
 take_none (suc n) = refl
 
--- separators at the begin go
+-- separators at the start are removed
 gap_stripped : (gap rest : Text) → AreSeparators gap → stripped_start (gap ++ rest) ≡ stripped_start rest
 gap_stripped [] rest h = refl
 gap_stripped (byte ∷ gap) rest h =
@@ -163,11 +163,11 @@ end_of front back byte s all q = by (is_separator byte) refl
         (quoted_if (is_separator byte) (ends_in_backslash false front && byte == 32) h s) all
     by false h = end_plain front back byte h all q
 
--- the front of a text before the separators at its end
+-- the part of a text before the separators at its end
 abbrev front_of : Text → Text
 front_of text = take (end_place text) text
 
--- the middle is what is left
+-- the middle remains
 middle_ends : (first : ℕ) (middle trailing : Text) → EndsWithNone false (first ∷ middle) → AreSeparators trailing
     → QuotesNone false (first ∷ middle) trailing → EndsThere (first ∷ middle) trailing
 middle_ends first middle trailing end all q =
@@ -195,7 +195,7 @@ middle_is text leading middle trailing e gap begin end all q =
     ap (λ (xs : Text). front_of (stripped_start xs)) e ∙ ap front_of (gap_stripped leading (middle ++ trailing) gap)
     ∙ middle_left middle trailing begin end all q
 
--- a text without the separators at its begin
+-- a text without the separators at its start
 record Begun (text : Text) : Type 0 where
   leading : Text
   rest : Text
@@ -297,7 +297,7 @@ ended_of before (byte ∷ text) =
     ended_more before byte text rest.middle rest.trailing rest.together rest.separators rest.unquoted rest.end
     (separates before byte) refl
 
--- a text begins as its front does
+-- a text begins as its first part does
 begins_too : (text middle trailing : Text) → text ≡ middle ++ trailing → BeginsWithNone text → BeginsWithNone middle
 begins_too text middle trailing e begin =
     λ back byte h. begin (back ++ trailing) byte (e ∙ ap (λ (xs : Text). xs ++ trailing) h)

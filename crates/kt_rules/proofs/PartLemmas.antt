@@ -47,7 +47,7 @@ all_tail P x xs h = λ k d within. h (suc k) d (omega (arith, within))
 abbrev pub AreSeparators : Text → Type 0
 AreSeparators text = list_all is_separator text ≡ true
 
--- a backslash at a text's end quotes no space at the begin of the text after it
+-- a backslash at a text's end quotes no space at the start of the text after it
 abbrev pub QuotesNone : Bool → Text → Text → Type 0
 QuotesNone before text past = (ends_in_backslash before text && begins_with_space past) ≡ false
 
@@ -71,7 +71,7 @@ space_only byte h = by (byte == 32) (byte == 9) (byte == 10) refl refl refl h
     by false false true e f g k = rw (eqb-true byte 10 g) refl
     by false false false e f g k = absurd (true≢false (sym k))
 
--- and none is a backslash
+-- and none of them is a backslash
 pub no_backslash : (byte : ℕ) → is_separator byte ≡ true → (byte == 92) ≡ false
 unfolding is_separator
 no_backslash byte h = by (byte == 32) (byte == 9) (byte == 10) refl refl refl h

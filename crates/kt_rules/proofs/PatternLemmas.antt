@@ -1,8 +1,8 @@
--- Pattern rules, slot by slot and target by target, and those that stay.
-use Rattle.std.proofs.Common.{◌≡◌, ℕ, ◌+◌, ◌<◌, Bool, true, false, cond, not, ◌&&◌, ◌||◌, if◌then◌else◌, List, [], ◌∷◌, ◌++◌, length, map, filter, reverse, drop, get_or, Option, Some, None, Vec, Global, refl, sym, ap, ◌∙◌, is_some, true≢false}
+-- Pattern rules, target by target, and those that are kept.
+use Rattle.std.proofs.Common.{◌≡◌, ℕ, Bool, true, false, cond, not, ◌&&◌, ◌||◌, if◌then◌else◌, List, [], ◌∷◌, ◌++◌, map, filter, reverse, Option, Some, None, Vec, Global, refl, sym, ap, ◌∙◌, is_some, true≢false}
 use Rattle.std.specs.Option.{option_to_list}
 use Rattle.std.specs.List.{filter_map, flat_map, cons_option, list_any}
-use Rattle.std.proofs.lemmas.List.{drop_more, append-nil, append_assoc, reverse-append}
+use Rattle.std.proofs.lemmas.List.{append-nil, append_assoc, reverse-append}
 use Rattle.std.proofs.lemmas.List.Folds.{list_any-append}
 use Rattle.std.specs.Prelude.{nat_eq}
 use Rattle.std.specs.Str.{bytes_eq}
@@ -18,20 +18,7 @@ use Rattle.kt_rules.specs.declared.book.pattern_set.PatternSet.{PatternSet}
 use Rattle.kt_rules.specs.Book.{is_made, patterns_in, suffix_rule_as_pattern, repeats, unrepeated, patterns_of, names_eq, target_names}
 use Rattle.kt_rules.specs.Suffixes.{suffixes_of}
 use Rattle.kt_rules.specs.Slots.{rules_in}
-use Rattle.kt_rules.specs.Patterns.{slot_patterns, suffix_rules_at, stays_before, held, has_repeated, has_pattern, IsKeyOf, IsSorted}
-
-slots_cons : (suffixes : List Text) (slot : Option Rule) (slots : List (Option Rule))
-    → flat_map (patterns_in suffixes) (rules_in (slot ∷ slots)) ≡ slot_patterns suffixes slot ++ flat_map (patterns_in suffixes) (rules_in slots)
-slots_cons suffixes None slots = refl
-slots_cons suffixes (Some rule) slots = refl
-
--- the pattern rules of the slots from a place on
-pub slots_at : (suffixes : List Text) (slots : List (Option Rule)) (i : ℕ) (slot : Option Rule) → i < length slots → slot ≡ get_or slots i slot
-    → flat_map (patterns_in suffixes) (rules_in (drop i slots)) ≡ slot_patterns suffixes slot ++ flat_map (patterns_in suffixes) (rules_in (drop (i + 1) slots))
-slots_at suffixes slots i slot h e =
-    ap (λ xs. flat_map (patterns_in suffixes) (rules_in xs)) (drop_more slots i slot h)
-    ∙ ap (λ x. flat_map (patterns_in suffixes) (rules_in (x ∷ drop (i + 1) slots))) (sym e)
-    ∙ slots_cons suffixes slot (drop (i + 1) slots)
+use Rattle.kt_rules.specs.Patterns.{suffix_rules_at, stays_before, held, has_repeated, has_pattern, IsKeyOf, IsSorted}
 
 one_suffix_rule : (suffixes : List Text) (rule : Rule) (target : Target) (rest : List Target) (b : Bool)
     → filter_map (suffix_rule_as_pattern suffixes) (map (λ t. (rule, t)) (cond b (target ∷ rest) rest))
@@ -43,7 +30,7 @@ one_suffix_rule suffixes rule target rest true = by (suffix_rule_as_pattern suff
     by (Some x) xs = refl
 one_suffix_rule suffixes rule target rest false = refl
 
--- the suffix rules of targets that are left
+-- the suffix rules of the remaining targets
 pub suffix_rules_left : (suffixes : List Text) (rule : Rule) (left rest : List Target) (target : Target) → left ≡ target ∷ rest
     → filter_map (suffix_rule_as_pattern suffixes) (map (λ t. (rule, t)) (filter (is_made rule) left))
     ≡ suffix_rules_at suffixes rule target ++ filter_map (suffix_rule_as_pattern suffixes) (map (λ t. (rule, t)) (filter (is_made rule) rest))
@@ -51,7 +38,7 @@ suffix_rules_left suffixes rule left rest target is =
     ap (λ xs. filter_map (suffix_rule_as_pattern suffixes) (map (λ t. (rule, t)) (filter (is_made rule) xs))) is
     ∙ one_suffix_rule suffixes rule target (filter (is_made rule) rest) (is_made rule target)
 
--- ---- those that stay
+-- ---- pattern rules that are kept
 
 stay_more : (kept past : List Rule) (one : Rule) (b : Bool) → reverse kept ≡ unrepeated past
     → reverse (kept ++ (if b then one ∷ [] else [])) ≡ (if b then one ∷ unrepeated past else unrepeated past)
@@ -90,13 +77,13 @@ sorted_all all left kept set sorted none =
 
 -- ---- the keys of a set
 
--- keys are equal where their names are
+-- keys are equal if their names are
 abbrev keys_eq : PatternKey → PatternKey → Bool
 keys_eq key other =
     names_eq (held key.targets.items) (held other.targets.items)
     && (names_eq (held key.prerequisites.items) (held other.prerequisites.items) && names_eq (held key.order_only.items) (held other.order_only.items))
 
--- the same as the keys themselves tell it
+-- the same as the equality of the keys themselves
 abbrev held_eq : Vec (Vec ℕ Global) Global → Vec (Vec ℕ Global) Global → Bool
 held_eq names others = pointwise (λ (x y : Vec ℕ Global). pointwise nat_eq x.items y.items) names.items others.items
 

@@ -1,4 +1,4 @@
--- Unquoting: which backslashes go, and that every other byte stays.
+-- Unquoting: which backslashes are removed, and that every other byte stays.
 use Rattle.std.proofs.Common.{◌≡◌, ℕ, Bool, true, false, List, [], ◌∷◌, ◌++◌, flat_map, All, refl, sym, ap, ◌∙◌, true≢false}
 use Rattle.std.specs.Prelude.{◌==◌, ◌&&◌}
 use Rattle.std.specs.List.{list_all}
@@ -13,7 +13,7 @@ use Rattle.kt_rules.proofs.PartLemmas.{right_false, and_left, and_right, both_tr
 holds_less : (byte : ℕ) (text : Text) → HoldsNoQuote (byte ∷ text) → HoldsNoQuote text
 holds_less byte text h = λ front back other e. h (byte ∷ front) back other (ap (λ (xs : Text). byte ∷ xs) e)
 
--- its first byte quotes none, whatever stands after the text
+-- its first byte quotes none, whatever comes after the text
 first_stays : (byte : ℕ) (text rest : Text) → HoldsNoQuote (byte ∷ text) → begins_quotable rest ≡ false
     → (byte == 92 && begins_quotable (text ++ rest)) ≡ false
 first_stays byte [] rest h r = rw r (right_false (byte == 92))
@@ -49,7 +49,7 @@ begins_too : (piece rest : Text) → begins_quotable piece ≡ true → begins_q
 begins_too [] rest h = absurd (true≢false (sym h))
 begins_too (byte ∷ piece) rest h = h
 
--- a backslash goes where it stands before a piece that begins with what it quotes
+-- a backslash is removed before a piece whose first byte it quotes
 one_quoted : (piece rest : Text) → begins_quotable piece ≡ true
     → unquoted (92 ∷ piece ++ rest) ≡ unquoted (piece ++ rest)
 one_quoted piece rest h = one_goes (piece ++ rest) (begins_too piece rest h)

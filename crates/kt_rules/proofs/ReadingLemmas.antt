@@ -1,4 +1,4 @@
--- The rule of a line, by what the steps of its reading told.
+-- The rule of a line, from the results of the steps that read it.
 use Rattle.std.proofs.Common.{◌≡◌, Bool, true, false, length, refl, sym, ◌∙◌, ap}
 use Rattle.std.specs.Prelude.{◌==◌, if◌then◌else◌, Option, Some, None, Result, Ok, Err}
 use Rattle.kt_text.specs.Words.{Text, words_of}
@@ -10,7 +10,7 @@ use Rattle.kt_rules.specs.Refusals.{Refusal, Fault, Answers, ReportsFault, fault
 use Rattle.kt_rules.specs.RuleLine.{Head, head_of, line_of, line_refusal}
 use Rattle.kt_rules.specs.Entry.{Rule, empty_line, is_nil, read_line, rule_of, rule_with}
 
--- a fault that is told answers where it is expected
+-- a reported fault is the expected result
 pub told_fault : {A : Type 0} (told : RuleFault) (fault : Fault) (expected : Result A Fault)
     → ReportsFault told fault → expected ≡ Err fault → Answers (Err told) expected
 told_fault Memory fault expected tells is = tt
@@ -35,7 +35,7 @@ module _ (text : Text) (recipe : Option Text) (place : Place) where
   unfolding rule_of read_line
   line_fault head line refusal filled cut named told = rw (filled, ← cut, ← named, ← told) refl
 
-  -- a line that is taken
+  -- a line that is accepted
   pub line_rule : (head : Head) (line kept : Line) (rule : Rule) (is_empty : Bool) → is_nil (words_of text) ≡ false → Ok head ≡ head_of text
       → line ≡ line_of head → None ≡ line_refusal line → (length line.targets == 0) ≡ is_empty
       → kept ≡ (if is_empty then empty_line else line) → rule ≡ rule_with kept recipe place → rule_of text recipe place ≡ Ok rule

@@ -1,4 +1,4 @@
--- A name without a telling byte is taken.
+-- A name without a telling byte is accepted.
 use Rattle.std.proofs.Common.{◌≡◌, ◌==◌, ◌||◌, ◌-◌, ◌<◌, ◌≤◌, ℕ, zero, suc, Bool, false, [], ◌∷◌, length, drop, refl, sym, ap, ◌∙◌, arith}
 use Rattle.std.proofs.lemmas.Bool.{ne_eqb, or_parts}
 use Rattle.std.proofs.Math.Bool.{or-false}
@@ -11,7 +11,7 @@ use Rattle.kt_rules.proofs.BackslashLemmas.{quotes_no_percent}
 use Rattle.kt_rules.specs.Names.{is_member, is_refused_name, is_wildcard}
 use Rattle.kt_rules.specs.inner.Telling.{is_telling, tells_early}
 
--- a test that no telling byte passes alone fails where no byte tells
+-- a test that only telling bytes pass fails for a text without one
 fewer : (test : ℕ → Bool) (text : Text) → ((byte : ℕ) → is_telling byte ≡ false → test byte ≡ false) → list_any is_telling text ≡ false
     → list_any test text ≡ false
 fewer test [] implies none = refl
@@ -19,7 +19,7 @@ fewer test (byte ∷ text) implies none =
     let parts = or_parts (is_telling byte) (list_any is_telling text) none in
     rw (implies byte parts.0, fewer test text implies parts.1) refl
 
--- a byte that doesn't tell is none of those that do
+-- a byte that isn't a telling byte is none of them
 record IsNoneOf (byte : ℕ) : Type 0 where
   wildcard : is_wildcard byte ≡ false
   backslash : (byte == 92) ≡ false
@@ -36,7 +36,7 @@ none_of byte none =
 below : (byte other : ℕ) → other < byte → (byte == other) ≡ false
 below byte other low = ne_eqb byte other (λ e. absurd (omega (arith, e, low)))
 
--- after the backslash a byte tells as a tilde alone
+-- above the backslash only the tilde is a telling byte
 pub last_tells : (byte : ℕ) → 92 < byte → (byte == 126) ≡ is_telling byte
 unfolding is_wildcard
 last_tells byte high =
@@ -48,13 +48,13 @@ last_tells byte high =
       below byte 41 (omega (arith, high)),
     ) refl
 
--- up to it, as one of the others
+-- up to the backslash all telling bytes are the others
 pub others_tell : (byte : ℕ) → byte ≤ 92 → tells_early byte ≡ is_telling byte
 others_tell byte within =
     let none : (byte == 126) ≡ false = ne_eqb byte 126 (λ e. absurd (omega (arith, e, within))) in
     sym (ap (λ b. tells_early byte || b) none ∙ or-false (tells_early byte))
 
--- a text that a byte stands nowhere in doesn't begin with it
+-- a text without a byte doesn't begin with it
 begins_otherwise : (byte : ℕ) (text : Text) → list_any (λ b. b == byte) text ≡ false → pointwise nat_eq (byte ∷ []) text ≡ false
 begins_otherwise byte [] none = refl
 begins_otherwise byte (first ∷ text) none =

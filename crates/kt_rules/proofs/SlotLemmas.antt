@@ -34,6 +34,32 @@ pub slot_last : (slots : List (Option Rule)) (slot : Option Rule) → slot_rule 
 slot_last [] slot = refl
 slot_last (first ∷ slots) slot = slot_last slots slot
 
+-- the rule in a slot, and those in the slots after it
+pub slots_left : (slots : List (Option Rule)) (place : ℕ) (rule : Rule) → Some rule ≡ slot_rule slots place → rules_in (drop place slots) ≡ rule ∷ rules_in (drop (place + 1) slots)
+slots_left [] zero rule h = absurd (let both : Some rule ≡ None = h in cc)
+slots_left [] (suc place) rule h = absurd (let both : Some rule ≡ None = h in cc)
+slots_left (None ∷ slots) zero rule h = absurd (let both : Some rule ≡ None = h in cc)
+slots_left (Some first ∷ slots) zero rule h =
+    let both : Some rule ≡ Some first = h in
+    let same : rule ≡ first = cc in
+    ap (λ (one : Rule). one ∷ rules_in slots) (sym same)
+slots_left (slot ∷ slots) (suc place) rule h =
+    let on : suc place + 1 ≡ suc (place + 1) = omega arith in
+    slots_left slots place rule h ∙ sym (ap (λ n. rule ∷ rules_in (drop n (slot ∷ slots))) on)
+
+none_there : (place : ℕ) → rules_in (drop place []) ≡ []
+none_there zero = refl
+none_there (suc place) = refl
+
+-- a slot without a rule is skipped
+pub slots_empty : (slots : List (Option Rule)) (place : ℕ) → None ≡ slot_rule slots place → rules_in (drop place slots) ≡ rules_in (drop (place + 1) slots)
+slots_empty [] place h = none_there place ∙ sym (none_there (place + 1))
+slots_empty (None ∷ slots) zero h = refl
+slots_empty (Some rule ∷ slots) zero h = absurd (let both : None ≡ Some rule = h in cc)
+slots_empty (slot ∷ slots) (suc place) h =
+    let on : suc place + 1 ≡ suc (place + 1) = omega arith in
+    slots_empty slots place h ∙ sym (ap (λ n. rules_in (drop n (slot ∷ slots))) on)
+
 -- spots before a new slot find what they found
 pub found-before : (slots : List (Option Rule)) (slot : Option Rule) (spots : List Spot) → AreBefore (length slots) spots
     → found (slots ++ slot ∷ []) spots ≡ found slots spots
@@ -107,11 +133,11 @@ first_target (first ∷ targets) (suc number) target rest h =
     let e : suc number + 1 ≡ suc (number + 1) = omega arith in
     (later.0, subst (λ n. rest ≡ drop n (first ∷ targets)) (sym e) later.1)
 
--- a rule in the last slot
-pub put_last : (slots items : List (Option Rule)) (place : ℕ) (rule : Rule) → items ≡ slots ++ None ∷ [] → place ≡ length slots
-    → set items place (Some rule) ≡ slots ++ Some rule ∷ []
-put_last slots items place rule e at =
-    ap (λ xs. set xs place (Some rule)) e ∙ ap (λ n. set (slots ++ None ∷ []) n (Some rule)) at ∙ set-append_seam slots None [] (Some rule)
+-- something else in the last slot
+pub put_last : (slots items : List (Option Rule)) (place : ℕ) (first last : Option Rule) → items ≡ slots ++ first ∷ [] → place ≡ length slots
+    → set items place last ≡ slots ++ last ∷ []
+put_last slots items place first last e at =
+    ap (λ xs. set xs place last) e ∙ ap (λ n. set (slots ++ first ∷ []) n last) at ∙ set-append_seam slots first [] last
 
 -- spots that a rule got are in its slot
 pub grew_spots : (rule : Rule) (place : ℕ) (old new : Notes) → GotSpots rule place old new → GrewIn place old new

@@ -31,7 +31,7 @@ or_either : (P : Type 0) (a b : Bool) → (a || b) ≡ true → (a ≡ true → 
 or_either P true b h one two = one refl
 or_either P false b h one two = two h
 
--- a number that is added stands at the end
+-- a number that is added is at the end
 last_number : (numbers : List ℕ) (number : ℕ) → is_number (numbers ++ number ∷ []) number ≡ true
 last_number [] number = or_left (nat_eq number number) false (eq-eqb number number refl)
 last_number (first ∷ numbers) number = or_right (nat_eq number first) _ (last_number numbers number)
@@ -142,7 +142,7 @@ unfolding lengths_with
 lengths_at lengths names i name h e =
     ap (λ (x : Text). lengths_with lengths (x ∷ drop (i + 1) names)) e ∙ ap (lengths_with lengths) (sym (drop_more names i name h))
 
--- a length of names that are left
+-- a length of the remaining names
 pub lengths_left : (lengths more : List ℕ) (left rest : List Text) (name : Text) → more ≡ with_number lengths (length name) → left ≡ name ∷ rest
     → lengths_with more rest ≡ lengths_with lengths left
 unfolding lengths_with
@@ -156,7 +156,7 @@ pub lengths_end : (lengths : List ℕ) (names : List Text) (i : ℕ) → length 
 unfolding lengths_with
 lengths_end lengths names i h = ap (lengths_with lengths) (drop_all i names h)
 
--- ---- the less of two places
+-- ---- the smaller of two places
 
 if_found : (P : ℕ → Type 0) (from : ℕ) (found : Option ℕ) (b : Bool) → P from → IfSome found P → IfSome (cond b (Some from) found) P
 if_found P from found true h rest = h
@@ -210,7 +210,7 @@ tried search_in search_at more lengths i n first one next h e at both =
     ∙ ap (λ (m : ℕ). earlier first (search_in (m ∷ drop (i + 1) lengths))) e
     ∙ ap (λ ns. earlier first (search_in ns)) (sym (drop_more lengths i 0 h))
 
--- nothing is left
+-- none remains
 all_tried : (search_in : List ℕ → Option ℕ) → search_in [] ≡ None → (lengths : List ℕ) (i : ℕ) (first : Option ℕ) → length lengths ≤ i
     → earlier first (search_in (drop i lengths)) ≡ first
 all_tried search_in none lengths i first h =
@@ -224,7 +224,7 @@ same_end from many place h = omega arith
 at_zero : (many place : ℕ) → place ≤ 0 + many → place ≤ many
 at_zero many place h = omega arith
 
--- what is found stands among the numbers
+-- what is found is among the numbers
 found_from : (test : ℕ → Bool) (many from : ℕ) → IfSome (find test (range_with_len from many)) (λ place. from ≤ place)
 found_from test zero from = tt
 found_from test (suc many) from =
@@ -478,7 +478,7 @@ end_is_none suffixes name len more =
     (λ suffix h. end_longer name suffix len more)
     ∙ no_place suffixes 0
 
--- the first that passes stands at the first place that does
+-- the first that passes is at the first place that does
 at_place : (test : Text → Bool) (xs : List Text) → find test xs ≡ option_and_then (slice_get xs) (position test xs)
 at_place test xs = by (nat_lt (position_or_len test xs) (length xs)) refl
   where

@@ -1,4 +1,4 @@
--- Targets and what they need, as their entry tells them.
+-- Targets and their prerequisites, as their entry has them.
 use Rattle.std.proofs.Common.{◌≡◌, false, List, [], ◌∷◌, length, Option, Some, None, refl, arith}
 use Rattle.std.specs.Borrow.{Bor}
 use Rattle.kt_text.specs.Words.{Text}
@@ -10,7 +10,7 @@ use Rattle.kt_rules.specs.Names.{without_dots}
 use Rattle.kt_rules.specs.Suffixes.{is_empty}
 use Rattle.kt_rules.specs.Targets.{name_put, names_put}
 
--- the first of names that are needed, and the others
+-- the first of some prerequisites, and the others
 pub first_put : (stem : Option (Bor Text)) (name : Text) (names : List Text) → names_put stem (name ∷ names) ≡ name_put stem name ∷ names_put stem names
 unfolding stemmed_names
 first_put None name names = refl
@@ -25,14 +25,14 @@ pub none_left : (stem : Option (Bor Text)) (names : List Text) → length names 
 none_left stem [] none = none_put stem
 none_left stem (name ∷ names) none = absurd (omega arith)
 
--- a stem makes no name go
+-- a stem removes no name
 pub empty_put : (stem : Option (Bor Text)) (names : List Text) → is_empty (names_put stem names) ≡ is_empty names
 unfolding stemmed_names
 empty_put None names = refl
 empty_put (Some stem) [] = refl
 empty_put (Some stem) (name ∷ names) = refl
 
--- nor any come
+-- and adds none
 pub count_put : (stem : Option (Bor Text)) (names : List Text) → length (names_put stem names) ≡ length names
 unfolding stemmed_names
 count_put None names = refl

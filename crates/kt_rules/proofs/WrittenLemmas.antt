@@ -30,7 +30,7 @@ separator_cuts past byte h =
     ⊎_elim (λ yes. yes) (λ no. absurd (false≢true (rw no at h)))
     (cases_Bool (is_separator byte))
 
--- a separator in front of a text makes no word
+-- a separator before a text makes no word
 written_words-skip : (byte : ℕ) (text : Text) → is_separator byte ≡ true → written_words (byte ∷ text) ≡ written_words text
 unfolding pieces_of written_words
 written_words-skip byte text h = rw h refl
@@ -45,7 +45,7 @@ after_first past (byte ∷ text) =
     (λ h. rw h (after_first (byte == 92) text))
     (cases_Bool (cuts Separator past byte))
 
--- separators in front of a text make no word
+-- separators before a text make no word
 pub written_words-begun : (text : Text) → written_words (stripped_start text) ≡ written_words text
 unfolding written_words
 written_words-begun [] = refl
@@ -66,13 +66,13 @@ filter_nonempty : (word : Text) (rest : List Text) → 0 < length word → filte
 filter_nonempty [] rest h = absurd (omega arith)
 filter_nonempty (byte ∷ word) rest h = refl
 
--- some first bytes of a text that has one are some
+-- a nonempty part at the start of a nonempty text isn't empty
 take_some : (n : ℕ) (text : Text) → 0 < n → 0 < length text → 0 < length (take n text)
 take_some n [] h some = absurd (omega arith)
 take_some zero (byte ∷ text) h some = absurd (omega arith)
 take_some (suc n) (byte ∷ text) h some = omega arith
 
--- the first word of a text that has one, and what stands after it
+-- the first word of a text that has one, and the text after it
 pub first_written : (text words : Text) → words ≡ stripped_start text → 0 < length words
     → written_words text ≡ take (cut_place Separator false words) words ∷ written_words (drop (cut_place Separator false words) words)
 unfolding written_words

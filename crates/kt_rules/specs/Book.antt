@@ -1,5 +1,4 @@
--- The rules of a makefile as a list, and what is asked of it (POSIX.1-2024 make, "Target Rules"; GNU make manual,
--- "Rules").
+-- The rules of a makefile as a list, and lookups in it (POSIX.1-2024 make, "Target Rules"; GNU make manual, "Rules").
 use Rattle.std.specs.Prelude.{◌≡◌, ℕ, Bool, true, false, not, ◌&&◌, ◌||◌, ◌==◌, List, [], ◌∷◌, ◌++◌, map, filter, find}
 use Rattle.std.specs.Prelude.{flat_map, filter_map, codes, bytes_eq, Option, Some, None, option_map, is_some, is_none}
 use Rattle.std.specs.Prelude.{slice_get, Result, Ok, Err, if◌then◌else◌}
@@ -38,15 +37,15 @@ is_pattern Group = false
 is_pattern Pattern = true
 is_pattern TerminalPattern = true
 
--- whether a rule makes a target by its name: no pattern rule does, and no special target is made
+-- whether a rule makes a target by name: a pattern rule doesn't, and a special target isn't made
 abbrev pub is_made : Rule → Target → Bool
 is_made rule target = not (is_pattern rule.kind) && not (is_special target.name)
 
--- the targets that a rule makes by their names
+-- the targets that a rule makes by name
 abbrev pub made_targets : Rule → List Target
 made_targets rule = filter (is_made rule) rule.targets
 
--- a rule with each of these: several targets are separate rules (POSIX.1-2024 make, "Target Rules")
+-- a rule with each target that it makes by name: several targets are separate rules (POSIX.1-2024 make, "Target Rules")
 abbrev pub target_rules : Rule → List (Rule × Target)
 target_rules rule = map (λ target. (rule, target)) (made_targets rule)
 
@@ -57,34 +56,33 @@ rules_of rules name = filter (λ made. bytes_eq name made.1.name) (flat_map targ
 abbrev pub has_recipe : Rule × Target → Bool
 has_recipe made = is_some made.0.recipe
 
--- those of them that have a recipe
+-- the rules of a target that have a recipe
 unfoldable pub recipes_of : List Rule → Text → List (Rule × Target)
 recipes_of rules name = filter has_recipe (rules_of rules name)
 
--- the explicit rules of a target, in order: the suffix rules are recognised by the suffixes that all rules leave
+-- the explicit rules of a target, in order: the suffixes after all rules decide which are suffix rules
 unfoldable pub explicit_rules : List Rule → Text → List (Rule × Target)
 explicit_rules rules name = filter (λ made. not (is_suffix_rule (suffixes_of rules) name made)) (rules_of rules name)
 
--- whether a rule is explicit for one of its targets, where these are the suffixes
+-- whether a rule is explicit for one of its targets, given the suffixes
 abbrev pub is_explicit : List Text → Rule × Target → Bool
 is_explicit suffixes made = is_made made.0 made.1 && not (is_suffix_rule suffixes made.1.name made)
 
--- the number of a numbered rule, once for each target of the name that it is explicit for
+-- the number of a numbered rule, once for each of its targets with the name for which it is explicit
 abbrev pub numbers_in : List Text → Text → ℕ × Rule → List ℕ
 numbers_in suffixes name numbered = map (λ target. numbered.0)
     (filter (λ target. bytes_eq name target.name && is_explicit suffixes (numbered.1, target)) numbered.1.targets)
 
--- the numbers of the rules that the explicit rules of a target are of, in their order: a rule's number is its place in
--- the list, from 0
+-- the numbers of the explicit rules of a target, in order: a rule's number is its place in the list, from 0
 unfoldable pub explicit_numbers : List Rule → Text → List ℕ
 explicit_numbers rules name = flat_map (numbers_in (suffixes_of rules) name) (enumerate_from 0 rules)
 
--- the rules at the numbers of a target are those of its explicit rules, one by one
+-- the rules at the numbers of a target are its explicit rules, one by one
 abbrev pub NumbersTellRules : Type 0
 NumbersTellRules = (rules : List Rule) (name : Text)
     → map (λ made. Some made.0) (explicit_rules rules name) ≡ map (slice_get rules) (explicit_numbers rules name)
 
--- the names that are phony: what the special target `.PHONY` needs (POSIX.1-2024 make, "Special Targets")
+-- the phony names: the prerequisites of the special target `.PHONY` (POSIX.1-2024 make, "Special Targets")
 abbrev pub phony_of : Rule → List Text
 phony_of rule = option_map_or (λ names. names) (special_needs (codes ".PHONY") rule) []
 
@@ -108,7 +106,7 @@ is_goal suffixes made = may_be_goal made.1.name && not (is_suffix_rule suffixes 
 abbrev pub goal_in : List Text → Rule → Option Text
 goal_in suffixes rule = option_map (λ made. made.1.name) (find (is_goal suffixes) (target_rules rule))
 
--- the first target of such a rule, where these are the suffixes
+-- the same among all rules, given the suffixes
 unfoldable pub first_goal_by : List Text → List Rule → Option Text
 first_goal_by suffixes rules = option_map (λ made. made.1.name) (find (is_goal suffixes) (flat_map target_rules rules))
 
@@ -122,7 +120,7 @@ abbrev pub xor : Bool → Bool → Bool
 xor true b = not b
 xor false b = b
 
--- whether two rules of a target have one colon and two
+-- whether one of two rules of a target has one colon, and the other two
 abbrev pub differ_in_colons : Rule → Rule × Target → Bool
 differ_in_colons rule earlier = xor (is_double earlier.0.kind) (is_double rule.kind)
 
@@ -143,7 +141,7 @@ beside_group_in rules rule = find (λ target. list_any (is_beside_group rule) (r
 abbrev pub two_recipes_in : List Rule → Rule → Option Target
 two_recipes_in rules rule = if is_some rule.recipe then beside_group_in rules rule else None
 
--- what is refused of a rule after others: first a group without a recipe
+-- why a rule is refused after others, if it is: first, a group without a recipe
 unfoldable pub refusal_of : List Rule → Rule → Option Refusal
 refusal_of rules rule =
     if is_group rule.kind && is_none rule.recipe then Some bad_group
@@ -154,7 +152,7 @@ refusal_of rules rule =
 abbrev pub makes : Rule → Text → Bool
 makes rule name = list_any (λ target. bytes_eq name target.name) (made_targets rule)
 
--- of two rules that have a recipe, one of them a group's, neither makes a target of the other
+-- of two rules with a recipe, one of them a group, neither makes a target of the other
 abbrev pub AreApart : Rule → Rule → Type 0
 AreApart earlier later =
     is_some earlier.recipe ≡ true → is_some later.recipe ≡ true → (is_group later.kind || is_group earlier.kind) ≡ true
@@ -164,8 +162,8 @@ AreApart earlier later =
 abbrev pub GroupsStandAlone : List Rule → Type 0
 GroupsStandAlone rules = AllPairs AreApart rules
 
--- the targets of which a rule with one colon has the later recipe; an earlier rule with a recipe has one colon too,
--- else this one is refused (GNU make manual, "Multiple Rules for One Target")
+-- the targets for which a rule with one colon gives a second recipe; an earlier rule with a recipe also has one colon,
+-- or this one would be refused (GNU make manual, "Multiple Rules for One Target")
 abbrev pub targets_with_recipe : List Rule → Rule → List Target
 targets_with_recipe rules rule = filter
     (λ target. list_any (λ earlier. true) (recipes_of rules target.name)) (made_targets rule)
@@ -174,7 +172,7 @@ abbrev pub overridden_targets : List Rule → Rule → List Target
 overridden_targets rules rule = if is_single rule.kind && is_some rule.recipe
     then targets_with_recipe rules rule else []
 
--- the message on one of them; its form is kati's own
+-- the warning on one of these targets; its form is kati's own
 abbrev pub override_message : Place → Target → Text
 override_message place target = place_text place ++ (codes ": warning: overriding recipe for target '"
     ++ (target.name ++ 39 ∷ []))
@@ -182,7 +180,7 @@ override_message place target = place_text place ++ (codes ": warning: overridin
 abbrev pub override_messages : List Rule → Rule → List Text
 override_messages rules rule = map (override_message rule.place) (overridden_targets rules rule)
 
--- what `add` returns: the messages, or the fault
+-- what `add` returns: the warnings, or the fault
 abbrev pub added : List Rule → Rule → Option Refusal → Result (List Text) Fault
 added rules rule None = Ok (override_messages rules rule)
 added rules rule (Some refusal) = Err (fault_at rule.place refusal)
@@ -195,15 +193,15 @@ names_eq = pointwise bytes_eq
 abbrev pub target_names : Rule → List Text
 target_names rule = map (λ target. target.name) rule.targets
 
--- whether two pattern rules have the same targets and the same prerequisites, order and repeats counting (GNU make
--- manual, "Canceling Implicit Rules")
+-- whether two pattern rules have the same targets and prerequisites, in the same order and with the same repeats (GNU
+-- make manual, "Canceling Implicit Rules")
 abbrev pub repeats : Rule → Rule → Bool
 repeats earlier later =
     names_eq (target_names earlier) (target_names later)
     && (names_eq earlier.needs.prerequisites later.needs.prerequisites
     && names_eq earlier.needs.order_only later.needs.order_only)
 
--- the pattern rule that a suffix rule is, of these patterns
+-- a suffix rule as a pattern rule, given the patterns of its target and prerequisite
 abbrev pub pattern_rule : Rule → Text × Text → Rule
 pattern_rule rule patterns = record {
   kind = Pattern;
@@ -213,17 +211,17 @@ pattern_rule rule patterns = record {
   place = rule.place;
 }
 
--- one target's suffix rule as a pattern rule, if it is one
+-- a target's suffix rule as a pattern rule, if it is one
 abbrev pub suffix_rule_as_pattern : List Text → Rule × Target → Option Rule
 suffix_rule_as_pattern suffixes made =
     if is_bare made then option_map (pattern_rule made.0) (suffix_patterns suffixes made.1.name) else None
 
--- the pattern rules that a rule is
+-- the pattern rules of a rule: itself, or its suffix rules as pattern rules
 abbrev pub patterns_in : List Text → Rule → List Rule
 patterns_in suffixes rule =
     if is_pattern rule.kind then rule ∷ [] else filter_map (suffix_rule_as_pattern suffixes) (target_rules rule)
 
--- those with a recipe that none of the later repeats
+-- the rules with a recipe that no later one repeats
 abbrev pub unrepeated : List Rule → List Rule
 unrepeated [] = []
 unrepeated (rule ∷ rules) =

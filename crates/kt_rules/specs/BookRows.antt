@@ -17,7 +17,7 @@ at_line line = record { file = codes "M"; line = line }
 abbrev pub named : Text → Target
 named name = record { name = name; stemmed = None }
 
--- a line's rule for one target that needs names, with a recipe of no text or without one
+-- a rule on a line: one target, its prerequisites and order-only ones, and an empty recipe or none
 abbrev pub rule : Kind → Text → List Text → List Text → Bool → ℕ → Rule
 rule kind name prerequisites order_only true line = record {
   kind = kind;
@@ -34,14 +34,14 @@ rule kind name prerequisites order_only false line = record {
   place = at_line line;
 }
 
--- `NAME: ;` and `NAME: PREREQUISITE` in a line
+-- `NAME: ;` and `NAME: PREREQUISITE` on a line
 abbrev pub made : Text → ℕ → Rule
 made name line = rule SingleColon name [] [] true line
 
 abbrev pub needing : Text → Text → ℕ → Rule
 needing name prerequisite line = rule SingleColon name (prerequisite ∷ []) [] false line
 
--- `TARGET: PREREQUISITE ;` of patterns
+-- `TARGET: PREREQUISITE ;`, both patterns
 abbrev pub pattern : Text → Text → ℕ → Rule
 pattern target prerequisite line = rule Pattern target (prerequisite ∷ []) [] true line
 
@@ -61,14 +61,14 @@ pub record RowsOfPatternRules : Type 0 where
   pub in_both_lists : patterns_of (rule Pattern (codes "%") (codes "a" ∷ []) (codes "a" ∷ []) true 1 ∷ pattern (codes "%") (codes "a") 2 ∷ [])
       ≡ rule Pattern (codes "%") (codes "a" ∷ []) (codes "a" ∷ []) true 1 ∷ pattern (codes "%") (codes "a") 2 ∷ []
 
--- what is refused of a rule beside others, and what is reported of it
+-- why a rule is refused after others, and its warnings
 pub record RowsOfAdding : Type 0 where
   pub no_recipe : refusal_of [] (rule Group (codes "a") [] [] false 1) ≡ Some bad_group
   pub two_kinds : refusal_of (needing (codes "a") (codes "b") 1 ∷ []) (rule DoubleColon (codes "a") [] [] false 2) ≡ Some (both_colons (codes "a"))
   pub beside_group : refusal_of (rule Group (codes "a") [] [] true 1 ∷ []) (made (codes "a") 2) ≡ Some (two_recipes (codes "a"))
   pub second_recipe : override_messages (made (codes "a") 1 ∷ []) (made (codes "a") 2) ≡ (place_text (at_line 2) ++ codes ": warning: overriding recipe for target 'a'") ∷ []
 
--- other answers
+-- other lookups
 pub record RowsOfAnswers : Type 0 where
   pub order_only_phony : is_phony (rule SingleColon (codes ".PHONY") [] (codes "b" ∷ []) false 1 ∷ []) (codes "b") ≡ true
   pub no_target : is_phony (needing (codes "a") (codes "b") 1 ∷ []) (codes "b") ≡ false

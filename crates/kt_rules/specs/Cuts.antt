@@ -6,7 +6,7 @@ use Rattle.kt_text.specs.Words.{Text}
 use Rattle.kt_rules.specs.Names.{after_dots}
 use Rattle.kt_rules.specs.RuleLine.{colon_cut}
 
--- whether the last byte of a text is a backslash, or that of the text before it, where it has none
+-- whether a text ends in a backslash; an empty text does if the text before it does
 abbrev pub ends_in_backslash : Bool → Text → Bool
 ends_in_backslash before [] = before
 ends_in_backslash before (byte ∷ text) = ends_in_backslash (byte == 92) text
@@ -15,7 +15,7 @@ ends_in_backslash before (byte ∷ text) = ends_in_backslash (byte == 92) text
 abbrev pub HasQuotedColons : Bool → Text → Type 0
 HasQuotedColons before text = (front back : Text) → text ≡ front ++ 58 ∷ back → ends_in_backslash before front ≡ true
 
--- a text's first colon without a backslash directly before it stands between two parts
+-- a text is cut at its first colon without a backslash directly before it
 pub record IsCutAtColon (before : Bool) (text front back : Text) : Type 0 where
   pub parts : text ≡ front ++ 58 ∷ back
   pub unquoted : ends_in_backslash before front ≡ false
@@ -49,7 +49,7 @@ abbrev pub is_some_text : List Text → Bool
 is_some_text [] = false
 is_some_text (text ∷ texts) = true
 
--- a name is each leading `./` with all slashes after it, and then what is left
+-- a name consists of its leading `./`, each with all slashes after it, and the rest
 pub record IsLeft (name left : Text) : Type 0 where
   pub slashes : List Text
   pub parts : name ≡ flat_map dot_slash slashes ++ left
@@ -57,6 +57,6 @@ pub record IsLeft (name left : Text) : Type 0 where
   pub no_dot_slash : begins_with_dot_slash left ≡ false
   pub no_slash : (is_some_text slashes && begins_with_slash left) ≡ false
 
--- leading `./` go with all slashes after them, and nothing else
+-- each leading `./` is removed with all slashes after it, and nothing else is
 abbrev pub DropsDots : Type 0
 DropsDots = (name : Text) → IsLeft name (after_dots false name)

@@ -20,8 +20,8 @@ use Rattle.kt_rules.specs.Refusals.{Refusal, Fault, faults_at}
 use Rattle.kt_rules.specs.Names.{without_dots}
 use Rattle.kt_rules.specs.RuleLine.{Head, head_of, line_of, line_refusal}
 
--- how the targets are made, the targets, what those need that no static pattern gives anything, the recipe and the
--- place of the rule line
+-- a rule's kind, its targets, the prerequisites that all targets share (none in a static pattern rule), its recipe, and
+-- the place of its rule line
 pub record Rule : Type 0 where
   pub kind : Kind
   pub targets : List Target
@@ -29,12 +29,12 @@ pub record Rule : Type 0 where
   pub recipe : Option (List RecipeLine)
   pub place : Place
 
--- what is given by a static pattern, or else what the other targets need
+-- the prerequisites from a static pattern, or else the shared ones
 abbrev pub needs_or : Needs → Option Stemmed → Needs
 needs_or needs None = needs
 needs_or needs (Some stemmed) = stemmed.needs
 
--- what a target of a rule needs
+-- the prerequisites of a target of a rule
 abbrev pub needs_for : Rule → Target → Needs
 needs_for rule target = needs_or rule.needs target.stemmed
 
@@ -47,7 +47,7 @@ line_added (Some lines) line = lines ++ line ∷ []
 abbrev pub with_line : Rule → RecipeLine → Rule
 with_line rule line = record rule { recipe = Some (line_added rule.recipe line) }
 
--- how a line makes its targets, by what stands after them and whether one has a percent sign
+-- the kind of a rule, from the separator and whether a target has a percent sign
 abbrev pub kind_of : Separator → Bool → Kind
 kind_of Single false = SingleColon
 kind_of Single true = Pattern
@@ -55,7 +55,7 @@ kind_of Double false = DoubleColon
 kind_of Double true = TerminalPattern
 kind_of Grouped has_percent = Group
 
--- nothing is needed
+-- no prerequisites
 abbrev pub no_needs : Needs
 no_needs = record { prerequisites = []; order_only = [] }
 
@@ -64,7 +64,7 @@ no_needs = record { prerequisites = []; order_only = [] }
 unfoldable pub stemmed_names : Text → List Text → List Text
 stemmed_names stem names = map (λ name. without_dots (with_stem name stem)) names
 
--- what a static pattern gives for a stem
+-- a stem with the prerequisites that it gives in a static pattern rule
 abbrev pub stemmed : Needs → Text → Stemmed
 stemmed needs stem = record {
   stem = stem;
@@ -74,7 +74,7 @@ stemmed needs stem = record {
   };
 }
 
--- what a static pattern, if there is one, gives to a target that it matches
+-- the stem and prerequisites of a target, if there is a static pattern that matches it
 unfoldable pub stemmed_of : Option Text → Needs → Text → Option Stemmed
 stemmed_of pattern needs target =
     option_and_then (λ text. option_map
@@ -84,16 +84,16 @@ stemmed_of pattern needs target =
 abbrev pub target_of : Option Text → Needs → Text → Target
 target_of pattern needs name = record { name = name; stemmed = stemmed_of pattern needs name }
 
--- what the targets of a line without static pattern need
+-- the prerequisites that all targets of a line share: none in a static pattern rule
 abbrev pub shared_needs : Option Text → Needs → Needs
 shared_needs None needs = needs
 shared_needs (Some pattern) needs = no_needs
 
--- the recipe that a rule line has itself: the text after its semicolon
+-- the recipe on the rule line itself: the text after its semicolon
 abbrev pub recipe_of : Option Text → Place → Option (List RecipeLine)
 recipe_of recipe place = option_map (λ text. record { text = text; place = place } ∷ []) recipe
 
--- the rule of these names: what a static pattern, if there is one, gives to each target has the stem put in
+-- the rule with these names: in a static pattern rule, each target has its prerequisites with the stem put in
 abbrev pub rule_by : Kind → List Text → Option Text → Needs → Option (List RecipeLine) → Place → Rule
 rule_by kind targets pattern needs recipe place = record {
   kind = kind;
@@ -109,15 +109,15 @@ rule_with line recipe place =
     rule_by (kind_of line.separator (list_any has_percent line.targets)) line.targets line.pattern line.needs
     (recipe_of recipe place) place
 
--- a line that names nothing
+-- a line without names
 abbrev pub empty_line : Line
 empty_line = record { separator = Single; targets = []; pattern = None; needs = no_needs }
 
--- a line without targets names nothing (POSIX.1-2024 make, "Target Rules", has no such line; this is kati's own)
+-- a line without targets is one without names (POSIX.1-2024 make, "Target Rules", has no such line; this is kati's own)
 abbrev pub kept_line : Line → Line
 kept_line line = if length line.targets == 0 then empty_line else line
 
--- the line, unless something is refused of it
+-- the line, unless it is refused
 abbrev pub line_unless : Option Refusal → Line → Result Line Refusal
 line_unless None line = Ok (kept_line line)
 line_unless (Some refusal) line = Err refusal
@@ -126,7 +126,7 @@ line_unless (Some refusal) line = Err refusal
 abbrev pub tested_line : Line → Result Line Refusal
 tested_line line = line_unless (line_refusal line) line
 
--- the line of a head that was cut
+-- the line of a head, unless the head is refused
 abbrev pub line_after : Result Head Refusal → Result Line Refusal
 line_after (Ok head) = tested_line (line_of head)
 line_after (Err refusal) = Err refusal
@@ -136,7 +136,7 @@ abbrev pub is_nil : List Text → Bool
 is_nil [] = true
 is_nil (word ∷ words) = false
 
--- the line that an expanded head is, or what is refused of it; a head without a word names nothing
+-- the line of an expanded head, or why it is refused; a head without words is a line without names
 unfoldable pub read_line : Text → Result Line Refusal
 read_line text = if is_nil (words_of text) then Ok empty_line else line_after (head_of text)
 

@@ -1,11 +1,10 @@
--- The faults of makefiles: their numbers and words (kati's own).
+-- The faults of makefiles: their numbers and messages (kati's own).
 use Rattle.std.specs.Prelude.{ℕ, ◌++◌, codes}
 use Rattle.kt_text.specs.Words.{Text}
 use Rattle.kt_rules.specs.declared.fault_kind.FaultKind.{FaultKind}
 use Rattle.kt_rules.specs.declared.fault_kind.FaultKind.TheVariants as kind
 
--- the table of faults: the number of each, and its words, before the name that they tell of if they tell of one; there
--- is no 25
+-- the number and message of each fault, the message without the name at its end if it has one; there is no 25
 abbrev pub row_of : FaultKind → ℕ × Text
 row_of kind.NulByte = (1, codes "NUL byte")
 row_of kind.FileTooLarge = (2, codes "file too large: ")
@@ -49,6 +48,6 @@ number_of fault = (row_of fault).0
 abbrev pub wording : FaultKind → Text
 wording fault = (row_of fault).1
 
--- the words and the name that they tell of, which is empty where they tell of none
+-- the message with its name, which is empty if the message has none
 abbrev pub words_with : FaultKind → Text → Text
 words_with fault name = wording fault ++ name

@@ -8,11 +8,11 @@ use Rattle.kt_text.specs.Words.{Text, is_nonempty, is_separator}
 use Rattle.kt_rules.specs.Names.{is_quotable, begins_quotable, written_words, without_outer_separators, unquoted}
 use Rattle.kt_rules.specs.Cuts.{ends_in_backslash}
 
--- whether a byte separates words: a separator, but no space that a backslash directly before it quotes
+-- whether a byte separates words: a separator, unless it is a space with a backslash directly before it
 abbrev pub separates : Bool → ℕ → Bool
 separates after_backslash byte = is_separator byte && not (after_backslash && byte == 32)
 
--- no byte of a text separates words; a backslash may stand directly before the text
+-- no byte of a text separates words; a backslash may be directly before the text
 abbrev pub HoldsNoSeparator : Bool → Text → Type 0
 HoldsNoSeparator before text = (front back : Text) (byte : ℕ) → text ≡ front ++ byte ∷ back
     → separates (ends_in_backslash before front) byte ≡ false
@@ -21,7 +21,7 @@ abbrev pub begins_with_space : Text → Bool
 begins_with_space [] = false
 begins_with_space (byte ∷ text) = byte == 32
 
--- separators alone, which stand after a text: a backslash at its end quotes none of them
+-- separators alone after a text, whose last byte doesn't quote the first of them
 pub record IsGap (text gap : Text) : Type 0 where
   pub separators : list_all is_separator gap ≡ true
   pub unquoted : (ends_in_backslash false text && begins_with_space gap) ≡ false
@@ -37,7 +37,7 @@ part_text part = part.word ++ part.gap
 abbrev pub part_word : Part → Text
 part_word part = part.word
 
--- a word has a byte and none that separates; after it stand separators
+-- a word isn't empty and has no byte that separates; only separators are after it
 pub record IsPart (part : Part) : Type 0 where
   pub some : is_nonempty part.word ≡ true
   pub whole : HoldsNoSeparator false part.word
@@ -46,7 +46,7 @@ pub record IsPart (part : Part) : Type 0 where
 abbrev pub HasGap : Part → Type 0
 HasGap part = is_nonempty part.gap ≡ true
 
--- between two parts there are separators: only after the last there may be none
+-- each part but the last has separators after it
 abbrev pub AreApart : List Part → Type 0
 AreApart parts = All HasGap (take (length parts - 1) parts)
 
@@ -60,7 +60,7 @@ pub record AreWords (text : Text) (words : List Text) : Type 0 where
   pub each : All IsPart parts
   pub apart : AreApart parts
 
--- each text has such words, the written ones, and no others
+-- the written words of a text are such words, and no others are
 pub record WrittenWordsLaw : Type 0 where
   pub some : (text : Text) → AreWords text (written_words text)
   pub only : (text : Text) (words : List Text) → AreWords text words → words ≡ written_words text
@@ -69,12 +69,12 @@ pub record WrittenWordsLaw : Type 0 where
 abbrev pub BeginsWithNone : Text → Type 0
 BeginsWithNone text = (back : Text) (byte : ℕ) → text ≡ byte ∷ back → is_separator byte ≡ false
 
--- its last byte, if there is one, doesn't separate words; a backslash may stand directly before the text
+-- its last byte, if there is one, doesn't separate words; a backslash may be directly before the text
 abbrev pub EndsWithNone : Bool → Text → Type 0
 EndsWithNone before text = (front : Text) (byte : ℕ) → text ≡ front ++ byte ∷ []
     → separates (ends_in_backslash before front) byte ≡ false
 
--- a text is separators, a middle that neither begins nor ends with one, and separators again
+-- a text is separators, a middle that neither begins nor ends with one, and more separators
 pub record IsMiddle (text middle : Text) : Type 0 where
   pub leading : Text
   pub trailing : Text
@@ -84,12 +84,12 @@ pub record IsMiddle (text middle : Text) : Type 0 where
   pub begin : BeginsWithNone middle
   pub end : EndsWithNone false middle
 
--- each text has such a middle, what is left without its outer separators, and no other
+-- a text without its outer separators is such a middle, and no other text is
 pub record OuterLaw : Type 0 where
   pub some : (text : Text) → IsMiddle text (without_outer_separators text)
   pub only : (text middle : Text) → IsMiddle text middle → middle ≡ without_outer_separators text
 
--- no backslash of a text quotes: none stands directly before a space or colon
+-- no backslash of a text quotes: none is directly before a space or colon
 abbrev pub HoldsNoQuote : Text → Type 0
 HoldsNoQuote text = (front back : Text) (byte : ℕ) → text ≡ front ++ 92 ∷ byte ∷ back → is_quotable byte ≡ false
 
@@ -100,8 +100,8 @@ quoted_text piece = 92 ∷ piece
 abbrev pub piece_text : Text → Text
 piece_text piece = piece
 
--- a text is pieces with a backslash before each but the first, and another the same pieces without them: these
--- backslashes quote the byte directly after them, and no other does
+-- a text is pieces with a backslash before each but the first, and `left` is the same pieces without these backslashes:
+-- each quotes the byte directly after it, and no other backslash does
 pub record IsUnquoted (text left : Text) : Type 0 where
   pub first : Text
   pub pieces : List Text
@@ -110,7 +110,7 @@ pub record IsUnquoted (text left : Text) : Type 0 where
   pub quoted : list_all begins_quotable pieces ≡ true
   pub no_other : All HoldsNoQuote (first ∷ pieces)
 
--- each text has such another, what unquoting leaves of it, and no second one
+-- the unquoted text is such a `left`, and no other text is
 pub record UnquotedLaw : Type 0 where
   pub some : (text : Text) → IsUnquoted text (unquoted text)
   pub only : (text left : Text) → IsUnquoted text left → left ≡ unquoted text

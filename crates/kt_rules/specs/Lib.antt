@@ -9,6 +9,7 @@ pub mod Suffixes
 pub mod Book
 pub mod Indexes
 pub mod Targets
+pub mod Known
 pub mod Slots
 pub mod Patterns
 pub mod BookRows

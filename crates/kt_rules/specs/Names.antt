@@ -19,11 +19,12 @@ abbrev pub is_cut : Cut → ℕ → Bool
 is_cut Colon byte = byte == 58
 is_cut Separator byte = is_separator byte
 
--- whether a text is cut at a byte that has a backslash directly before it or not: quoted, it stays
+-- whether a text is cut at a byte, given whether a backslash is directly before it: no quoted byte cuts
 abbrev pub cuts : Cut → Bool → ℕ → Bool
 cuts cut after_backslash byte = is_cut cut byte && not (after_backslash && is_quotable byte)
 
--- how many bytes stand before the first cut, or in the text without one; a backslash may stand directly before the text
+-- the number of bytes before the first cut, or of the whole text without one; a backslash may be directly before the
+-- text
 unfoldable pub cut_place : Cut → Bool → Text → ℕ
 cut_place cut after_backslash [] = 0
 cut_place cut after_backslash (byte ∷ text) =
@@ -40,13 +41,13 @@ pieces_of cut after_backslash (byte ∷ text) =
 unfoldable pub written_words : Text → List Text
 written_words text = filter is_nonempty (pieces_of Separator false text)
 
--- how many of a text's first bytes stand before the separators at its end, of which the first may be quoted
+-- the number of a text's bytes before the separators at its end, of which the first may be quoted
 abbrev pub end_place : Text → ℕ
 end_place text =
     let end = length text - suffix_len is_separator text in
     if slice_index text (end - 1) == 92 && slice_index text end == 32 then end + 1 else end
 
--- without the unquoted separators round it
+-- a text without the unquoted separators at both ends
 unfoldable pub without_outer_separators : Text → Text
 without_outer_separators text = take (end_place (stripped_start text)) (stripped_start text)
 
@@ -55,12 +56,12 @@ abbrev pub begins_quotable : Text → Bool
 begins_quotable [] = false
 begins_quotable (byte ∷ text) = is_quotable byte
 
--- without the backslashes that quote a byte; all other backslashes stay (kati's own)
+-- a text without the backslashes that quote a byte; all other backslashes stay (kati's own)
 unfoldable pub unquoted : Text → Text
 unquoted [] = []
 unquoted (byte ∷ text) = if byte == 92 && begins_quotable text then unquoted text else byte ∷ unquoted text
 
--- without each leading `./` and the slashes after it, again and again; slashes before the first may be dropped, too
+-- a name without each leading `./` and the slashes after it; `drops_slashes` drops slashes at the start, too
 unfoldable pub after_dots : Bool → Text → Text
 after_dots drops_slashes [] = []
 after_dots drops_slashes (byte ∷ []) = if drops_slashes && byte == 47 then [] else byte ∷ []
@@ -68,7 +69,7 @@ after_dots drops_slashes (byte ∷ next ∷ text) =
     if drops_slashes && byte == 47 then after_dots true (next ∷ text)
     else (if byte == 46 && next == 47 then after_dots true text else byte ∷ next ∷ text)
 
--- a name without its leading `./`; where that is the whole name it is `./` (kati's own; GNU make removes it, too)
+-- a name without its leading `./`; a name that is nothing else is `./` (kati's own; GNU make removes it, too)
 unfoldable pub without_dots : Text → Text
 without_dots name =
     let left = after_dots false name in
@@ -86,7 +87,7 @@ is_wildcard byte = byte == 42 || (byte == 63 || byte == 91)
 unfoldable pub is_member : Text → Bool
 is_member name = ends_with nat_eq name (41 ∷ []) && list_any (λ byte. byte == 40) (drop 1 name)
 
--- a name that kati doesn't take: with a file name pattern, with `\%`, of a home folder, or a member of an archive
+-- a name that kati refuses: with a file name pattern, with `\%`, of a home folder, or an archive member
 unfoldable pub is_refused_name : Text → Bool
 is_refused_name name =
     list_any is_wildcard name || (quotes_percent name || (starts_with nat_eq name (126 ∷ []) || is_member name))
@@ -101,11 +102,11 @@ is_without_effect name =
 unfoldable pub is_special : Text → Bool
 is_special name = is_among (codes ".PHONY" ∷ codes ".SUFFIXES" ∷ []) name || is_without_effect name
 
--- the order of prerequisites is set by this name, which kati refuses (GNU make manual, "Parallel Disable")
+-- the name that orders prerequisites in GNU make, which kati refuses (GNU make manual, "Parallel Disable")
 abbrev pub wait_name : Text
 wait_name = codes ".WAIT"
 
--- a special target that kati doesn't take (GNU make manual, "Special Built-in Target Names"; "Parallel Disable")
+-- a special target that kati refuses (GNU make manual, "Special Built-in Target Names"; "Parallel Disable")
 unfoldable pub is_refused_target : Text → Bool
 is_refused_target name =
     is_among (codes ".SECONDEXPANSION" ∷ codes ".ONESHELL" ∷ codes ".DEFAULT" ∷ codes ".IGNORE" ∷ wait_name

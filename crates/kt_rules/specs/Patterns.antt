@@ -1,5 +1,5 @@
 -- Pattern rules as the program holds them (kati's own).
-use Rattle.std.specs.Prelude.{ℕ, Bool, true, false, map, List, [], ◌++◌, Option, Some, None, filter_map, option_to_list}
+use Rattle.std.specs.Prelude.{ℕ, Bool, true, false, map, List, [], ◌++◌, filter_map, option_to_list}
 use Rattle.std.specs.Prelude.{◌≡◌, reverse, is_some, not, ◌&&◌, if◌then◌else◌}
 use Rattle.std.specs.List.{list_any}
 use Rattle.std.specs.declared.vec.Vec.{Vec}
@@ -12,10 +12,10 @@ use Rattle.kt_rules.specs.declared.book.pattern.PatternForm.{PatternForm}
 use Rattle.kt_rules.specs.Entry.{Rule}
 use Rattle.kt_rules.specs.declared.book.pattern_set.PatternKey.{PatternKey}
 use Rattle.kt_rules.specs.declared.book.pattern_set.PatternSet.{PatternSet}
-use Rattle.kt_rules.specs.Book.{is_made, target_rules, target_names, names_eq, patterns_in, suffix_rule_as_pattern}
+use Rattle.kt_rules.specs.Book.{is_made, target_rules, target_names, names_eq, suffix_rule_as_pattern}
 use Rattle.kt_rules.specs.Book.{repeats, unrepeated}
 
--- a rule with what it makes and needs as a pattern rule
+-- a rule with the kind, targets and prerequisites of a pattern rule
 abbrev pub form_view : Rule → PatternForm → Rule
 form_view rule form =
     record {
@@ -26,12 +26,7 @@ form_view rule form =
       place = rule.place;
     }
 
--- the pattern rules that the rule in a slot is
-abbrev pub slot_patterns : List Text → Option Rule → List Rule
-slot_patterns suffixes None = []
-slot_patterns suffixes (Some rule) = patterns_in suffixes rule
-
--- the suffix rules that a rule is, as pattern rules
+-- the suffix rules of a rule, as pattern rules
 abbrev pub suffix_rules_in : List Text → Rule → List Rule
 suffix_rules_in suffixes rule = filter_map (suffix_rule_as_pattern suffixes) (target_rules rule)
 
@@ -40,7 +35,7 @@ abbrev pub suffix_rules_at : List Text → Rule → Target → List Rule
 suffix_rules_at suffixes rule target =
     if is_made rule target then option_to_list (suffix_rule_as_pattern suffixes (rule, target)) else []
 
--- whether no rule is searched for that makes the prerequisites
+-- whether a rule is terminal: no implicit rule is searched for to make the prerequisites
 abbrev pub is_terminal : Kind → Bool
 is_terminal SingleColon = false
 is_terminal DoubleColon = false
@@ -48,34 +43,34 @@ is_terminal Group = false
 is_terminal Pattern = false
 is_terminal TerminalPattern = true
 
--- ---- those that stay
+-- ---- pattern rules that are kept
 
 -- names as they are held
 abbrev pub held : List (Vec ℕ Global) → List Text
 held names = map (λ name. name.items) names
 
--- a key has the names of a rule
+-- a key has the targets and prerequisites of a rule
 pub record IsKeyOf (rule : Rule) (key : PatternKey) : Type 0 where
   pub targets_held : held key.targets.items ≡ target_names rule
   pub prerequisites_held : held key.prerequisites.items ≡ rule.needs.prerequisites
   pub order_only_held : held key.order_only.items ≡ rule.needs.order_only
 
--- whether a rule has the names of a key
+-- whether a rule has the targets and prerequisites of a key
 abbrev pub has_repeated : Rule → PatternKey → Bool
 has_repeated rule key =
     names_eq (target_names rule) (held key.targets.items)
     && (names_eq rule.needs.prerequisites (held key.prerequisites.items)
     && names_eq rule.needs.order_only (held key.order_only.items))
 
--- whether a rule is in a set of pattern rules
+-- whether a set of pattern rules has one that the rule repeats
 abbrev pub has_pattern : PatternSet → Rule → Bool
 has_pattern set rule = list_any (has_repeated rule) set.keys.keys
 
--- whether a pattern rule has a recipe, and none of a set repeats it
+-- whether a pattern rule is kept: it has a recipe, and none of the set repeats it
 abbrev pub stays_before : PatternSet → Rule → Bool
 stays_before past rule = is_some rule.recipe && not (has_pattern past rule)
 
--- the rules after those that are left: those that stay stand in turn, and the set has them all
+-- the rules after the remaining ones are sorted: the kept ones are in reverse order, and the set has them all
 pub record IsSorted (all left kept : List Rule) (set : PatternSet) : Type 0 where
   pub past : List Rule
   pub whole : left ++ past ≡ all

@@ -1,4 +1,4 @@
--- What is refused of a rule, and its fault (kati's own).
+-- Why a rule is refused, and the fault for it (kati's own).
 use Rattle.std.specs.Prelude.{◌≡◌, ℕ, [], Result, Ok, Err}
 use Rattle.kt_text.specs.Words.{Text}
 use Rattle.kt_rules.specs.declared.fault_kind.FaultKind.{FaultKind}
@@ -10,7 +10,7 @@ use Rattle.kt_rules.specs.declared.refusal.Refusal.{Refusal as HeldRefusal}
 use Rattle.kt_rules.specs.declared.refusal.Refusal.TheVariants as told
 use Rattle.kt_rules.specs.FaultKinds.{number_of, words_with}
 
--- what is wrong: with a rule line, or, from `both_colons` on, with a rule beside the rules before it
+-- what is wrong with a rule line, or, from `both_colons` on, with a rule after the rules before it
 pub data Refusal : Type 0 where
   missing_separator : Refusal
   refused_name : (name : Text) → Refusal
@@ -20,7 +20,7 @@ pub data Refusal : Type 0 where
   both_colons : (name : Text) → Refusal
   two_recipes : (name : Text) → Refusal
 
--- what the code tells of it
+-- a refusal of the code as one of the definitions
 abbrev pub refusal_view : HeldRefusal → Refusal
 refusal_view told.MissingSeparator = missing_separator
 refusal_view (told.RefusedName name) = refused_name name.now
@@ -30,7 +30,7 @@ refusal_view told.BadGroup = bad_group
 refusal_view (told.BothColons name) = both_colons name.now
 refusal_view (told.TwoRecipes name) = two_recipes name.now
 
--- the kind of its fault, and the name in its words, which is empty where there is none
+-- the kind of the fault, and the name in its message, which is empty if the message has none
 abbrev pub kind_and_name : Refusal → FaultKind × Text
 kind_and_name missing_separator = (kind.MissingSeparator, [])
 kind_and_name (refused_name name) = (kind.RefusedName, name)
@@ -46,23 +46,23 @@ pub record Fault : Type 0 where
   pub place : Place
   pub words : Text
 
--- the fault of what is refused at a place
+-- the fault for a refusal at a place
 abbrev pub fault_at : Place → Refusal → Fault
 fault_at place refusal =
     let told = kind_and_name refusal in
     record { number = number_of told.0; place = place; words = words_with told.0 told.1 }
 
--- the same of what may be refused
+-- the same for a result
 abbrev pub faults_at : {A : Type 0} → Place → Result A Refusal → Result A Fault
 faults_at place (Ok value) = Ok value
 faults_at place (Err refusal) = Err (fault_at place refusal)
 
--- the call returns just this fault; that memory was refused is always excused
+-- the call returns exactly this fault, or runs out of memory, which is always allowed
 abbrev pub ReportsFault : RuleFault → Fault → Type 0
 ReportsFault Memory fault = Unit {0}
 ReportsFault (Refused number place words) fault = record { number = number; place = place; words = words } ≡ fault
 
--- the call returns what is expected: the value, or just the fault
+-- the call returns the expected value or fault, or runs out of memory
 abbrev pub Answers : {A : Type 0} → Result A RuleFault → Result A Fault → Type 0
 Answers (Ok value) expected = expected ≡ Ok value
 Answers (Err Memory) expected = Unit {0}

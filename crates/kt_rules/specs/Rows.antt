@@ -18,7 +18,7 @@ line separator targets prerequisites order_only = record {
   needs = record { prerequisites = prerequisites; order_only = order_only };
 }
 
--- lines that are taken
+-- lines that are accepted
 pub record RowsOfLines : Type 0 where
   pub order_only : read_line (codes "t: x | x y") ≡ Ok (line Single (codes "t" ∷ []) (codes "x" ∷ []) (codes "x" ∷ codes "y" ∷ []))
   pub double_colon : read_line (codes "a:: b") ≡ Ok (line Double (codes "a" ∷ []) (codes "b" ∷ []) [])

@@ -1,4 +1,4 @@
--- The expanded head of a rule line: its parts, what is refused of it, and in which order (POSIX.1-2024 make, "Target
+-- The expanded head of a rule line: its parts, the tests that refuse it, and their order (POSIX.1-2024 make, "Target
 -- Rules"; GNU make manual, "Rule Syntax", "Double-Colon Rules", "Multiple Targets in a Rule", "Syntax of Static Pattern
 -- Rules"). The order of the tests is kati's own.
 use Rattle.std.specs.Prelude.{◌+◌, ◌-◌, Bool, true, false, not, ◌==◌, ◌&&◌, ◌||◌, nat_eq, List, [], ◌∷◌, ◌++◌, length}
@@ -25,11 +25,11 @@ use Rattle.kt_rules.specs.Names.{is_refused_name, is_without_effect, is_special,
 pub record Head : Type 0 where
   pub separator : Separator
   pub targets : Text
-  -- a static pattern
+  -- the target pattern of a static pattern rule
   pub pattern : Option Text
   pub needs : Text
 
--- what the code tells of them
+-- a head of the code as one of the definitions
 abbrev pub head_view : HeadTold → Head
 head_view head = record {
   separator = head.separator;
@@ -38,25 +38,25 @@ head_view head = record {
   needs = head.needs.now;
 }
 
--- what stands before the first unquoted colon and after it (POSIX.1-2024 make, "Target Rules")
+-- the text before the first unquoted colon and the text after it (POSIX.1-2024 make, "Target Rules")
 unfoldable pub colon_cut : Text → Option (Text × Text)
 colon_cut text =
     let place = cut_place Colon false text in
     if place == length text then None else Some (take place text, drop (place + 1) text)
 
--- the word of a static pattern's part: one, with a percent sign
+-- the target pattern of a static pattern rule: the only word of its part, with a percent sign
 abbrev pub pattern_word : List Text → Option Text
 pattern_word [] = None
 pattern_word (word ∷ []) = if has_percent word then Some word else None
 pattern_word (word ∷ next ∷ words) = None
 
--- the head with that word, or its part is bad
+-- the head with that pattern, or the refusal of its part if there is none
 abbrev pub with_pattern : Separator → Text → Text → Text → Option Text → Result Head Refusal
 with_pattern separator targets part needs None = Err (bad_static_pattern (without_outer_separators part))
 with_pattern separator targets part needs (Some word) =
     Ok (record { separator = separator; targets = targets; pattern = Some word; needs = needs })
 
--- what stands after the separator: one more unquoted colon divides off a static pattern
+-- the head, from the text after the separator: with one more unquoted colon it is a static pattern rule
 abbrev pub head_after : Separator → Text → Text → Option (Text × Text) → Result Head Refusal
 head_after separator targets needs None = Ok (record {
   separator = separator;
@@ -68,28 +68,28 @@ head_after separator targets rest (Some cut) =
     if is_some (colon_cut cut.1) then Err missing_separator
     else with_pattern separator targets cut.0 cut.1 (pattern_word (written_words cut.0))
 
--- a group has one colon, and no other
+-- a group's head, in which no further colon is allowed
 abbrev pub group_head : Text → Text → Result Head Refusal
 group_head targets rest =
     if is_some (colon_cut rest) then Err bad_group
     else Ok (record { separator = Grouped; targets = targets; pattern = None; needs = rest })
 
--- the targets of a group: what stands before a `&` directly before the separator
+-- the targets of a group: the text before an `&` directly before the separator
 unfoldable pub group_targets : Text → Option Text
 group_targets before = if ends_with nat_eq before (38 ∷ []) then Some (take (length before - 1) before) else None
 
--- what stands after a double colon, of which the second follows the first directly
+-- the text after a double colon, whose second colon is directly after the first
 unfoldable pub after_double : Text → Option Text
 after_double after = if starts_with nat_eq after (58 ∷ []) then Some (drop 1 after) else None
 
--- by what stands before the separator and after its first colon: no double colon makes a group
+-- the head, from the text before the separator and after its first colon; a group has no double colon
 abbrev pub head_by : Text → Text → Option Text → Option Text → Result Head Refusal
 head_by before after None None = head_after Single before after (colon_cut after)
 head_by before after None (Some rest) = head_after Double before rest (colon_cut rest)
 head_by before after (Some targets) None = group_head targets after
 head_by before after (Some targets) (Some rest) = Err bad_group
 
--- the head, by what stands before and after its first colon
+-- the head, from the text before its first colon and after it
 abbrev pub head_round : Text → Text → Result Head Refusal
 head_round before after = head_by before after (group_targets before) (after_double after)
 
@@ -98,7 +98,7 @@ abbrev pub head_cut : Option (Text × Text) → Result Head Refusal
 head_cut None = Err missing_separator
 head_cut (Some cut) = head_round cut.0 cut.1
 
--- the parts of a head, or what is refused of it
+-- the parts of a head, or why it is refused
 unfoldable pub head_of : Text → Result Head Refusal
 head_of text = head_cut (colon_cut text)
 
@@ -122,12 +122,12 @@ line_of head = record {
   needs = needs_of (written_words head.needs);
 }
 
--- the prerequisites that are tested: those of a line that has a target with effect
+-- the prerequisites that are tested: none if no target has an effect
 unfoldable pub tested_needs : Line → List Text
 tested_needs line = if list_all is_without_effect line.targets then [] else line.needs.prerequisites
     ++ line.needs.order_only
 
--- a text that there may be, as a list
+-- an optional text as a list
 abbrev pub option_list : Option Text → List Text
 option_list None = []
 option_list (Some text) = text ∷ []
@@ -136,7 +136,7 @@ option_list (Some text) = text ∷ []
 unfoldable pub name_refusal : Line → Option Text
 name_refusal line = find is_refused_name (line.targets ++ (option_list line.pattern ++ tested_needs line))
 
--- a target with percent sign in a static pattern rule, or beside one without it
+-- a target with a percent sign in a static pattern rule, or beside a target without one
 unfoldable pub mixes_patterns : Line → Bool
 mixes_patterns line =
     list_any has_percent line.targets && (is_some line.pattern || not (list_all has_percent line.targets))
@@ -147,7 +147,7 @@ is_group Single = false
 is_group Double = false
 is_group Grouped = true
 
--- a group of which a target is special or has a percent sign
+-- a group with a target that is special or has a percent sign
 unfoldable pub is_bad_group : Line → Bool
 is_bad_group line = is_group line.separator && list_any (λ target. is_special target || has_percent target) line.targets
 
@@ -156,22 +156,21 @@ abbrev pub fits : Option Text → Text → Bool
 fits None target = true
 fits (Some pattern) target = is_some (stem_span pattern target)
 
--- what is refused of one target
+-- why one target is refused, if it is
 unfoldable pub target_refusal : Option Text → Text → Option Refusal
 target_refusal pattern target =
     if is_refused_target target then Some (refused_target target)
     else (if fits pattern target then None else Some (bad_static_pattern target))
 
--- the first refusal of some
+-- the first refusal in a list
 unfoldable pub first_refusal : List (Option Refusal) → Option Refusal
 first_refusal [] = None
 first_refusal (refusal ∷ refusals) = option_or refusal (first_refusal refusals)
 
--- a refusal by a test
 abbrev pub refused_if : Bool → Refusal → Option Refusal
 refused_if is_refused refusal = if is_refused then Some refusal else None
 
--- what is refused of the names of a line: the first of these tests that fails
+-- why the names of a line are refused: the refusal of the first test that fails
 unfoldable pub line_refusal : Line → Option Refusal
 line_refusal line =
     first_refusal (
@@ -182,11 +181,11 @@ line_refusal line =
     ∷ refused_if (is_among (tested_needs line) wait_name) (refused_target wait_name)
     ∷ [])
 
--- what a cut of a head tells
+-- the result of a cut as one of the definitions
 abbrev pub heads_view : Result HeadTold RefusalTold → Result Head Refusal
 heads_view (Ok head) = Ok (head_view head)
 heads_view (Err refusal) = Err (refusal_view refusal)
 
--- what an answer tells of a refusal
+-- a refusal of the code, if any, as one of the definitions
 abbrev pub refusal_in : Option RefusalTold → Option Refusal
 refusal_in refusal = option_map refusal_view refusal

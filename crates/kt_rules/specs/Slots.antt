@@ -1,4 +1,4 @@
--- The rules of a book in their slots, of which some stay empty, and the spots of their targets (kati's own).
+-- The rules of a book in their slots, some of which are empty, and the spots of their targets (kati's own).
 use Rattle.std.specs.Prelude.{◌≡◌, ℕ, ◌+◌, ◌<◌, Bool, false, ◌&&◌, List, [], ◌∷◌, ◌++◌, filter_map, bytes_eq, length}
 use Rattle.std.specs.Prelude.{Option, Some, None, option_map, option_and_then, slice_get, is_some, if◌then◌else◌}
 use Rattle.std.specs.List.{list_any}
@@ -9,19 +9,19 @@ use Rattle.kt_rules.specs.declared.book.spot.Spot.{Spot}
 use Rattle.kt_rules.specs.inner.Lists.{Notes, list_at}
 use Rattle.kt_rules.specs.declared.book.target_rule.TargetRule.{TargetRule}
 use Rattle.kt_rules.specs.Entry.{Rule}
-use Rattle.kt_rules.specs.Book.{GroupsStandAlone, is_made, goal_in, is_double, is_group, is_phony, rules_of, recipes_of}
+use Rattle.kt_rules.specs.Book.{GroupsStandAlone, is_made, is_double, is_group, is_phony, rules_of, recipes_of}
 use Rattle.kt_rules.specs.Book.{xor}
 use Rattle.kt_rules.specs.Names.{is_among}
-use Rattle.kt_rules.specs.Targets.{target_view}
+use Rattle.kt_rules.specs.Targets.{entry_view, target_view}
 use Rattle.kt_rules.specs.Suffixes.{suffixes_of, is_bare}
 
 -- the rules in the slots
 abbrev pub rules_in : List (Option Rule) → List Rule
 rules_in slots = filter_map (λ slot. slot) slots
 
--- a rule as definitions have it
+-- a rule of the code as one of the definitions
 abbrev pub rule_view : TargetRule → Rule × Target
-rule_view rule = (rule.entry.now, target_view rule.target)
+rule_view rule = (entry_view rule.entry, target_view rule.target)
 
 -- a rule with its target of this number
 abbrev pub target_rule : Rule → ℕ → Option (Rule × Target)
@@ -31,11 +31,11 @@ target_rule rule number = option_map (λ target. (rule, target)) (slice_get rule
 abbrev pub slot_rule : List (Option Rule) → ℕ → Option Rule
 slot_rule slots place = option_and_then (λ slot. slot) (slice_get slots place)
 
--- the rule that stands at a spot
+-- the rule at a spot
 abbrev pub spot_rule : List (Option Rule) → Spot → Option (Rule × Target)
 spot_rule slots spot = option_and_then (λ rule. target_rule rule spot.target) (slot_rule slots spot.entry)
 
--- the rules that stand at spots
+-- the rules at spots
 unfoldable pub found : List (Option Rule) → List Spot → List (Rule × Target)
 found slots spots = filter_map (spot_rule slots) spots
 
@@ -51,20 +51,15 @@ abbrev pub unless : {A : Type 0} → (A → Bool) → Option A → Option A
 unless test None = None
 unless test (Some x) = if test x then None else Some x
 
--- the rule that stands at a spot, if it is explicit: bare ones may not be
+-- the rule at a spot, unless it has the form of a suffix rule and `skips_bare` is true
 abbrev pub explicit_rule : Bool → List (Option Rule) → Spot → Option (Rule × Target)
 explicit_rule skips_bare slots spot = unless (λ made. is_bare made && skips_bare) (spot_rule slots spot)
 
--- the explicit rules that stand at spots
+-- the explicit rules at spots
 unfoldable pub explicit_left : Bool → List (Option Rule) → List Spot → List (Rule × Target)
 explicit_left skips_bare slots spots = filter_map (explicit_rule skips_bare slots) spots
 
--- the name of the default goal that the rule in a slot gives
-abbrev pub slot_goal : List Text → Option Rule → Option Text
-slot_goal suffixes None = None
-slot_goal suffixes (Some rule) = goal_in suffixes rule
-
--- the spots at a place, if there is one
+-- the spots at a number, if there is one
 abbrev pub list_of : Option ℕ → List (List Spot) → List Spot
 list_of None lists = []
 list_of (Some number) lists = list_at lists number
@@ -78,18 +73,18 @@ spots_at notes name = list_of (place_of notes.0 name) notes.1
 abbrev pub spot_at : ℕ → ℕ → Spot
 spot_at entry target = record { entry = entry; target = target }
 
--- the spot of a target, where the rule makes it and it has the name
+-- the spot of a target, if the rule makes it and it has the name
 abbrev pub target_spots : Rule → Target → Spot → Text → List Spot
 target_spots rule target spot name = if is_made rule target then (if bytes_eq name target.name then spot ∷ []
     else []) else []
 
--- the spots that a rule at a place has for a name, of its targets from a number on
+-- the spots of a rule at a place for a name, for its targets from a number on
 unfoldable pub spots_from : Rule → ℕ → ℕ → List Target → Text → List Spot
 spots_from rule place number [] name = []
 spots_from rule place number (target ∷ targets) name =
     target_spots rule target (spot_at place number) name ++ spots_from rule place (number + 1) targets name
 
--- the spots that a rule at a place has for a name
+-- the spots of a rule at a place for a name
 abbrev pub spots_for : Rule → ℕ → Text → List Spot
 spots_for rule place name = spots_from rule place 0 rule.targets name
 
@@ -103,7 +98,12 @@ abbrev pub AreIn : ℕ → List Spot → Type 0
 AreIn place [] = Unit {0}
 AreIn place (spot ∷ spots) = (spot.entry ≡ place) × AreIn place spots
 
--- each name may have got spots in the slot of the place
+-- each number may have got more spots, all in the slot of the place
+abbrev pub GrewAt : ℕ → List (List Spot) → List (List Spot) → Type 0
+GrewAt place old new =
+    (number : ℕ) → (more : List Spot) × (list_at new number ≡ list_at old number ++ more) × AreIn place more
+
+-- each name may have got more spots, all in the slot of the place
 abbrev pub GrewIn : ℕ → Notes → Notes → Type 0
 GrewIn place old new =
     (name : Text) → (more : List Spot) × (spots_at new name ≡ spots_at old name ++ more) × AreIn place more
@@ -112,13 +112,13 @@ GrewIn place old new =
 abbrev pub GotSpots : Rule → ℕ → Notes → Notes → Type 0
 GotSpots rule place old new = (name : Text) → spots_at new name ≡ spots_at old name ++ spots_for rule place name
 
--- the same of an index of those rules that have a recipe
+-- the same for the index of the rules that have a recipe
 abbrev pub GotRecipes : Rule → ℕ → Notes → Notes → Type 0
 GotRecipes rule place old new =
     (name : Text) → spots_at new name ≡ spots_at old name ++ (if is_some rule.recipe
     then spots_for rule place name else [])
 
--- the test gives the same at each of them
+-- the test has the same result for all elements
 abbrev pub AreAlike : {A : Type 0} → (A → Bool) → List A → Type 0
 AreAlike test xs = (b : Bool) × (list_any (λ x. xor (test x) b) xs ≡ false)
 
@@ -127,7 +127,7 @@ pub record IsIndexOf (slots : List (Option Rule)) (index : Notes) (rules : Text 
   pub all : (name : Text) → found slots (spots_at index name) ≡ rules name
   pub before : (name : Text) → AreBefore (length slots) (spots_at index name)
 
--- what a book keeps beside its rules is what they say
+-- what a book keeps beside its rules follows from them
 pub record IsKept (slots : List (Option Rule)) (targets recipes : Notes) (phony suffixes : List Text)
     : Type 0 where
   pub targets_view : IsIndexOf slots targets (rules_of (rules_in slots))

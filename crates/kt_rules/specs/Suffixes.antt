@@ -12,21 +12,21 @@ use Rattle.kt_rules.specs.declared.entry.Target.{Target}
 use Rattle.kt_rules.specs.Names.{is_among, with_name}
 use Rattle.kt_rules.specs.Entry.{Rule, needs_for}
 
--- all that is needed, order-only names last
+-- all prerequisites, the order-only ones last
 abbrev pub all_needs : Needs → List Text
 all_needs needs = needs.prerequisites ++ needs.order_only
 
--- what a rule's special target of a name needs, where the rule has that target
+-- the prerequisites of a rule's special target with this name, if the rule has that target
 abbrev pub special_needs : Text → Rule → Option (List Text)
 special_needs special rule =
     option_map (λ target. all_needs (needs_for rule target)) (find
     (λ target. bytes_eq target.name special) rule.targets)
 
--- the suffixes that are known at the start (kati's own)
+-- the suffixes before any rule is read (kati's own)
 unfoldable pub start_suffixes : List Text
 start_suffixes = words_of (codes ".o .c .cc .cpp .s .S .y .l .h .sh .a .f")
 
--- the suffixes with the names of a `.SUFFIXES` after them, as far as they aren't there; without names there are none
+-- the suffixes with the new names of a `.SUFFIXES` at the end; a `.SUFFIXES` without names removes all
 abbrev pub suffixes_with : List Text → List Text → List Text
 suffixes_with suffixes [] = []
 suffixes_with suffixes (name ∷ names) = fold with_name suffixes (name ∷ names)
@@ -39,7 +39,7 @@ suffixes_after suffixes rule = option_map_or (suffixes_with suffixes) (special_n
 abbrev pub suffixes_of : List Rule → List Text
 suffixes_of rules = fold suffixes_after start_suffixes rules
 
--- whether a name that is cut at a place is two suffixes
+-- whether cutting a name at a place gives two suffixes
 abbrev pub is_cut_at : List Text → Text → ℕ → Bool
 is_cut_at suffixes name place = is_among suffixes (take place name) && is_among suffixes (drop place name)
 
@@ -71,10 +71,10 @@ is_empty (name ∷ names) = false
 abbrev pub needs_nothing : Needs → Bool
 needs_nothing needs = is_empty needs.prerequisites && is_empty needs.order_only
 
--- whether a rule has the form of a suffix rule for one of its targets: one colon, a recipe, and nothing that is needed
+-- whether a rule has the form of a suffix rule for one of its targets: one colon, a recipe, and no prerequisites
 abbrev pub is_bare : Rule × Target → Bool
 is_bare made = is_single made.0.kind && (is_some made.0.recipe && needs_nothing (needs_for made.0 made.1))
 
--- whether it is a suffix rule for its target of this name
+-- whether a rule is a suffix rule for its target of this name
 abbrev pub is_suffix_rule : List Text → Text → Rule × Target → Bool
 is_suffix_rule suffixes name made = is_bare made && is_some (suffix_patterns suffixes name)

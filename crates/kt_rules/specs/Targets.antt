@@ -1,31 +1,49 @@
--- Targets and what they need, as entries tell them (kati's own).
-use Rattle.std.specs.Prelude.{List, Option, Some, None, map}
+-- Targets and prerequisites of the code as those of the definitions (kati's own).
+use Rattle.std.specs.Prelude.{ℕ, List, [], Option, Some, None, get_or, map, option_map}
 use Rattle.std.specs.Borrow.{Bor}
 use Rattle.kt_text.specs.Words.{Text}
 use Rattle.kt_text.specs.Functions.{with_stem}
+use Rattle.kt_rules.specs.declared.book.book_rule.BookRule.{BookRule}
 use Rattle.kt_rules.specs.declared.entry.Needs.{Needs}
 use Rattle.kt_rules.specs.declared.entry.Target.{Target}
+use Rattle.kt_rules.specs.declared.listed.Listed.{Listed}
+use Rattle.kt_rules.specs.declared.listed.Listed.TheVariants.{ByNumber, Own}
+use Rattle.kt_rules.specs.declared.listed.ListedNeeds.{ListedNeeds}
 use Rattle.kt_rules.specs.declared.needs.NeedsView.{NeedsView}
 use Rattle.kt_rules.specs.declared.needs.NeededName.{NeededName}
 use Rattle.kt_rules.specs.declared.needs.NeededNames.{NeededNames}
 use Rattle.kt_rules.specs.declared.target.TargetView.{TargetView}
 use Rattle.kt_rules.specs.declared.target.Targets.{Targets}
-use Rattle.kt_rules.specs.Entry.{stemmed_names, target_of}
+use Rattle.kt_rules.specs.Entry.{Rule, rule_by, stemmed_names, target_of}
 use Rattle.kt_rules.specs.Names.{without_dots}
 
--- a target
-abbrev pub target_view : TargetView → Target
-target_view target = target_of target.pattern.now target.needs.now target.name.now
+-- the names with these numbers
+abbrev pub names_at : List Text → List ℕ → List Text
+names_at names numbers = map (λ number. get_or names number []) numbers
 
--- targets that are left
+-- names as they are held
+abbrev pub listed_view : Listed → List Text
+listed_view (Own names) = names.now
+listed_view (ByNumber list) = names_at list.names.now list.numbers.now
+
+abbrev pub listed_needs : ListedNeeds → Needs
+listed_needs needs = record {
+  prerequisites = listed_view needs.prerequisites;
+  order_only = listed_view needs.order_only;
+}
+
+abbrev pub target_view : TargetView → Target
+target_view target = target_of target.pattern.now (listed_needs target.needs) target.name.now
+
+-- the targets that remain
 abbrev pub targets_view : Targets → List Target
-targets_view targets = map (target_of targets.pattern.now targets.needs.now) targets.names.now
+targets_view targets = map (target_of targets.pattern.now (listed_needs targets.needs)) (listed_view targets.names)
 
 -- a name with the stem in place of its first percent sign, and then without leading `./`
 abbrev pub stemmed_name : Text → Text → Text
 stemmed_name stem name = without_dots (with_stem name stem)
 
--- the same where there is a stem
+-- the same if there is a stem
 abbrev pub name_put : Option (Bor Text) → Text → Text
 name_put None name = name
 name_put (Some stem) name = stemmed_name stem.now name
@@ -34,17 +52,30 @@ abbrev pub names_put : Option (Bor Text) → List Text → List Text
 names_put None names = names
 names_put (Some stem) names = stemmed_names stem.now names
 
--- a name that is needed
+-- the name of a prerequisite
 abbrev pub needed_view : NeededName → Text
 needed_view needed = name_put needed.stem needed.name.now
 
--- names that are needed and left
+-- the names of prerequisites that remain
 abbrev pub names_view : NeededNames → List Text
-names_view needed = names_put needed.stem needed.names.now
+names_view needed = names_put needed.stem (listed_view needed.names)
 
--- what a target needs
+-- the prerequisites of a target
 abbrev pub needs_view : NeedsView → Needs
 needs_view needs = record {
-  prerequisites = names_put needs.stem needs.prerequisites.now;
-  order_only = names_put needs.stem needs.order_only.now;
+  prerequisites = names_put needs.stem (listed_view needs.needs.prerequisites);
+  order_only = names_put needs.stem (listed_view needs.needs.order_only);
 }
+
+-- the prerequisites of a line, without a stem
+abbrev pub line_needs : BookRule → Needs
+line_needs rule = record {
+  prerequisites = names_at rule.names.now rule.prerequisites.now;
+  order_only = names_at rule.names.now rule.order_only.now;
+}
+
+-- a rule of a book
+abbrev pub entry_view : BookRule → Rule
+entry_view rule =
+    rule_by rule.held.now.kind (names_at rule.names.now rule.targets.now) rule.held.now.pattern (line_needs rule)
+    (option_map (λ lines. lines.items) rule.held.now.recipe) rule.held.now.place

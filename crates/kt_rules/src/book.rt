@@ -1,16 +1,20 @@
 //! The rules of a makefile, as a list of entries.
-ghost use Rattle.std.specs.Prelude.{◌≡◌, ◌++◌, ◌∷◌, [], IfOk, OnErr, OnOk, None, find, nat_eq, option_map};
-ghost use Rattle.std.specs.List.{ends_with};
+ghost use Rattle.std.specs.Prelude.{◌≡◌, ◌++◌, ◌∷◌, [], All, IfOk, OnErr, OnOk, None, find, flat_map, nat_eq, option_map};
+ghost use Rattle.std.specs.List.{Contains, ends_with};
 ghost use Rattle.kt_rules.specs.Book.{GroupsStandAlone, added, explicit_rules, first_goal_of, is_explicit, is_phony};
 ghost use Rattle.kt_rules.specs.Book.{override_messages, patterns_of, refusal_of};
+ghost use Rattle.kt_rules.specs.Known.{named_by, names_in};
 ghost use Rattle.kt_rules.specs.Refusals.{Answers};
 ghost use Rattle.kt_rules.specs.Slots.{rule_view};
 ghost use Rattle.kt_rules.specs.Suffixes.{suffixes_of};
 
+mod book_names;
+mod book_rule;
 mod entries;
 mod explicit;
 mod few;
 mod goal;
+mod held_rule;
 mod lists;
 mod matching;
 mod noting;
@@ -19,6 +23,7 @@ mod overriding;
 mod pattern;
 mod pattern_set;
 mod refusing;
+mod rules;
 mod special;
 mod spot;
 mod spots;
@@ -28,6 +33,8 @@ mod target_rule;
 
 use crate::entry::{Entry, Name};
 use crate::fault::RuleFault;
+pub use book_names::BookNames;
+pub use book_rule::BookRule;
 pub use entries::Entries;
 pub use explicit::Explicit;
 use explicit::skips_bare;
@@ -36,26 +43,26 @@ use matching::{candidates, unrepeated};
 use noting::learn;
 pub use pattern::Pattern;
 use refusing::fault_of;
-use spots::Spots;
+use rules::Rules;
+use spots::{Spots, spots_of};
 use std::alloc::{AllocError, Global};
 use std::marker::Model;
-use suffix::is_suffix_name;
 use suffixes::Suffixes;
 pub use target_rule::TargetRule;
-use target_rule::{is_bare, is_made};
+use target_rule::is_explicit;
 
 /// Message lines, without their newlines.
 pub type Warnings = Sequence<Sequence<u8>>;
 
 /// The rules of a makefile, in the order in which they were added.
 ///
-/// Rules are looked up by their targets: asking costs the same in a long book as in a short one.
+/// Rules are looked up by target: a lookup costs the same in a long book as in a short one.
 #[derive(Drop)]
 pub struct Book {
     alloc: Global,
-    // A slot stays empty where its entry couldn't be noted where memory was refused.
-    slots: Vec<Option<Entry>>,
-    // Where targets are made by their names.
+    // A slot is empty if memory ran out while its entry was being added.
+    rules: Rules,
+    // For each target, by the number of its name, the rules that make it.
     spots: Spots,
     phony: Names,
     suffixes: Suffixes,
@@ -67,11 +74,12 @@ impl Model for Book {
 
     ghost Value = { List Rule };
 
-    ghost use Rattle.kt_rules.specs.Slots.{IsKept, rules_in};
+    ghost use Rattle.kt_rules.specs.Slots.{rules_in};
+    ghost use Rattle.kt_rules.specs.inner.Held.{HoldsAll};
 
-    ghost view = { λ book. rules_in book.slots.items };
+    ghost view = { λ book. rules_in book.rules.1 };
 
-    ghost invariant = { λ book. IsKept book.slots.items book.spots.0 book.spots.1 book.phony book.suffixes };
+    ghost invariant = { λ book. HoldsAll book.rules book.spots.targets book.spots.recipes book.phony book.suffixes };
 }
 
 impl Book {
@@ -80,23 +88,22 @@ impl Book {
         ensures { IfOk result (λ book. book ≡ []) }
     {
         let suffixes = Suffixes::start(alloc)?;
-        let slots = Vec::new(alloc);
+        let rules = Rules::new(alloc);
         let spots = Spots::new(alloc);
         let phony = Names::new(alloc);
         Ok(Book {
             alloc,
-            slots,
+            rules,
             spots,
             phony,
             suffixes,
         })
     }
 
-    /// Adds the rules of an entry, and gives the messages on targets that get a second recipe.
+    /// Adds the rules of an entry, and returns the warnings on targets that get a second recipe.
     ///
-    /// Refused are, in this order: a group without a recipe; a target that has rules with one colon
-    /// and with two; a target with two recipes, one of them a group's. So a group shares no target
-    /// with another entry that has a recipe.
+    /// Refuses, in this order: a group without a recipe; a target that has rules with one colon and with two; a target
+    /// with two recipes, one of them a group's. So a group shares no target with another entry that has a recipe.
     #[tactic(auto, using(crate::proofs::AddLemmas::answers_refused))]
     pub fn add(&mut self, entry: Entry) -> Result<Warnings, RuleFault>
         ensures answers { Answers result (added self.old entry (refusal_of self.old entry)) }
@@ -108,8 +115,8 @@ impl Book {
             Some(refusal) => Err(fault_of(self.alloc, entry.place(), refusal)),
             None => self.add_accepted(entry),
         };
-        // What the book holds tells that its groups stand alone.
-        let _slots = &self.slots;
+        // Naming a field makes the book's invariant known, which `groups` needs.
+        let _rules = &self.rules;
         result
     }
 
@@ -120,31 +127,45 @@ impl Book {
         ensures all { result ≡ self.now }
         ensures groups { GroupsStandAlone self.now }
     {
-        Entries::new(self.slots.as_slice())
+        Entries::new(&self.rules)
     }
 
-    /// Whether an entry is an explicit rule for one of its targets, as the present suffixes tell.
-    /// Takes no memory.
+    /// Whether an entry is an explicit rule for one of its targets, given the suffixes so far. Takes no memory.
     pub fn is_explicit(&self, rule: TargetRule) -> bool
         ensures { result ≡ is_explicit (suffixes_of self.now) (rule_view rule.entry) }
     {
-        let name = rule.target.name;
-        is_made(rule.entry, rule.target) && !(is_bare(rule) && is_suffix_name(&self.suffixes, name))
+        is_explicit(&self.suffixes, rule)
     }
 
     /// The explicit rules of a target, in order. Takes no memory.
     ///
-    /// A suffix rule is none, as the present suffixes tell (GNU make manual, "Old-Fashioned Suffix
+    /// A suffix rule isn't explicit; the suffixes so far decide what is one (GNU make manual, "Old-Fashioned Suffix
     /// Rules").
     pub fn explicit(&self, name: &[u8]) -> Explicit<'_>
         ensures { result ≡ explicit_rules self.now name.now }
     {
-        let slots = self.slots.as_slice();
-        let spots = self.spots.targets(name);
-        Explicit::new(slots, spots, skips_bare(&self.suffixes, slots, spots, name))
+        let rules = &self.rules;
+        let spots = spots_of(rules, &self.spots.targets, name);
+        Explicit::new(rules, spots, skips_bare(&self.suffixes, rules, spots, name))
     }
 
-    /// Whether `.PHONY` needs the name (POSIX.1-2024 make, "Target Rules"). Takes no memory.
+    /// All names that stand in the rules, by numbers: a needed name tells its number in this table (`NeededName`).
+    ///
+    /// Others may stand there, too.
+    pub fn name_table(&self) -> &Names
+        ensures { All (Contains result.now) (flat_map names_in self.now) }
+    {
+        self.rules.names()
+    }
+
+    /// The names that the rules mention: the targets of explicit rules, their prerequisites, and the phony names.
+    pub fn names(&self) -> Result<BookNames<'_>, AllocError>
+        ensures { IfOk result (λ names. names ≡ flat_map (named_by (suffixes_of self.now)) self.now) }
+    {
+        BookNames::of(self.alloc, &self.rules, &self.suffixes)
+    }
+
+    /// Whether the name is a prerequisite of `.PHONY` (POSIX.1-2024 make, "Target Rules"). Takes no memory.
     pub fn is_phony(&self, name: &[u8]) -> bool
         ensures { result ≡ is_phony self.now name.now }
     {
@@ -171,7 +192,7 @@ impl Book {
     pub fn first_goal(&self) -> Option<&[u8]>
         ensures { option_map (λ name. name.now) result ≡ first_goal_of self.now }
     {
-        goal::first_goal(&self.suffixes, self.slots.as_slice())
+        goal::first_goal(&self.suffixes, &self.rules)
     }
 
     /// The pattern rules that have a recipe and that no later one repeats, in order, each suffix rule
@@ -180,7 +201,7 @@ impl Book {
     pub fn patterns(&self) -> Result<Vec<Pattern<'_>>, AllocError>
         ensures { IfOk result (λ patterns. patterns.items ≡ patterns_of self.now) }
     {
-        let candidates = candidates(self.alloc, &self.suffixes, self.slots.as_slice())?;
+        let candidates = candidates(self.alloc, &self.suffixes, &self.rules)?;
         Ok(unrepeated(self.alloc, candidates)?)
     }
 
@@ -193,7 +214,7 @@ impl Book {
         Ok(self.accept(entry)?)
     }
 
-    // Adds an entry that isn't refused, and tells of second recipes.
+    // Adds an entry that isn't refused, and returns the warnings on second recipes.
     fn accept(&mut self, entry: Entry) -> Result<Warnings, AllocError>
         requires { refusal_of self.old entry ≡ None }
         ensures told { IfOk result (λ warnings. warnings ≡ override_messages self.old entry) }
@@ -211,16 +232,22 @@ impl Book {
         ensures grown { OnOk result (self.new ≡ self.old ++ entry ∷ []) }
         ensures refused { OnErr result (self.new ≡ self.old) }
     {
-        let place = self.slots.as_slice().len();
-        self.slots.push(None)?;
-        learn(
+        let place = self.rules.len();
+        self.rules.push(entry)?;
+        let learned = learn(
+            self.alloc,
+            &self.rules,
             &mut self.spots,
             &mut self.phony,
             &mut self.suffixes,
-            &entry,
             place,
-        )?;
-        self.slots[place] = Some(entry);
-        Ok(())
+        );
+        match learned {
+            Ok(()) => Ok(()),
+            Err(refused) => {
+                self.rules.empty(place);
+                Err(refused)
+            }
+        }
     }
 }

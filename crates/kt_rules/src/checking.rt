@@ -1,4 +1,4 @@
-//! What is refused of the names of a rule line.
+//! The tests that the names of a rule line must pass.
 ghost use Rattle.std.specs.Prelude.{◌≡◌, ◌||◌, None, find, if◌then◌else◌, map, not, option_map};
 ghost use Rattle.std.specs.List.{list_all, list_any};
 ghost use Rattle.std.specs.Option.{option_or};
@@ -16,7 +16,7 @@ use crate::refused::{
 };
 use kt_text::{has_percent, match_pattern};
 
-// The first of the tests that fails.
+// The refusal of the first test that fails.
 #[tactic(auto, unfolding(crate::specs::RuleLine::line_refusal, crate::specs::RuleLine::first_refusal))]
 pub(crate) fn line_refusal(line: &Line) -> Option<Refusal<'_>>
     ensures { refusal_in result ≡ line_refusal line.now }
@@ -96,7 +96,7 @@ fn all_without_effect(targets: &[Name]) -> bool
         .all(|target| is_without_effect(target.as_slice()))
 }
 
-// Whether a target has a percent sign where it mustn't, or not where it must.
+// Whether a target has a percent sign in a static pattern rule or beside a target without one.
 #[tactic(auto, unfolding(crate::specs::RuleLine::mixes_patterns))]
 fn mixes_patterns(line: &Line) -> bool
     ensures { result ≡ mixes_patterns line.now }
@@ -117,7 +117,7 @@ fn all_percent(targets: &[Name]) -> bool
     targets.iter().all(|target| has_percent(target.as_slice()))
 }
 
-// Whether a target of a group can't be one.
+// Whether a group has a target that is special or has a percent sign.
 #[tactic(auto, unfolding(crate::specs::RuleLine::is_bad_group))]
 fn is_bad_group(line: &Line) -> bool
     ensures { result ≡ is_bad_group line.now }
@@ -134,7 +134,7 @@ fn any_ungroupable(targets: &[Name]) -> bool
     targets.iter().any(|target| is_special(target.as_slice()) || has_percent(target.as_slice()))
 }
 
-// What is refused of the targets, one after another.
+// The first refusal of a target.
 #[tactic(auto, unfolding(crate::specs::RuleLine::first_refusal))]
 fn first_target_refusal<'a>(pattern: &Option<Name>, targets: &'a [Name]) -> Option<Refusal<'a>>
     ensures { refusal_in result ≡ first_refusal (map (target_refusal pattern.now) targets.now) }
@@ -147,7 +147,7 @@ fn first_target_refusal<'a>(pattern: &Option<Name>, targets: &'a [Name]) -> Opti
     None
 }
 
-// What is refused of one target.
+// Why a target is refused, if it is.
 #[tactic(auto, unfolding(crate::specs::RuleLine::target_refusal))]
 fn target_refusal<'a>(pattern: &Option<Name>, target: &'a [u8]) -> Option<Refusal<'a>>
     ensures { refusal_in result ≡ target_refusal pattern.now target.now }

@@ -1,10 +1,10 @@
-//! Targets and what they need as values of their own.
+//! Owned copies of targets and their prerequisites.
 ghost use Rattle.std.specs.Prelude.{◌≡◌, IfOk};
-ghost use Rattle.kt_rules.specs.Entry.{stemmed, stemmed_names};
-ghost use Rattle.kt_rules.specs.Targets.{names_view, needs_view, target_view, targets_view};
+ghost use Rattle.kt_rules.specs.Entry.{stemmed};
+ghost use Rattle.kt_rules.specs.Targets.{listed_needs, names_view, needs_view, target_view, targets_view};
 
 use crate::entry::{Name, Needs, Stemmed, Target};
-use crate::name::stemmed_name;
+use crate::listed::ListedNeeds;
 use crate::needs::{NeededNames, NeedsView};
 use crate::target::{TargetView, Targets};
 use kt_list::Sequence;
@@ -30,7 +30,7 @@ fn copied_target(alloc: Global, target: TargetView<'_>) -> Result<Target, AllocE
     })
 }
 
-// What a static pattern gives to a target.
+// The stem of a target in a static pattern rule, and its prerequisites.
 fn given(alloc: Global, target: TargetView<'_>) -> Result<Option<Stemmed>, AllocError>
     ensures { IfOk result (λ given. given ≡ (target_view target.entry).stemmed) }
 {
@@ -40,32 +40,17 @@ fn given(alloc: Global, target: TargetView<'_>) -> Result<Option<Stemmed>, Alloc
     }
 }
 
-// What a static pattern gives for a stem.
-fn stemmed(alloc: Global, needs: &Needs, stem: &[u8]) -> Result<Stemmed, AllocError>
-    ensures { IfOk result (λ given. given ≡ stemmed needs.now stem.now) }
+// A stem with the prerequisites that it gives in a static pattern rule.
+fn stemmed<'a>(alloc: Global, needs: ListedNeeds<'a>, stem: &'a [u8]) -> Result<Stemmed, AllocError>
+    ensures { IfOk result (λ given. given ≡ stemmed (listed_needs needs.entry) stem.now) }
 {
     Ok(Stemmed {
         stem: Name::copied(alloc, stem)?,
-        needs: Needs {
-            prerequisites: stemmed_names(alloc, stem, needs.prerequisites.as_slice())?,
-            order_only: stemmed_names(alloc, stem, needs.order_only.as_slice())?,
-        },
+        needs: copied_needs(alloc, NeedsView::stemmed(needs, stem))?,
     })
 }
 
-// The names with the stem put in.
-#[tactic(auto, unfolding(crate::specs::Entry::stemmed_names))]
-fn stemmed_names(alloc: Global, stem: &[u8], names: &[Name]) -> Result<Sequence<Name>, AllocError>
-    ensures { IfOk result (λ list. list ≡ stemmed_names stem.now names.now) }
-{
-    let mut list = Vec::with_capacity(alloc, names.len())?;
-    for name in names {
-        list.push(Name::from(stemmed_name(alloc, name.as_slice(), stem)?))?;
-    }
-    Ok(Sequence::from(list))
-}
-
-/// A copy of what is needed.
+/// A copy of the prerequisites.
 pub(crate) fn copied_needs(alloc: Global, needs: NeedsView<'_>) -> Result<Needs, AllocError>
     ensures { IfOk result (λ copy. copy ≡ needs_view needs.entry) }
 {

@@ -1,4 +1,4 @@
-//! Texts cut at colons and separators that aren't quoted.
+//! Cuts texts at colons and separators that aren't quoted.
 ghost use Rattle.std.specs.Prelude.{◌≡◌, ◌≤◌, false, length, option_map};
 ghost use Rattle.kt_rules.specs.Names.{cut_place, is_cut, is_quotable};
 ghost use Rattle.kt_rules.specs.RuleLine.{colon_cut};
@@ -6,7 +6,7 @@ ghost use Rattle.kt_rules.specs.RuleLine.{colon_cut};
 use kt_text::is_separator;
 use memchr::memchr;
 
-/// What a text is cut at, where no backslash stands directly before it.
+/// What a text is cut at, unless a backslash is directly before it.
 #[derive(Clone, Copy, Debug, PartialEq, Eq)]
 pub(crate) enum Cut {
     /// At colons.
@@ -15,7 +15,7 @@ pub(crate) enum Cut {
     Separator,
 }
 
-// What stands before the first colon that isn't quoted, and after it. What follows a separator mostly has no colon.
+// The text before the first unquoted colon, and the text after it. The text after a separator mostly has no colon.
 pub(crate) fn colon_cut(text: &[u8]) -> Option<(&[u8], &[u8])>
     ensures { option_map (λ cut. (cut.0.now, cut.1.now)) result ≡ colon_cut text.now }
 {
@@ -37,7 +37,7 @@ fn unquoted_colon_cut(text: &[u8]) -> Option<(&[u8], &[u8])>
     Some((&text[..place], &text[place + 1..]))
 }
 
-// How many bytes stand before the first cut, or in a text without one.
+// The number of bytes before the first cut, or of the whole text if there is none.
 #[tactic(auto, unfolding(crate::specs::Names::cut_place))]
 pub(crate) fn cut_place(text: &[u8], cut: Cut) -> usize
     ensures value { result ≡ cut_place cut false text.now }
@@ -64,7 +64,7 @@ fn is_cut(cut: Cut, byte: u8) -> bool
     }
 }
 
-// Whether a backslash directly before it quotes the byte.
+// Whether a backslash directly before the byte quotes it.
 pub(crate) fn is_quotable(byte: u8) -> bool
     ensures { result ≡ is_quotable byte }
 {

@@ -1,9 +1,10 @@
-//! Rules as a makefile states them.
+//! Rules as a makefile writes them.
 ghost use Rattle.std.specs.Prelude.{◌≡◌, ◌<◌, ◌^◌, [], ◌∷◌, length, option_map, IfOk, OnErr, OnOk};
 ghost use Rattle.kt_rules.specs.Entry.{needs_for, no_needs, with_line};
 ghost use Rattle.kt_rules.specs.Targets.{needs_view, target_view, targets_view};
 
-use crate::needs::NeedsView;
+use crate::listed::{Listed, ListedNeeds};
+use crate::needs::{NeedsView, shared_needs};
 use crate::place::Place;
 use crate::target::{TargetView, Targets};
 use kt_list::{Sequence, Text};
@@ -18,22 +19,22 @@ pub type Name = Text;
 pub enum Kind {
     /// A rule for each target, which the other rules of that target join (`:`).
     SingleColon,
-    /// A rule for each target, beside its other rules (`::`; GNU make manual, "Double-Colon Rules").
+    /// A rule for each target, separate from its other rules (`::`; GNU make manual, "Double-Colon Rules").
     DoubleColon,
     /// One rule that makes all targets (`&:`; GNU make manual, "Multiple Targets in a Rule").
     Group,
-    /// One rule for the names that its targets match (`:`; GNU make manual, "Pattern Rules").
+    /// One rule for all names that match its targets (`:`; GNU make manual, "Pattern Rules").
     Pattern,
-    /// The same, its prerequisites made by no rule that is searched for (`::`; GNU make manual,
-    /// "Match-Anything Pattern Rules").
+    /// The same, but no implicit rule is searched for to make its prerequisites (`::`; GNU make manual, "Match-Anything
+    /// Pattern Rules").
     TerminalPattern,
 }
 
-/// What a target needs, in order and with repeats.
+/// The prerequisites of a target, in order and with repeats.
 #[derive(Debug, Drop)]
 pub struct Needs {
     pub prerequisites: Sequence<Name>,
-    /// What stands after `|` (GNU make manual, "Types of Prerequisites").
+    /// The prerequisites after `|` (GNU make manual, "Types of Prerequisites").
     pub order_only: Sequence<Name>,
 }
 
@@ -48,11 +49,11 @@ impl Needs {
     }
 }
 
-/// What a static pattern gives to a target (GNU make manual, "Static Pattern Rules").
+/// The stem and prerequisites of a target in a static pattern rule (GNU make manual, "Static Pattern Rules").
 #[derive(Debug, Drop)]
 pub struct Stemmed {
     pub stem: Name,
-    /// With the stem put in.
+    /// With the stem put in for the percent sign.
     pub needs: Needs,
 }
 
@@ -60,7 +61,7 @@ pub struct Stemmed {
 #[derive(Debug, Drop)]
 pub struct Target {
     pub name: Name,
-    /// What the static pattern gives it, if the entry has one.
+    /// The stem and prerequisites from the static pattern, if the entry has one.
     pub stemmed: Option<Stemmed>,
 }
 
@@ -73,15 +74,15 @@ pub struct RecipeLine {
 
 /// A rule line with its recipe.
 ///
-/// An entry without targets makes nothing. Special targets stand among the others.
+/// An entry without targets makes nothing. Special targets are among the others.
 #[derive(Drop)]
 pub struct Entry {
     pub(crate) alloc: Global,
     pub(crate) kind: Kind,
     pub(crate) targets: Sequence<Name>,
-    /// A static pattern.
+    /// The target pattern of a static pattern rule.
     pub(crate) pattern: Option<Name>,
-    /// Where there is a static pattern, without the stem.
+    /// In a static pattern rule, before the stem is put in.
     pub(crate) needs: Needs,
     pub(crate) recipe: Option<Vec<RecipeLine>>,
     pub(crate) place: Place,
@@ -98,50 +99,36 @@ impl Model for Entry {
 }
 
 impl Entry {
-    pub(crate) fn alloc(&self) -> Global {
-        self.alloc
-    }
-
-    /// How it makes its targets.
+    /// How the entry makes its targets.
     pub fn kind(&self) -> Kind
         ensures { result ≡ self.now.kind }
     {
         self.kind
     }
 
-    /// Its targets, in order and without repeats.
+    /// The targets, in order and without repeats.
     pub fn targets(&self) -> Targets<'_>
         ensures all { targets_view result ≡ self.now.targets }
         ensures few { length self.now.targets < 2 ^ 63 }
     {
         Targets {
-            names: self.targets.as_slice(),
+            names: Listed::Own(self.targets.as_slice()),
             pattern: &self.pattern,
-            needs: &self.needs,
+            needs: ListedNeeds::of(&self.needs),
         }
     }
 
-    /// What one of its targets needs.
+    /// The prerequisites of one of the targets.
     pub fn needs<'a>(&'a self, target: TargetView<'a>) -> NeedsView<'a>
         ensures { needs_view result ≡ needs_for self.now (target_view target.entry) }
     {
         match target.stem() {
             Some(stem) => NeedsView::stemmed(target.needs, stem),
-            None => self.shared_needs(),
+            None => shared_needs(&self.pattern, ListedNeeds::of(&self.needs)),
         }
     }
 
-    // What its targets need that no static pattern gives anything.
-    pub(crate) fn shared_needs(&self) -> NeedsView<'_>
-        ensures { needs_view result ≡ self.now.needs }
-    {
-        match &self.pattern {
-            None => NeedsView::of(&self.needs),
-            Some(_) => NeedsView::none(),
-        }
-    }
-
-    /// The lines of its recipe, if it has one.
+    /// The lines of the recipe, if there is one.
     pub fn recipe(&self) -> Option<&[RecipeLine]>
         ensures { option_map (λ lines. lines.now) result ≡ self.now.recipe }
     {
@@ -151,14 +138,14 @@ impl Entry {
         }
     }
 
-    /// The place of its rule line.
+    /// The place of the rule line.
     pub fn place(&self) -> &Place
         ensures { result.now ≡ self.now.place }
     {
         &self.place
     }
 
-    /// Adds a line at the end of the recipe, which there is from then on.
+    /// Adds a line to the end of the recipe, which is created if there is none.
     pub fn push(&mut self, text: Sequence<u8>, place: Place) -> Result<(), AllocError>
         ensures pushed { OnOk result (self.new ≡ with_line self.old (record { text = text; place = place })) }
         ensures refused { OnErr result (self.new ≡ self.old) }
@@ -172,7 +159,7 @@ impl Entry {
     }
 }
 
-// The lines of a recipe that begins.
+// A recipe with its first line.
 pub(crate) fn first_line(alloc: Global, line: RecipeLine) -> Result<Vec<RecipeLine>, AllocError>
     ensures { IfOk result (λ lines. lines.items ≡ line ∷ []) }
 {

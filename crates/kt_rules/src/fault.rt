@@ -1,4 +1,4 @@
-//! What is refused of a rule.
+//! Why a rule is refused.
 ghost use Rattle.std.specs.Prelude.{◌≡◌};
 ghost use Rattle.kt_rules.specs.declared.fault.RuleFault.TheVariants.{Memory};
 
@@ -8,20 +8,20 @@ use kt_list::Sequence;
 use std::alloc::AllocError;
 use thiserror::Error;
 
-/// Why a rule wasn't taken.
+/// Why a rule is refused.
 #[derive(Debug, Drop, Error)]
 pub enum RuleFault {
-    /// Memory was refused.
+    /// Out of memory.
     #[error("out of memory")]
     Memory,
-    /// The makefile is at fault.
+    /// The makefile has a fault.
     #[error("{told} [E{number:02}]", told = BStr::new(.words.as_slice()))]
     Refused {
-        /// The number that a fault line ends with, as 5 of `[E05]`.
+        /// The number at the end of the fault line, such as 5 in `[E05]`.
         number: u8,
-        /// Where the rule stands.
+        /// The place of the rule line.
         place: Place,
-        /// What the fault line says, in bytes: names stand in it as they are.
+        /// The message of the fault line, as bytes: names are copied into it as they are.
         words: Sequence<u8>,
     },
 }

@@ -1,4 +1,4 @@
-//! The faults of makefiles, by their numbers and words.
+//! The faults of makefiles, with their numbers and messages.
 ghost use Rattle.std.specs.Prelude.{◌≡◌, IfOk};
 
 use std::alloc::{AllocError, Global};
@@ -46,21 +46,21 @@ pub enum FaultKind {
 impl FaultKind {
     ghost use Rattle.kt_rules.specs.FaultKinds.{number_of, row_of, wording, words_with};
 
-    /// The number that a fault line ends with, as 26 of `[E26]`.
+    /// The number at the end of the fault line, such as 26 in `[E26]`.
     pub fn number(self) -> u8
         ensures { result ≡ number_of self }
     {
         self.row().0
     }
 
-    /// What the fault line says, before the name that it is about if it is about one.
+    /// The message of the fault line, without the name at its end if it has one.
     pub fn words(self) -> &'static [u8]
         ensures { result.now ≡ wording self }
     {
         self.row().1
     }
 
-    /// The words and the name that they tell of, which is empty where they tell of none.
+    /// The message with its name, which is empty if the message has none.
     pub fn words_with(self, alloc: Global, name: &[u8]) -> Result<Vec<u8>, AllocError>
         ensures { IfOk result (λ text. text.items ≡ words_with self name.now) }
     {
@@ -69,7 +69,7 @@ impl FaultKind {
         Ok(text)
     }
 
-    // The table of faults: the number and the words of each. A number is never given anew; there is no 25.
+    // The number and message of each fault. A number is never used for another fault; there is no 25.
     fn row(self) -> (u8, &'static [u8])
         ensures { (result.0, result.1.now) ≡ row_of self }
     {

@@ -9,7 +9,7 @@ use crate::refusal::Refusal;
 use crate::written::{first_word, without_outer_separators};
 use kt_text::has_percent;
 
-/// What stands between the targets of a rule line and what they need.
+/// The separator between the targets of a rule line and the prerequisites.
 #[derive(Clone, Copy, Debug, PartialEq, Eq)]
 pub(crate) enum Separator {
     /// `:`
@@ -25,12 +25,12 @@ pub(crate) enum Separator {
 pub(crate) struct Head<'a> {
     pub(crate) separator: Separator,
     pub(crate) targets: &'a [u8],
-    /// The word of a static pattern.
+    /// The target pattern of a static pattern rule.
     pub(crate) pattern: Option<&'a [u8]>,
     pub(crate) needs: &'a [u8],
 }
 
-// The parts of a head, or what is refused of it.
+// The parts of a head, or why it is refused.
 #[tactic(auto, unfolding(crate::specs::RuleLine::head_of))]
 pub(crate) fn cut_head(text: &[u8]) -> Result<Head<'_>, Refusal<'_>>
     ensures { heads_view result ≡ head_of text.now }
@@ -41,7 +41,7 @@ pub(crate) fn cut_head(text: &[u8]) -> Result<Head<'_>, Refusal<'_>>
     }
 }
 
-// By what stands before the separator and after its first colon.
+// The parts of a head, from the text before its first colon and the text after it.
 fn head_round<'a>(before: &'a [u8], after: &'a [u8]) -> Result<Head<'a>, Refusal<'a>>
     ensures { heads_view result ≡ head_round before.now after.now }
 {
@@ -53,7 +53,7 @@ fn head_round<'a>(before: &'a [u8], after: &'a [u8]) -> Result<Head<'a>, Refusal
     }
 }
 
-// What stands before the mark of a group.
+// The targets of a group: the text before the `&`.
 #[tactic(auto, unfolding(crate::specs::RuleLine::group_targets))]
 fn group_targets(before: &[u8]) -> Option<&[u8]>
     ensures { option_map (λ targets. targets.now) result ≡ group_targets before.now }
@@ -65,7 +65,7 @@ fn group_targets(before: &[u8]) -> Option<&[u8]>
     }
 }
 
-// What stands after the second colon of two.
+// The text after the second of two colons.
 #[tactic(auto, unfolding(crate::specs::RuleLine::after_double))]
 fn after_double(after: &[u8]) -> Option<&[u8]>
     ensures { option_map (λ rest. rest.now) result ≡ after_double after.now }
@@ -77,7 +77,7 @@ fn after_double(after: &[u8]) -> Option<&[u8]>
     }
 }
 
-// A group: no further colon is allowed.
+// The parts of a group's head, in which no further colon is allowed.
 fn group_head<'a>(targets: &'a [u8], rest: &'a [u8]) -> Result<Head<'a>, Refusal<'a>>
     ensures { heads_view result ≡ group_head targets.now rest.now }
 {
@@ -92,7 +92,7 @@ fn group_head<'a>(targets: &'a [u8], rest: &'a [u8]) -> Result<Head<'a>, Refusal
     })
 }
 
-// By what stands after the separator: one more colon divides off a static pattern.
+// The parts of a head, from the text after the separator: with one more colon it is a static pattern rule.
 fn head_after<'a>(
     separator: Separator,
     targets: &'a [u8],
@@ -122,7 +122,7 @@ fn head_after<'a>(
     }
 }
 
-// The word of a static pattern's part, if it has just one, with a percent sign.
+// The target pattern of a static pattern rule: the only word of its part, with a percent sign.
 fn pattern_word(part: &[u8]) -> Option<&[u8]>
     ensures { option_map (λ word. word.now) result ≡ pattern_word (written_words part.now) }
 {

@@ -1,4 +1,4 @@
-//! What was noted at names.
+//! Lists of items, each at a name.
 ghost use Rattle.std.specs.Prelude.{◌≡◌, ◌++◌, ◌∷◌, [], OnErr, OnOk, bytes_eq, if◌then◌else◌};
 ghost use Rattle.kt_text.specs.Words.{Text};
 ghost use Rattle.kt_rules.specs.Indexes.{noted_at};
@@ -7,7 +7,7 @@ use crate::entry::Name;
 use indexmap::IndexMap;
 use std::alloc::{AllocError, Global};
 
-/// What was noted at each name, in the order in which it was noted.
+/// A list of items at each name, in the order in which they were noted.
 #[derive(Drop)]
 pub struct Index<T: Copy> {
     alloc: Global,
@@ -15,7 +15,7 @@ pub struct Index<T: Copy> {
 }
 
 impl<T: Copy> Index<T> {
-    /// Nothing is noted at any name.
+    /// An index without items.
     pub fn new(alloc: Global) -> Index<T>
         ensures { (name : Text) → noted_at result name ≡ [] }
     {
@@ -25,7 +25,7 @@ impl<T: Copy> Index<T> {
         }
     }
 
-    /// What was noted at a name.
+    /// The items at a name.
     pub fn noted(&self, name: &[u8]) -> &[T]
         ensures { result.now ≡ noted_at self.now name.now }
     {
@@ -35,7 +35,7 @@ impl<T: Copy> Index<T> {
         }
     }
 
-    /// Notes one thing more at a name. An `Err` is out of memory, and leaves the index as it was.
+    /// Adds an item at a name. An `Err` is out of memory, and leaves the index as it was.
     pub fn note(&mut self, name: &[u8], item: T) -> Result<(), AllocError>
         ensures noted { OnOk result ((other : Text) → noted_at self.new other ≡ noted_at self.old other
             ++ (if bytes_eq other name.now then item ∷ [] else [])) }
@@ -47,7 +47,7 @@ impl<T: Copy> Index<T> {
     }
 }
 
-// Adds an item. Most lists have one: the first takes no more room than that.
+// Adds an item. Most lists have one item, so the first takes no more room than that.
 fn add<T: Copy>(items: &mut Vec<T>, item: T) -> Result<(), AllocError>
     ensures added { OnOk result (items.new.items ≡ items.old.items ++ item ∷ []) }
     ensures refused { OnErr result (items.new.items ≡ items.old.items) }

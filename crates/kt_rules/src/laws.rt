@@ -1,11 +1,11 @@
-//! Laws of the definitions. These functions do nothing: their contracts are what counts.
+//! Laws of the definitions. These functions do nothing: only their contracts matter.
 ghost use Rattle.kt_rules.specs.Book.{NumbersTellRules};
 ghost use Rattle.kt_rules.specs.BookRows.{RowsOfAdding, RowsOfAnswers, RowsOfPatternRules, RowsOfSuffixRules};
 ghost use Rattle.kt_rules.specs.Cuts.{CutsAtFirstColon, DropsDots};
 ghost use Rattle.kt_rules.specs.HeadWords.{OuterLaw, UnquotedLaw, WrittenWordsLaw};
 ghost use Rattle.kt_rules.specs.Rows.{RowsOfLines, RowsOfNames, RowsOfRefusals};
 
-/// Worked rule lines that are taken.
+/// Worked rule lines that are accepted.
 pub fn rows_of_lines()
     ensures { RowsOfLines }
 {}
@@ -35,37 +35,37 @@ pub fn rows_of_adding()
     ensures { RowsOfAdding }
 {}
 
-/// Worked answers of a book.
+/// Worked lookups in a book.
 pub fn rows_of_answers()
     ensures { RowsOfAnswers }
 {}
 
-/// The colon that divides a rule line is the first without a backslash directly before it.
+/// The colon that ends the targets of a rule line is the first without a backslash directly before it.
 pub fn first_colon()
     ensures { CutsAtFirstColon }
 {}
 
-/// Each leading `./` of a name goes with all slashes after it, and nothing else.
+/// Each leading `./` of a name is removed with all slashes after it, and nothing else is.
 pub fn leading_dots()
     ensures { DropsDots }
 {}
 
-/// The words of a head and the separators round them are its text, and no other words are.
+/// A head consists of its words and the separators round them, and of no other words.
 pub fn words_of_a_head()
     ensures { WrittenWordsLaw }
 {}
 
-/// Without its outer separators a text is what stands between them; a quoted one is none of them.
+/// Removing the outer separators of a text leaves what is between them; a quoted separator stays.
 pub fn outer_separators()
     ensures { OuterLaw }
 {}
 
-/// Unquoting drops each backslash directly before a space or colon, and nothing else.
+/// Unquoting removes each backslash directly before a space or colon, and nothing else.
 pub fn unquoting()
     ensures { UnquotedLaw }
 {}
 
-/// The rules at a target's numbers are those of its explicit rules, one by one.
+/// The rules at a target's numbers are its explicit rules, one by one.
 pub fn numbers_of_explicit_rules()
     ensures { NumbersTellRules }
 {}

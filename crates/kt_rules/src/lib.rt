@@ -12,6 +12,7 @@ mod head;
 mod index;
 pub mod laws;
 mod line;
+mod listed;
 mod name;
 mod needs;
 mod place;
@@ -21,7 +22,7 @@ mod refused;
 mod target;
 mod written;
 
-pub use book::{Book, Entries, Explicit, Pattern, TargetRule, Warnings};
+pub use book::{Book, BookNames, BookRule, Entries, Explicit, Pattern, TargetRule, Warnings};
 pub use entry::{Entry, Kind, Name, Needs, RecipeLine, Stemmed, Target};
 pub use fault::RuleFault;
 pub use fault_kind::FaultKind;

@@ -20,13 +20,13 @@ pub(crate) struct Line {
     pub(crate) separator: Separator,
     /// Without repeats.
     pub(crate) targets: Sequence<Name>,
-    /// A static pattern.
+    /// The target pattern of a static pattern rule.
     pub(crate) pattern: Option<Name>,
     pub(crate) needs: Needs,
 }
 
 impl Line {
-    /// A line that names nothing.
+    /// A line without names.
     pub(crate) fn empty(alloc: Global) -> Line
         ensures { result ≡ empty_line }
     {
@@ -61,7 +61,7 @@ fn targets(alloc: Global, text: &[u8]) -> Result<Sequence<Name>, AllocError>
     }
 }
 
-// The word of a text that has just one.
+// The only word of a text, or `None` if there are others or none.
 fn only_word(text: &[u8]) -> Option<&[u8]>
     ensures { IfSome result (λ word. written_words text.now ≡ word.now ∷ []) }
 {
@@ -95,7 +95,7 @@ fn several_targets(alloc: Global, text: &[u8]) -> Result<Sequence<Name>, AllocEr
     Ok(Sequence::from(list))
 }
 
-// The name of a static pattern.
+// The name of a static pattern, if there is one.
 fn pattern(alloc: Global, word: Option<&[u8]>) -> Result<Option<Name>, AllocError>
     ensures { IfOk result (λ name. name ≡ option_map (λ text. name_of text.now) word.entry) }
 {
@@ -105,12 +105,12 @@ fn pattern(alloc: Global, word: Option<&[u8]>) -> Result<Option<Name>, AllocErro
     }
 }
 
-// The names of prerequisites, those after the first word `|` order-only.
+// The names of prerequisites; those after the first word `|` are order-only.
 #[tactic(auto, using(crate::proofs::NeedsLemmas::needs_from_start), unfolding(crate::proofs::NeedsLemmas::needs_from))]
 fn needs(alloc: Global, text: &[u8]) -> Result<Needs, AllocError>
     ensures { IfOk result (λ needs. needs ≡ needs_of (written_words text.now)) }
 {
-    // Most words have one space before them: no room is taken for more names than there are.
+    // Most words have one space before them, so counting spaces reserves room for as many names as there are.
     let mut prerequisites = Vec::with_capacity(alloc, spaces(text))?;
     let mut order_only = Vec::new(alloc);
     let mut after_bar = false;

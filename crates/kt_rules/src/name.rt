@@ -11,7 +11,7 @@ use std::alloc::{AllocError, Global};
 
 /// The name without its leading `./`.
 ///
-/// Slashes after a `./` go with it, and this again and again. A name of which nothing is left is
+/// The slashes after a `./` are removed with it, as often as the name begins with `./`. If nothing remains, the name is
 /// `./`. Takes no memory.
 #[tactic(auto, unfolding(crate::specs::Names::without_dots))]
 pub fn without_dots(name: &[u8]) -> &[u8]
@@ -25,7 +25,7 @@ pub fn without_dots(name: &[u8]) -> &[u8]
     }
 }
 
-// What is left of a name without its leading `./`.
+// The rest of a name after its leading `./`.
 fn after_dots(name: &[u8]) -> &[u8]
     ensures { result.now ≡ after_dots false name.now }
 {
@@ -36,7 +36,7 @@ fn after_dots(name: &[u8]) -> &[u8]
     left
 }
 
-// What stands after one leading `./` and the slashes after it.
+// The rest of a name after one leading `./` and the slashes after it.
 fn past_dot(name: &[u8]) -> Option<&[u8]>
     ensures { MatchOption result (after_dots false name.now ≡ name.now)
         (λ rest. (after_dots false name.now ≡ after_dots false rest.now) × (length rest.now < length name.now)) }
@@ -54,7 +54,7 @@ fn leading_slashes(text: &[u8]) -> usize
     text.iter().take_while(|byte| **byte == b'/').count()
 }
 
-// The name that a word spells.
+// The name that a word spells, unquoted and without leading `./`.
 #[tactic(auto, unfolding(crate::specs::Names::name_of))]
 pub(crate) fn name_of(alloc: Global, word: &[u8]) -> Result<Vec<u8>, AllocError>
     ensures { IfOk result (λ name. name.items ≡ name_of word.now) }
@@ -62,7 +62,7 @@ pub(crate) fn name_of(alloc: Global, word: &[u8]) -> Result<Vec<u8>, AllocError>
     dotless(alloc, unquoted(alloc, word)?)
 }
 
-// The same, short names without memory of their own. Few words have a backslash.
+// The same as a `Name`, which holds a short text without an allocation. Few words have a backslash.
 #[tactic(auto, using(crate::proofs::BackslashLemmas::names_itself))]
 pub(crate) fn named(alloc: Global, word: &[u8]) -> Result<Name, AllocError>
     ensures { IfOk result (λ name. name ≡ name_of word.now) }
@@ -74,7 +74,7 @@ pub(crate) fn named(alloc: Global, word: &[u8]) -> Result<Name, AllocError>
     }
 }
 
-/// The text without its leading `./`, as [`without_dots`] has it.
+/// A copy of the text without its leading `./`, as in [`without_dots`].
 #[tactic(auto, unfolding(crate::specs::Names::without_dots))]
 pub fn dotless(alloc: Global, text: Vec<u8>) -> Result<Vec<u8>, AllocError>
     ensures { IfOk result (λ name. name.items ≡ without_dots text.items) }
@@ -100,7 +100,7 @@ fn unquoted(alloc: Global, word: &[u8]) -> Result<Vec<u8>, AllocError>
 pub(crate) fn has_backslash(text: &[u8]) -> bool
     ensures { result ≡ list_any (λ byte. byte == 92) text.now }
 {
-    // Names are short: a loop is quicker than the groups of bytes in which `any` tests.
+    // Names are short: a loop is faster than `any`, which tests bytes in groups.
     for byte in text {
         if *byte == b'\\' {
             return true;
@@ -125,7 +125,7 @@ fn without_quotes(alloc: Global, word: &[u8]) -> Result<Vec<u8>, AllocError>
     Ok(text)
 }
 
-// Whether a backslash before the text quotes a byte.
+// Whether a backslash directly before the text would quote its first byte.
 fn begins_quotable(text: &[u8]) -> bool
     ensures { result ≡ begins_quotable text.now }
 {
@@ -135,7 +135,7 @@ fn begins_quotable(text: &[u8]) -> bool
     }
 }
 
-// The name that a prerequisite of a static pattern is for a stem.
+// A prerequisite of a static pattern rule, with the stem put in.
 pub(crate) fn stemmed_name(
     alloc: Global,
     pattern: &[u8],

@@ -8,7 +8,7 @@ use std::alloc::AllocError;
 /// A logical line of a file.
 #[derive(Debug, Drop)]
 pub struct Place {
-    /// The file's name as it was asked for.
+    /// The file's name as it was requested.
     pub file: Shared<u8>,
     /// The number of the logical line's first physical line, from 1.
     pub line: u64,
@@ -18,7 +18,7 @@ impl Place {
     ghost use Rattle.kt_text.specs.Begun.{HasBegun};
     ghost use Rattle.kt_rules.specs.Places.{place_text};
 
-    /// The same place; the file's name isn't copied.
+    /// The same place; the file's name is shared, not copied.
     pub fn share(&self) -> Result<Place, AllocError>
         ensures { IfOk result (λ place. place ≡ self.now) }
     {
@@ -28,7 +28,7 @@ impl Place {
         })
     }
 
-    /// Appends `FILE:LINE`. Where memory is refused, the text holds a prefix of it more.
+    /// Appends `FILE:LINE`. If memory runs out, a prefix of it may have been appended.
     pub fn append_to(&self, text: &mut Vec<u8>) -> Result<(), AllocError>
         ensures appended { OnOk result (text.new.items ≡ text.old.items ++ place_text self.now) }
         ensures refused { OnErr result (HasBegun (place_text self.now) text.old.items text.new.items) }

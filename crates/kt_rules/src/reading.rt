@@ -1,4 +1,4 @@
-//! Rule lines read as entries.
+//! Reads rule lines as entries.
 ghost use Rattle.std.specs.Prelude.{◌≡◌, option_map, IfOk};
 ghost use Rattle.kt_text.specs.Words.{words_of};
 ghost use Rattle.kt_rules.specs.Refusals.{Answers};
@@ -20,10 +20,10 @@ use std::alloc::{AllocError, Global};
 /// one. A line without targets is an entry without targets. POSIX.1-2024 make, "Target Rules"; GNU
 /// make manual, "Rule Syntax".
 ///
-/// Refused are a line without `:` or with too many, with targets of which only some are patterns, or with a static
-/// pattern and a target that is a pattern itself (5); names that kati doesn't take (20, 22); a bad static pattern, or
-/// a target that it doesn't match (21); and a group of special targets or patterns, by two colons or with a static
-/// pattern (35).
+/// Refuses, with the number of the fault: a line without `:` or with too many, with targets of which only some are
+/// patterns, or with a static pattern and a target that is a pattern itself (5); names that kati doesn't accept (20,
+/// 22); a bad static pattern, or a target that it doesn't match (21); a group of special targets or patterns, with two
+/// colons or with a static pattern (35).
 pub fn read_rule(
     alloc: Global,
     text: &[u8],
@@ -84,7 +84,7 @@ fn entry(
     })
 }
 
-// How a line makes its targets.
+// The kind of a rule, from its separator and whether its targets have a percent sign.
 fn kind_of(separator: Separator, has_percent: bool) -> Kind
     ensures { result ≡ kind_of separator has_percent }
 {
@@ -97,7 +97,7 @@ fn kind_of(separator: Separator, has_percent: bool) -> Kind
     }
 }
 
-// The recipe that begins after the semicolon of the rule line.
+// The recipe that begins after the semicolon of the rule line, if there is one.
 fn recipe_of(
     alloc: Global,
     recipe: Option<Sequence<u8>>,

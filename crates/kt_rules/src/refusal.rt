@@ -1,4 +1,4 @@
-//! What is refused of a rule, without memory.
+//! Why a rule is refused; a refusal needs no memory.
 ghost use Rattle.std.specs.Prelude.{◌≡◌};
 ghost use Rattle.kt_rules.specs.Refusals.{ReportsFault, fault_at, refusal_view, kind_and_name};
 
@@ -8,7 +8,7 @@ use crate::place::Place;
 use kt_list::Sequence;
 use std::alloc::Global;
 
-/// What is wrong with a rule, with the name in its words.
+/// What is wrong with a rule, and the name that the message is about.
 #[derive(Clone, Copy, Debug)]
 pub(crate) enum Refusal<'a> {
     MissingSeparator,
@@ -18,12 +18,12 @@ pub(crate) enum Refusal<'a> {
     BadGroup,
     /// A target has rules of one colon and of two.
     BothColons(&'a [u8]),
-    /// A target has two recipes, of which one is a group's.
+    /// A target has two recipes, one of them a group's.
     TwoRecipes(&'a [u8]),
 }
 
 impl<'a> Refusal<'a> {
-    /// The fault at a place.
+    /// The fault for a rule at a place.
     pub(crate) fn at(self, alloc: Global, place: Place) -> RuleFault
         ensures { ReportsFault result (fault_at place (refusal_view self.entry)) }
     {
@@ -38,7 +38,7 @@ impl<'a> Refusal<'a> {
         }
     }
 
-    // The kind of its fault, and the name in its words, which is empty where there is none.
+    // The kind of the fault, and the name in its message, which is empty if the message has none.
     fn kind_and_name(self) -> (FaultKind, &'a [u8])
         ensures { (result.0, result.1.now) ≡ kind_and_name (refusal_view self.entry) }
     {

@@ -10,10 +10,10 @@ ghost use Rattle.kt_rules.specs.inner.Telling.{begins_with_dot, is_telling, tell
 use crate::name::has_backslash;
 use memchr::memmem;
 
-/// The name that orders prerequisites in GNU make, which kati doesn't take.
+/// The name that orders prerequisites in GNU make, which kati refuses.
 pub(crate) const WAIT: &[u8] = b".WAIT";
 
-// Whether kati doesn't take the name. Few names hold a byte that each such name has.
+// Whether kati refuses the name. Each refused name has one of a few bytes, which few names have.
 #[tactic(auto, using(crate::proofs::RefusedLemmas::plain_name_taken))]
 pub(crate) fn is_refused_name(name: &[u8]) -> bool
     ensures { result ≡ is_refused_name name.now }
@@ -24,7 +24,7 @@ pub(crate) fn is_refused_name(name: &[u8]) -> bool
 fn has_telling_byte(name: &[u8]) -> bool
     ensures { result ≡ list_any is_telling name.now }
 {
-    // Names are short: a loop is quicker than the groups of bytes in which `any` tests.
+    // Names are short: a loop is faster than `any`, which tests bytes in groups.
     for byte in name {
         if is_telling(*byte) {
             return true;
@@ -33,8 +33,8 @@ fn has_telling_byte(name: &[u8]) -> bool
     false
 }
 
-// The tilde is the last of them: small letters, of which most names are, are recognised by one
-// comparison.
+// The tilde is the last of these bytes: one comparison rules out the others for small letters, which most bytes of
+// names are.
 #[tactic(auto, using(crate::proofs::RefusedLemmas::last_tells, crate::proofs::RefusedLemmas::others_tell))]
 fn is_telling(byte: u8) -> bool
     ensures { result ≡ is_telling byte }
@@ -53,7 +53,7 @@ fn tells_early(byte: u8) -> bool
     matches!(byte, b'*' | b'?' | b'[' | b'\\' | b')')
 }
 
-// The same for a name with such a byte.
+// The same for a name that has such a byte.
 #[tactic(auto, unfolding(crate::specs::Names::is_refused_name))]
 fn is_refused(name: &[u8]) -> bool
     ensures { result ≡ is_refused_name name.now }
@@ -74,7 +74,7 @@ fn is_wildcard(byte: u8) -> bool
     matches!(byte, b'*' | b'?' | b'[')
 }
 
-// Whether a quoted percent sign stands in the name. Few names have a backslash.
+// Whether the name has a quoted percent sign. Few names have a backslash.
 #[tactic(auto, using(crate::proofs::BackslashLemmas::quotes_no_percent))]
 fn quotes_percent(name: &[u8]) -> bool
     ensures { result ≡ quotes_percent name.now }
@@ -88,7 +88,7 @@ fn finds_quoted_percent(name: &[u8]) -> bool
     memmem::find(name, b"\\%").is_some()
 }
 
-// Whether the name is that of a member of an archive.
+// Whether the name is that of an archive member.
 #[tactic(auto, unfolding(crate::specs::Names::is_member))]
 fn is_member(name: &[u8]) -> bool
     ensures { result ≡ is_member name.now }
@@ -141,7 +141,7 @@ fn begins_with_dot(name: &[u8]) -> bool
     matches!(name, [b'.', ..])
 }
 
-// Whether the name is that of a special target that kati doesn't take. Few names begin with a dot.
+// Whether the name is that of a special target that kati refuses. Few names begin with a dot.
 #[tactic(auto, using(crate::proofs::SpecialLemmas::plain_target))]
 pub(crate) fn is_refused_target(name: &[u8]) -> bool
     ensures { result ≡ is_refused_target name.now }

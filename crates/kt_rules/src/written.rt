@@ -5,7 +5,7 @@ ghost use Rattle.kt_rules.specs.Names.{end_place, without_outer_separators, writ
 use crate::cutting::{Cut, cut_place};
 use kt_text::{stripped_start, trailing_separators};
 
-/// The first word of a text that is cut at separators which aren't quoted, and what stands after it.
+/// The first word of a text that is cut at unquoted separators, and the text after it.
 pub(crate) fn first_word(text: &[u8]) -> Option<(&[u8], &[u8])>
     ensures { MatchOption result (written_words text.now ≡ [])
         (λ cut. written_words text.now ≡ cut.0.now ∷ written_words cut.1.now) }
@@ -17,7 +17,7 @@ pub(crate) fn first_word(text: &[u8]) -> Option<(&[u8], &[u8])>
     Some(words.split_at(cut_place(words, Cut::Separator)))
 }
 
-// The text without the separators round it that aren't quoted.
+// The text without the unquoted separators at both ends.
 #[tactic(auto, unfolding(crate::specs::Names::without_outer_separators))]
 pub(crate) fn without_outer_separators(text: &[u8]) -> &[u8]
     ensures { result.now ≡ without_outer_separators text.now }
@@ -26,7 +26,7 @@ pub(crate) fn without_outer_separators(text: &[u8]) -> &[u8]
     &words[..end_place(words)]
 }
 
-// How many bytes stand before the separators at the end, of which the first may be quoted.
+// The number of bytes before the separators at the end, of which the first may be quoted.
 fn end_place(text: &[u8]) -> usize
     ensures value { result ≡ end_place text.now }
     ensures bound { result ≤ length text.now }

@@ -252,6 +252,26 @@ fn finds_phony_names(rt: HostRuntime) -> Result<(), Fail> {
 }
 
 #[test]
+fn finds_known_names(rt: HostRuntime) -> Result<(), Fail> {
+    answers(
+        &rt,
+        rt.alloc(),
+        &[
+            (b"a: b | c", Question::IsKnown(b"a"), b"yes"),
+            (b"a: b | c", Question::IsKnown(b"b"), b"yes"),
+            (b"a: b | c", Question::IsKnown(b"c"), b"yes"),
+            (b"a: b | c", Question::IsKnown(b"d"), b"no"),
+            (b".PHONY: p", Question::IsKnown(b"p"), b"yes"),
+            (b"x.o: %.o: %.c h", Question::IsKnown(b"x.c"), b"yes"),
+            (b"x.o: %.o: %.c h", Question::IsKnown(b"%.c"), b"no"),
+            (b"%.o: %.c x", Question::IsKnown(b"x"), b"no"),
+            (b".c.o:;cc", Question::IsKnown(b".c.o"), b"no"),
+        ],
+    )?;
+    Ok(())
+}
+
+#[test]
 fn lists_suffixes(rt: HostRuntime) -> Result<(), Fail> {
     answers(
         &rt,
@@ -451,5 +471,27 @@ fn stays_as_it_was_where_it_refuses(rt: HostRuntime) -> Result<(), Fail> {
     assert!(rt; takes(alloc, &mut book, b".x.o:;cc", 1));
     assert!(rt; !takes(alloc, &mut book, b"b .x.o .PHONY .SUFFIXES:: .x;y", 2));
     answers_by(&rt, alloc, &book, false);
+    Ok(())
+}
+
+#[test]
+fn tells_numbers(rt: HostRuntime) -> Result<(), Fail> {
+    answers(
+        &rt,
+        rt.alloc(),
+        &[
+            (b"a: b ./a c | d", Question::Numbers(b"a"), b"102|3."),
+            (
+                b"a b: c\nc: b\nb: d a | c",
+                Question::Numbers(b"b"),
+                b"2|.30|2.",
+            ),
+            (
+                b"x.o: %.o: %.c h ./h | ./%.h d",
+                Question::Numbers(b"x.o"),
+                b"-22|-4.",
+            ),
+        ],
+    )?;
     Ok(())
 }

@@ -1,6 +1,10 @@
 //! What books answer, as texts: their rules are a line each, the head, and a recipe after the first `;`.
 use crate::telling::{put_fault, put_needs, put_place};
-use kt_rules::{Book, Entry, Explicit, Name, NeedsView, Pattern, RuleFault, TargetRule, Warnings};
+use kt_list::Names;
+use kt_rules::{
+    Book, BookRule, Explicit, Name, NeededNames, NeedsView, Pattern, RuleFault, TargetRule,
+    Warnings,
+};
 use kt_rules_doubles::entry_of;
 use kt_testing::put;
 use std::alloc::{AllocError, Global};
@@ -49,6 +53,31 @@ fn put_explicit(told: &mut Vec<u8>, rules: Explicit) {
     }
 }
 
+/// The numbers of what the rules of a target need, one a byte.
+fn put_numbers(told: &mut Vec<u8>, book: &Book, target: &[u8]) {
+    for rule in book.explicit(target) {
+        put_numbers_of(told, book.name_table(), rule.needs().prerequisites());
+        put(told, b"|");
+        put_numbers_of(told, book.name_table(), rule.needs().order_only());
+        put(told, b".");
+    }
+}
+
+fn put_is_known(told: &mut Vec<u8>, book: &Book, name: &[u8]) {
+    if let Ok(names) = book.names() {
+        put(told, if names.contains(name) { b"yes" } else { b"no" });
+    }
+}
+
+fn put_numbers_of(told: &mut Vec<u8>, table: &Names, names: NeededNames) {
+    for name in names {
+        match name.number_in(table) {
+            Some(number) => put(told, &[b'0' + (number % 10) as u8]),
+            None => put(told, b"-"),
+        }
+    }
+}
+
 /// All entries with their targets, a star after each that is explicit.
 fn put_entries(told: &mut Vec<u8>, book: &Book) {
     for entry in book.entries() {
@@ -58,7 +87,7 @@ fn put_entries(told: &mut Vec<u8>, book: &Book) {
     }
 }
 
-fn put_targets(told: &mut Vec<u8>, book: &Book, entry: &Entry) {
+fn put_targets(told: &mut Vec<u8>, book: &Book, entry: BookRule<'_>) {
     for target in entry.targets() {
         put(told, target.name);
         put(
@@ -110,7 +139,11 @@ pub(crate) enum Question<'a> {
     Messages,
     Entries,
     Explicit(&'a [u8]),
+    /// The numbers of what a name's explicit rules need, in the book's table.
+    Numbers(&'a [u8]),
     IsPhony(&'a [u8]),
+    /// Whether the book makes a name known.
+    IsKnown(&'a [u8]),
     Suffixes,
     SuffixOf(&'a [u8]),
     Goal,
@@ -122,7 +155,9 @@ pub(crate) fn put_answer_to(alloc: Global, told: &mut Vec<u8>, book: &Book, ques
         Question::Messages => {}
         Question::Entries => put_entries(told, book),
         Question::Explicit(name) => put_explicit(told, book.explicit(name)),
+        Question::Numbers(name) => put_numbers(told, book, name),
         Question::IsPhony(name) => put(told, if book.is_phony(name) { b"yes" } else { b"no" }),
+        Question::IsKnown(name) => put_is_known(told, book, name),
         Question::Suffixes => put_suffixes(told, book.suffixes()),
         Question::SuffixOf(name) => put(told, book.suffix_of(name).unwrap_or(b"none")),
         Question::Goal => put(told, book.first_goal().unwrap_or(b"none")),

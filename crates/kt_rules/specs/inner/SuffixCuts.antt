@@ -16,11 +16,11 @@ use Rattle.kt_rules.specs.Suffixes.{is_bare, is_cut_at}
 abbrev pub is_number : List ℕ → ℕ → Bool
 is_number numbers number = list_any (nat_eq number) numbers
 
--- a number after others, if it isn't among them
+-- numbers with one more at the end, unless they have it already
 abbrev pub with_number : List ℕ → ℕ → List ℕ
 with_number numbers number = if is_number numbers number then numbers else numbers ++ number ∷ []
 
--- numbers with the lengths of names after them, as far as they aren't there
+-- numbers with the lengths of names added, each unless they have it already
 unfoldable pub lengths_with : List ℕ → List Text → List ℕ
 lengths_with lengths [] = lengths
 lengths_with lengths (name ∷ names) = lengths_with (with_number lengths (length name)) names
@@ -29,7 +29,7 @@ lengths_with lengths (name ∷ names) = lengths_with (with_number lengths (lengt
 abbrev pub HaveLengths : List Text → List ℕ → Type 0
 HaveLengths names lengths = (name : Text) → is_among names name ≡ true → is_number lengths (length name) ≡ true
 
--- the lengths of all names are among others, too
+-- the new lengths include the lengths of all names that the old ones include
 abbrev pub KeepLengths : List ℕ → List ℕ → Type 0
 KeepLengths old new = (names : List Text) → HaveLengths names old → HaveLengths names new
 
@@ -40,12 +40,12 @@ unfoldable pub first_cut : List Text → List ℕ → Text → Option ℕ
 first_cut suffixes lengths name =
     find (λ place. is_number lengths place && is_cut_at suffixes name place) (range_with_len 0 (length name))
 
--- the place of one length, if the name is so cut there
+-- the place after a first suffix of one length, if the name is cut into two suffixes there
 unfoldable pub cut_after : List Text → Text → ℕ → Option ℕ
 cut_after suffixes name front =
     find (λ place. nat_eq place front && is_cut_at suffixes name place) (range_with_len 0 (length name))
 
--- whether it is
+-- whether the name is cut there
 abbrev pub goes_on : List Text → Text → ℕ → Bool
 goes_on suffixes name front = nat_lt front (length name) && is_cut_at suffixes name front
 
@@ -56,12 +56,12 @@ unfoldable pub first_end : List Text → List ℕ → Text → Option ℕ
 first_end suffixes lengths name =
     position_from (λ suffix. is_number lengths (length suffix) && ends_with nat_eq name suffix) 0 suffixes
 
--- the number of that of one length
+-- the number of the suffix of one length that a name ends with
 unfoldable pub end_of_length : List Text → Text → ℕ → Option ℕ
 end_of_length suffixes name len =
     position_from (λ suffix. nat_eq (length suffix) len && ends_with nat_eq name suffix) 0 suffixes
 
--- the less of two numbers, of which either may be absent
+-- the smaller of two numbers, either of which may be absent
 abbrev pub earlier : Option ℕ → Option ℕ → Option ℕ
 earlier None other = other
 earlier (Some place) None = Some place
@@ -69,6 +69,6 @@ earlier (Some place) (Some next) = Some (min place next)
 
 -- ---- rules
 
--- whether the rule that stands at a spot has the form of a suffix rule
+-- whether the rule at a spot has the form of a suffix rule
 abbrev pub is_bare_at : List (Option Rule) → Spot → Bool
 is_bare_at slots spot = option_map_or is_bare (spot_rule slots spot) false

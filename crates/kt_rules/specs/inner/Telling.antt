@@ -1,4 +1,4 @@
--- Bytes by which names that aren't taken are recognised (kati's own).
+-- The bytes of which each refused name has one (kati's own).
 use Rattle.std.specs.Prelude.{ℕ, Bool, false, ◌==◌, ◌||◌, [], ◌∷◌}
 use Rattle.kt_text.specs.Words.{Text}
 use Rattle.kt_rules.specs.Names.{is_wildcard}
@@ -7,7 +7,7 @@ use Rattle.kt_rules.specs.Names.{is_wildcard}
 abbrev pub tells_early : ℕ → Bool
 tells_early byte = is_wildcard byte || byte == 92 || byte == 41
 
--- each name that isn't taken holds one of these, or a tilde
+-- each refused name has one of these, or a tilde
 abbrev pub is_telling : ℕ → Bool
 is_telling byte = tells_early byte || byte == 126
 

@@ -1,60 +1,63 @@
 //! The entries of a book, one after another.
-ghost use Rattle.std.specs.Prelude.{◌≡◌, ◌∷◌, [], MatchOption};
+ghost use Rattle.std.specs.Prelude.{◌≡◌, ◌∷◌, [], MatchOption, drop};
 ghost use Rattle.std.specs.Iterator.{YieldsFirstBy, item_count};
 ghost use Rattle.kt_rules.specs.Slots.{rules_in};
+ghost use Rattle.kt_rules.specs.Targets.{entry_view};
 
-use crate::entry::Entry;
+use super::book_rule::BookRule;
+use super::rules::Rules;
 use std::marker::Model;
 
 /// The entries of a book, in the order in which they were added.
 #[derive(Drop)]
 pub struct Entries<'a> {
-    slots: &'a [Option<Entry>],
+    rules: &'a Rules,
+    // The place of the next slot.
+    place: usize,
 }
 
 impl<'a> Model for Entries<'a> {
-    ghost use Rattle.std.specs.Prelude.{List};
+    ghost use Rattle.std.specs.Prelude.{List, drop};
     ghost use Rattle.kt_rules.specs.Entry.{Rule};
 
     ghost Value = { List Rule };
 
     ghost use Rattle.kt_rules.specs.Slots.{rules_in};
 
-    ghost view = { λ entries. rules_in entries.slots.now };
+    ghost view = { λ entries. rules_in (drop entries.place entries.rules.now.1) };
 }
 
 impl<'a> Entries<'a> {
-    pub(crate) fn new(slots: &'a [Option<Entry>]) -> Entries<'a>
-        ensures { result ≡ rules_in slots.now }
+    pub(crate) fn new(rules: &'a Rules) -> Entries<'a>
+        ensures { result ≡ rules_in rules.now.1 }
     {
-        Entries { slots }
+        Entries { rules, place: 0 }
     }
 }
 
 impl<'a> Iterator for Entries<'a> {
-    type Item = &'a Entry;
+    type Item = BookRule<'a>;
 
-    ghost next_gives = { YieldsFirstBy (λ entry. entry.now) (λ entries. entries) };
+    ghost next_gives = { YieldsFirstBy entry_view (λ entries. entries) };
 
     ghost remaining = { item_count (λ entries. entries) };
 
-    fn next(&mut self) -> Option<&'a Entry> {
-        let (entry, slots) = first_entry(self.slots)?;
-        self.slots = slots;
+    fn next(&mut self) -> Option<BookRule<'a>> {
+        let (entry, place) = first_entry(self.rules, self.place)?;
+        self.place = place;
         Some(entry)
     }
 }
 
-// The first entry in the slots, and the slots after it.
-fn first_entry(slots: &[Option<Entry>]) -> Option<(&Entry, &[Option<Entry>])>
-    ensures { MatchOption result (rules_in slots.now ≡ [])
-        (λ cut. rules_in slots.now ≡ cut.0.now ∷ rules_in cut.1.now) }
+// The first entry in the slots from a place on, and the place after it.
+fn first_entry(rules: &Rules, from: usize) -> Option<(BookRule<'_>, usize)>
+    ensures { MatchOption result (rules_in (drop from rules.now.1) ≡ [])
+        (λ cut. rules_in (drop from rules.now.1) ≡ entry_view cut.0 ∷ rules_in (drop cut.1 rules.now.1)) }
 {
-    let mut left = slots;
-    while let [slot, after @ ..] = left {
-        left = after;
-        if let Some(entry) = slot {
-            return Some((entry, after));
+    for place in from..rules.len() {
+        match rules.get(place) {
+            Some(rule) => return Some((rule, place + 1)),
+            None => {}
         }
     }
     None

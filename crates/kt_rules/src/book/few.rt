@@ -1,4 +1,4 @@
-//! Spots, of which there mostly is one.
+//! Lists of spots, most of which have one spot.
 ghost use Rattle.std.specs.Prelude.{◌≡◌, ◌++◌, ◌∷◌, [], IfOk, OnErr, OnOk};
 ghost use Rattle.kt_rules.specs.inner.Lists.{few_of};
 
@@ -7,7 +7,7 @@ use std::alloc::{AllocError, Global};
 use std::marker::Model;
 use std::slice::from_ref;
 
-/// A list of spots, of which a single one takes no memory of its own.
+/// A list of spots. A single spot takes no memory of its own.
 #[derive(Drop)]
 pub(crate) struct Few {
     form: Form,
@@ -50,7 +50,7 @@ impl Few {
         }
     }
 
-    /// Adds a spot after the others. An `Err` is out of memory, and leaves the list as it was.
+    /// Adds a spot to the end. An `Err` is out of memory, and leaves the list as it was.
     pub(crate) fn push(&mut self, alloc: Global, spot: Spot) -> Result<(), AllocError>
         ensures pushed { OnOk result (self.new ≡ self.old ++ spot ∷ []) }
         ensures refused { OnErr result (self.new ≡ self.old) }

@@ -1,20 +1,23 @@
-//! The default goal that rules give.
+//! The default goal of the rules.
 ghost use Rattle.std.specs.Prelude.{◌≡◌, ◌&&◌, ◌==◌, not, option_map, find};
 ghost use Rattle.std.specs.List.{list_any};
 ghost use Rattle.kt_rules.specs.Book.{begins_with_dot, first_goal_by, goal_in, is_goal, may_be_goal};
-ghost use Rattle.kt_rules.specs.Slots.{rule_view, rules_in, slot_goal};
+ghost use Rattle.kt_rules.specs.Slots.{rule_view, rules_in};
+ghost use Rattle.kt_rules.specs.Targets.{entry_view};
 
+use super::book_rule::BookRule;
+use super::entries::Entries;
+use super::rules::Rules;
 use super::suffix::is_suffix_name;
 use super::suffixes::Suffixes;
 use super::target_rule::{TargetRule, is_bare, is_made};
-use crate::entry::Entry;
 
 /// The first target of an explicit rule that may be the default goal.
-pub(crate) fn first_goal<'a>(suffixes: &Suffixes, slots: &'a [Option<Entry>]) -> Option<&'a [u8]>
-    ensures { option_map (λ name. name.now) result ≡ first_goal_by suffixes.now (rules_in slots.now) }
+pub(crate) fn first_goal<'a>(suffixes: &Suffixes, rules: &'a Rules) -> Option<&'a [u8]>
+    ensures { option_map (λ name. name.now) result ≡ first_goal_by suffixes.now (rules_in rules.now.1) }
 {
-    for slot in slots {
-        match goal_in_slot(suffixes, slot) {
+    for entry in Entries::new(rules) {
+        match goal_in(suffixes, entry) {
             Some(name) => return Some(name),
             None => {}
         }
@@ -22,21 +25,12 @@ pub(crate) fn first_goal<'a>(suffixes: &Suffixes, slots: &'a [Option<Entry>]) ->
     None
 }
 
-fn goal_in_slot<'a>(suffixes: &Suffixes, slot: &'a Option<Entry>) -> Option<&'a [u8]>
-    ensures { option_map (λ name. name.now) result ≡ slot_goal suffixes.now slot.now }
-{
-    match slot {
-        Some(entry) => goal_in(suffixes, entry),
-        None => None,
-    }
-}
-
 // The first of an entry's targets that may be the default goal.
-fn goal_in<'a>(suffixes: &Suffixes, entry: &'a Entry) -> Option<&'a [u8]>
-    ensures { option_map (λ name. name.now) result ≡ goal_in suffixes.now entry.now }
+fn goal_in<'a>(suffixes: &Suffixes, entry: BookRule<'a>) -> Option<&'a [u8]>
+    ensures { option_map (λ name. name.now) result ≡ goal_in suffixes.now (entry_view entry.entry) }
 {
     for target in entry.targets() {
-        if is_made(entry, target) && is_goal(suffixes, TargetRule { entry, target }) {
+        if is_made(entry.kind(), target.name) && is_goal(suffixes, TargetRule { entry, target }) {
             return Some(target.name);
         }
     }

@@ -1,4 +1,4 @@
-//! Spots by numbers.
+//! Lists of spots by number.
 ghost use Rattle.std.specs.Prelude.{◌≡◌, ◌++◌, ◌∷◌, [], ℕ, ◌<◌, ◌≤◌, OnErr, OnOk, length, nat_eq, if◌then◌else◌};
 ghost use Rattle.kt_rules.specs.inner.Lists.{SameAt, list_at};
 
@@ -7,7 +7,7 @@ use super::spot::Spot;
 use std::alloc::{AllocError, Global};
 use std::marker::Model;
 
-/// The spots that were noted at each number, in the order in which they were.
+/// A list of spots at each number, in the order in which they were noted.
 #[derive(Drop)]
 pub(crate) struct Lists {
     alloc: Global,
@@ -24,7 +24,7 @@ impl Model for Lists {
 }
 
 impl Lists {
-    /// No spots at any number.
+    /// No spots.
     pub(crate) fn new(alloc: Global) -> Lists
         ensures { result ≡ [] }
     {
@@ -44,7 +44,7 @@ impl Lists {
         }
     }
 
-    /// Notes one spot more at a number. An `Err` is out of memory, and leaves all spots as they were.
+    /// Adds a spot at a number. An `Err` is out of memory, and leaves all spots as they were.
     pub(crate) fn note(&mut self, number: usize, spot: Spot) -> Result<(), AllocError>
         ensures noted { OnOk result ((other : ℕ) → list_at self.new other
             ≡ list_at self.old other ++ (if nat_eq other number then spot ∷ [] else [])) }
@@ -56,7 +56,7 @@ impl Lists {
     }
 }
 
-// Makes empty lists up to a number.
+// Adds empty lists until there is one at the number.
 fn reach(lists: &mut Vec<Few>, number: usize) -> Result<(), AllocError>
     ensures same { SameAt lists.old.items lists.new.items }
     ensures reached { OnOk result (number < length lists.new.items) }
@@ -68,7 +68,7 @@ fn reach(lists: &mut Vec<Few>, number: usize) -> Result<(), AllocError>
     Ok(())
 }
 
-// Notes one spot more at a number that has a list.
+// Adds a spot at a number that has a list.
 fn note_at(alloc: Global, lists: &mut Vec<Few>, number: usize, spot: Spot) -> Result<(), AllocError>
     requires { number < length lists.old.items }
     ensures noted { OnOk result ((other : ℕ) → list_at lists.new.items other

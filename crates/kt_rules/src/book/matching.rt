@@ -2,57 +2,46 @@
 ghost use Rattle.std.specs.Prelude.{◌≡◌, ◌++◌, ◌||◌, ◌∷◌, [], IfOk, OnOk, flat_map, option_map, if◌then◌else◌};
 ghost use Rattle.kt_rules.specs.Book.{pattern_rule, patterns_in, repeats, unrepeated};
 ghost use Rattle.kt_rules.specs.Entry.{Rule};
-ghost use Rattle.kt_rules.specs.Patterns.{form_view, has_pattern, slot_patterns, stays_before, suffix_rules_at};
-ghost use Rattle.kt_rules.specs.Patterns.{suffix_rules_in};
+ghost use Rattle.kt_rules.specs.Patterns.{form_view, has_pattern, stays_before, suffix_rules_at, suffix_rules_in};
 ghost use Rattle.kt_rules.specs.Slots.{rules_in};
 ghost use Rattle.kt_rules.specs.Suffixes.{percent, suffix_patterns};
-ghost use Rattle.kt_rules.specs.Targets.{target_view};
+ghost use Rattle.kt_rules.specs.Targets.{entry_view, target_view};
 
+use super::book_rule::BookRule;
+use super::entries::Entries;
 use super::pattern::{Pattern, PatternForm};
 use super::pattern_set::PatternSet;
+use super::rules::Rules;
 use super::suffixes::Suffixes;
 use super::target_rule::{TargetRule, is_bare, is_made, is_pattern};
 use crate::copying::{copied_needs, copied_targets};
-use crate::entry::{Entry, Kind, Name, Needs, Target};
+use crate::entry::{Kind, Name, Needs, Target};
 use kt_list::Sequence;
 use std::alloc::{AllocError, Global};
 
-/// The pattern rules that the entries in slots are, whether a later one repeats them or not.
+/// The pattern rules of the entries, suffix rules among them, including those that a later one repeats.
 pub(crate) fn candidates<'a>(
     alloc: Global,
     suffixes: &Suffixes,
-    slots: &'a [Option<Entry>],
+    rules: &'a Rules,
 ) -> Result<Vec<Pattern<'a>>, AllocError>
-    ensures { IfOk result (λ patterns. patterns.items ≡ flat_map (patterns_in suffixes.now) (rules_in slots.now)) }
+    ensures { IfOk result (λ patterns. patterns.items ≡ flat_map (patterns_in suffixes.now) (rules_in rules.now.1)) }
 {
     let mut patterns = Vec::new(alloc);
-    for slot in slots {
-        add_slot(alloc, suffixes, slot, &mut patterns)?;
+    for entry in Entries::new(rules) {
+        add_entry(alloc, suffixes, entry, &mut patterns)?;
     }
     Ok(patterns)
-}
-
-fn add_slot<'a>(
-    alloc: Global,
-    suffixes: &Suffixes,
-    slot: &'a Option<Entry>,
-    patterns: &mut Vec<Pattern<'a>>,
-) -> Result<(), AllocError>
-    ensures { OnOk result (patterns.new.items ≡ patterns.old.items ++ slot_patterns suffixes.now slot.now) }
-{
-    match slot {
-        Some(entry) => add_entry(alloc, suffixes, entry, patterns),
-        None => Ok(()),
-    }
 }
 
 fn add_entry<'a>(
     alloc: Global,
     suffixes: &Suffixes,
-    entry: &'a Entry,
+    entry: BookRule<'a>,
     patterns: &mut Vec<Pattern<'a>>,
 ) -> Result<(), AllocError>
-    ensures { OnOk result (patterns.new.items ≡ patterns.old.items ++ patterns_in suffixes.now entry.now) }
+    ensures { OnOk result (patterns.new.items
+        ≡ patterns.old.items ++ patterns_in suffixes.now (entry_view entry.entry)) }
 {
     if is_pattern(entry.kind()) {
         let form = own_form(alloc, entry)?;
@@ -65,10 +54,11 @@ fn add_entry<'a>(
 fn add_suffix_rules<'a>(
     alloc: Global,
     suffixes: &Suffixes,
-    entry: &'a Entry,
+    entry: BookRule<'a>,
     patterns: &mut Vec<Pattern<'a>>,
 ) -> Result<(), AllocError>
-    ensures { OnOk result (patterns.new.items ≡ patterns.old.items ++ suffix_rules_in suffixes.now entry.now) }
+    ensures { OnOk result (patterns.new.items
+        ≡ patterns.old.items ++ suffix_rules_in suffixes.now (entry_view entry.entry)) }
 {
     for target in entry.targets() {
         add_suffix_rule(alloc, suffixes, TargetRule { entry, target }, patterns)?;
@@ -76,7 +66,7 @@ fn add_suffix_rules<'a>(
     Ok(())
 }
 
-// Appends what a target's suffix rule is as a pattern rule, if it is one.
+// Appends the suffix rule of a target as a pattern rule, if it is one.
 fn add_suffix_rule<'a>(
     alloc: Global,
     suffixes: &Suffixes,
@@ -84,9 +74,9 @@ fn add_suffix_rule<'a>(
     patterns: &mut Vec<Pattern<'a>>,
 ) -> Result<(), AllocError>
     ensures { OnOk result (patterns.new.items ≡ patterns.old.items
-        ++ suffix_rules_at suffixes.now rule.entry.entry.now (target_view rule.entry.target)) }
+        ++ suffix_rules_at suffixes.now (entry_view rule.entry.entry) (target_view rule.entry.target)) }
 {
-    if !(is_made(rule.entry, rule.target) && is_bare(rule)) {
+    if !(is_made(rule.entry.kind(), rule.target.name) && is_bare(rule)) {
         return Ok(());
     }
     if let Some(form) = named_form(alloc, suffixes, rule.target.name)? {
@@ -98,7 +88,7 @@ fn add_suffix_rule<'a>(
     Ok(())
 }
 
-// What a suffix rule makes and needs whose target has the name, where there may be one.
+// The targets and prerequisites of a suffix rule with this name as a pattern rule, if the name is that of one.
 fn named_form(
     alloc: Global,
     suffixes: &Suffixes,
@@ -116,9 +106,9 @@ fn named_form(
     }
 }
 
-// What an entry makes and needs that is a pattern rule.
-fn own_form(alloc: Global, entry: &Entry) -> Result<PatternForm, AllocError>
-    ensures { IfOk result (λ form. form_view entry.now form ≡ entry.now) }
+// The targets and prerequisites of an entry that is a pattern rule.
+fn own_form(alloc: Global, entry: BookRule<'_>) -> Result<PatternForm, AllocError>
+    ensures { IfOk result (λ form. form_view (entry_view entry.entry) form ≡ entry_view entry.entry) }
 {
     let targets = copied_targets(alloc, entry.targets())?;
     let needs = copied_needs(alloc, entry.shared_needs())?;
@@ -129,7 +119,7 @@ fn own_form(alloc: Global, entry: &Entry) -> Result<PatternForm, AllocError>
     })
 }
 
-// The form of a suffix rule for targets with one suffix that need a name with another.
+// The form of a suffix rule that makes names with one suffix from names with another.
 fn suffix_form(alloc: Global, made: &[u8], needed: &[u8]) -> Result<PatternForm, AllocError>
     ensures { IfOk result (λ form. (rule : Rule)
         → form_view rule form ≡ pattern_rule rule (percent ++ made.now, percent ++ needed.now)) }
@@ -159,7 +149,7 @@ fn with_percent(alloc: Global, suffix: &[u8]) -> Result<Vec<u8>, AllocError>
     Ok(name)
 }
 
-/// Those with a recipe that none of the later repeats.
+/// The pattern rules that have a recipe and that no later one repeats.
 pub(crate) fn unrepeated<'a>(
     alloc: Global,
     patterns: Vec<Pattern<'a>>,
@@ -176,7 +166,7 @@ pub(crate) fn unrepeated<'a>(
     Ok(kept)
 }
 
-// Appends a pattern rule to those that are kept, if it has a recipe and none after it repeats it.
+// Appends a pattern rule to those that are kept, if it has a recipe and no later one repeats it.
 fn sort_in<'a>(
     pattern: Pattern<'a>,
     kept: &mut Vec<Pattern<'a>>,

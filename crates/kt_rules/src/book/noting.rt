@@ -1,54 +1,104 @@
-//! Notes the targets of an entry.
-ghost use Rattle.std.specs.Prelude.{◌≡◌, ◌++◌, [], OnErr, OnOk, fold, is_some, if◌then◌else◌};
+//! Adds what a rule says to the spots, phony names and suffixes of a book.
+ghost use Rattle.std.specs.Prelude.{◌≡◌, ◌++◌, [], ◌<◌, ◌≤◌, OnErr, OnOk, Some, fold, is_some, if◌then◌else◌, length};
 ghost use Rattle.kt_text.specs.Words.{Text};
 ghost use Rattle.kt_rules.specs.Book.{phony_of};
 ghost use Rattle.kt_rules.specs.Names.{with_name};
-ghost use Rattle.kt_rules.specs.Slots.{GotRecipes, GotSpots, GrewIn, spots_at, target_spots};
+ghost use Rattle.kt_rules.specs.Slots.{GotRecipes, GotSpots, GrewIn, slot_rule, spots_at, target_spots};
 ghost use Rattle.kt_rules.specs.Suffixes.{suffixes_after};
-ghost use Rattle.kt_rules.specs.Targets.{target_view};
+ghost use Rattle.kt_rules.specs.Targets.{entry_view};
+ghost use Rattle.kt_rules.specs.Entry.{Rule};
+ghost use Rattle.kt_rules.specs.inner.Held.{AreBelow, numbered_target};
 
+use super::book_rule::BookRule;
+use super::rules::Rules;
 use super::special::{learn_phony, learn_suffixes};
 use super::spot::Spot;
 use super::spots::Spots;
 use super::suffixes::Suffixes;
-use super::target_rule::{has_recipe, is_made};
-use crate::entry::Entry;
-use crate::target::TargetView;
+use super::target_rule::is_made;
+use crate::listed::name_at;
 use kt_list::Names;
-use std::alloc::AllocError;
+use std::alloc::{AllocError, Global};
 
-/// Notes what the entry in a slot says. Where memory is refused, some targets may be noted, and the
-/// names are as they were.
+/// Adds what the rule in a slot says. If memory runs out, some targets may be noted, but the names are as they were.
 pub(crate) fn learn(
+    alloc: Global,
+    rules: &Rules,
     spots: &mut Spots,
     phony: &mut Names,
     suffixes: &mut Suffixes,
-    entry: &Entry,
     place: usize,
 ) -> Result<(), AllocError>
-    ensures targets_noted { OnOk result (GotSpots entry.now place spots.old.0 spots.new.0) }
-    ensures recipes_noted { OnOk result (GotRecipes entry.now place spots.old.1 spots.new.1) }
-    ensures phony_learned { OnOk result (phony.new ≡ fold with_name phony.old (phony_of entry.now)) }
-    ensures suffixes_learned { OnOk result (suffixes.new ≡ suffixes_after suffixes.old entry.now) }
-    ensures targets_refused { OnErr result (GrewIn place spots.old.0 spots.new.0) }
-    ensures recipes_refused { OnErr result (GrewIn place spots.old.1 spots.new.1) }
+    ensures targets_noted { (rule : Rule) → slot_rule rules.now.1 place ≡ Some rule → OnOk result
+        (GotSpots rule place (rules.now.0, spots.old.targets) (rules.now.0, spots.new.targets)) }
+    ensures recipes_noted { (rule : Rule) → slot_rule rules.now.1 place ≡ Some rule → OnOk result
+        (GotRecipes rule place (rules.now.0, spots.old.recipes) (rules.now.0, spots.new.recipes)) }
+    ensures phony_learned { (rule : Rule) → slot_rule rules.now.1 place ≡ Some rule → OnOk result
+        (phony.new ≡ fold with_name phony.old (phony_of rule)) }
+    ensures suffixes_learned { (rule : Rule) → slot_rule rules.now.1 place ≡ Some rule → OnOk result
+        (suffixes.new ≡ suffixes_after suffixes.old rule) }
+    ensures targets_refused { OnErr result
+        (GrewIn place (rules.now.0, spots.old.targets) (rules.now.0, spots.new.targets)) }
+    ensures recipes_refused { OnErr result
+        (GrewIn place (rules.now.0, spots.old.recipes) (rules.now.0, spots.new.recipes)) }
     ensures phony_refused { OnErr result (phony.new ≡ phony.old) }
     ensures suffixes_refused { OnErr result (suffixes.new ≡ suffixes.old) }
+    ensures targets_within { length spots.old.targets ≤ length rules.now.0
+        → length spots.new.targets ≤ length rules.now.0 }
+    ensures recipes_within { length spots.old.recipes ≤ length rules.now.0
+        → length spots.new.recipes ≤ length rules.now.0 }
 {
-    note_targets(spots, entry, place)?;
-    learn_names(phony, suffixes, entry)
+    match rules.get(place) {
+        Some(rule) => learn_rule(alloc, spots, phony, suffixes, rule, place),
+        None => Ok(()),
+    }
 }
 
-// Learns the names that the entry's special targets need, or none where memory is refused.
-fn learn_names(phony: &mut Names, suffixes: &mut Suffixes, entry: &Entry) -> Result<(), AllocError>
-    ensures phony_learned { OnOk result (phony.new ≡ fold with_name phony.old (phony_of entry.now)) }
-    ensures suffixes_learned { OnOk result (suffixes.new ≡ suffixes_after suffixes.old entry.now) }
+fn learn_rule(
+    alloc: Global,
+    spots: &mut Spots,
+    phony: &mut Names,
+    suffixes: &mut Suffixes,
+    rule: BookRule<'_>,
+    place: usize,
+) -> Result<(), AllocError>
+    requires { AreBelow (length rule.names.now) rule.targets.now }
+    ensures targets_noted { OnOk result (GotSpots (entry_view rule.entry) place
+        (rule.entry.names.now, spots.old.targets) (rule.entry.names.now, spots.new.targets)) }
+    ensures recipes_noted { OnOk result (GotRecipes (entry_view rule.entry) place
+        (rule.entry.names.now, spots.old.recipes) (rule.entry.names.now, spots.new.recipes)) }
+    ensures phony_learned { OnOk result (phony.new ≡ fold with_name phony.old (phony_of (entry_view rule.entry))) }
+    ensures suffixes_learned { OnOk result (suffixes.new ≡ suffixes_after suffixes.old (entry_view rule.entry)) }
+    ensures targets_refused { OnErr result (GrewIn place
+        (rule.entry.names.now, spots.old.targets) (rule.entry.names.now, spots.new.targets)) }
+    ensures recipes_refused { OnErr result (GrewIn place
+        (rule.entry.names.now, spots.old.recipes) (rule.entry.names.now, spots.new.recipes)) }
+    ensures phony_refused { OnErr result (phony.new ≡ phony.old) }
+    ensures suffixes_refused { OnErr result (suffixes.new ≡ suffixes.old) }
+    ensures targets_within { length spots.old.targets ≤ length rule.entry.names.now
+        → length spots.new.targets ≤ length rule.entry.names.now }
+    ensures recipes_within { length spots.old.recipes ≤ length rule.entry.names.now
+        → length spots.new.recipes ≤ length rule.entry.names.now }
+{
+    note_targets(spots, rule, place)?;
+    learn_names(alloc, phony, suffixes, rule)
+}
+
+// Adds the prerequisites of the rule's special targets. If memory runs out, none is added.
+fn learn_names(
+    alloc: Global,
+    phony: &mut Names,
+    suffixes: &mut Suffixes,
+    rule: BookRule<'_>,
+) -> Result<(), AllocError>
+    ensures phony_learned { OnOk result (phony.new ≡ fold with_name phony.old (phony_of (entry_view rule.entry))) }
+    ensures suffixes_learned { OnOk result (suffixes.new ≡ suffixes_after suffixes.old (entry_view rule.entry)) }
     ensures phony_refused { OnErr result (phony.new ≡ phony.old) }
     ensures suffixes_refused { OnErr result (suffixes.new ≡ suffixes.old) }
 {
     let phony_count = phony.len();
-    learn_phony(phony, entry)?;
-    match learn_suffixes(suffixes, entry) {
+    learn_phony(alloc, phony, rule)?;
+    match learn_suffixes(alloc, suffixes, rule) {
         Ok(()) => Ok(()),
         Err(refused) => {
             phony.truncate(phony_count);
@@ -57,39 +107,59 @@ fn learn_names(phony: &mut Names, suffixes: &mut Suffixes, entry: &Entry) -> Res
     }
 }
 
-// Notes each target that the entry in a slot makes. Where memory is refused, some may be noted.
-fn note_targets(spots: &mut Spots, entry: &Entry, place: usize) -> Result<(), AllocError>
-    ensures targets_noted { OnOk result (GotSpots entry.now place spots.old.0 spots.new.0) }
-    ensures recipes_noted { OnOk result (GotRecipes entry.now place spots.old.1 spots.new.1) }
-    ensures targets_refused { OnErr result (GrewIn place spots.old.0 spots.new.0) }
-    ensures recipes_refused { OnErr result (GrewIn place spots.old.1 spots.new.1) }
+// Notes each target that the rule in a slot makes. If memory runs out, some may be noted.
+fn note_targets(spots: &mut Spots, rule: BookRule<'_>, place: usize) -> Result<(), AllocError>
+    requires { AreBelow (length rule.names.now) rule.targets.now }
+    ensures targets_noted { OnOk result (GotSpots (entry_view rule.entry) place
+        (rule.entry.names.now, spots.old.targets) (rule.entry.names.now, spots.new.targets)) }
+    ensures recipes_noted { OnOk result (GotRecipes (entry_view rule.entry) place
+        (rule.entry.names.now, spots.old.recipes) (rule.entry.names.now, spots.new.recipes)) }
+    ensures targets_refused { OnErr result (GrewIn place
+        (rule.entry.names.now, spots.old.targets) (rule.entry.names.now, spots.new.targets)) }
+    ensures recipes_refused { OnErr result (GrewIn place
+        (rule.entry.names.now, spots.old.recipes) (rule.entry.names.now, spots.new.recipes)) }
+    ensures targets_within { length spots.old.targets ≤ length rule.entry.names.now
+        → length spots.new.targets ≤ length rule.entry.names.now }
+    ensures recipes_within { length spots.old.recipes ≤ length rule.entry.names.now
+        → length spots.new.recipes ≤ length rule.entry.names.now }
 {
-    for (number, target) in entry.targets().enumerate() {
+    for (position, number) in rule.targets.iter().enumerate() {
         let spot = Spot {
             entry: place,
-            target: number,
+            target: position,
         };
-        note_target(spots, entry, target, spot)?;
+        note_target(spots, rule, *number, spot)?;
     }
     Ok(())
 }
 
-// Notes the target, if the entry makes it.
+// Notes the target whose name has the number, if the rule makes it.
 fn note_target(
     spots: &mut Spots,
-    entry: &Entry,
-    target: TargetView<'_>,
+    rule: BookRule<'_>,
+    number: usize,
     spot: Spot,
 ) -> Result<(), AllocError>
-    ensures targets_noted { OnOk result ((name : Text) → spots_at spots.new.0 name ≡ spots_at spots.old.0 name
-        ++ target_spots entry.now (target_view target.entry) spot name) }
-    ensures recipes_noted { OnOk result ((name : Text) → spots_at spots.new.1 name ≡ spots_at spots.old.1 name
-        ++ (if is_some entry.now.recipe then target_spots entry.now (target_view target.entry) spot name else [])) }
-    ensures targets_refused { OnErr result (GrewIn spot.entry spots.old.0 spots.new.0) }
-    ensures recipes_refused { OnErr result (GrewIn spot.entry spots.old.1 spots.new.1) }
+    requires { number < length rule.names.now }
+    ensures targets_noted { OnOk result ((name : Text) → spots_at (rule.entry.names.now, spots.new.targets) name
+        ≡ spots_at (rule.entry.names.now, spots.old.targets) name
+        ++ target_spots (entry_view rule.entry) (numbered_target rule.entry number) spot name) }
+    ensures recipes_noted { OnOk result ((name : Text) → spots_at (rule.entry.names.now, spots.new.recipes) name
+        ≡ spots_at (rule.entry.names.now, spots.old.recipes) name ++ (if is_some (entry_view rule.entry).recipe
+        then target_spots (entry_view rule.entry) (numbered_target rule.entry number) spot name else [])) }
+    ensures targets_refused { OnErr result (GrewIn spot.entry
+        (rule.entry.names.now, spots.old.targets) (rule.entry.names.now, spots.new.targets)) }
+    ensures recipes_refused { OnErr result (GrewIn spot.entry
+        (rule.entry.names.now, spots.old.recipes) (rule.entry.names.now, spots.new.recipes)) }
+    ensures targets_within { length spots.old.targets ≤ length rule.entry.names.now
+        → length spots.new.targets ≤ length rule.entry.names.now }
+    ensures recipes_within { length spots.old.recipes ≤ length rule.entry.names.now
+        → length spots.new.recipes ≤ length rule.entry.names.now }
 {
-    if !is_made(entry, target) {
+    // The contract of `as_slice` makes known that the names differ.
+    let _names = rule.names.as_slice();
+    if !is_made(rule.kind(), name_at(rule.names, number)) {
         return Ok(());
     }
-    spots.note(target.name, spot, has_recipe(entry))
+    spots.note(number, spot, rule.recipe().is_some())
 }

@@ -1,42 +1,45 @@
-//! The numbers of the entries that explicit rules are of.
+//! For each target, the numbers of the entries of its explicit rules.
 ghost use Rattle.std.specs.Prelude.{◌≡◌, ◌++◌, ◌&&◌, ◌∷◌, [], IfOk, OnOk, bytes_eq, if◌then◌else◌};
 ghost use Rattle.kt_text.specs.Words.{Text};
 ghost use Rattle.kt_rules.specs.Book.{explicit_numbers, is_explicit, numbers_in};
 ghost use Rattle.kt_rules.specs.Indexes.{noted_at};
 ghost use Rattle.kt_rules.specs.Slots.{rule_view};
 ghost use Rattle.kt_rules.specs.Suffixes.{suffixes_of};
+ghost use Rattle.kt_rules.specs.Targets.{entry_view};
 
+use super::book_rule::BookRule;
 use super::target_rule::TargetRule;
 use super::{Book, Entries};
-use crate::entry::Entry;
 use crate::index::Index;
 use std::alloc::AllocError;
 
 impl Book {
-    /// For each name, the numbers of the entries that its explicit rules are of, in the order of
-    /// `explicit`: an entry's number is its place among `entries`, from 0.
+    /// For each name, the numbers of the entries of its explicit rules, in the order of `explicit`: an entry's number
+    /// is its place among `entries`, from 0.
     ///
-    /// Targets of one group have the same number, so a group's members are told without comparing
-    /// lists. An `Err` is out of memory.
+    /// Targets of one group have the same number, so a group's members are found without comparing lists. An `Err` is
+    /// out of memory.
     pub fn entry_numbers(&self) -> Result<Index<usize>, AllocError>
         ensures { IfOk result (λ index. (name : Text) → noted_at index name ≡ explicit_numbers self.now name) }
     {
         let mut index = Index::new(self.alloc);
-        for (number, entry) in Entries::new(self.slots.as_slice()).enumerate() {
+        // The number of slots must be known: no entry's number is greater than that of its slot.
+        let _slots = self.rules.len();
+        for (number, entry) in Entries::new(&self.rules).enumerate() {
             self.note_entry(&mut index, entry, number)?;
         }
         Ok(index)
     }
 
-    // Notes an entry's number at each target that it is an explicit rule for.
+    // Notes an entry's number at each target for which it is an explicit rule.
     fn note_entry(
         &self,
         index: &mut Index<usize>,
-        entry: &Entry,
+        entry: BookRule<'_>,
         number: usize,
     ) -> Result<(), AllocError>
         ensures { OnOk result ((name : Text) → noted_at index.new name ≡ noted_at index.old name
-            ++ numbers_in (suffixes_of self.now) name (number, entry.now)) }
+            ++ numbers_in (suffixes_of self.now) name (number, entry_view entry.entry)) }
     {
         for target in entry.targets() {
             self.note_rule(index, TargetRule { entry, target }, number)?;
@@ -44,7 +47,7 @@ impl Book {
         Ok(())
     }
 
-    // Notes the number of a rule's entry at its target, if it is explicit.
+    // Notes the number of a rule's entry at its target, if the rule is explicit.
     fn note_rule(
         &self,
         index: &mut Index<usize>,

@@ -1,9 +1,10 @@
-//! The messages on targets that get a second recipe.
+//! The warnings on targets that get a second recipe.
 ghost use Rattle.std.specs.Prelude.{◌≡◌, ◌++◌, ◌∷◌, ◌&&◌, [], true, IfOk, OnOk, map, if◌then◌else◌};
 ghost use Rattle.std.specs.List.{list_any};
 ghost use Rattle.kt_rules.specs.Book.{is_made, override_message, override_messages, recipes_of, targets_with_recipe};
 ghost use Rattle.kt_rules.specs.Targets.{target_view};
 
+use super::spots::spots_of;
 use super::target_rule::{first_rule, has_recipe, is_made, is_single};
 use super::{Book, Warnings};
 use crate::entry::Entry;
@@ -13,7 +14,7 @@ use kt_list::Sequence;
 use std::alloc::{AllocError, Global};
 
 impl Book {
-    // The messages on an entry that isn't refused.
+    // The warnings on an entry that isn't refused.
     pub(crate) fn warnings(&self, entry: &Entry) -> Result<Warnings, AllocError>
         ensures { IfOk result (λ warnings. warnings ≡ override_messages self.now entry.now) }
     {
@@ -34,7 +35,7 @@ impl Book {
         Ok(Sequence::from(warnings))
     }
 
-    // Appends the message on a target, if it gets a second recipe.
+    // Appends the warning on a target, if it gets a second recipe.
     fn warn(
         &self,
         entry: &Entry,
@@ -46,7 +47,7 @@ impl Book {
             && list_any (λ earlier. true) (recipes_of self.now (target_view target.entry).name)
             then override_message entry.now.place (target_view target.entry) ∷ [] else [])) }
     {
-        if is_made(entry, target) && self.has_recipe(target.name) {
+        if is_made(entry.kind(), target.name) && self.has_recipe(target.name) {
             warnings.push(override_message(self.alloc, entry.place(), target)?)?;
         }
         Ok(())
@@ -56,7 +57,11 @@ impl Book {
     fn has_recipe(&self, name: &[u8]) -> bool
         ensures { result ≡ list_any (λ earlier. true) (recipes_of self.now name.now) }
     {
-        first_rule(self.slots.as_slice(), self.spots.recipes(name)).is_some()
+        first_rule(
+            &self.rules,
+            spots_of(&self.rules, &self.spots.recipes, name),
+        )
+        .is_some()
     }
 }
 

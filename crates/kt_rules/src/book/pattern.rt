@@ -2,22 +2,23 @@
 ghost use Rattle.std.specs.Prelude.{◌≡◌, option_map};
 ghost use Rattle.kt_rules.specs.Patterns.{is_terminal};
 
-use crate::entry::{Entry, Kind, Needs, RecipeLine, Target};
+use super::book_rule::BookRule;
+use crate::entry::{Kind, Needs, RecipeLine, Target};
 use crate::place::Place;
 use std::marker::Model;
 
-/// A pattern rule, or a suffix rule as the pattern rule that it is (GNU make manual, "Pattern
-/// Rules", "Old-Fashioned Suffix Rules").
+/// A pattern rule, or a suffix rule as the pattern rule that it is equivalent to (GNU make manual, "Pattern Rules",
+/// "Old-Fashioned Suffix Rules").
 #[derive(Drop)]
 pub struct Pattern<'a> {
-    pub(crate) entry: &'a Entry,
+    pub(crate) entry: BookRule<'a>,
     pub(crate) form: PatternForm,
 }
 
-/// What a pattern rule makes and needs.
+/// The targets and prerequisites of a pattern rule.
 #[derive(Drop)]
 pub(crate) struct PatternForm {
-    // A suffix rule isn't of the kind of its entry.
+    // For a suffix rule, this isn't the kind of its entry.
     pub(crate) kind: Kind,
     pub(crate) targets: Vec<Target>,
     pub(crate) needs: Needs,
@@ -29,8 +30,9 @@ impl<'a> Model for Pattern<'a> {
     ghost Value = { Rule };
 
     ghost use Rattle.kt_rules.specs.Patterns.{form_view};
+    ghost use Rattle.kt_rules.specs.Targets.{entry_view};
 
-    ghost view = { λ pattern. form_view pattern.entry.now pattern.form };
+    ghost view = { λ pattern. form_view (entry_view pattern.entry) pattern.form };
 }
 
 impl<'a> Pattern<'a> {
@@ -41,14 +43,14 @@ impl<'a> Pattern<'a> {
         self.form.targets.as_slice()
     }
 
-    /// What the targets need.
+    /// The prerequisites of all targets.
     pub fn needs(&self) -> &Needs
         ensures { result.now ≡ self.now.needs }
     {
         &self.form.needs
     }
 
-    /// Whether no rule is searched for that makes its prerequisites (GNU make manual,
+    /// Whether the rule is terminal: no implicit rule is searched for to make its prerequisites (GNU make manual,
     /// "Match-Anything Pattern Rules").
     pub fn is_terminal(&self) -> bool
         ensures { result ≡ is_terminal self.now.kind }
@@ -56,14 +58,14 @@ impl<'a> Pattern<'a> {
         matches!(self.form.kind, Kind::TerminalPattern)
     }
 
-    /// The lines of its recipe.
+    /// The lines of the recipe, if there is one.
     pub fn recipe(&self) -> Option<&'a [RecipeLine]>
         ensures { option_map (λ lines. lines.now) result ≡ self.now.recipe }
     {
         self.entry.recipe()
     }
 
-    /// The place of its rule line.
+    /// The place of the rule line.
     pub fn place(&self) -> &'a Place
         ensures { result.now ≡ self.now.place }
     {

@@ -1,4 +1,4 @@
-//! Which targets and prerequisites pattern rules had.
+//! The targets and prerequisites of the pattern rules so far.
 ghost use Rattle.std.specs.Prelude.{◌≡◌, ◌||◌, false, not, map, IfOk, OnOk};
 ghost use Rattle.kt_rules.specs.Book.{repeats};
 ghost use Rattle.kt_rules.specs.Entry.{Rule};
@@ -9,7 +9,7 @@ use crate::entry::{Name, Target};
 use indexmap::IndexSet;
 use std::alloc::{AllocError, Global};
 
-/// The names by which one pattern rule repeats another.
+/// The targets and prerequisites of a pattern rule: a rule with the same ones repeats it.
 #[derive(PartialEq, Eq, Hash, Drop)]
 pub(crate) struct PatternKey {
     targets: Vec<Vec<u8>>,
@@ -17,7 +17,7 @@ pub(crate) struct PatternKey {
     order_only: Vec<Vec<u8>>,
 }
 
-/// Pattern rules, told apart by their targets and prerequisites.
+/// A set of pattern rules that compares them by targets and prerequisites.
 #[derive(Drop)]
 pub(crate) struct PatternSet {
     alloc: Global,
@@ -34,7 +34,7 @@ impl PatternSet {
         }
     }
 
-    /// Adds a pattern rule, and tells whether it repeats none of the others.
+    /// Adds a pattern rule, and returns whether it repeats none of the others.
     pub(crate) fn insert(&mut self, pattern: &Pattern) -> Result<bool, AllocError>
         ensures told { IfOk result (λ is_new. is_new ≡ not (has_pattern self.old pattern.now)) }
         ensures added { OnOk result ((rule : Rule)

@@ -1,4 +1,4 @@
-//! What is refused of one more entry.
+//! Why a book refuses an entry.
 ghost use Rattle.std.specs.Prelude.{◌≡◌, ◌||◌, option_map, is_none, ◌&&◌};
 ghost use Rattle.std.specs.List.{list_any};
 ghost use Rattle.kt_rules.specs.Book.{beside_group_in, both_colons_in, differ_in_colons, is_beside_group, is_double};
@@ -7,8 +7,9 @@ ghost use Rattle.kt_rules.specs.Refusals.{ReportsFault, fault_at, refusal_view};
 ghost use Rattle.kt_rules.specs.Targets.{target_view};
 
 use super::Book;
+use super::spots::spots_of;
 use super::target_rule::{first_rule, has_recipe, is_double, is_group, is_made};
-use crate::entry::Entry;
+use crate::entry::{Entry, Kind};
 use crate::fault::RuleFault;
 use crate::place::Place;
 use crate::refusal::Refusal;
@@ -16,7 +17,7 @@ use crate::target::TargetView;
 use std::alloc::Global;
 
 impl Book {
-    // What is refused of an entry after those of the book.
+    // Why an entry is refused, given the entries of the book.
     #[tactic(auto, unfolding(crate::specs::Book::refusal_of))]
     pub(crate) fn refusal<'a>(&self, entry: &'a Entry) -> Option<Refusal<'a>>
         ensures { option_map refusal_view result ≡ refusal_of self.now entry.now }
@@ -66,60 +67,67 @@ impl Book {
         None
     }
 
-    // Whether the entry makes the target, and it has rules with the other number of colons.
+    // Whether the entry makes the target, which has rules with the other number of colons.
     fn differs(&self, entry: &Entry, target: TargetView<'_>) -> bool
         ensures { result ≡ (is_made entry.now (target_view target.entry)
             && list_any (differ_in_colons entry.now) (rules_of self.now (target_view target.entry).name)) }
     {
-        is_made(entry, target) && self.has_other_colons(entry, target.name)
+        is_made(entry.kind(), target.name) && self.has_other_colons(entry, target.name)
     }
 
-    // Whether the entry makes the target, and it has a recipe, one of the two a group's.
+    // Whether the entry makes the target, which already has a recipe, and one of the two is a group's.
     fn is_beside_group(&self, entry: &Entry, target: TargetView<'_>) -> bool
         ensures { result ≡ (is_made entry.now (target_view target.entry)
             && list_any (is_beside_group entry.now) (recipes_of self.now (target_view target.entry).name)) }
     {
-        is_made(entry, target) && self.has_group(entry, target.name)
+        is_made(entry.kind(), target.name) && self.has_group(entry, target.name)
     }
 
-    // Whether a target has rules with the other number of colons. All that it has are alike.
+    // Whether a target has rules with the other number of colons. Its first rule decides: all have the same number.
     fn has_other_colons(&self, entry: &Entry, name: &[u8]) -> bool
         ensures { result ≡ list_any (differ_in_colons entry.now) (rules_of self.now name.now) }
     {
-        match first_rule(self.slots.as_slice(), self.spots.targets(name)) {
-            Some(rule) => differ_in_colons(entry, rule.entry),
+        match first_rule(
+            &self.rules,
+            spots_of(&self.rules, &self.spots.targets, name),
+        ) {
+            Some(rule) => differ_in_colons(entry.kind(), rule.entry.kind()),
             None => false,
         }
     }
 
-    // Whether a target has a recipe, and one of the two is a group's. All groups that it has are alike.
+    // Whether a target has a recipe, and one of the two is a group's. Its first rule with one decides: if one is a
+    // group, all are.
     fn has_group(&self, entry: &Entry, name: &[u8]) -> bool
         ensures { result ≡ list_any (is_beside_group entry.now) (recipes_of self.now name.now) }
     {
-        match first_rule(self.slots.as_slice(), self.spots.recipes(name)) {
-            Some(rule) => either_is_group(entry, rule.entry),
+        match first_rule(
+            &self.rules,
+            spots_of(&self.rules, &self.spots.recipes, name),
+        ) {
+            Some(rule) => either_is_group(entry.kind(), rule.entry.kind()),
             None => false,
         }
     }
 }
 
-fn differ_in_colons(entry: &Entry, earlier: &Entry) -> bool
-    ensures { result ≡ xor (is_double earlier.now.kind) (is_double entry.now.kind) }
+fn differ_in_colons(kind: Kind, earlier: Kind) -> bool
+    ensures { result ≡ xor (is_double earlier) (is_double kind) }
 {
-    if is_double(earlier.kind()) {
-        !is_double(entry.kind())
+    if is_double(earlier) {
+        !is_double(kind)
     } else {
-        is_double(entry.kind())
+        is_double(kind)
     }
 }
 
-fn either_is_group(entry: &Entry, earlier: &Entry) -> bool
-    ensures { result ≡ (is_group entry.now.kind || is_group earlier.now.kind) }
+fn either_is_group(kind: Kind, earlier: Kind) -> bool
+    ensures { result ≡ (is_group kind || is_group earlier) }
 {
-    is_group(entry.kind()) || is_group(earlier.kind())
+    is_group(kind) || is_group(earlier)
 }
 
-/// The fault of what is refused of the rule at a place.
+/// The fault for refusing the rule at a place.
 pub(crate) fn fault_of(alloc: Global, place: &Place, refusal: Refusal) -> RuleFault
     ensures { ReportsFault result (fault_at place.now (refusal_view refusal.entry)) }
 {

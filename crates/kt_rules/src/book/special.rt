@@ -4,17 +4,17 @@ ghost use Rattle.kt_text.specs.Words.{Text};
 ghost use Rattle.kt_rules.specs.Book.{phony_of};
 ghost use Rattle.kt_rules.specs.Names.{with_name};
 ghost use Rattle.kt_rules.specs.Suffixes.{all_needs, special_needs, start_suffixes, suffixes_after};
-ghost use Rattle.kt_rules.specs.Targets.{names_view, needs_view, target_view, targets_view};
+ghost use Rattle.kt_rules.specs.Targets.{entry_view, names_view, needs_view, target_view, targets_view};
 
+use super::book_rule::BookRule;
 use super::suffixes::Suffixes;
-use crate::entry::Entry;
 use crate::needs::{NeededNames, NeedsView};
 use crate::target::{TargetView, Targets};
 use kt_list::Names;
 use kt_text::words;
 use std::alloc::{AllocError, Global};
 
-/// The suffixes that are known before any rule.
+/// The suffixes before any rule is read.
 #[tactic(auto, unfolding(crate::specs::Suffixes::start_suffixes))]
 pub(crate) fn start_names(alloc: Global) -> Result<Names, AllocError>
     ensures { IfOk result (λ names. names ≡ start_suffixes) }
@@ -26,20 +26,28 @@ pub(crate) fn start_names(alloc: Global) -> Result<Names, AllocError>
     Ok(names)
 }
 
-/// Makes the names phony that the entry's `.PHONY` needs.
-pub(crate) fn learn_phony(phony: &mut Names, entry: &Entry) -> Result<(), AllocError>
-    ensures learned { OnOk result (phony.new ≡ fold with_name phony.old (phony_of entry.now)) }
+/// Makes the prerequisites of the entry's `.PHONY` phony.
+pub(crate) fn learn_phony(
+    alloc: Global,
+    phony: &mut Names,
+    entry: BookRule<'_>,
+) -> Result<(), AllocError>
+    ensures learned { OnOk result (phony.new ≡ fold with_name phony.old (phony_of (entry_view entry.entry))) }
     ensures refused { OnErr result (phony.new ≡ phony.old) }
 {
     match special_needs(entry, b".PHONY") {
-        Some(needs) => add_needs(entry.alloc(), phony, needs),
+        Some(needs) => add_needs(alloc, phony, needs),
         None => Ok(()),
     }
 }
 
 /// Changes the suffixes by the entry's `.SUFFIXES`.
-pub(crate) fn learn_suffixes(suffixes: &mut Suffixes, entry: &Entry) -> Result<(), AllocError>
-    ensures learned { OnOk result (suffixes.new ≡ suffixes_after suffixes.old entry.now) }
+pub(crate) fn learn_suffixes(
+    alloc: Global,
+    suffixes: &mut Suffixes,
+    entry: BookRule<'_>,
+) -> Result<(), AllocError>
+    ensures learned { OnOk result (suffixes.new ≡ suffixes_after suffixes.old (entry_view entry.entry)) }
     ensures refused { OnErr result (suffixes.new ≡ suffixes.old) }
 {
     let Some(needs) = special_needs(entry, b".SUFFIXES") else {
@@ -49,18 +57,20 @@ pub(crate) fn learn_suffixes(suffixes: &mut Suffixes, entry: &Entry) -> Result<(
         suffixes.clear();
         return Ok(());
     }
-    suffixes.add_needs(entry.alloc(), needs)
+    suffixes.add_needs(alloc, needs)
 }
 
-// What the entry's special target of this name needs.
-fn special_needs<'a>(entry: &'a Entry, special: &[u8]) -> Option<NeedsView<'a>>
-    ensures { option_map (λ needs. all_needs (needs_view needs)) result ≡ special_needs special.now entry.now }
+// The prerequisites of the entry's special target with this name.
+fn special_needs<'a>(entry: BookRule<'a>, special: &[u8]) -> Option<NeedsView<'a>>
+    ensures { option_map (λ needs. all_needs (needs_view needs)) result
+        ≡ special_needs special.now (entry_view entry.entry) }
 {
     let target = named_target(entry.targets(), special)?;
     Some(entry.needs(target))
 }
 
-fn named_target<'a>(targets: Targets<'a>, name: &[u8]) -> Option<TargetView<'a>>
+// The target with this name.
+pub(crate) fn named_target<'a>(targets: Targets<'a>, name: &[u8]) -> Option<TargetView<'a>>
     ensures { option_map target_view result
         ≡ find (λ target. bytes_eq target.name name.now) (targets_view targets.entry) }
 {
@@ -72,7 +82,7 @@ fn named_target<'a>(targets: Targets<'a>, name: &[u8]) -> Option<TargetView<'a>>
     None
 }
 
-/// Adds all names that are needed, or none where memory is refused.
+/// Adds all names of the prerequisites. If memory runs out, none is added.
 pub(crate) fn add_needs(
     alloc: Global,
     names: &mut Names,
@@ -89,7 +99,7 @@ pub(crate) fn add_needs(
     added
 }
 
-// Adds all names that are needed, or some of them where memory is refused.
+// Adds all names of the prerequisites. If memory runs out, some may be added.
 fn add_some_needs(alloc: Global, names: &mut Names, needs: NeedsView<'_>) -> Result<(), AllocError>
     ensures added { OnOk result (names.new ≡ fold with_name names.old (all_needs (needs_view needs.entry))) }
     ensures refused { OnErr result ((more : List Text) × (names.new ≡ names.old ++ more)) }
@@ -98,7 +108,7 @@ fn add_some_needs(alloc: Global, names: &mut Names, needs: NeedsView<'_>) -> Res
     add_all(alloc, names, needs.order_only())
 }
 
-// Adds names in turn. Where memory is refused, some of them may be added.
+// Adds names in turn. If memory runs out, some may be added.
 fn add_all(alloc: Global, names: &mut Names, more: NeededNames<'_>) -> Result<(), AllocError>
     ensures added { OnOk result (names.new ≡ fold with_name names.old (names_view more.entry)) }
     ensures refused { OnErr result ((added : List Text) × (names.new ≡ names.old ++ added)) }

@@ -1,6 +1,6 @@
-//! Where a target stands.
+//! Where a target is in a book.
 
-/// A target of an entry, by the places of both.
+/// A target of an entry: the entry's place and the target's place in it.
 #[derive(Clone, Copy)]
 pub(crate) struct Spot {
     pub(crate) entry: usize,

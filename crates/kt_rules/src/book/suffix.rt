@@ -6,14 +6,14 @@ ghost use Rattle.kt_rules.specs.Suffixes.{is_cut_at, suffix_patterns};
 use super::suffixes::Suffixes;
 use kt_list::Names;
 
-/// Whether a suffix rule may have the name: it is a suffix, or two.
+/// Whether a suffix rule may have this name: it is a suffix, or two suffixes.
 pub(crate) fn is_suffix_name(suffixes: &Suffixes, name: &[u8]) -> bool
     ensures { result ≡ is_some (suffix_patterns suffixes.now name.now) }
 {
     suffixes.contains(name) || suffixes.cut(name).is_some()
 }
 
-/// The first place of one of the lengths at which the name is cut into two suffixes.
+/// The first place at which the name is cut into two suffixes, the first having one of the lengths.
 #[tactic(auto, using(crate::proofs::SuffixLemmas::cut_at, crate::proofs::SuffixLemmas::cut_end))]
 pub(crate) fn first_cut(suffixes: &Names, lengths: &[usize], name: &[u8]) -> Option<usize>
     ensures { result ≡ first_cut suffixes.now lengths.now name.now }
@@ -25,7 +25,7 @@ pub(crate) fn first_cut(suffixes: &Names, lengths: &[usize], name: &[u8]) -> Opt
     first
 }
 
-// The place of one length, if the name is so cut there.
+// The place after a first suffix of this length, if the name is cut into two suffixes there.
 #[tactic(auto, using(crate::proofs::SuffixLemmas::cut_after_is))]
 fn cut_after(suffixes: &Names, name: &[u8], front: usize) -> Option<usize>
     ensures { result ≡ cut_after suffixes.now name.now front }
@@ -51,7 +51,7 @@ fn is_cut_at(suffixes: &Names, name: &[u8], place: usize) -> bool
     suffixes.contains(begun) && suffixes.contains(rest)
 }
 
-/// The number of the first suffix of one of the lengths that the name ends with.
+/// The number of the first suffix that the name ends with, among suffixes of the lengths.
 #[tactic(auto, using(crate::proofs::SuffixLemmas::end_at, crate::proofs::SuffixLemmas::end_end))]
 pub(crate) fn first_end(suffixes: &Names, lengths: &[usize], name: &[u8]) -> Option<usize>
     ensures { result ≡ first_end suffixes.now lengths.now name.now }
@@ -63,7 +63,7 @@ pub(crate) fn first_end(suffixes: &Names, lengths: &[usize], name: &[u8]) -> Opt
     first
 }
 
-// The number of that of one length.
+// The number of the suffix of one length that the name ends with.
 fn end_of_length(suffixes: &Names, name: &[u8], len: usize) -> Option<usize>
     ensures { result ≡ end_of_length suffixes.now name.now len }
 {
@@ -74,7 +74,7 @@ fn end_of_length(suffixes: &Names, name: &[u8], len: usize) -> Option<usize>
     suffixes.number_of(end)
 }
 
-// The less of two numbers, of which either may be absent.
+// The smaller of two numbers, either of which may be absent.
 fn earlier(first: Option<usize>, other: Option<usize>) -> Option<usize>
     ensures { result ≡ earlier first other }
 {

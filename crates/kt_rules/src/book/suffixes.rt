@@ -15,17 +15,17 @@ use kt_list::Names;
 use std::alloc::{AllocError, Global};
 use std::marker::Model;
 
-// So many suffixes are compared with a name's end sooner than the ends of a few lengths are looked up among them.
+// Up to this many suffixes are compared with the end of a name one by one, which is faster than by length.
 const FEW: usize = 20;
 
-/// Suffixes, each once, in the order in which they came.
+/// Suffixes without repeats, in the order in which they were added.
 ///
-/// Few are looked for at the end of a name one by one, and others by their lengths, so that it makes no difference how
-/// many have one length.
+/// A few are compared with the end of a name one by one. More are looked up by their lengths, so that the time doesn't
+/// depend on how many have the same length.
 #[derive(Drop)]
 pub(crate) struct Suffixes {
     names: Names,
-    // Each length that one of them has, and maybe others.
+    // The length of each suffix, and maybe other lengths.
     lengths: IndexSet<usize>,
 }
 
@@ -43,7 +43,7 @@ impl Model for Suffixes {
 }
 
 impl Suffixes {
-    /// The suffixes that are known before any rule.
+    /// The suffixes before any rule is read.
     pub(crate) fn start(alloc: Global) -> Result<Suffixes, AllocError>
         ensures { IfOk result (λ suffixes. suffixes ≡ start_suffixes) }
     {
@@ -87,7 +87,7 @@ impl Suffixes {
         self.names.get(number)
     }
 
-    /// Adds all names that are needed, or none where memory is refused.
+    /// Adds all names of the prerequisites. If memory runs out, none is added.
     pub(crate) fn add_needs(
         &mut self,
         alloc: Global,
@@ -101,7 +101,7 @@ impl Suffixes {
         add_needs(alloc, &mut self.names, needs)
     }
 
-    /// Takes all suffixes away.
+    /// Removes all suffixes.
     pub(crate) fn clear(&mut self)
         ensures { self.new ≡ [] }
     {
@@ -123,7 +123,7 @@ fn first_of<'s>(suffixes: &'s [Name], name: &[u8]) -> Option<&'s [u8]>
     None
 }
 
-// Notes the length of each name. Where memory is refused, those of some may be noted.
+// Adds the length of each name. If memory runs out, some may be added.
 fn note_lengths(lengths: &mut IndexSet<usize>, names: &[Name]) -> Result<(), AllocError>
     ensures noted { OnOk result (lengths.new.keys ≡ lengths_with lengths.old.keys names.now) }
     ensures kept { KeepLengths lengths.old.keys lengths.new.keys }
@@ -134,7 +134,7 @@ fn note_lengths(lengths: &mut IndexSet<usize>, names: &[Name]) -> Result<(), All
     Ok(())
 }
 
-// The same of names that are needed.
+// The same for prerequisites.
 fn note_needed(
     alloc: Global,
     lengths: &mut IndexSet<usize>,

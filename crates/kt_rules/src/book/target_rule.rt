@@ -1,30 +1,35 @@
-//! A rule as it stands for one of its targets.
+//! A rule seen from one of its targets.
 ghost use Rattle.std.specs.Prelude.{◌≡◌, not, ◌&&◌, is_some, option_map};
 ghost use Rattle.std.specs.List.{list_any};
-ghost use Rattle.kt_rules.specs.Book.{is_double, is_group, is_made, is_pattern};
+ghost use Rattle.kt_rules.specs.Book.{is_double, is_explicit, is_group, is_pattern};
 ghost use Rattle.kt_rules.specs.Slots.{first_found, rule_view, spot_rule, target_rule};
 ghost use Rattle.kt_rules.specs.inner.SuffixCuts.{is_bare_at};
 ghost use Rattle.kt_rules.specs.Suffixes.{is_bare, is_single};
 ghost use Rattle.kt_rules.specs.Entry.{needs_for};
-ghost use Rattle.kt_rules.specs.Targets.{needs_view, target_view};
+ghost use Rattle.kt_rules.specs.Names.{is_special};
+ghost use Rattle.kt_rules.specs.Targets.{entry_view, needs_view};
 
+use super::book_rule::BookRule;
+use super::rules::Rules;
 use super::spot::Spot;
+use super::suffix::is_suffix_name;
+use super::suffixes::Suffixes;
 use crate::entry::{Entry, Kind};
 use crate::needs::NeedsView;
 use crate::refused::is_special;
 use crate::target::TargetView;
 
-/// A rule as it stands for one of its targets.
+/// A rule seen from one of its targets.
 #[derive(Clone, Copy)]
 pub struct TargetRule<'a> {
     /// The entry, which may have other targets.
-    pub entry: &'a Entry,
+    pub entry: BookRule<'a>,
     /// One of its targets.
     pub target: TargetView<'a>,
 }
 
 impl<'a> TargetRule<'a> {
-    /// What the target needs by it.
+    /// The prerequisites of the target in this rule.
     pub fn needs(self) -> NeedsView<'a>
         ensures { needs_view result ≡ needs_for (rule_view self.entry).0 (rule_view self.entry).1 }
     {
@@ -32,11 +37,11 @@ impl<'a> TargetRule<'a> {
     }
 }
 
-// Whether an entry makes a target by its name: no pattern rule does, and no special target is made.
-pub(crate) fn is_made(entry: &Entry, target: TargetView<'_>) -> bool
-    ensures { result ≡ is_made entry.now (target_view target.entry) }
+// Whether a rule of a kind makes a target by name: a pattern rule doesn't, and a special target isn't made.
+pub(crate) fn is_made(kind: Kind, name: &[u8]) -> bool
+    ensures { result ≡ (not (is_pattern kind) && not (is_special name.now)) }
 {
-    !is_pattern(entry.kind()) && !is_special(target.name)
+    !is_pattern(kind) && !is_special(name)
 }
 
 pub(crate) fn is_single(kind: Kind) -> bool
@@ -69,53 +74,59 @@ pub(crate) fn has_recipe(entry: &Entry) -> bool
     entry.recipe().is_some()
 }
 
-// Whether the rule has the form of a suffix rule: one colon, a recipe, and nothing that is needed.
+// Whether the rule has the form of a suffix rule: one colon, a recipe, and no prerequisites.
 pub(crate) fn is_bare(rule: TargetRule) -> bool
     ensures { result ≡ is_bare (rule_view rule.entry) }
 {
-    is_single(rule.entry.kind()) && has_recipe(rule.entry) && rule.needs().is_empty()
+    is_single(rule.entry.kind()) && rule.entry.recipe().is_some() && rule.needs().is_empty()
 }
 
-// The rule that stands at a spot.
-pub(crate) fn rule_at<'a>(slots: &'a [Option<Entry>], spot: Spot) -> Option<TargetRule<'a>>
-    ensures { option_map rule_view result ≡ spot_rule slots.now spot }
+// Whether an entry is an explicit rule for one of its targets.
+pub(crate) fn is_explicit(suffixes: &Suffixes, rule: TargetRule) -> bool
+    ensures { result ≡ is_explicit suffixes.now (rule_view rule.entry) }
 {
-    match slots.get(spot.entry) {
-        Some(Some(entry)) => target_at(entry, spot.target),
-        _ => None,
-    }
+    let name = rule.target.name;
+    is_made(rule.entry.kind(), name) && !(is_bare(rule) && is_suffix_name(suffixes, name))
 }
 
-// Whether one of the rules that stand at the spots has the form of a suffix rule.
-pub(crate) fn has_bare(slots: &[Option<Entry>], spots: &[Spot]) -> bool
-    ensures { result ≡ list_any (is_bare_at slots.now) spots.now }
+// The rule at a spot.
+pub(crate) fn rule_at(rules: &Rules, spot: Spot) -> Option<TargetRule<'_>>
+    ensures { option_map rule_view result ≡ spot_rule rules.now.1 spot }
 {
-    spots.iter().any(|spot| is_bare_at(slots, *spot))
+    let entry = rules.get(spot.entry)?;
+    target_at(entry, spot.target)
 }
 
-fn is_bare_at(slots: &[Option<Entry>], spot: Spot) -> bool
-    ensures { result ≡ is_bare_at slots.now spot }
+// Whether one of the rules at the spots has the form of a suffix rule.
+pub(crate) fn has_bare(rules: &Rules, spots: &[Spot]) -> bool
+    ensures { result ≡ list_any (is_bare_at rules.now.1) spots.now }
 {
-    match rule_at(slots, spot) {
+    spots.iter().any(|spot| is_bare_at(rules, *spot))
+}
+
+fn is_bare_at(rules: &Rules, spot: Spot) -> bool
+    ensures { result ≡ is_bare_at rules.now.1 spot }
+{
+    match rule_at(rules, spot) {
         Some(rule) => is_bare(rule),
         None => false,
     }
 }
 
-fn target_at(entry: &Entry, number: usize) -> Option<TargetRule<'_>>
-    ensures { option_map rule_view result ≡ target_rule entry.now number }
+fn target_at<'a>(entry: BookRule<'a>, number: usize) -> Option<TargetRule<'a>>
+    ensures { option_map rule_view result ≡ target_rule (entry_view entry.entry) number }
 {
     let target = entry.targets().get(number)?;
     Some(TargetRule { entry, target })
 }
 
-// The first rule that stands at one of the spots.
+// The first rule at one of the spots.
 #[tactic(auto, unfolding(crate::specs::Slots::found))]
-pub(crate) fn first_rule<'a>(slots: &'a [Option<Entry>], spots: &[Spot]) -> Option<TargetRule<'a>>
-    ensures { option_map rule_view result ≡ first_found slots.now spots.now }
+pub(crate) fn first_rule<'a>(rules: &'a Rules, spots: &[Spot]) -> Option<TargetRule<'a>>
+    ensures { option_map rule_view result ≡ first_found rules.now.1 spots.now }
 {
     for spot in spots {
-        if let Some(rule) = rule_at(slots, *spot) {
+        if let Some(rule) = rule_at(rules, *spot) {
             return Some(rule);
         }
     }

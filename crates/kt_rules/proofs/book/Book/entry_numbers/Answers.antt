@@ -8,6 +8,7 @@ use Rattle.kt_rules.specs.Book.{numbers_in}
 use Rattle.kt_rules.specs.Indexes.{noted_at}
 use Rattle.kt_rules.specs.Slots.{rules_in}
 use Rattle.kt_rules.specs.Suffixes.{suffixes_of}
+use Rattle.kt_rules.specs.Targets.{entry_view}
 use Rattle.kt_rules.proofs.NumberLemmas.{numbers_start, numbers_step, rules_fit}
 use Rattle.kt_rules.proofs.book.Book.entry_numbers.Goals as goal
 
@@ -15,32 +16,31 @@ pub loop-number-init : goal.loop-number-init
 loop-number-init c =
     let gives = c.into_iter-number-iterator.ensures.into_iter_gives in
     let none : c.into_iter-number-iterator.result.count ≡ 0 = ap (λ (i : Enumerate Entries). i.count) gives ∙ c.enumerate-number-items.ensures.count in
-    let all : c.into_iter-number-iterator.result.iter ≡ rules_in c.as_slice.result.now
+    let all : c.into_iter-number-iterator.result.iter ≡ rules_in c.self.inside.rules.1
     = ap (λ (i : Enumerate Entries). i.iter) gives ∙ c.enumerate-number-items.ensures.source ∙ c.new.ensures in
-    let view : rules_in c.as_slice.result.now ≡ c.args.self.now = ap rules_in c.as_slice.ensures.value ∙ c.self.view_is in
-    let len : length c.into_iter-number-iterator.result.iter ≡ length (rules_in c.as_slice.result.now) = ap length all in
-    let fit : length (rules_in c.as_slice.result.now) ≤ length c.as_slice.result.now = rules_fit c.as_slice.result.now in
+    let len : length c.into_iter-number-iterator.result.iter ≡ length (rules_in c.self.inside.rules.1) = ap length all in
+    let fit : length (rules_in c.self.inside.rules.1) ≤ length c.self.inside.rules.1 = rules_fit c.self.inside.rules.1 in
     record {
       left = λ name.
           ap (λ (numbers : List ℕ). numbers ++ flat_map (numbers_in (suffixes_of c.args.self.now) name) (enumerate_from c.into_iter-number-iterator.result.count c.into_iter-number-iterator.result.iter)) (c.new-index.ensures name)
-          ∙ numbers_start c.args.self.now c.into_iter-number-iterator.result.iter c.into_iter-number-iterator.result.count name (all ∙ view) none;
-      fits = omega (arith, c.as_slice.type_inv);
+          ∙ numbers_start c.args.self.now c.into_iter-number-iterator.result.iter c.into_iter-number-iterator.result.count name (all ∙ c.self.view_is) none;
+      fits = omega (arith, c.len-slots.ensures);
     }
 
 pub loop-number-preserved : goal.loop-number-preserved
 loop-number-preserved c =
     let steps = c.in-Some.ensures.steps in
     let more : c.next.new.self.count ≡ c.loop-number.number-iterator.count + 1 = steps.2 in
-    let len : length c.loop-number.number-iterator.iter ≡ length (c.in-Some.entry.now ∷ c.next.new.self.iter) = ap length steps.0 in
+    let len : length c.loop-number.number-iterator.iter ≡ length ((entry_view c.in-Some.entry) ∷ c.next.new.self.iter) = ap length steps.0 in
     record {
       left = λ name.
-          let own : List ℕ = numbers_in (suffixes_of c.args.self.now) name (c.in-Some.number, c.in-Some.entry.now) in
+          let own : List ℕ = numbers_in (suffixes_of c.args.self.now) name (c.in-Some.number, (entry_view c.in-Some.entry)) in
           let rest : List ℕ = flat_map (numbers_in (suffixes_of c.args.self.now) name) (enumerate_from c.next.new.self.count c.next.new.self.iter) in
           ap (λ (numbers : List ℕ). numbers ++ rest) (c.in_ok-note_entry.ensures name)
           ∙ append_assoc (noted_at c.loop-number.index name) own rest
-          ∙ ap (λ (n : ℕ). noted_at c.loop-number.index name ++ (numbers_in (suffixes_of c.args.self.now) name (n, c.in-Some.entry.now) ++ rest)) steps.1
+          ∙ ap (λ (n : ℕ). noted_at c.loop-number.index name ++ (numbers_in (suffixes_of c.args.self.now) name (n, (entry_view c.in-Some.entry)) ++ rest)) steps.1
           ∙ ap (λ (numbers : List ℕ). noted_at c.loop-number.index name ++ numbers)
-          (sym (numbers_step (suffixes_of c.args.self.now) name c.in-Some.entry.now c.loop-number.number-iterator.iter c.next.new.self.iter c.loop-number.number-iterator.count c.next.new.self.count steps.0 more))
+          (sym (numbers_step (suffixes_of c.args.self.now) name (entry_view c.in-Some.entry) c.loop-number.number-iterator.iter c.next.new.self.iter c.loop-number.number-iterator.count c.next.new.self.count steps.0 more))
           ∙ c.loop-number.invariant.left name;
       fits = omega (arith, c.loop-number.invariant.fits);
     }

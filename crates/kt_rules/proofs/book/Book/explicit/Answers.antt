@@ -1,10 +1,11 @@
-use Rattle.std.proofs.Common.{◌∙◌}
+use Rattle.std.proofs.Common.{◌∙◌, refl}
 use Rattle.kt_rules.proofs.GoalLemmas.{explicit_by_spots}
 use Rattle.kt_rules.proofs.book.Book.explicit.Goals as goal
 
 pub returns : goal.returns
 returns c =
+    let rules = c.self.inside.rules in
     c.new.ensures
-    ∙ explicit_by_spots c.self.inside.slots.items c.self.inside.spots.0 c.self.inside.spots.1 c.self.inside.phony c.self.inside.suffixes c.self.invariant
+    ∙ explicit_by_spots rules.1 (rules.0, c.self.inside.spots.targets) (rules.0, c.self.inside.spots.recipes) c.self.inside.phony c.self.inside.suffixes c.self.invariant.kept
     c.args.self.now c.self.view_is c.args.name.now
-    c.skips_bare.result c.as_slice-slots.result.now c.targets-spots.result.now c.skips_bare.ensures c.as_slice-slots.ensures.value c.targets-spots.ensures
+    c.skips_bare.result rules.1 c.spots_of-spots.result.now c.skips_bare.ensures refl c.spots_of-spots.ensures

@@ -1,38 +1,57 @@
-use Rattle.std.proofs.Common.{◌≡◌, ◌∙◌, ◌∷◌, ◌++◌, [], ap, subst, length}
-use Rattle.kt_rules.specs.Slots.{GrewIn, GotSpots, GotRecipes, rules_in}
-use Rattle.kt_text.proofs.BegunLemmas.{on_err}
-use Rattle.kt_rules.proofs.SlotLemmas.{rules_in-none, rules_in-some, put_last}
-use Rattle.kt_rules.proofs.BookLemmas.{kept_none, kept_some}
+use Rattle.std.proofs.Common.{◌≡◌, ◌∙◌, ◌++◌, ◌∷◌, [], List, Some, ap}
+use Rattle.kt_rules.specs.Entry.{Rule}
+use Rattle.kt_rules.specs.Slots.{slot_rule}
+use Rattle.kt_rules.proofs.BookLemmas.{holds_emptied, holds_grown, holds_learned, pushed_rule, rules_emptied, rules_learned}
 use Rattle.kt_rules.proofs.book.Book.learn.Goals as goal
 
-pub invariant_of-self-in_err-learn : goal.invariant_of-self-in_err-learn
-invariant_of-self-in_err-learn c =
-    let at : length c.as_slice-place.result.now ≡ length c.self.inside.slots.items = ap length c.as_slice-place.ensures.value in
-    let refused = c.in_err-learn.ensures in
-    rw c.in_ok-push.ensures.items
-    (kept_none c.self.inside.slots.items c.self.inside.spots.0 c.learn.new.spots.0 c.self.inside.spots.1 c.learn.new.spots.1 c.self.inside.phony c.learn.new.phony c.self.inside.suffixes c.learn.new.suffixes
-    c.self.invariant
-    (subst (λ n. GrewIn n c.self.inside.spots.0 c.learn.new.spots.0) at refused.targets_refused)
-    (subst (λ n. GrewIn n c.self.inside.spots.1 c.learn.new.spots.1) at refused.recipes_refused)
-    refused.phony_refused refused.suffixes_refused)
+pub invariant_of-self : goal.invariant_of-self
+invariant_of-self c =
+    let held = c.self.inside in
+    holds_grown held.rules c.push.new.self held.spots.targets held.spots.recipes held.phony held.suffixes
+    c.in_err-push.ensures.grown c.in_err-push.ensures.refused c.self.invariant
 
-pub returns-in_err-learn-clause-refused : goal.returns-in_err-learn-clause-refused
-returns-in_err-learn-clause-refused c =
-    on_err c.from_residual-in_err-learn.result (ap rules_in c.in_ok-push.ensures.items ∙ rules_in-none c.self.inside.slots.items ∙ c.self.view_is)
+pub invariant_of-self-in-Ok : goal.invariant_of-self-in-Ok
+invariant_of-self-in-Ok c =
+    let held = c.self.inside in
+    let pushed = c.push.new.self in
+    let new = c.learn-learned.new in
+    let learned = c.in-Ok.ensures in
+    let there : slot_rule pushed.1 c.len-place.result ≡ Some c.args.entry = pushed_rule held.rules pushed c.args.entry c.len-place.result held.spots.targets new.spots.targets held.spots.recipes new.spots.recipes
+    held.phony new.phony held.suffixes new.suffixes c.self.invariant c.in_ok-push.ensures.grown c.in_ok-push.ensures.pushed c.len-place.ensures in
+    holds_learned held.rules pushed c.args.entry c.len-place.result held.spots.targets new.spots.targets held.spots.recipes new.spots.recipes
+    held.phony new.phony held.suffixes new.suffixes c.self.invariant c.in_ok-push.ensures.grown c.in_ok-push.ensures.pushed c.len-place.ensures
+    (rw c.self.view_is c.requires)
+    (learned.targets_noted c.args.entry there) (learned.recipes_noted c.args.entry there)
+    (learned.phony_learned c.args.entry there) (learned.suffixes_learned c.args.entry there)
+    learned.targets_within learned.recipes_within
 
-pub invariant_of-self-2 : goal.invariant_of-self-2
-invariant_of-self-2 c =
-    let at : length c.as_slice-place.result.now ≡ length c.self.inside.slots.items = ap length c.as_slice-place.ensures.value in
-    let learned = c.in_ok-learn.ensures in
-    rw (put_last c.self.inside.slots.items c.push.new.self.items (length c.as_slice-place.result.now) c.args.entry c.in_ok-push.ensures.items at)
-    (kept_some c.self.inside.slots.items c.args.entry c.self.inside.spots.0 c.learn.new.spots.0 c.self.inside.spots.1 c.learn.new.spots.1 c.self.inside.phony c.learn.new.phony c.self.inside.suffixes c.learn.new.suffixes
-    c.self.invariant (rw c.self.view_is c.requires)
-    (subst (λ n. GotSpots c.args.entry n c.self.inside.spots.0 c.learn.new.spots.0) at learned.targets_noted)
-    (subst (λ n. GotRecipes c.args.entry n c.self.inside.spots.1 c.learn.new.spots.1) at learned.recipes_noted)
-    learned.phony_learned learned.suffixes_learned)
+pub returns-in-Ok-clause-grown : goal.returns-in-Ok-clause-grown
+returns-in-Ok-clause-grown c =
+    let held = c.self.inside in
+    let pushed = c.push.new.self in
+    let new = c.learn-learned.new in
+    rules_learned held.rules pushed c.args.entry c.len-place.result held.spots.targets new.spots.targets held.spots.recipes new.spots.recipes
+    held.phony new.phony held.suffixes new.suffixes c.self.invariant c.in_ok-push.ensures.grown c.in_ok-push.ensures.pushed c.len-place.ensures
+    ∙ ap (λ (rules : List Rule). rules ++ c.args.entry ∷ []) c.self.view_is
 
-pub returns-clause-grown : goal.returns-clause-grown
-returns-clause-grown c =
-    let at : length c.as_slice-place.result.now ≡ length c.self.inside.slots.items = ap length c.as_slice-place.ensures.value in
-    rw (put_last c.self.inside.slots.items c.push.new.self.items (length c.as_slice-place.result.now) c.args.entry c.in_ok-push.ensures.items at)
-    (rules_in-some c.self.inside.slots.items c.args.entry ∙ ap (λ rules. rules ++ c.args.entry ∷ []) c.self.view_is)
+pub invariant_of-self-in-Err : goal.invariant_of-self-in-Err
+invariant_of-self-in-Err c =
+    let held = c.self.inside in
+    let pushed = c.push.new.self in
+    let new = c.learn-learned.new in
+    let refused = c.in-Err.ensures in
+    holds_emptied held.rules pushed c.args.entry c.len-place.result held.spots.targets new.spots.targets held.spots.recipes new.spots.recipes
+    held.phony new.phony held.suffixes new.suffixes c.self.invariant c.in_ok-push.ensures.grown c.in_ok-push.ensures.pushed c.len-place.ensures
+    c.empty.new.self c.empty.ensures.names c.empty.ensures.emptied
+    refused.targets_refused refused.recipes_refused refused.phony_refused refused.suffixes_refused
+    refused.targets_within refused.recipes_within
+
+pub returns-in-Err-clause-refused : goal.returns-in-Err-clause-refused
+returns-in-Err-clause-refused c =
+    let held = c.self.inside in
+    let pushed = c.push.new.self in
+    let new = c.learn-learned.new in
+    rules_emptied held.rules pushed c.args.entry c.len-place.result held.spots.targets new.spots.targets held.spots.recipes new.spots.recipes
+    held.phony new.phony held.suffixes new.suffixes c.self.invariant c.in_ok-push.ensures.grown c.in_ok-push.ensures.pushed c.len-place.ensures
+    c.empty.new.self.1 c.empty.ensures.emptied
+    ∙ c.self.view_is

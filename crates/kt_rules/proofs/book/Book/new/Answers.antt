@@ -1,13 +1,21 @@
-use Rattle.std.proofs.Common.{ap}
-use Rattle.kt_rules.specs.inner.Lists.{Notes}
+use Rattle.std.proofs.Common.{◌≤◌, List, Option, length, ap, subst, sym, arith}
+use Rattle.kt_text.specs.Words.{Text}
+use Rattle.kt_rules.specs.declared.book.spot.Spot.{Spot}
+use Rattle.kt_rules.specs.Entry.{Rule}
 use Rattle.kt_rules.specs.Slots.{spots_at}
 use Rattle.kt_rules.proofs.BookLemmas.{kept_made}
 use Rattle.kt_rules.proofs.book.Book.new.Goals as goal
 
 pub invariant_of-result : goal.invariant_of-result
 invariant_of-result c =
-    kept_made c.new-slots.result.items c.new-spots.result.0 c.new-spots.result.1 c.new-phony.result c.in_ok-suffixes.suffixes
-    c.new-slots.ensures.items
-    (λ name. ap (λ (both : Notes × Notes). spots_at both.0 name) c.new-spots.ensures)
-    (λ name. ap (λ (both : Notes × Notes). spots_at both.1 name) c.new-spots.ensures)
-    c.new-phony.ensures c.in_ok-suffixes.ensures
+    let rules = c.new-rules.result in
+    let spots = c.new-spots.result in
+    record {
+      kept = kept_made rules.1 (rules.0, spots.targets) (rules.0, spots.recipes) c.new-phony.result c.in_ok-suffixes.suffixes
+          (ap (λ (r : List Text × List (Option Rule)). r.1) c.new-rules.ensures)
+          (λ name. ap (λ (r : List Text × List (Option Rule)). spots_at (r.0, spots.targets) name) c.new-rules.ensures)
+          (λ name. ap (λ (r : List Text × List (Option Rule)). spots_at (r.0, spots.recipes) name) c.new-rules.ensures)
+          c.new-phony.ensures c.in_ok-suffixes.ensures;
+      targets_within = subst (λ (lists : List (List Spot)). length lists ≤ length rules.0) (sym c.new-spots.ensures.targets) (omega arith);
+      recipes_within = subst (λ (lists : List (List Spot)). length lists ≤ length rules.0) (sym c.new-spots.ensures.recipes) (omega arith);
+    }

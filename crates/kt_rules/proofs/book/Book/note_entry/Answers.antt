@@ -5,14 +5,14 @@ use Rattle.kt_rules.specs.declared.entry.Target.{Target}
 use Rattle.kt_rules.specs.Book.{is_explicit}
 use Rattle.kt_rules.specs.Indexes.{noted_at}
 use Rattle.kt_rules.specs.Suffixes.{suffixes_of}
-use Rattle.kt_rules.specs.Targets.{target_view, targets_view}
+use Rattle.kt_rules.specs.Targets.{entry_view, target_view, targets_view}
 use Rattle.kt_rules.proofs.NumberLemmas.{numbers_left}
 use Rattle.kt_rules.proofs.book.Book.note_entry.Goals as goal
 
 pub loop-target-preserved : goal.loop-target-preserved
 loop-target-preserved c = λ name.
     let target = target_view c.in-Some.target in
-    let test = λ (target : Target). bytes_eq name target.name && is_explicit (suffixes_of c.args.self.now) (c.args.entry.now, target) in
+    let test = λ (target : Target). bytes_eq name target.name && is_explicit (suffixes_of c.args.self.now) (entry_view c.args.entry, target) in
     let own : List ℕ = if test target then c.args.number ∷ [] else [] in
     let rest : List ℕ = map (λ (target : Target). c.args.number) (filter test (targets_view c.next.new.self)) in
     ap (λ (numbers : List ℕ). numbers ++ rest) (c.in_ok-note_rule.ensures name)

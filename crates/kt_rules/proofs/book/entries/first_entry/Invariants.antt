@@ -1,9 +1,6 @@
-use Rattle.std.proofs.Common.{◌≡◌, length}
+use Rattle.std.proofs.Common.{◌≡◌, drop}
 use Rattle.kt_rules.specs.Slots.{rules_in}
 use Rattle.kt_rules.proofs.book.entries.first_entry.Given as goal
 
-abbrev pub invariant-loop-left : goal.invariant-loop-left
-invariant-loop-left l = rules_in l.left ≡ rules_in l.slots
-
-abbrev pub decreases-loop-left : goal.decreases-loop-left
-decreases-loop-left l = length l.left
+abbrev pub invariant-loop-place : goal.invariant-loop-place
+invariant-loop-place l = rules_in (drop l.place l.rules.1) ≡ rules_in (drop l.from l.rules.1)

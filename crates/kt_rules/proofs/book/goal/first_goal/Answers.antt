@@ -1,24 +1,22 @@
-use Rattle.std.proofs.Common.{◌∙◌, ◌+◌, ◌≤◌, sym, ap, drop, length, arith, Option}
+use Rattle.std.proofs.Common.{◌∙◌, sym, ap, Option}
 use Rattle.std.specs.Option.{option_or}
 use Rattle.kt_text.specs.Words.{Text}
 use Rattle.kt_rules.specs.Book.{first_goal_by}
-use Rattle.kt_rules.specs.Slots.{rules_in}
-use Rattle.kt_rules.proofs.GoalLemmas.{goal_at, goal_end}
+use Rattle.kt_rules.specs.Targets.{entry_view}
+use Rattle.kt_rules.proofs.GoalLemmas.{goal_left, goal_none}
 use Rattle.kt_rules.proofs.book.goal.first_goal.Goals as goal
 
-pub returns-in-Some : goal.returns-in-Some
-returns-in-Some c =
-    ap (λ (o : Option Text). option_or o (first_goal_by c.args.suffixes.now (rules_in (drop (c.loop-slot.slot-index + 1) c.args.slots.now)))) c.in-Some.ensures
-    ∙ sym (goal_at c.args.suffixes.now c.args.slots.now c.loop-slot.slot-index c.slot-item.result c.loop-slot-test.true c.slot-item.is)
-    ∙ c.loop-slot.invariant
+pub returns-in-Some-goal_in : goal.returns-in-Some-goal_in
+returns-in-Some-goal_in c =
+    ap (λ (o : Option Text). option_or o (first_goal_by c.args.suffixes.now c.next.new.self)) c.in-Some-goal_in.ensures
+    ∙ sym (goal_left c.args.suffixes.now c.loop-entry.entry-iterator c.next.new.self (entry_view c.in-Some.entry) c.in-Some.ensures.steps)
+    ∙ c.loop-entry.invariant
 
-pub loop-slot-preserved : goal.loop-slot-preserved
-loop-slot-preserved c =
-    ap (λ (o : Option Text). option_or o (first_goal_by c.args.suffixes.now (rules_in (drop (c.loop-slot.slot-index + 1) c.args.slots.now)))) c.in-None.ensures
-    ∙ sym (goal_at c.args.suffixes.now c.args.slots.now c.loop-slot.slot-index c.slot-item.result c.loop-slot-test.true c.slot-item.is)
-    ∙ c.loop-slot.invariant
+pub loop-entry-preserved : goal.loop-entry-preserved
+loop-entry-preserved c =
+    ap (λ (o : Option Text). option_or o (first_goal_by c.args.suffixes.now c.next.new.self)) c.in-None-goal_in.ensures
+    ∙ sym (goal_left c.args.suffixes.now c.loop-entry.entry-iterator c.next.new.self (entry_view c.in-Some.entry) c.in-Some.ensures.steps)
+    ∙ c.loop-entry.invariant
 
 pub returns : goal.returns
-returns c =
-    let all : length c.args.slots.now ≤ c.loop-slot.slot-index = omega arith in
-    sym (goal_end c.args.suffixes.now c.args.slots.now c.loop-slot.slot-index all) ∙ c.loop-slot.invariant
+returns c = sym (goal_none c.args.suffixes.now c.loop-entry.entry-iterator c.in-None.ensures.steps.0) ∙ c.loop-entry.invariant

@@ -1,9 +1,9 @@
 use Rattle.std.proofs.Common.{◌≡◌, find, filter, map}
 use Rattle.kt_rules.specs.Book.{is_goal, is_made, goal_in}
 use Rattle.std.specs.Option.{option_map}
-use Rattle.kt_rules.specs.Targets.{targets_view}
+use Rattle.kt_rules.specs.Targets.{entry_view, targets_view}
 use Rattle.kt_rules.proofs.book.goal.goal_in.Given as goal
 
 abbrev pub invariant-loop-target : goal.invariant-loop-target
 invariant-loop-target l =
-    option_map (λ made. made.1.name) (find (is_goal l.suffixes) (map (λ target. (l.entry, target)) (filter (is_made l.entry) (targets_view l.target-iterator)))) ≡ goal_in l.suffixes l.entry
+    option_map (λ made. made.1.name) (find (is_goal l.suffixes) (map (λ target. ((entry_view l.entry), target)) (filter (is_made (entry_view l.entry)) (targets_view l.target-iterator)))) ≡ goal_in l.suffixes (entry_view l.entry)

@@ -4,13 +4,13 @@ use Rattle.std.proofs.lemmas.List.{append_assoc}
 use Rattle.kt_rules.specs.Entry.{Rule}
 use Rattle.kt_rules.specs.Book.{is_made, suffix_rule_as_pattern}
 use Rattle.kt_rules.specs.Patterns.{suffix_rules_at}
-use Rattle.kt_rules.specs.Targets.{target_view, targets_view}
+use Rattle.kt_rules.specs.Targets.{entry_view, target_view, targets_view}
 use Rattle.kt_rules.proofs.PatternLemmas.{suffix_rules_left}
 use Rattle.kt_rules.proofs.book.matching.add_suffix_rules.Goals as goal
 
 pub loop-target-preserved : goal.loop-target-preserved
 loop-target-preserved c =
-    let rule = c.args.entry.now in
+    let rule = entry_view c.args.entry in
     let target = target_view c.in-Some.target in
     let rest : List Rule = filter_map (suffix_rule_as_pattern c.args.suffixes.now) (map (λ t. (rule, t)) (filter (is_made rule) (targets_view c.next.new.self))) in
     ap (λ (xs : List Rule). xs ++ rest) c.in_ok-add_suffix_rule.ensures

@@ -1,64 +1,89 @@
-use Rattle.std.proofs.Common.{◌≡◌, ◌++◌, ◌∷◌, [], ◌∙◌, true, is_some, length, ap, refl, arith, if◌then◌else◌}
-use Rattle.std.specs.declared.iter.Enumerate.{Enumerate}
-use Rattle.kt_rules.specs.declared.target.Targets.{Targets}
-use Rattle.kt_rules.specs.Slots.{spot_at, spots_at, target_spots}
-use Rattle.kt_rules.specs.Targets.{target_view, targets_view}
-use Rattle.kt_rules.proofs.NoteLemmas.{grew_both, grew_none, grew_target, noted_end, noted_start, noted_step}
+use Rattle.std.proofs.Common.{◌≡◌, ◌∷◌, ◌+◌, ◌<◌, ℕ, zero, suc, List, [], true, is_some, length, drop, get_or, refl, arith}
+use Rattle.kt_rules.specs.Entry.{target_of}
+use Rattle.kt_rules.specs.Targets.{entry_view, line_needs}
+use Rattle.kt_rules.specs.inner.Held.{numbered_target}
+use Rattle.kt_rules.proofs.HeldLemmas.{below_at}
+use Rattle.kt_rules.proofs.NoteLemmas.{grew_both, grew_none, grew_target, noted_end, noted_start, noted_step, target_end, target_left}
 use Rattle.kt_text.proofs.BegunLemmas.{on_err}
 use Rattle.kt_rules.proofs.book.noting.note_targets.Goals as goal
 
-pub loop-number-init : goal.loop-number-init
-loop-number-init c =
-    let gives = c.into_iter-number-iterator.ensures.into_iter_gives in
-    let none : c.into_iter-number-iterator.result.count ≡ 0 = ap (λ (i : Enumerate Targets). i.count) gives ∙ c.enumerate-number-items.ensures.count in
-    let all : targets_view c.into_iter-number-iterator.result.iter ≡ c.args.entry.now.targets
-    = ap (λ (i : Enumerate Targets). targets_view i.iter) gives ∙ ap targets_view c.enumerate-number-items.ensures.source ∙ c.targets.ensures.all in
-    let len : length (targets_view c.into_iter-number-iterator.result.iter) ≡ length c.args.entry.now.targets = ap length all in
+get_or_any : (xs : List ℕ) (i d e : ℕ) → i < length xs → get_or xs i d ≡ get_or xs i e
+get_or_any [] i d e h = absurd (omega arith)
+get_or_any (x ∷ xs) zero d e h = refl
+get_or_any (x ∷ xs) (suc i) d e h = get_or_any xs i d e (omega arith)
+
+pub loop-position-init : goal.loop-position-init
+loop-position-init c =
+    let names = c.args.rule.names.now in
+    let rule = entry_view c.args.rule in
+    let spots = c.args.spots.now in
     record {
-      targets = noted_start true c.args.entry.now c.args.place _ _ c.args.spots.now.0 none all;
-      recipes = noted_start (is_some c.args.entry.now.recipe) c.args.entry.now c.args.place _ _ c.args.spots.now.1 none all;
-      targets_grown = grew_none c.args.place c.args.spots.now.0 c.args.spots.now.0 (λ name. refl);
-      recipes_grown = grew_none c.args.place c.args.spots.now.1 c.args.spots.now.1 (λ name. refl);
-      fits = omega (arith, c.targets.ensures.few);
+      targets = noted_start true rule c.args.place 0 (drop 0 rule.targets) (names, spots.targets) refl refl;
+      recipes = noted_start (is_some rule.recipe) rule c.args.place 0 (drop 0 rule.targets) (names, spots.recipes) refl refl;
+      targets_grown = grew_none c.args.place (names, spots.targets) (names, spots.targets) (λ name. refl);
+      recipes_grown = grew_none c.args.place (names, spots.recipes) (names, spots.recipes) (λ name. refl);
+      targets_within = λ within. within;
+      recipes_within = λ within. within;
     }
+
+pub note_target-requires : goal.note_target-requires
+note_target-requires c = below_at (length c.args.rule.names.now) c.args.rule.targets.now c.loop-position.position 0 c.requires c.loop-position-test.true
 
 pub returns-in_err-note_target-clause-targets_refused : goal.returns-in_err-note_target-clause-targets_refused
 returns-in_err-note_target-clause-targets_refused c =
+    let names = c.args.rule.names.now in
     on_err c.from_residual.result
-    (grew_both c.args.place c.args.spots.now.0 c.loop-number.spots.0 c.note_target.new.spots.0 c.loop-number.invariant.targets_grown c.in_err-note_target.ensures.targets_refused)
+    (grew_both c.args.place (names, c.args.spots.now.targets) (names, c.loop-position.spots.targets) (names, c.note_target.new.spots.targets)
+    c.loop-position.invariant.targets_grown c.in_err-note_target.ensures.targets_refused)
 
 pub returns-in_err-note_target-clause-recipes_refused : goal.returns-in_err-note_target-clause-recipes_refused
 returns-in_err-note_target-clause-recipes_refused c =
+    let names = c.args.rule.names.now in
     on_err c.from_residual.result
-    (grew_both c.args.place c.args.spots.now.1 c.loop-number.spots.1 c.note_target.new.spots.1 c.loop-number.invariant.recipes_grown c.in_err-note_target.ensures.recipes_refused)
+    (grew_both c.args.place (names, c.args.spots.now.recipes) (names, c.loop-position.spots.recipes) (names, c.note_target.new.spots.recipes)
+    c.loop-position.invariant.recipes_grown c.in_err-note_target.ensures.recipes_refused)
 
-pub loop-number-preserved : goal.loop-number-preserved
-loop-number-preserved c =
-    let rule = c.args.entry.now in
-    let steps = c.in-Some.ensures.steps in
-    let target = target_view c.in-Some.target in
-    let left = targets_view c.loop-number.number-iterator.iter in
-    let rest = targets_view c.next.new.self.iter in
-    let len : length left ≡ length (target ∷ rest) = ap length steps.0 in
+pub loop-position-preserved : goal.loop-position-preserved
+loop-position-preserved c =
+    let names = c.args.rule.names.now in
+    let rule = entry_view c.args.rule in
+    let i = c.loop-position.position in
+    let number = get_or c.args.rule.targets.now i 0 in
+    let target = numbered_target c.args.rule number in
     let made = c.in_ok-note_target.ensures in
+    let kept = c.loop-position.invariant in
+    let first : drop i rule.targets ≡ target ∷ drop (i + 1) rule.targets
+    = target_left (target_of c.args.rule.held.now.pattern (line_needs c.args.rule)) (λ (n : ℕ). get_or names n []) c.args.rule.targets.now i number
+    c.loop-position-test.true (get_or_any c.args.rule.targets.now i 0 number c.loop-position-test.true) in
     record {
-      targets = noted_step true rule c.args.place c.loop-number.number-iterator.count c.next.new.self.count target left rest c.args.spots.now.0 c.loop-number.spots.0 c.note_target.new.spots.0
-          steps.0 steps.2 (λ name. made.targets_noted name ∙ ap (λ n. spots_at c.loop-number.spots.0 name ++ target_spots rule target (spot_at c.args.place n) name) steps.1)
-          c.loop-number.invariant.targets;
-      recipes = noted_step (is_some rule.recipe) rule c.args.place c.loop-number.number-iterator.count c.next.new.self.count target left rest c.args.spots.now.1 c.loop-number.spots.1 c.note_target.new.spots.1
-          steps.0 steps.2 (λ name. made.recipes_noted name ∙ ap (λ n. spots_at c.loop-number.spots.1 name ++ (if is_some rule.recipe then target_spots rule target (spot_at c.args.place n) name else [])) steps.1)
-          c.loop-number.invariant.recipes;
-      targets_grown = grew_both c.args.place c.args.spots.now.0 c.loop-number.spots.0 c.note_target.new.spots.0 c.loop-number.invariant.targets_grown
-          (grew_target true rule c.args.place c.in-Some.number target c.loop-number.spots.0 c.note_target.new.spots.0 made.targets_noted);
-      recipes_grown = grew_both c.args.place c.args.spots.now.1 c.loop-number.spots.1 c.note_target.new.spots.1 c.loop-number.invariant.recipes_grown
-          (grew_target (is_some rule.recipe) rule c.args.place c.in-Some.number target c.loop-number.spots.1 c.note_target.new.spots.1 made.recipes_noted);
-      fits = omega (arith, c.loop-number.invariant.fits);
+      targets = noted_step true rule c.args.place i (i + 1) target (drop i rule.targets) (drop (i + 1) rule.targets)
+          (names, c.args.spots.now.targets) (names, c.loop-position.spots.targets) (names, c.note_target.new.spots.targets)
+          first refl made.targets_noted kept.targets;
+      recipes = noted_step (is_some rule.recipe) rule c.args.place i (i + 1) target (drop i rule.targets) (drop (i + 1) rule.targets)
+          (names, c.args.spots.now.recipes) (names, c.loop-position.spots.recipes) (names, c.note_target.new.spots.recipes)
+          first refl made.recipes_noted kept.recipes;
+      targets_grown = grew_both c.args.place (names, c.args.spots.now.targets) (names, c.loop-position.spots.targets) (names, c.note_target.new.spots.targets)
+          kept.targets_grown
+          (grew_target true rule c.args.place i target (names, c.loop-position.spots.targets) (names, c.note_target.new.spots.targets) made.targets_noted);
+      recipes_grown = grew_both c.args.place (names, c.args.spots.now.recipes) (names, c.loop-position.spots.recipes) (names, c.note_target.new.spots.recipes)
+          kept.recipes_grown
+          (grew_target (is_some rule.recipe) rule c.args.place i target (names, c.loop-position.spots.recipes) (names, c.note_target.new.spots.recipes) made.recipes_noted);
+      targets_within = λ within. made.targets_within (kept.targets_within within);
+      recipes_within = λ within. made.recipes_within (kept.recipes_within within);
     }
 
 pub returns-clause-targets_noted : goal.returns-clause-targets_noted
 returns-clause-targets_noted c =
-    noted_end true c.args.entry.now c.args.place _ _ c.args.spots.now.0 c.loop-number.spots.0 c.in-None.ensures.steps.0.0 c.loop-number.invariant.targets
+    let rule = entry_view c.args.rule in
+    let names = c.args.rule.names.now in
+    noted_end true rule c.args.place c.loop-position.position (drop c.loop-position.position rule.targets) (names, c.args.spots.now.targets) (names, c.loop-position.spots.targets)
+    (target_end (target_of c.args.rule.held.now.pattern (line_needs c.args.rule)) (λ (n : ℕ). get_or names n []) c.args.rule.targets.now c.loop-position.position c.loop-position-test.false)
+    c.loop-position.invariant.targets
 
 pub returns-clause-recipes_noted : goal.returns-clause-recipes_noted
 returns-clause-recipes_noted c =
-    noted_end (is_some c.args.entry.now.recipe) c.args.entry.now c.args.place _ _ c.args.spots.now.1 c.loop-number.spots.1 c.in-None.ensures.steps.0.0 c.loop-number.invariant.recipes
+    let rule = entry_view c.args.rule in
+    let names = c.args.rule.names.now in
+    noted_end (is_some rule.recipe) rule c.args.place c.loop-position.position (drop c.loop-position.position rule.targets) (names, c.args.spots.now.recipes) (names, c.loop-position.spots.recipes)
+    (target_end (target_of c.args.rule.held.now.pattern (line_needs c.args.rule)) (λ (n : ℕ). get_or names n []) c.args.rule.targets.now c.loop-position.position c.loop-position-test.false)
+    c.loop-position.invariant.recipes

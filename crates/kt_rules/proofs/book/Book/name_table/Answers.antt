@@ -1,0 +1,12 @@
+use Rattle.std.proofs.Common.{List, All, flat_map, subst, sym}
+use Rattle.std.specs.List.{Contains}
+use Rattle.kt_text.specs.Words.{Text}
+use Rattle.kt_rules.specs.Entry.{Rule}
+use Rattle.kt_rules.specs.Known.{names_in}
+use Rattle.kt_rules.proofs.book.Book.name_table.Goals as goal
+
+pub returns : goal.returns
+returns c =
+    let table = c.self.inside.rules.0 in
+    subst (λ (names : List Text). All (Contains names) (flat_map names_in c.args.self.now)) (sym c.names.ensures.names)
+    (subst (λ (rules : List Rule). All (Contains table) (flat_map names_in rules)) c.self.view_is c.names.ensures.all)

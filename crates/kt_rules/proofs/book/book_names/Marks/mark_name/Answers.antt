@@ -1,0 +1,29 @@
+use Rattle.std.proofs.Common.{◌≡◌, ◌<◌, Some, true, length, refl, sym, subst}
+use Rattle.std.specs.Vec.{with_item}
+use Rattle.std.proofs.lemmas.Option.{slice_get_within}
+use Rattle.std.proofs.lemmas.Result.{on_ok_weaker}
+use Rattle.kt_list.specs.Names.{place_of}
+use Rattle.kt_list.proofs.NameLemmas.{number_found}
+use Rattle.kt_rules.specs.declared.book.book_names.Marks.{Marks}
+use Rattle.kt_rules.specs.Names.{with_name}
+use Rattle.kt_rules.proofs.MarkLemmas.{number_marked, other_marked}
+use Rattle.kt_rules.proofs.book.book_names.Marks.mark_name.Goals as goal
+
+pub returns-in-Some-clause-marked : goal.returns-in-Some-clause-marked
+returns-in-Some-clause-marked c =
+    let names = c.args.names.now in
+    let old = c.args.self.now in
+    let number = c.in-Some.number in
+    let at : place_of names c.args.name.now ≡ Some number = sym c.in-Some.ensures.place in
+    let within : number < length old.numbers.items
+    = subst (λ n. number < n) (sym c.requires) (slice_get_within names number c.args.name.now (number_found names c.args.name.now number at)) in
+    let new : Marks = record { alloc = old.alloc; numbers = with_item old.numbers number true; others = old.others } in
+    number_marked names old new c.args.name.now number at within refl refl
+
+pub returns-in-None-clause-marked : goal.returns-in-None-clause-marked
+returns-in-None-clause-marked c =
+    let old = c.args.self.now in
+    let new : Marks = record { alloc = old.alloc; numbers = old.numbers; others = c.add.new.self } in
+    on_ok_weaker c.add.result
+    (λ (added : c.add.new.self ≡ with_name old.others c.args.name.now). other_marked c.args.names.now old new c.args.name.now c.in-None.ensures.place refl added)
+    c.add.ensures.added

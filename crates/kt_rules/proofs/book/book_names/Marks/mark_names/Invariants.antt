@@ -1,0 +1,10 @@
+use Rattle.std.proofs.Common.{◌≡◌, length}
+use Rattle.kt_rules.specs.Targets.{names_view}
+use Rattle.kt_rules.proofs.MarkLemmas.{IsMarkedFrom}
+use Rattle.kt_rules.proofs.book.book_names.Marks.mark_names.Given as goal
+
+abbrev pub invariant-loop-name : goal.invariant-loop-name
+invariant-loop-name l = record {
+  marked : IsMarkedFrom l.names (names_view l.list) (names_view l.name-iterator) l.fn.self l.self;
+  many : length l.self.numbers.items ≡ length l.fn.self.numbers.items;
+}

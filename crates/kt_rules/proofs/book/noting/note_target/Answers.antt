@@ -1,0 +1,62 @@
+use Rattle.std.proofs.Common.{◌≡◌, ◌∙◌, ◌&&◌, ◌++◌, ◌∷◌, if◌then◌else◌, ℕ, nat_eq, List, [], Option, Some, None, Bool, true, not, is_some, option_map, slice_get, get_or, refl, sym, ap}
+use Rattle.std.specs.Borrow.{Bor}
+use Rattle.std.proofs.lemmas.Option.{slice_get-get_or}
+use Rattle.std.proofs.lemmas.Result.{on_err_weaker, on_ok_weaker}
+use Rattle.kt_text.specs.Words.{Text}
+use Rattle.kt_rules.specs.declared.entry.Kind.{Kind}
+use Rattle.kt_rules.specs.declared.entry.RecipeLine.{RecipeLine}
+use Rattle.kt_rules.specs.Book.{is_made, is_pattern}
+use Rattle.kt_rules.specs.Names.{is_special}
+use Rattle.kt_rules.specs.Targets.{entry_view}
+use Rattle.kt_rules.specs.inner.Held.{numbered_target}
+use Rattle.kt_rules.specs.inner.Lists.{list_at}
+use Rattle.kt_rules.proofs.NoteLemmas.{grew_at_names, target_noted}
+use Rattle.kt_rules.proofs.book.noting.note_target.Goals as goal
+
+is_some-map : {A B : Type 0} (f : A → B) (o : Option A) → is_some (option_map f o) ≡ is_some o
+is_some-map f None = refl
+is_some-map f (Some x) = refl
+
+pub returns-clause-targets_noted : goal.returns-clause-targets_noted
+returns-clause-targets_noted c =
+    let names = c.args.rule.names.now in
+    let rule = entry_view c.args.rule in
+    let target = numbered_target c.args.rule c.args.number in
+    let there : slice_get names c.args.number ≡ Some (get_or names c.args.number []) = slice_get-get_or names c.args.number [] c.requires in
+    let made : is_made rule target ≡ true
+    = sym (c.is_made.ensures
+    ∙ ap (λ (kind : Kind). not (is_pattern kind) && not (is_special c.name_at.result.now)) c.kind.ensures
+    ∙ ap (λ (name : Text). not (is_pattern rule.kind) && not (is_special name)) c.name_at.ensures)
+    ∙ c.if-not-is_made.false in
+    on_ok_weaker c.note.result
+    (λ step. target_noted names rule target c.args.number c.args.spot true c.args.spots.now.targets c.note.new.self.targets c.as_slice-names.ensures.differ there made step)
+    c.note.ensures.targets_noted
+
+pub returns-clause-recipes_noted : goal.returns-clause-recipes_noted
+returns-clause-recipes_noted c =
+    let names = c.args.rule.names.now in
+    let rule = entry_view c.args.rule in
+    let target = numbered_target c.args.rule c.args.number in
+    let there : slice_get names c.args.number ≡ Some (get_or names c.args.number []) = slice_get-get_or names c.args.number [] c.requires in
+    let made : is_made rule target ≡ true
+    = sym (c.is_made.ensures
+    ∙ ap (λ (kind : Kind). not (is_pattern kind) && not (is_special c.name_at.result.now)) c.kind.ensures
+    ∙ ap (λ (name : Text). not (is_pattern rule.kind) && not (is_special name)) c.name_at.ensures)
+    ∙ c.if-not-is_made.false in
+    let has : c.is_some.result ≡ is_some rule.recipe
+    = c.is_some.ensures ∙ sym (is_some-map (λ (lines : Bor (List RecipeLine)). lines.now) c.recipe.result) ∙ ap is_some c.recipe.ensures in
+    let old = c.args.spots.now.recipes in
+    let new = c.note.new.self.recipes in
+    on_ok_weaker c.note.result
+    (λ (step : (other : ℕ) → list_at new other ≡ list_at old other ++ (if c.is_some.result then (if nat_eq other c.args.number then c.args.spot ∷ [] else []) else [])).
+    target_noted names rule target c.args.number c.args.spot (is_some rule.recipe) old new c.as_slice-names.ensures.differ there made
+    (λ other. step other ∙ ap (λ (b : Bool). list_at old other ++ (if b then (if nat_eq other c.args.number then c.args.spot ∷ [] else []) else [])) has))
+    c.note.ensures.recipes_noted
+
+pub returns-clause-targets_refused : goal.returns-clause-targets_refused
+returns-clause-targets_refused c =
+    on_err_weaker c.note.result (grew_at_names c.args.rule.names.now c.args.spot.entry c.args.spots.now.targets c.note.new.self.targets) c.note.ensures.targets_refused
+
+pub returns-clause-recipes_refused : goal.returns-clause-recipes_refused
+returns-clause-recipes_refused c =
+    on_err_weaker c.note.result (grew_at_names c.args.rule.names.now c.args.spot.entry c.args.spots.now.recipes c.note.new.self.recipes) c.note.ensures.recipes_refused

@@ -1,0 +1,8 @@
+use Rattle.std.proofs.Common.{◌∙◌, [], Option, ap}
+use Rattle.std.specs.Option.{unwrap_or}
+use Rattle.std.proofs.lemmas.Option.{unwrap_or-slice_get}
+use Rattle.kt_text.specs.Words.{Text}
+use Rattle.kt_rules.proofs.listed.name_at.Goals as goal
+
+pub returns-in-None : goal.returns-in-None
+returns-in-None c = ap (λ (found : Option Text). unwrap_or found []) c.in-None.ensures ∙ unwrap_or-slice_get c.args.names.now c.args.number []

@@ -1,0 +1,22 @@
+-- Names that are marked by number, or by name (kati's own).
+use Rattle.std.specs.Prelude.{◌≡◌, ℕ, Bool, false, Option, Some, None, List, get_or, length}
+use Rattle.kt_list.specs.Names.{is_among, place_of}
+use Rattle.kt_text.specs.Words.{Text}
+use Rattle.kt_rules.specs.declared.book.book_names.Marks.{Marks}
+use Rattle.kt_rules.specs.declared.book.book_rule.BookRule.{BookRule}
+use Rattle.kt_rules.specs.inner.Held.{AreBelow}
+
+-- the mark of a name: at its number, if it has one, or else among the other names
+abbrev pub mark_at : Marks → Text → Option ℕ → Bool
+mark_at marks name (Some number) = get_or marks.numbers.items number false
+mark_at marks name None = is_among marks.others name
+
+-- whether a name is marked
+abbrev pub is_marked : List Text → Marks → Text → Bool
+is_marked names marks name = mark_at marks name (place_of names name)
+
+-- a rule's names are this many, and its numbers are numbers of them
+pub record IsOf (count : ℕ) (rule : BookRule) : Type 0 where
+  pub many : count ≡ length rule.names.now
+  pub prerequisites : AreBelow (length rule.names.now) rule.prerequisites.now
+  pub order_only : AreBelow (length rule.names.now) rule.order_only.now

@@ -1,0 +1,23 @@
+//! Rules as a book holds them.
+use crate::entry::{Kind, Name, RecipeLine};
+use crate::place::Place;
+
+/// A rule line whose names are held as numbers in a list: the targets first, then the prerequisites, then the
+/// order-only prerequisites.
+#[derive(Drop)]
+pub(crate) struct HeldRule {
+    pub(crate) kind: Kind,
+    pub(crate) span: Span,
+    pub(crate) pattern: Option<Name>,
+    pub(crate) recipe: Option<Vec<RecipeLine>>,
+    pub(crate) place: Place,
+}
+
+/// The places of a rule's numbers in a list.
+#[derive(Clone, Copy)]
+pub(crate) struct Span {
+    pub(crate) targets: usize,
+    pub(crate) prerequisites: usize,
+    pub(crate) order_only: usize,
+    pub(crate) end: usize,
+}

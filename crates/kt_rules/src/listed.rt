@@ -1,0 +1,146 @@
+//! Names held either directly or by number.
+ghost use Rattle.std.specs.Prelude.{◌≡◌, ◌∷◌, [], MatchOption, get_or, length, option_map, slice_get};
+ghost use Rattle.kt_rules.specs.Entry.{no_needs};
+ghost use Rattle.kt_rules.specs.Suffixes.{is_empty};
+ghost use Rattle.kt_rules.specs.Targets.{listed_needs, listed_view, names_at};
+
+use crate::entry::{Name, Needs};
+use kt_list::Names;
+
+/// A list of names.
+#[derive(Clone, Copy)]
+pub(crate) enum Listed<'a> {
+    Own(&'a [Name]),
+    ByNumber(Numbered<'a>),
+}
+
+/// A list of names, held by number.
+#[derive(Clone, Copy)]
+pub(crate) struct Numbered<'a> {
+    pub(crate) names: &'a Names,
+    pub(crate) numbers: &'a [usize],
+}
+
+/// A name of a list.
+#[derive(Clone, Copy)]
+pub(crate) struct ListedName<'a> {
+    pub(crate) name: &'a [u8],
+    /// Its number, if the list has one: nothing is promised of it, so who uses it looks.
+    pub(crate) number: Option<usize>,
+}
+
+/// The prerequisites, without a stem.
+#[derive(Clone, Copy)]
+pub(crate) struct ListedNeeds<'a> {
+    pub(crate) prerequisites: Listed<'a>,
+    pub(crate) order_only: Listed<'a>,
+}
+
+impl<'a> Listed<'a> {
+    pub(crate) fn len(self) -> usize
+        ensures { result ≡ length (listed_view self.entry) }
+    {
+        match self {
+            Listed::Own(names) => names.len(),
+            Listed::ByNumber(list) => list.numbers.len(),
+        }
+    }
+
+    pub(crate) fn is_empty(self) -> bool
+        ensures { result ≡ is_empty (listed_view self.entry) }
+    {
+        match self {
+            Listed::Own(names) => matches!(names, []),
+            Listed::ByNumber(list) => matches!(list.numbers, []),
+        }
+    }
+
+    /// The name at a place.
+    pub(crate) fn get(self, place: usize) -> Option<&'a [u8]>
+        ensures { option_map (λ name. name.now) result ≡ slice_get (listed_view self.entry) place }
+    {
+        match self {
+            Listed::Own(names) => own_at(names, place),
+            Listed::ByNumber(list) => list.at(place),
+        }
+    }
+
+    /// The first name, and the others.
+    pub(crate) fn split_first(self) -> Option<(ListedName<'a>, Listed<'a>)>
+        ensures { MatchOption result (listed_view self.entry ≡ [])
+            (λ cut. listed_view self.entry ≡ cut.0.name.now ∷ listed_view cut.1) }
+    {
+        match self {
+            Listed::Own(names) => first_own(names),
+            Listed::ByNumber(list) => first_numbered(list),
+        }
+    }
+}
+
+fn own_at(names: &[Name], place: usize) -> Option<&[u8]>
+    ensures { option_map (λ name. name.now) result ≡ slice_get names.now place }
+{
+    Some(names.get(place)?.as_slice())
+}
+
+fn first_own(names: &[Name]) -> Option<(ListedName<'_>, Listed<'_>)>
+    ensures { MatchOption result (names.now ≡ []) (λ cut. names.now ≡ cut.0.name.now ∷ listed_view cut.1) }
+{
+    let (name, after) = names.split_first()?;
+    let name = name.as_slice();
+    Some((ListedName { name, number: None }, Listed::Own(after)))
+}
+
+fn first_numbered<'a>(list: Numbered<'a>) -> Option<(ListedName<'a>, Listed<'a>)>
+    ensures { MatchOption result (names_at list.entry.names.now list.entry.numbers.now ≡ [])
+        (λ cut. names_at list.entry.names.now list.entry.numbers.now ≡ cut.0.name.now ∷ listed_view cut.1) }
+{
+    let (number, numbers) = list.numbers.split_first()?;
+    let name = name_at(list.names, *number);
+    let number = Some(*number);
+    let names = list.names;
+    Some((
+        ListedName { name, number },
+        Listed::ByNumber(Numbered { names, numbers }),
+    ))
+}
+
+impl<'a> Numbered<'a> {
+    fn at(self, place: usize) -> Option<&'a [u8]>
+        ensures { option_map (λ name. name.now) result
+            ≡ slice_get (names_at self.entry.names.now self.entry.numbers.now) place }
+    {
+        let number = self.numbers.get(place)?;
+        Some(name_at(self.names, *number))
+    }
+}
+
+/// The name with the given number.
+pub(crate) fn name_at(names: &Names, number: usize) -> &[u8]
+    ensures { result.now ≡ get_or names.now number [] }
+{
+    match names.get(number) {
+        Some(name) => name,
+        None => b"",
+    }
+}
+
+impl<'a> ListedNeeds<'a> {
+    pub(crate) fn of(needs: &'a Needs) -> ListedNeeds<'a>
+        ensures { listed_needs result ≡ needs.now }
+    {
+        ListedNeeds {
+            prerequisites: Listed::Own(needs.prerequisites.as_slice()),
+            order_only: Listed::Own(needs.order_only.as_slice()),
+        }
+    }
+
+    pub(crate) fn none() -> ListedNeeds<'a>
+        ensures { listed_needs result ≡ no_needs }
+    {
+        ListedNeeds {
+            prerequisites: Listed::Own(&[]),
+            order_only: Listed::Own(&[]),
+        }
+    }
+}
