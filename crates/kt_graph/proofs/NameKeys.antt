@@ -1,4 +1,4 @@
--- Names that are put into a set, whose keys are vectors.
+-- Names that are added to a set, whose keys are vectors.
 use Rattle.std.proofs.Common.{◌≡◌, ℕ, Bool, true, false, if◌then◌else◌, List, [], ◌∷◌, ◌++◌, ◌+◌, ◌<◌, length, get_or, drop, fold, map, Vec, Global, refl, sym, ap, ◌∙◌}
 use Rattle.std.specs.Str.{bytes_eq}
 use Rattle.std.specs.List.{list_any}
@@ -19,7 +19,7 @@ map-either : (b : Bool) (old : List (Vec ℕ Global)) (key : Vec ℕ Global)
 map-either true old key = refl
 map-either false old key = map-append (λ (k : Vec ℕ Global). k.items) old (key ∷ [])
 
--- a key goes last, if it isn't there
+-- a key is added at the end, unless it is there
 pub key_added : (old new : List (Vec ℕ Global)) (key : Vec ℕ Global) (name : Text) → key.items ≡ name
     → new ≡ (if list_any (λ (k : Vec ℕ Global). bytes_eq key.items k.items) old then old else old ++ key ∷ [])
     → map (λ (k : Vec ℕ Global). k.items) new ≡ with_name (map (λ (k : Vec ℕ Global). k.items) old) name

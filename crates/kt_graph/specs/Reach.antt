@@ -21,18 +21,17 @@ abbrev pub Leads : {A : Type 0} → (A → A → Type 0) → A → List A → A 
 Leads Edge from [] to = from ≡ to
 Leads Edge from (step ∷ steps) to = Edge from step × Leads Edge step steps to
 
--- some path leads from one name to another, perhaps of no step
+-- a path, maybe without a step, leads from one name to another
 abbrev pub Reaches : {A : Type 0} → (A → A → Type 0) → A → A → Type 0
 Reaches {A} Edge from to = (steps : List A) × Leads Edge from steps to
 
 -- ---- reach
 
--- a name has another among its inputs, order-only ones too
+-- a name is an input of another, maybe an order-only one
 abbrev pub HasInput : List Rule → List Text → Text → Text → Type 0
 HasInput rules known name input = Contains (all_inputs (node_of rules known name)) input
 
--- Reach: what the goals are, and what these need; this is the least set that holds the goals and, with a name, its
--- inputs
+-- Reach: the goals and what they need; this is the least set that has the goals and, with a name, its inputs
 pub record IsReached (rules : List Rule) (known goals : List Text) (name : Text) : Type 0 where
   pub goal : Text
   pub named : Contains goals goal
@@ -40,13 +39,13 @@ pub record IsReached (rules : List Rule) (known goals : List Text) (name : Text)
 
 -- ---- groups
 
--- two names are made by one instance
+-- two names are made by one making
 pub record AreOneMaking (rules : List Rule) (known : List Text) (one other : Text) : Type 0 where
   pub making : Instance
   pub first : (node_of rules known one).made_with ≡ Some making
   pub second : (node_of rules known other).made_with ≡ Some making
 
--- Group: the reached names that one making makes; a name that no such making makes is a group alone
+-- Group: the reached names that one making makes; a name without such a making is a group alone
 pub data IsInGroup (rules : List Rule) (known goals : List Text) (name : Text) : Text → Type 0 where
   itself : IsInGroup rules known goals name name
   beside : {other : Text} → IsReached rules known goals other → AreOneMaking rules known name other
@@ -86,7 +85,7 @@ pub record IsDoubled (rules : List Rule) (known goals : List Text) (name : Text)
   pub differ : ¬ (name ≡ other)
   pub same : canon_of name ≡ canon_of other
 
--- the first name in byte order of which something holds
+-- the first name in byte order that has a property
 pub record IsFirst (P : Text → Type 0) (name : Text) : Type 0 where
   pub holds : P name
   pub least : (other : Text) → P other → ¬ (slice_cmp nat_cmp other name ≡ Less)
@@ -106,7 +105,7 @@ is_unmade rules known goal = is_leaf (node_of rules known goal).kind
 abbrev pub unmade_goal : List Rule → List Text → List Text → Option Text
 unmade_goal rules known goals = find (is_unmade rules known) goals
 
--- nothing is wrong, as far as a kind of trouble
+-- nothing is wrong, up to some kind of trouble
 pub record HasMadeGoals (rules : List Rule) (known goals : List Text) : Type 0 where
   pub made : unmade_goal rules known goals ≡ None
 
@@ -122,7 +121,7 @@ pub record IsSound (rules : List Rule) (known goals : List Text) : Type 0 where
   pub free : HasNoReserved rules known goals
   pub single : (name : Text) → ¬ IsDoubled rules known goals name
 
--- what comes first of what is wrong, if anything is
+-- the first thing that is wrong, if anything is
 abbrev pub ComesFirst : List Rule → List Text → List Text → Option Trouble → Type 0
 ComesFirst rules known goals (Some (no_rule goal)) = unmade_goal rules known goals ≡ Some goal
 ComesFirst rules known goals (Some (circular name)) =
@@ -135,17 +134,17 @@ ComesFirst rules known goals None = IsSound rules known goals
 
 -- ---- the graph
 
--- the nodes of all reached names, in byte order, and no other
+-- the nodes of all reached names, in byte order, and no others
 pub record IsGraph (rules : List Rule) (known goals : List Text) (nodes : List Node) : Type 0 where
   pub rises : IsStrictlySortedBy (slice_cmp nat_cmp) (map (λ node. node.name) nodes)
   pub reached : (name : Text) → Contains (map (λ node. node.name) nodes) name ↔ IsReached rules known goals name
   pub stored : nodes ≡ map (node_of rules known) (map (λ node. node.name) nodes)
 
--- whether one of the nodes is that of a name, and a rule makes it
+-- whether one of the nodes has a name, and a rule makes it
 abbrev pub is_made_among : List Node → Text → Bool
 is_made_among nodes name = list_any (λ node. bytes_eq node.name name && not (is_leaf node.kind)) nodes
 
--- what an implicit node needs is known, or a rule makes it: no file is hoped for that no one has named
+-- what an implicit node needs is known, or a rule makes it: it isn't a file that nothing names
 abbrev pub HasMadeInputs : List Text → List Node → Type 0
 HasMadeInputs known nodes =
     (node : Node) (input : Text) → Contains nodes node → node.kind ≡ Implicit → Contains (all_inputs node) input

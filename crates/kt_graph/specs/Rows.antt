@@ -38,7 +38,7 @@ objects = pattern (codes "%.o") (codes "%.c") 1 ∷ pattern (codes "%.c") (codes
 abbrev pub circle : List Rule
 circle = pattern (codes "%.a") (codes "%.b") 1 ∷ pattern (codes "%.b") (codes "%.a") 2 ∷ []
 
--- the rule that is chosen, by its number, with the directory, the stem and all that it needs
+-- the rule that is chosen, by its number, with the directory, the stem and all prerequisites
 abbrev pub chosen_as : List Rule → List Text → Text → Option (ℕ × Text × Text × List Text)
 chosen_as rules known name =
     option_map (λ candidate. (candidate.rule, candidate.directory, candidate.stem, all_needs candidate.needs)) (choice_of rules known name)

@@ -1,5 +1,5 @@
--- What makes a name and what it needs. In go rules, known names and a name; out comes its node. `node_of` in `Node` is
--- the definition to begin with; `Groups` says which nodes are made at once.
+-- What makes a name and what it needs: from rules, known names and a name, its node. Begin with the definition
+-- `node_of` in `Node`; `Groups` defines which nodes are made together.
 pub mod Node
 pub mod Groups
 pub mod Views

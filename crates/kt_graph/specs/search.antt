@@ -1,5 +1,5 @@
--- Which pattern rule makes a name. In go the pattern rules, the known names and a name; out comes the candidate that is
--- chosen, if there is one, and what was asked to find it. `choice_of` in `Search` is the definition to begin with.
+-- Which pattern rule makes a name: from the pattern rules, the known names and a name, the candidate that is chosen, if
+-- there is one, and what was asked to find it. Begin with the definition `choice_of` in `Search`.
 pub mod Candidates
 pub mod Search
 pub mod Views

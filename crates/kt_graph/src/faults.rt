@@ -1,7 +1,7 @@
 //! What is wrong with a graph as a whole.
 //!
-//! In go the nodes of a graph and its goals. Out comes the first of: a goal that no rule makes, a
-//! name that needs itself, a reserved name, two names of one file; or that nothing is wrong.
+//! Takes the nodes of a graph and its goals, and returns the first of: a goal that no rule makes, a name that depends
+//! on itself, a reserved name, two names of one file; or that nothing is wrong.
 
 pub(crate) mod cycles;
 pub(crate) mod edges;

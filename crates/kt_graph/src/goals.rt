@@ -1,4 +1,4 @@
-//! What is to be made.
+//! The goals.
 ghost use Rattle.std.specs.Prelude.{◌≡◌, map, IfOk, option_to_list};
 ghost use Rattle.kt_graph.specs.Goals.{default_goals, named_goals};
 
@@ -27,8 +27,8 @@ fn in_order(alloc: Global, names: IndexSet<Vec<u8>>) -> Result<Vec<Name>, AllocE
     names.into_iter().map(Name::from).collect(alloc)
 }
 
-/// The goal where the command line names none: that of `.DEFAULT_GOAL`, expanded, or else the first
-/// target (GNU make manual, "How `make` Processes a Makefile").
+/// The goal if the command line names none: the expanded text of `.DEFAULT_GOAL`, or else the first target (GNU make
+/// manual, "How `make` Processes a Makefile").
 #[tactic(auto, unfolding(crate::specs::Goals::default_goals))]
 pub fn default_goal(alloc: Global, book: &Book, text: &[u8]) -> Result<Option<Name>, AllocError>
     ensures { IfOk result (λ goal. option_to_list goal ≡ default_goals book.now text.now) }

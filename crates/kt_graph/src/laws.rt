@@ -1,4 +1,4 @@
-//! Laws of the definitions. These functions do nothing: their contracts are what counts.
+//! Laws of the definitions. These functions do nothing: only their contracts matter.
 ghost use Rattle.std.specs.Prelude.{List};
 ghost use Rattle.kt_text.specs.Words.{Text};
 ghost use Rattle.kt_rules.specs.Entry.{Rule};
@@ -41,20 +41,19 @@ pub fn rows_of_paths()
     ensures { RowsOfPaths }
 {}
 
-/// Want of memory is excused, whatever is wrong.
+/// Running out of memory is always allowed, whatever is wrong.
 pub fn memory_is_excused()
     ensures { (rules : List Rule) (known goals : List Text) → ReportsFirst rules known goals Memory }
 {}
 
-/// The groups of a graph are those of the names that one making makes: each made node stands in
-/// exactly one.
+/// The groups of a graph are the names that one making makes: each made node is in exactly one group.
 pub fn groups_are_makings()
     ensures { (rules : List Rule) (known goals : List Text) (nodes : List Node)
         → IsGraph rules known goals nodes → AreGroups rules known goals nodes (groups_of nodes) }
 {}
 
-/// The components of a file's one spelling are what is left of a name's once all has gone that may,
-/// in whatever order it goes.
+/// The components of a file's canonical spelling are what remains of a name's components after all that may be removed
+/// are, in whatever order.
 pub fn canon_is_resolution()
     ensures { (name : Text) → IsResolution name }
 {}

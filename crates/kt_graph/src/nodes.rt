@@ -1,7 +1,7 @@
 //! What makes each name that goals need, and what it needs.
 //!
-//! In go a book, the known names and the goals. Out comes a graph: each name that is reached from a
-//! goal has a number and one node, which holds what its rules say by the numbers of other names.
+//! Takes a book, the known names and the goals, and returns a graph: each name that is reached from a goal has a number
+//! and one node, which holds what its rules say, with numbers for other names.
 
 mod building;
 mod byte_order;
@@ -12,6 +12,8 @@ mod inferring;
 mod named;
 pub(crate) mod node;
 mod numbering;
+mod reached;
+mod reached_name;
 pub(crate) mod stored;
 mod stored_node;
 

@@ -13,12 +13,12 @@ use std::alloc::Global;
 
 /// The graph of the names that goals need.
 ///
-/// Refused are, in this order: a goal that no rule makes; a name that needs itself; a name that is
-/// kati's own; two made names of one file.
+/// Refuses, in this order: a goal that no rule makes; a name that depends on itself; a name that is reserved for kati;
+/// two made names of one file.
 pub fn graph<'a>(
     alloc: Global,
     book: &'a Book,
-    known: &'a Known,
+    known: &'a Known<'a>,
     goals: &[Name],
 ) -> Result<Graph<'a>, GraphFault>
     ensures graph { IfOk result (IsSoundGraph book.now known.now goals.now) }

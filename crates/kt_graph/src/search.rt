@@ -1,8 +1,7 @@
 //! The search for a pattern rule that makes a name.
 //!
-//! In go the pattern rules of a book, the known names and a name. Out comes the rule that makes it,
-//! with its directory and stem, or that none does; what was asked on the way is kept, so that
-//! nothing is asked twice.
+//! Takes the pattern rules of a book, the known names and a name, and returns the rule that makes it, with its
+//! directory and stem, or that none does. Questions are kept with their answers, so that nothing is asked twice.
 ghost use Rattle.std.specs.Prelude.{◌≡◌, [], map, option_map, IfOk, OnErr, OnOk};
 ghost use Rattle.std.specs.List.{IsDistinct};
 ghost use Rattle.kt_rules.specs.Book.{patterns_of};
@@ -37,7 +36,7 @@ use std::marker::Model;
 #[derive(Drop)]
 pub struct Search<'a> {
     chains: Chains<'a>,
-    // What was asked so far.
+    // The questions so far, with their answers.
     tried: Tried,
 }
 
@@ -63,8 +62,12 @@ impl<'a> Model for Search<'a> {
 impl<'a> Search<'a> {
     ghost use Rattle.kt_graph.specs.search.Search.{Searching};
 
-    /// A search that was asked nothing yet.
-    pub fn new(alloc: Global, book: &'a Book, known: &'a Known) -> Result<Search<'a>, AllocError>
+    /// A search without questions so far.
+    pub fn new(
+        alloc: Global,
+        book: &'a Book,
+        known: &'a Known<'a>,
+    ) -> Result<Search<'a>, AllocError>
         ensures { IfOk result (λ search. search ≡ record {
           rules = patterns_of book.now;
           known = known.now;
@@ -80,9 +83,8 @@ impl<'a> Search<'a> {
 
     /// The rule that makes a name.
     ///
-    /// It is the first whose prerequisites are known, or else the first whose other prerequisites each
-    /// find a rule by the same search; a chain has at most 8 rules, each once. Where memory is refused,
-    /// the search is as it was.
+    /// It is the first whose prerequisites are all known, or else the first for which the same search finds a rule for
+    /// each unknown prerequisite; a chain has at most 8 rules, each once. If memory runs out, the search is as it was.
     pub fn choose(&mut self, name: &[u8]) -> Result<Choice, AllocError>
         ensures chosen { IfOk result (λ choice. choice
             ≡ option_map choice_view (choice_of self.old.rules self.old.known name.now)) }
@@ -99,7 +101,7 @@ impl<'a> Search<'a> {
         choice
     }
 
-    /// The questions that were put so far, each once and in this order. Takes no memory.
+    /// The questions so far, each once and in order. Takes no memory.
     pub fn tried(&self) -> &[Question]
         ensures asked { map question_view result.now ≡ self.now.asked }
         ensures once { IsDistinct asked_eq self.now.asked }
@@ -107,7 +109,7 @@ impl<'a> Search<'a> {
         self.tried.questions()
     }
 
-    /// The pattern rules among which it chooses.
+    /// The pattern rules of the search.
     pub(crate) fn patterns(&self) -> &[Pattern<'a>]
         ensures { result.now ≡ self.now.rules }
     {

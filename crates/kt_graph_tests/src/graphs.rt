@@ -274,3 +274,30 @@ fn groups(rt: HostRuntime) -> Result<(), Fail> {
     tells(&rt, rt.alloc(), ROWS)?;
     Ok(())
 }
+
+#[test]
+fn names_that_only_a_stem_makes(rt: HostRuntime) -> Result<(), Fail> {
+    const ROWS: &[Row] = &[
+        // Of what the objects need, `a.c` alone stands in a rule.
+        (
+            b"%.o: %.c | %.d;cc\nall: b.o a.o b.o | a.c;ld",
+            b"a.c\nb.c\na.d\nb.d\n",
+            b"all",
+            b"a.o : a.c | a.d ;cc\nall : b.o a.o | a.c ;ld\nb.o : b.c | b.d ;cc\n",
+        ),
+        (
+            b"%.o: %.c;cc\nall: sources/of/the/whole/library/one.o two.o;ld",
+            b"sources/of/the/whole/library/one.c\ntwo.c\n",
+            b"all",
+            b"all : sources/of/the/whole/library/one.o two.o ;ld\nsources/of/the/whole/library/one.o : sources/of/the/whole/library/one.c ;cc\ntwo.o : two.c ;cc\n",
+        ),
+        (
+            b"x.o y.o: %.o: %.c h.h ./%.h;cc\nall: y.o x.o",
+            b"",
+            b"all",
+            b"all : y.o x.o\nx.o : x.c h.h x.h ;cc\ny.o : y.c h.h y.h ;cc\n",
+        ),
+    ];
+    tells(&rt, rt.alloc(), ROWS)?;
+    Ok(())
+}

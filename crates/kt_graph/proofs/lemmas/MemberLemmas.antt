@@ -24,7 +24,7 @@ Contains-map {A} f (y ∷ ys) x h = ⊎_elim
     (λ (g : Contains ys x). Contains-there (f y) (map f ys) (f x) (Contains-map f ys x g))
     (Contains-cases y ys x h)
 
--- what a map gives comes from somewhere
+-- each result of a map comes from an element
 pub Contains-from_map : {A B : Type 0} (f : A → B) (xs : List A) (y : B) → Contains (map f xs) y → (x : A) × Contains xs x × (f x ≡ y)
 Contains-from_map f [] y h = Contains-none y h
 Contains-from_map {A} f (x ∷ xs) y h = ⊎_elim

@@ -2,6 +2,7 @@
 pub mod OrderLemmas
 pub mod MadeLemmas
 pub mod NumberLemmas
+pub mod ReachedNames
 pub mod BuildingLemmas
 pub mod ReachLemmas
 pub mod InferringLemmas

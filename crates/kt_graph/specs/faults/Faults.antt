@@ -1,4 +1,4 @@
--- What is reported where there is no graph (kati's own).
+-- What is reported if there is no graph (kati's own).
 use Rattle.std.specs.Prelude.{◌≡◌, ℕ, List, [], Option, None, Some}
 use Rattle.kt_text.specs.Words.{Text}
 use Rattle.kt_rules.specs.declared.fault_kind.FaultKind.{FaultKind}
@@ -11,26 +11,26 @@ use Rattle.kt_graph.specs.nodes.Node.{Node}
 use Rattle.kt_graph.specs.Reach.{Trouble, no_rule, circular, reserved_name, one_file, ComesFirst, IsDoubled, IsFirst}
 use Rattle.kt_graph.specs.Reach.{IsGraph, IsReserved}
 
--- the kind of its fault, and the name in its words, which is empty where there is none
+-- the kind of the fault, and the name in its message, which is empty if the message has none
 abbrev pub kind_and_name : Trouble → FaultKind × Text
 kind_and_name (no_rule goal) = (kind.NoRule, goal)
 kind_and_name (circular name) = (kind.Circular, name)
 kind_and_name reserved_name = (kind.ReservedName, [])
 kind_and_name (one_file name) = (kind.TwoTargetsOfOneFile, name)
 
--- the number and the words of its fault
+-- the number and message of the fault
 abbrev pub fault_number : Trouble → ℕ
 fault_number trouble = number_of (kind_and_name trouble).0
 
 abbrev pub fault_words : Trouble → Text
 fault_words trouble = let told = kind_and_name trouble in words_with told.0 told.1
 
--- the call returns just this fault; that memory was refused is always excused
+-- the call returns exactly this fault, or runs out of memory, which is always allowed
 abbrev pub ReportsTrouble : GraphFault → Trouble → Type 0
 ReportsTrouble Memory trouble = Unit {0}
 ReportsTrouble (Refused number words) trouble = (number ≡ fault_number trouble) × (words ≡ fault_words trouble)
 
--- some trouble that comes first is reported
+-- the first trouble is reported
 abbrev pub ReportsFirst : List Rule → List Text → List Text → GraphFault → Type 0
 ReportsFirst rules known goals Memory = Unit {0}
 ReportsFirst rules known goals (Refused number words) =
@@ -46,6 +46,6 @@ IsFileTrouble rules known goals (Some (one_file name)) =
 IsFileTrouble rules known goals (Some (no_rule goal)) = ⊥
 IsFileTrouble rules known goals (Some (circular name)) = ⊥
 
--- what goals need, all of it and nothing else, and nothing is wrong with it
+-- a graph with what goals need, all of it and nothing else, and with nothing wrong
 abbrev pub IsSoundGraph : List Rule → List Text → List Text → List Node → Type 0
 IsSoundGraph rules known goals nodes = ComesFirst rules known goals None × IsGraph rules known goals nodes

@@ -1,4 +1,4 @@
--- Which names are names of one file, and which name is kati's own.
+-- Which names are names of one file, and which name is reserved for kati.
 use Rattle.std.specs.Prelude.{Bool, true, false, not, ◌||◌, ◌==◌, List, [], ◌∷◌, ◌++◌, fold, reverse, codes, bytes_eq}
 use Rattle.std.specs.Prelude.{if◌then◌else◌}
 use Rattle.std.specs.List.{slice_split, join_with_byte}
@@ -15,23 +15,23 @@ abbrev pub is_rooted : Text → Bool
 is_rooted [] = false
 is_rooted (byte ∷ name) = byte == 47
 
--- a component that leads nowhere
+-- a component that changes nothing
 abbrev pub is_idle : Text → Bool
 is_idle part = bytes_eq part [] || bytes_eq part here_name
 
--- whether the last of components, the last first, is a name
+-- whether the last component is a name; the last one comes first in the list
 abbrev pub ends_in_name : List Text → Bool
 ends_in_name [] = false
 ends_in_name (last ∷ parts) = not (bytes_eq last above_name)
 
--- `..` after components, the last of them first: it takes the one before it away, unless that is `..`, too; at the
--- front it stays, but not under the root
+-- `..` after components, the last one first: it removes the one before it, unless that is `..`, too; without one before
+-- it, it stays, except directly under the root
 abbrev pub step_up : Bool → List Text → List Text
 step_up true [] = []
 step_up false [] = above_name ∷ []
 step_up rooted (last ∷ parts) = if bytes_eq last above_name then above_name ∷ last ∷ parts else parts
 
--- a component after others, the last of them first
+-- a component added to others, the last one first
 abbrev pub with_part : Bool → List Text → Text → List Text
 with_part rooted parts part =
     if is_idle part then parts else (if bytes_eq part above_name then step_up rooted parts else part ∷ parts)
@@ -40,12 +40,12 @@ with_part rooted parts part =
 unfoldable pub parts_of : Text → List Text
 parts_of name = reverse (fold (with_part (is_rooted name)) [] (slice_split (λ byte. byte == 47) name))
 
--- Canon: the one spelling of a name's file (POSIX.1-2024, "Pathname Resolution", with no look at any file; that `..`
--- takes a name away is kati's own)
+-- Canon: the canonical spelling of a name's file (POSIX.1-2024, "Pathname Resolution", without looking at any file;
+-- that `..` removes a name is kati's own)
 unfoldable pub canon_of : Text → Text
 canon_of name = (if is_rooted name then 47 ∷ [] else []) ++ join_with_byte 47 (parts_of name)
 
--- the name that phony statements with a command need (kati's own)
+-- the input of the statements of phony targets with commands (kati's own)
 abbrev pub always_name : Text
 always_name = codes "_kati_always_build_"
 

@@ -1,5 +1,5 @@
--- What the spelling of a file is, as a law of `canon_of` (POSIX.1-2024, "Pathname Resolution", with no look at any
--- file; that `..` takes a name away is kati's own).
+-- What the canonical spelling of a file is, as a law of `canon_of` (POSIX.1-2024, "Pathname Resolution", without
+-- looking at any file; that `..` removes a name is kati's own).
 use Rattle.std.specs.Prelude.{◌≡◌, ◌⊎◌, ◌==◌, ℕ, zero, Bool, true, false, List, [], ◌∷◌, ◌++◌, All, bytes_eq, replicate}
 use Rattle.std.specs.List.{slice_split}
 use Rattle.kt_text.specs.Words.{Text}
@@ -10,20 +10,20 @@ use Rattle.kt_graph.specs.Reach.{Reaches}
 abbrev pub components : Text → List Text
 components name = slice_split (λ byte. byte == 47) name
 
--- a component that is neither empty nor dot nor dot-dot
+-- a component that isn't empty, `.` or `..`
 pub record IsName (part : Text) : Type 0 where
   pub filled : is_idle part ≡ false
   pub plain : bytes_eq part above_name ≡ false
 
--- what may go after other components: one that is empty or dot; a name with the dot-dot after it; dot-dot directly
--- under the root
+-- what may be removed after other components: an empty one or `.`; a name with the `..` after it; `..` directly under
+-- the root
 abbrev pub MayGo : Bool → List Text → List Text → Type 0
 MayGo rooted front gone =
     ((part : Text) × (gone ≡ part ∷ []) × (is_idle part ≡ true))
     ⊎ (((part : Text) × (gone ≡ part ∷ above_name ∷ []) × IsName part)
     ⊎ ((rooted ≡ true) × (front ≡ []) × (gone ≡ above_name ∷ [])))
 
--- one list of components is another without such
+-- one list of components is another without something that may be removed
 pub record Cancels (rooted : Bool) (one other : List Text) : Type 0 where
   pub front : List Text
   pub gone : List Text
@@ -32,7 +32,7 @@ pub record Cancels (rooted : Bool) (one other : List Text) : Type 0 where
   pub before : one ≡ front ++ (gone ++ back)
   pub after : other ≡ front ++ back
 
--- nothing is left to go: dot-dot stands at the front alone and never directly under the root, and all else are names
+-- nothing more may be removed: `..` is only at the start and never directly under the root, and all others are names
 pub record IsReduced (rooted : Bool) (parts : List Text) : Type 0 where
   pub count : ℕ
   pub names : List Text
@@ -40,12 +40,12 @@ pub record IsReduced (rooted : Bool) (parts : List Text) : Type 0 where
   pub named : All IsName names
   pub under_root : rooted ≡ true → count ≡ zero
 
--- what is left of components once all has gone that may
+-- what remains of components when all that may be removed is
 pub record IsResolved (rooted : Bool) (parts resolved : List Text) : Type 0 where
   pub cancelled : Reaches (Cancels rooted) parts resolved
   pub reduced : IsReduced rooted resolved
 
--- this is left of a name's components, and nothing else can be
+-- this remains of a name's components, and nothing else can
 pub record IsResolution (name : Text) : Type 0 where
   pub resolved : IsResolved (is_rooted name) (components name) (parts_of name)
   pub only : (other : List Text) → IsResolved (is_rooted name) (components name) other → other ≡ parts_of name

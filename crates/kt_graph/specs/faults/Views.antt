@@ -1,4 +1,4 @@
--- What the code's own type of faults says (kati's own).
+-- The code's own types of faults as those of the definitions (kati's own).
 use Rattle.kt_graph.specs.declared.faults.trouble.Trouble.{Trouble as HeldTrouble}
 use Rattle.kt_graph.specs.declared.faults.trouble.Trouble.TheVariants as told
 use Rattle.kt_graph.specs.Reach.{Trouble, no_rule, circular, reserved_name, one_file}

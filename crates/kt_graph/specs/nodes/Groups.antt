@@ -18,24 +18,24 @@ instance_eq (of_pattern rule directory stem) (of_group first) = false
 instance_eq (of_pattern rule directory stem) (of_pattern other_rule other_directory other_stem) =
     nat_eq rule other_rule && (bytes_eq directory other_directory && bytes_eq stem other_stem)
 
--- two makings of several names are one
+-- two makings of several names are the same
 abbrev pub is_one_making : Option Instance → Option Instance → Bool
 is_one_making None other = false
 is_one_making (Some making) None = false
 is_one_making (Some making) (Some other) = instance_eq making other
 
--- two nodes stand in one group
+-- two nodes are in one group
 abbrev pub are_together : Node → Node → Bool
 are_together node other = bytes_eq node.name other.name || is_one_making node.made_with other.made_with
 
 abbrev pub made_nodes : List Node → List Node
 made_nodes nodes = filter (λ node. not (is_leaf node.kind)) nodes
 
--- whether a node is the first of those that stand in one group with it
+-- whether a node is the first of those in its group
 abbrev pub is_leading : List Node → Node → Bool
 is_leading nodes node = option_map_or (λ first. bytes_eq first.name node.name) (find (are_together node) nodes) false
 
--- a group for each node that leads it: all nodes that stand in one group with it, in order
+-- a group for each node that is the first in it: all nodes in the same group as it, in order
 unfoldable pub groups_among : List Node → List (List Node)
 groups_among nodes = map (λ leader. filter (are_together leader) nodes) (filter (is_leading nodes) nodes)
 
@@ -48,7 +48,7 @@ groups_of nodes = groups_among (made_nodes nodes)
 abbrev pub HasBoth : List (List Node) → Node → Node → Type 0
 HasBoth groups one other = (group : List Node) × Contains groups group × Contains group one × Contains group other
 
--- a node stands in exactly one of the groups
+-- a node is in exactly one of the groups
 pub record IsInOne (groups : List (List Node)) (node : Node) : Type 0 where
   pub group : List Node
   pub among : Contains groups group
@@ -64,13 +64,13 @@ pub record AreGroups (rules : List Rule) (known goals : List Text) (nodes : List
     (groups : List (List Node)) : Type 0 where
   -- each has a member
   pub filled : (group : List Node) → Contains groups group → (node : Node) × Contains group node
-  -- they have made nodes alone, and each of these exactly once
+  -- they have only made nodes, and each of these exactly once
   pub made : (group : List Node) (node : Node) → Contains groups group → Contains group node
       → Contains (made_nodes nodes) node
   pub each : (node : Node) → Contains (made_nodes nodes) node → IsInOne groups node
-  -- two stand in one group exactly where one making makes both
+  -- two nodes are in one group exactly if one making makes both
   pub together : (one other : Node) → Contains (made_nodes nodes) one → Contains (made_nodes nodes) other
       → HasBoth groups one other ↔ IsInGroup rules known goals one.name other.name
-  -- the members rise by bytes, and the groups by their least members
+  -- the members are in byte order, and so are the groups by their first members
   pub members : All (λ group. IsStrictlySortedBy (slice_cmp nat_cmp) (map (λ node. node.name) group)) groups
   pub leaders : IsStrictlySortedBy (slice_cmp nat_cmp) (map leader_name groups)

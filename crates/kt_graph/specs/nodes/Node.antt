@@ -17,16 +17,16 @@ use Rattle.kt_graph.specs.declared.nodes.node.NodeKind.TheVariants.{DoubleColon,
 use Rattle.kt_graph.specs.search.Candidates.{Candidate}
 use Rattle.kt_graph.specs.search.Search.{choice_of}
 
--- one making of several names: by a group, which its first target tells, since no other group has that target; or by a
--- pattern rule with several targets, for a directory and a stem
+-- one making of several names: by a group, identified by its first target, since no other group has that target; or by
+-- a pattern rule with several targets, for a directory and a stem
 pub data Instance : Type 0 where
   of_group : (first : Text) → Instance
   of_pattern : (rule : ℕ) (directory stem : Text) → Instance
 
--- a recipe with what its automatic macros tell
+-- a recipe with the stem and prerequisites for its automatic macros
 pub record Part : Type 0 where
   pub recipe : Option (List RecipeLine)
-  -- what `$*` gives
+  -- the value of `$*`
   pub stem : Text
   -- in order and with repeats
   pub needs : Needs
@@ -40,7 +40,7 @@ pub record Node : Type 0 where
 
 -- ---- explicit rules
 
--- the needs of rules of a name, put together in order
+-- the prerequisites of rules of a name, joined in order
 unfoldable pub joined_needs : List (Rule × Target) → Needs
 joined_needs rules = record {
   prerequisites = flat_map (λ made. (needs_for made.0 made.1).prerequisites) rules;
@@ -92,12 +92,12 @@ group_of rule = if is_group rule.kind then Some (of_group (first_name rule.targe
 
 -- ---- nodes
 
--- each rule is a part [Double-Colon Rules]; no rule is searched for (kati's own)
+-- the node of a name with double-colon rules, each of them a part [Double-Colon Rules]; there is no search (kati's own)
 abbrev pub double_node : List Text → Text → List (Rule × Target) → Node
 double_node suffixes name rules =
     record { name = name; kind = DoubleColon; parts = map (own_part suffixes) rules; made_with = None }
 
--- what the rule needs whose recipe is used comes first (kati's own)
+-- the node of a name with a recipe: the prerequisites of the rule with that recipe come first (kati's own)
 abbrev pub explicit_node : List Text → Text → List (Rule × Target) → Rule × Target → Node
 explicit_node suffixes name rules used = record {
   name = name;
@@ -106,8 +106,8 @@ explicit_node suffixes name rules used = record {
   made_with = group_of used.0;
 }
 
--- what the chosen rule needs comes first (kati's own); one with several targets makes them all at once (GNU make
--- manual, "Introduction to Pattern Rules")
+-- the prerequisites of the chosen rule come first (kati's own); one with several targets makes them all at once (GNU
+-- make manual, "Introduction to Pattern Rules")
 abbrev pub pattern_instance : Rule → Candidate → Option Instance
 pattern_instance rule chosen =
     if nat_lt 1 (length rule.targets) then Some (of_pattern chosen.rule chosen.directory chosen.stem) else None
@@ -124,7 +124,7 @@ implicit_node name rules chosen rule = record {
   made_with = pattern_instance rule chosen;
 }
 
--- of a name without recipe
+-- the kind of a node of a name without a recipe
 abbrev pub kind_without : List (Rule × Target) → Bool → NodeKind
 kind_without (made ∷ rules) phony = Explicit
 kind_without [] true = Phony
@@ -138,7 +138,7 @@ plain_node suffixes name rules phony = record {
   made_with = None;
 }
 
--- the candidate that the search chooses with its pattern rule; for a phony name none is searched for [Phony Targets]
+-- the candidate that the search chooses, with its pattern rule; for a phony name there is no search [Phony Targets]
 abbrev pub chosen_rule : List Rule → Candidate → Option (Candidate × Rule)
 chosen_rule patterns chosen = option_map (λ rule. (chosen, rule)) (slice_get patterns chosen.rule)
 
@@ -152,7 +152,7 @@ node_by rules name made (Some used) found = explicit_node (suffixes_of rules) na
 node_by rules name made None (Some found) = implicit_node name made found.0 found.1
 node_by rules name made None None = plain_node (suffixes_of rules) name made (is_phony rules name)
 
--- the node of a name, of which these are the explicit rules
+-- the node of a name, given its explicit rules
 abbrev pub node_with : List Rule → List Text → Text → List (Rule × Target) → Node
 node_with rules known name made =
     if list_any (λ rule. is_double rule.0.kind) made then double_node (suffixes_of rules) name made
@@ -162,7 +162,7 @@ node_with rules known name made =
 unfoldable pub node_of : List Rule → List Text → Text → Node
 node_of rules known name = node_with rules known name (explicit_rules rules name)
 
--- ---- what is asked of a node
+-- ---- what a node needs
 
 abbrev pub is_leaf : NodeKind → Bool
 is_leaf DoubleColon = false
@@ -175,7 +175,7 @@ is_leaf Leaf = true
 unfoldable pub inputs_of : Node → List Text
 inputs_of node = without_repeats (flat_map (λ part. part.needs.prerequisites) node.parts)
 
--- the order-only ones without repeats and without these
+-- the order-only prerequisites without repeats and without these
 unfoldable pub order_only_of : Node → List Text
 order_only_of node =
     filter (λ name. not (is_among (inputs_of node) name)) (without_repeats (flat_map

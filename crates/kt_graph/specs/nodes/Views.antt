@@ -1,4 +1,4 @@
--- What the code's own types of nodes say (kati's own).
+-- The code's own types of nodes as those of the definitions (kati's own).
 use Rattle.std.specs.Prelude.{ℕ, List, [], map, filter_map, Option, option_map, unwrap_or, slice_get}
 use Rattle.std.specs.Option.{option_and_then}
 use Rattle.kt_text.specs.Words.{Text}
@@ -8,7 +8,7 @@ use Rattle.kt_graph.specs.declared.nodes.node.Instance.TheVariants as held
 use Rattle.kt_graph.specs.inner.nodes.Stored.{StoredNode, StoredPart}
 use Rattle.kt_graph.specs.nodes.Node.{Instance, Node, Part, of_group, of_pattern}
 
--- the name of a number
+-- the name with a number
 abbrev pub name_at : List Text → ℕ → Text
 name_at names number = unwrap_or (slice_get names number) []
 
@@ -32,7 +32,7 @@ part_view names part = record {
   };
 }
 
--- what is reported of a part; where there is no part there is nothing
+-- the recipe, stem and prerequisites of a part; nothing if there is no part
 abbrev pub part_lines : Option Part → Option (List RecipeLine)
 part_lines part = option_and_then (λ some. some.recipe) part
 
@@ -45,7 +45,7 @@ part_needed part = unwrap_or (option_map (λ some. some.needs.prerequisites) par
 abbrev pub part_order_only : Option Part → List Text
 part_order_only part = unwrap_or (option_map (λ some. some.needs.order_only) part) []
 
--- the node of a number
+-- the node with a number
 abbrev pub node_view : List Text → List Held → ℕ → StoredNode → Node
 node_view names instances number node = record {
   name = name_at names number;
@@ -57,6 +57,6 @@ node_view names instances number node = record {
 abbrev pub node_at : List Text → List Held → List StoredNode → ℕ → Option Node
 node_at names instances nodes number = option_map (node_view names instances number) (slice_get nodes number)
 
--- the nodes of numbers, in order
+-- the nodes with these numbers, in order
 abbrev pub nodes_view : List Text → List Held → List StoredNode → List ℕ → List Node
 nodes_view names instances nodes order = filter_map (node_at names instances nodes) order

@@ -17,22 +17,23 @@ use Rattle.kt_rules.specs.Patterns.{is_terminal}
 
 -- ---- a name and a pattern
 
--- the part of a name through its last slash
+-- the part of a name up to its last slash and with it
 abbrev pub directory_of : Text → Text
 directory_of name = take (name_place name) name
 
 abbrev pub has_slash : Text → Bool
 has_slash text = list_any (λ byte. byte == 47) text
 
--- a text, if it has a byte
+-- a text, if it isn't empty
 abbrev pub nonempty : Text → Option Text
 nonempty text = if is_nonempty text then Some text else None
 
--- the stem that a pattern leaves of a text; it has at least one byte [How Patterns Match]
+-- the stem of a text in a pattern; it has at least one byte [How Patterns Match]
 unfoldable pub stem_of : Text → Text → Option Text
 stem_of pattern text = option_and_then (λ place. nonempty (slice_range text place.0 place.1)) (stem_span pattern text)
 
--- where a pattern is matched: a pattern without a slash leaves the directory out [How Patterns Match]
+-- the part of a name that a pattern is matched with: a pattern without a slash leaves the directory out [How Patterns
+-- Match]
 abbrev pub left_out : Text → Text → Text
 left_out pattern name = if has_slash pattern then [] else directory_of name
 
@@ -43,9 +44,10 @@ matched_part pattern name = if has_slash pattern then name else name_part name
 unfoldable pub fit_of : Text → Text → Option (Text × Text)
 fit_of pattern name = option_map (λ stem. (left_out pattern name, stem)) (stem_of pattern (matched_part pattern name))
 
--- ---- what is needed for a name
+-- ---- prerequisites for a name
 
--- a prerequisite with the stem put in, the directory before it [How Patterns Match]; one without percent sign is itself
+-- a prerequisite with the stem put in and the directory before it [How Patterns Match]; one without a percent sign is
+-- unchanged
 abbrev pub spelled_out : Text → Text → Text → Text
 spelled_out directory stem name = if has_percent name then directory ++ with_stem name stem else name
 
@@ -61,7 +63,7 @@ needs_with directory stem needs = record {
   order_only = needed_names directory stem needs.order_only;
 }
 
--- how many bytes a prerequisite has at most, before a leading `./` is removed (kati's own: so a search ends)
+-- the maximum length of a prerequisite, before a leading `./` is removed (kati's own: so a search ends)
 abbrev pub name_limit : ℕ
 name_limit = 4096
 
@@ -71,18 +73,18 @@ are_short directory stem needs =
 
 -- ---- candidates
 
--- a pattern rule, by its number, as it may make a name
+-- a pattern rule, by its number, as a candidate for a name
 pub record Candidate : Type 0 where
   pub rule : ℕ
   pub directory : Text
   pub stem : Text
   -- the target that matches is `%` alone
   pub is_any : Bool
-  -- no rule is searched for that makes its prerequisites
+  -- no implicit rule is searched for to make its prerequisites
   pub is_last : Bool
   pub needs : Needs
 
--- how long a candidate's stem is, with the directory
+-- the length of a candidate's stem, with the directory
 abbrev pub size_of : Candidate → ℕ
 size_of candidate = length candidate.directory + length candidate.stem
 
@@ -96,14 +98,14 @@ candidate_with number rule pattern fit = record {
   needs = needs_with fit.0 fit.1 rule.needs;
 }
 
--- a rule as it makes a name by one of its targets, if that matches
+-- a rule as a candidate for a name by one of its targets, if the target matches
 abbrev pub candidate_by : ℕ → Rule → Text → Target → Option Candidate
 candidate_by number rule name target = option_map (candidate_with number rule target.name) (fit_of target.name name)
 
 abbrev pub shorter : Candidate → Candidate → Candidate
 shorter best other = if nat_le (size_of best) (size_of other) then best else other
 
--- the first of the shortest
+-- the first candidate with the shortest stem
 abbrev pub shortest : List Candidate → Option Candidate
 shortest [] = None
 shortest (candidate ∷ candidates) = Some (fold shorter candidate candidates)
@@ -111,8 +113,8 @@ shortest (candidate ∷ candidates) = Some (fold shorter candidate candidates)
 abbrev pub unless_long : Rule → Candidate → Option Candidate
 unless_long rule candidate = if are_short candidate.directory candidate.stem rule.needs then Some candidate else None
 
--- a rule as it makes a name: by the target with the shortest stem (kati's own where it has several), and only where
--- no prerequisite gets too long
+-- a rule as a candidate for a name: by the target with the shortest stem (kati's own if it has several), and only if no
+-- prerequisite gets too long
 unfoldable pub candidate_of : ℕ → Rule → Text → Option Candidate
 candidate_of number rule name =
     option_and_then (unless_long rule) (shortest (filter_map (candidate_by number rule name) rule.targets))
@@ -123,7 +125,7 @@ matching_from number [] name = []
 matching_from number (rule ∷ rules) name = option_to_list (candidate_of number rule name)
     ++ matching_from (number + 1) rules name
 
--- whether nonterminal rules for any name are dropped: a chain has begun, or a rule matches by another target
+-- whether nonterminal match-anything rules are dropped: there is a chain, or a rule matches by another target
 -- [Match-Anything Pattern Rules]
 abbrev pub drops_any : Bool → List Candidate → Bool
 drops_any in_chain candidates = in_chain || list_any (λ candidate. not candidate.is_any) candidates
@@ -133,11 +135,11 @@ without_any in_chain candidates =
     if drops_any in_chain candidates then filter (λ candidate. not candidate.is_any || candidate.is_last) candidates
     else candidates
 
--- the shortest stems first, and of equals the first [How Patterns Match]; no stem is longer than the name
+-- the shortest stems first, and equal ones in order [How Patterns Match]; no stem is longer than the name
 abbrev pub by_size : Text → List Candidate → List Candidate
 by_size name candidates =
     flat_map (λ size. filter (λ candidate. size_of candidate == size) candidates) (range_with_len 0 (length name + 1))
 
--- the candidates for a name in the order in which they are tried, in a chain or not
+-- the candidates for a name in the order in which they are tried, with or without a chain before it
 unfoldable pub candidates_for : List Rule → Bool → Text → List Candidate
 candidates_for rules in_chain name = by_size name (without_any in_chain (matching_from 0 rules name))

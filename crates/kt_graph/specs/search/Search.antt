@@ -1,5 +1,5 @@
 -- The search for a pattern rule that makes a name (GNU make manual, "Implicit Rule Search Algorithm", "Chains of
--- Implicit Rules"). Which rules are numbered are those that `patterns_of` leaves of a makefile.
+-- Implicit Rules"). Rules are numbered in the order that `patterns_of` gives them.
 use Rattle.std.specs.Prelude.{◌≡◌, ℕ, zero, suc, ◌↔◌, Bool, true, false, not, ◌&&◌, nat_eq, nat_lt, List, [], ◌∷◌, ◌++◌}
 use Rattle.std.specs.Prelude.{filter, find, fold, bytes_eq, All, Option, None, is_some, if◌then◌else◌}
 use Rattle.std.specs.List.{Contains, list_all, list_any}
@@ -12,16 +12,16 @@ use Rattle.kt_rules.specs.Entry.{Rule}
 use Rattle.kt_graph.specs.Known.{unknown_of}
 use Rattle.kt_graph.specs.search.Candidates.{Candidate, candidates_for}
 
--- how many rules a chain has at most (kati's own)
+-- the maximum number of rules in a chain (kati's own)
 abbrev pub chain_limit : ℕ
 chain_limit = 8
 
--- ---- the rules of a chain, by their numbers, rising
+-- ---- the rules of a chain, by their numbers, in rising order
 
 abbrev pub is_used : List ℕ → ℕ → Bool
 is_used used rule = list_any (nat_eq rule) used
 
--- with one more rule
+-- a chain with one more rule
 unfoldable pub with_rule : ℕ → List ℕ → List ℕ
 with_rule rule [] = rule ∷ []
 with_rule rule (first ∷ used) = if nat_lt rule first then rule ∷ first ∷ used else first ∷ with_rule rule used
@@ -36,20 +36,20 @@ is_begun (rule ∷ used) = true
 abbrev pub Choosing : Type 0
 Choosing = List ℕ → Text → Option Candidate
 
--- the candidates that may go on with a chain: no rule stands in it twice [Chains of Implicit Rules]
+-- the candidates that may continue a chain: no rule is in a chain twice [Chains of Implicit Rules]
 abbrev pub open_candidates : List Rule → List ℕ → Text → List Candidate
 open_candidates rules used name =
     filter (λ candidate. not (is_used used candidate.rule)) (candidates_for rules (is_begun used) name)
 
--- whether all that a candidate needs is known
+-- whether all prerequisites of a candidate are known
 abbrev pub is_met : List Text → Candidate → Bool
 is_met known candidate = list_all (is_among known) (all_needs candidate.needs)
 
--- what it needs that isn't known, in order and each once
+-- the unknown prerequisites of a candidate, in order and each once
 abbrev pub unknown_needs : List Text → Candidate → List Text
 unknown_needs known candidate = without_repeats (unknown_of known (all_needs candidate.needs))
 
--- whether each of these finds a rule
+-- whether the search finds a rule for each of these
 abbrev pub are_inferred : List Text → Choosing → List ℕ → Candidate → Bool
 are_inferred known deeper used candidate =
     list_all (λ name. is_some (deeper (with_rule candidate.rule used) name)) (unknown_needs known candidate)
@@ -68,8 +68,8 @@ fitting rules known zero used name = None
 fitting rules known (suc left) used name =
     chosen_of known (fitting rules known left) used (open_candidates rules used name)
 
--- the rule that makes a name, where no chain has begun: its choice is its own, whatever chains it stands in (kati's
--- own)
+-- the rule that makes a name, without a chain before it; this choice doesn't depend on the chains that the name is in
+-- (kati's own)
 abbrev pub choice_of : List Rule → List Text → Text → Option Candidate
 choice_of rules known name = fitting rules known chain_limit [] name
 
@@ -82,11 +82,11 @@ Asked = Text × List ℕ
 abbrev pub asked_eq : Asked → Asked → Bool
 asked_eq one other = bytes_eq one.0 other.0 && pointwise nat_eq one.1 other.1
 
--- the questions that a question puts, itself first
+-- the questions that a question asks, itself first
 abbrev pub Asking : Type 0
 Asking = List ℕ → Text → List Asked
 
--- for names in turn, and for none after one that finds no rule
+-- the questions for names in turn, up to the first name without a rule
 abbrev pub asked_for : Choosing → Asking → List ℕ → List Text → List Asked
 asked_for deeper asking used [] = []
 asked_for deeper asking used (name ∷ names) =
@@ -97,14 +97,14 @@ asked_by known deeper asking used candidate =
     if candidate.is_last then [] else asked_for deeper asking (with_rule candidate.rule used)
     (unknown_needs known candidate)
 
--- for candidates in turn, and for none after one that is inferred
+-- the questions for candidates in turn, up to the first that is inferred
 abbrev pub asked_among : List Text → Choosing → Asking → List ℕ → List Candidate → List Asked
 asked_among known deeper asking used [] = []
 asked_among known deeper asking used (candidate ∷ candidates) =
     asked_by known deeper asking used candidate
     ++ (if is_inferred known deeper used candidate then [] else asked_among known deeper asking used candidates)
 
--- where a candidate is met nothing more is asked
+-- no more questions if a candidate is met
 abbrev pub asked_inside : List Text → Choosing → Asking → List ℕ → List Candidate → List Asked
 asked_inside known deeper asking used candidates =
     if list_any (is_met known) candidates then [] else asked_among known deeper asking used candidates
@@ -115,15 +115,15 @@ asking rules known (suc left) used name =
     (name, used) ∷ asked_inside known (fitting rules known left) (asking rules known left) used
     (open_candidates rules used name)
 
--- a question after others, if it isn't among them
+-- questions with one more at the end, unless they have it already
 abbrev pub with_question : List Asked → Asked → List Asked
 with_question asked question = if list_any (asked_eq question) asked then asked else asked ++ question ∷ []
 
--- the questions that were put so far, after one more choice
+-- the questions so far, after one more choice
 abbrev pub asked_after : List Rule → List Text → List Asked → Text → List Asked
 asked_after rules known asked name = fold with_question asked (asking rules known chain_limit [] name)
 
--- what is searched, and what was asked so far, in order and each question once
+-- the rules and known names of a search, and its questions so far, in order and each once
 pub record Searching : Type 0 where
   pub rules : List Rule
   pub known : List Text
@@ -132,8 +132,8 @@ pub record Searching : Type 0 where
 -- ---- trees
 
 -- a finite tree of rules that makes a name after a chain: its root is a candidate for the name, and its branches are
--- trees for what of its prerequisites isn't known. No path of it has a rule twice, or more rules than are left; a
--- terminal rule has no branch. In which order candidates come doesn't matter here.
+-- trees for the unknown prerequisites. No path of it has a rule twice, or more rules than may be added; a terminal rule
+-- has no branch. The order of candidates doesn't matter here.
 unfoldable pub HasTree : List Rule → List Text → ℕ → List ℕ → Text → Type 0
 HasTree rules known zero used name = ⊥
 HasTree rules known (suc left) used name =
@@ -141,6 +141,6 @@ HasTree rules known (suc left) used name =
     × (root.is_last ≡ true → unknown_needs known root ≡ [])
     × All (HasTree rules known left (with_rule root.rule used)) (unknown_needs known root)
 
--- a name has a rule exactly where a tree makes it
+-- a name has a rule exactly if a tree makes it
 abbrev pub IsFoundByTrees : {A : Type 0} → List Rule → List Text → Text → Option A → Type 0
 IsFoundByTrees rules known name found = (is_some found ≡ true) ↔ HasTree rules known chain_limit [] name

@@ -1,4 +1,4 @@
--- What the code's own types of a search say (kati's own).
+-- The code's own types of a search as those of the definitions (kati's own).
 use Rattle.std.specs.Prelude.{◌≡◌, ℕ, ◌+◌, ◌-◌, ◌<◌, ◌≤◌, Bool, true, not, ◌||◌, ◌==◌, nat_le, All, List, length, take}
 use Rattle.std.specs.Prelude.{filter, flat_map, filter_map, Option, Some, None, option_map, unwrap_or, slice_get}
 use Rattle.std.specs.Prelude.{if◌then◌else◌}
@@ -15,7 +15,7 @@ use Rattle.kt_graph.specs.search.Candidates.{Candidate, needs_with}
 use Rattle.kt_graph.specs.search.Search.{Asked}
 
 -- ---- candidates
--- the places of a fit lie in a name
+-- the places of a fit are in the name
 pub record IsWithin (name : Text) (fit : Fit) : Type 0 where
   pub directory : fit.directory ≤ fit.start
   pub stem : fit.start ≤ fit.end
@@ -40,7 +40,7 @@ candidate_at name rule candidate = record {
       (slice_range name candidate.fit.start candidate.fit.end) rule.needs;
 }
 
--- a candidate of the rule that has its number
+-- a candidate, with the rule that has its number
 abbrev pub candidate_view : List Rule → Text → HeldCandidate → Option Candidate
 candidate_view rules name candidate = option_map
     (λ rule. candidate_at name rule candidate) (slice_get rules candidate.rule)
@@ -51,22 +51,22 @@ candidates_view rules name candidates = filter_map (candidate_view rules name) c
 abbrev pub found_view : List Rule → Text → Option HeldCandidate → Option Candidate
 found_view rules name found = option_and_then (candidate_view rules name) found
 
--- each has a rule, and its places lie in the name
+-- each candidate has a rule, and its places are in the name
 abbrev pub AreWithin : List Rule → Text → List HeldCandidate → Type 0
 AreWithin rules name candidates = All (λ candidate. (candidate.rule < length rules)
     × IsWithin name candidate.fit) candidates
 
--- of two that there may be, the shorter, or the first
+-- of two candidates, either of which may be absent, the one with the shorter stem, or the first
 abbrev pub shorter_of : Option HeldCandidate → Option HeldCandidate → Option HeldCandidate
 shorter_of best None = best
 shorter_of None (Some other) = Some other
 shorter_of (Some best) (Some other) = if nat_le (fit_size best.fit) (fit_size other.fit) then Some best else Some other
 
--- whether the rule of a number is terminal; where there is none, nothing is searched for
+-- whether the rule with a number is terminal; if there is no rule, it counts as terminal
 abbrev pub is_last_at : List Rule → ℕ → Bool
 is_last_at rules number = unwrap_or (option_map (λ rule. is_terminal rule.kind) (slice_get rules number)) true
 
--- `without_any` and `by_size`, of candidates as they are held
+-- `without_any` and `by_size`, for candidates as the code holds them
 abbrev pub stays : List Rule → HeldCandidate → Bool
 stays rules candidate = not candidate.is_any || is_last_at rules candidate.rule
 
@@ -79,7 +79,7 @@ abbrev pub held_by_size : ℕ → List HeldCandidate → List HeldCandidate
 held_by_size longest candidates =
     flat_map (λ size. filter (λ candidate. fit_size candidate.fit == size) candidates) (range_with_len 0 (longest + 1))
 
--- the choice of a candidate, as definitions have it
+-- the choice of a candidate
 abbrev pub choice_view : Candidate → Chosen
 choice_view candidate = record { rule = candidate.rule; directory = candidate.directory; stem = candidate.stem }
 

@@ -1,4 +1,4 @@
-//! Names that need themselves.
+//! Names that depend on themselves.
 ghost use Rattle.std.specs.Prelude.{◌≡◌, ◌↔◌, ◌-◌, ◌&&◌, ℕ, [], All, IsTrue, MatchOption, fold, get_or, nat_eq};
 ghost use Rattle.std.specs.Prelude.{flat_map, replicate, set, false, true, IfOk, List, OnOk};
 ghost use Rattle.kt_graph.specs.inner.faults.Arrivals.{AreCounted, IsLeftIn, LeavesCircular, is_left, with_arrival};
@@ -12,9 +12,9 @@ use std::alloc::{AllocError, Global};
 
 /// The first number of an order that leads back to itself, if one does.
 ///
-/// That none does is found by counts: a vertex that none of the others leads to is taken away, again
-/// and again, until none is left. Only else edges are turned round, and the first is looked for among
-/// the vertices that lie on a way from one cycle to another.
+/// Counting edges mostly shows that none does: a vertex that no remaining vertex leads to is removed, again and again,
+/// until none remains. Otherwise the same is done with the edges reversed, and the first is looked for among the
+/// vertices that remain both times: those on a cycle or on a path between cycles.
 pub(crate) fn first_circular(
     alloc: Global,
     edges: &Edges<'_>,
@@ -36,7 +36,7 @@ pub(crate) fn first_circular(
     Left { alloc, held }.first_back(edges, order)
 }
 
-// How many of the vertices that are left lead to each, in the end. What has none is taken away.
+// For each vertex, the number of edges to it from remaining vertices, after each vertex without any was removed.
 fn arrivals_left(alloc: Global, edges: &Edges<'_>) -> Result<Vec<usize>, AllocError>
     ensures { IfOk result (λ counts. LeavesCircular edges.now counts.items) }
 {
@@ -49,7 +49,7 @@ fn arrivals_left(alloc: Global, edges: &Edges<'_>) -> Result<Vec<usize>, AllocEr
     Ok(counts)
 }
 
-// How many edges lead to each vertex, and one more until it has its turn.
+// The number of edges to each vertex, and one more until the vertex has had its turn.
 fn arrivals(alloc: Global, edges: &Edges<'_>) -> Result<Vec<usize>, AllocError>
     ensures { IfOk result (λ counts. counts.items
         ≡ fold with_arrival (replicate (count_of edges.now) 1) (flat_map (λ row. row) (rows_of edges.now))) }
@@ -72,7 +72,7 @@ fn arrive_all(counts: &mut Vec<usize>, vertices: &[usize]) -> Result<(), AllocEr
     Ok(())
 }
 
-// More edges than a number counts are more than memory holds.
+// Edges whose count overflows don't fit into memory.
 fn arrive(counts: &mut Vec<usize>, vertex: usize) -> Result<(), AllocError>
     ensures { OnOk result (counts.new.items ≡ with_arrival counts.old.items vertex) }
 {
@@ -85,7 +85,7 @@ fn arrive(counts: &mut Vec<usize>, vertex: usize) -> Result<(), AllocError>
     Ok(())
 }
 
-// Goes on with what vertices lead to that were taken away.
+// Removes the edges of removed vertices until the work list is empty.
 fn leave_after(
     edges: &Edges<'_>,
     counts: &mut Vec<usize>,
@@ -117,7 +117,7 @@ fn leave_all(
     Ok(())
 }
 
-// One arrival at a vertex is gone. Was it the last, the vertex is taken away.
+// Removes one edge to a vertex. If it was the last one, the vertex is removed, too: it goes to the work list.
 fn leave(counts: &mut Vec<usize>, vertex: usize, work: &mut Vec<usize>) -> Result<(), AllocError>
     ensures { OnOk result ((counts.new.items, work.new.items)
         ≡ without_arrival (counts.old.items, work.old.items) vertex) }
@@ -128,7 +128,7 @@ fn leave(counts: &mut Vec<usize>, vertex: usize, work: &mut Vec<usize>) -> Resul
     Ok(())
 }
 
-// Whether one arrival was left at a vertex, which it isn't from then on.
+// Counts one edge to a vertex less, and returns whether it was the last one.
 fn is_last(counts: &mut Vec<usize>, vertex: usize) -> bool
     ensures was { result ≡ nat_eq (get_or counts.old.items vertex 0) 1 }
     ensures gone { counts.new.items ≡ set counts.old.items vertex (get_or counts.old.items vertex 0 - 1) }
@@ -149,7 +149,7 @@ fn is_none_left(counts: &[usize]) -> bool
     !counts.iter().any(|count| *count != 0)
 }
 
-// The vertices at which something arrives, and from which something departs.
+// The vertices that remain in both directions.
 fn left_in_both(
     alloc: Global,
     arrivals: &[usize],
@@ -177,7 +177,7 @@ fn is_left(counts: &[usize], vertex: usize) -> bool
     counts.get(vertex).copied().unwrap_or(0) != 0
 }
 
-// The vertices that are left.
+// The vertices that remain.
 #[derive(Drop)]
 struct Left {
     alloc: Global,
@@ -191,7 +191,7 @@ impl Left {
         self.held.as_slice().get(vertex).copied().unwrap_or(false)
     }
 
-    // The first of an order that leads back to itself.
+    // The first vertex of an order that leads back to itself.
     fn first_back(&self, edges: &Edges<'_>, order: &[usize]) -> Result<Option<usize>, AllocError>
         requires { HoldsCircular edges.now self.now.held.items }
         ensures { IfOk result (λ found. MatchOption found (All
@@ -217,7 +217,7 @@ impl Left {
         }
     }
 
-    // A vertex that leads to itself does so by vertices that are left.
+    // Searches among the remaining vertices: a cycle has no others.
     fn leads_back(&self, edges: &Edges<'_>, vertex: usize) -> Result<bool, AllocError>
         requires { HoldsCircular edges.now self.now.held.items }
         ensures { IfOk result (λ leads. IsTrue leads ↔ LeadsBack edges.now vertex) }
@@ -235,7 +235,7 @@ impl Left {
     }
 }
 
-// Takes what a vertex leads to, as far as it wasn't visited, to the work.
+// Adds to the work list the unvisited vertices that a vertex leads to.
 fn visit_next(
     edges: &Edges<'_>,
     vertex: usize,
@@ -251,7 +251,7 @@ fn visit_next(
     Ok(())
 }
 
-// Takes those of some vertices that weren't visited to the work.
+// Adds to the work list the unvisited ones of some vertices.
 fn visit(
     vertices: &[usize],
     unvisited: &mut Vec<bool>,
@@ -265,7 +265,7 @@ fn visit(
     Ok(())
 }
 
-// Takes a vertex to the work if it is marked, which it isn't from then on.
+// Adds a vertex to the work list if it is marked, and removes its mark.
 fn take(marks: &mut Vec<bool>, vertex: usize, work: &mut Vec<usize>) -> Result<(), AllocError>
     ensures taken { OnOk result (marks.new.items ≡ set marks.old.items vertex false) }
     ensures noted { OnOk result (work.new.items ≡ work_with (holds_in marks.old.items vertex) work.old.items vertex) }
@@ -276,7 +276,7 @@ fn take(marks: &mut Vec<bool>, vertex: usize, work: &mut Vec<usize>) -> Result<(
     Ok(())
 }
 
-// Whether a place was marked, which it isn't from then on.
+// Removes the mark at a place, and returns whether there was one.
 fn is_taken(marks: &mut Vec<bool>, place: usize) -> bool
     ensures was { result ≡ holds_in marks.old.items place }
     ensures taken { marks.new.items ≡ set marks.old.items place false }

@@ -11,11 +11,10 @@ use crate::nodes::stored::StoredNodes;
 use std::alloc::{AllocError, Global};
 use std::slice::from_ref;
 
-/// Where vertices lead, by numbers.
+/// The edges between vertices, by number.
 ///
-/// A vertex stands for a name, or after the names for a making of several: each of these leads to the
-/// making, and the making to all that they need. What a name needs stands in its node, so only makings
-/// have rows of their own.
+/// A vertex is a name or, after the names, a making of several names: each of these names leads to the making, and the
+/// making to all that they need. The edges of a name are in its node, so only makings have rows.
 #[derive(Drop)]
 pub(crate) struct Edges<'n> {
     alloc: Global,
@@ -47,14 +46,14 @@ impl<'n> Edges<'n> {
         })
     }
 
-    /// How many vertices there are.
+    /// The number of vertices.
     pub(crate) fn count(&self) -> usize
         ensures { result ≡ count_of self.now }
     {
         self.nodes.len() + self.rows.len()
     }
 
-    /// Where a vertex leads, in two parts.
+    /// The vertices that a vertex leads to, in two parts.
     pub(crate) fn next(&self, vertex: usize) -> (&[usize], &[usize])
         ensures { result.0.now ++ result.1.now ≡ next_of self.now vertex }
     {
@@ -64,7 +63,7 @@ impl<'n> Edges<'n> {
         (row_at(self.rows.as_slice(), vertex - self.nodes.len()), &[])
     }
 
-    /// The same edges, each in the other direction: rows of all vertices, after no nodes.
+    /// The same edges reversed: a row for each vertex, and no nodes.
     pub(crate) fn reversed<'e>(&self, none: &'e StoredNodes<'e>) -> Result<Edges<'e>, AllocError>
         requires within { LeadToVertices self.now }
         requires none { none.now ≡ [] }
@@ -84,7 +83,7 @@ impl<'n> Edges<'n> {
         })
     }
 
-    // Where a name leads by its node.
+    // The vertices that a name leads to, from its node.
     fn next_by(&self, name: usize) -> (&[usize], &[usize])
         ensures { result.0.now ++ result.1.now ≡ row_of self.now.makings.items (stored_at self.now.nodes.now name) }
     {
@@ -104,7 +103,7 @@ fn one_at(numbers: &[usize], place: usize) -> &[usize]
     }
 }
 
-// The vertices of so many makings, after those of names.
+// The vertices of a number of makings, which are after those of names.
 fn making_numbers(alloc: Global, names: usize, count: usize) -> Result<Vec<usize>, AllocError>
     ensures { IfOk result (λ numbers. numbers.items ≡ numbers_after names count) }
 {
@@ -118,7 +117,7 @@ fn making_numbers(alloc: Global, names: usize, count: usize) -> Result<Vec<usize
     Ok(numbers)
 }
 
-// What the names of each making need.
+// For each making, what its names need.
 fn making_rows(
     alloc: Global,
     nodes: &StoredNodes,

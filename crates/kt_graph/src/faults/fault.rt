@@ -10,15 +10,15 @@ use thiserror::Error;
 /// Why there is no graph.
 #[derive(Debug, Drop, Error)]
 pub enum GraphFault {
-    /// Memory was refused.
+    /// Out of memory.
     #[error("out of memory")]
     Memory,
-    /// The makefile is at fault, at no line.
+    /// The makefile has a fault, which belongs to no line.
     #[error("{told} [E{number:02}]", told = BStr::new(.words.as_slice()))]
     Refused {
-        /// The number that a fault line ends with, as 27 of `[E27]`.
+        /// The number at the end of the fault line, such as 27 in `[E27]`.
         number: u8,
-        /// What the fault line says, in bytes: names stand in it as they are.
+        /// The message of the fault line, as bytes: names are copied into it as they are.
         words: Sequence<u8>,
     },
 }

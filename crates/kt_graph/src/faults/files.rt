@@ -1,4 +1,4 @@
-//! The files that the names of a graph stand for.
+//! Which names of a graph are names of one file.
 ghost use Rattle.std.specs.Prelude.{◌≡◌, ◌++◌, ◌∷◌, ◌&&◌, [], All, List, Some, false, true, bytes_eq, find, is_some};
 ghost use Rattle.std.specs.Prelude.{not, option_map, unwrap_or, IfOk, OnOk, if◌then◌else◌};
 ghost use Rattle.std.specs.List.{list_any};
@@ -14,7 +14,7 @@ use crate::nodes::node::Node;
 use indexmap::IndexMap;
 use std::alloc::{AllocError, Global};
 
-/// Whether a name, made or not, is kati's own.
+/// Whether a name, made or not, is reserved for kati.
 pub(crate) fn has_always(alloc: Global, nodes: Nodes<'_>) -> Result<bool, AllocError>
     ensures { IfOk result (λ has. has ≡ list_any (λ node. is_reserved node.name) nodes.entry) }
 {
@@ -36,8 +36,8 @@ fn is_always_name(alloc: Global, name: &[u8]) -> Result<bool, AllocError>
     Ok(is_always(file.as_slice()))
 }
 
-/// Whether each made name is the one spelling of its file, so that no two of them have one file. Takes
-/// no memory.
+/// Whether each made name is the canonical spelling of its file, so that no two of them are names of one file. Takes no
+/// memory.
 pub(crate) fn are_canonical(nodes: Nodes<'_>) -> bool
     ensures { result ≡ true → All (λ name. canon_of name ≡ name) (made_names nodes.entry) }
 {
@@ -62,7 +62,7 @@ fn is_canonical_if_made(node: &Node<'_>) -> bool
 #[derive(Drop)]
 pub(crate) struct Files {
     alloc: Global,
-    // Each file with whether several made names have it.
+    // Each file, and whether several made names are names of it.
     several: IndexMap<Vec<u8>, bool>,
 }
 
@@ -102,7 +102,7 @@ impl Files {
         Ok(())
     }
 
-    /// The first made name whose file has another made name.
+    /// The first made name whose file has another made name, too.
     pub(crate) fn first_repeated<'g>(
         &self,
         nodes: Nodes<'g>,

@@ -1,4 +1,4 @@
-//! Which names are names of one file.
+//! Which names are names of one file, and the name that is reserved for kati.
 ghost use Rattle.std.specs.Prelude.{◌≡◌, ◌++◌, ◌∷◌, ◌==◌, [], bytes_eq, flat_map, map, reverse, IfOk, OnOk};
 ghost use Rattle.std.specs.Prelude.{if◌then◌else◌};
 ghost use Rattle.std.specs.List.{join_with_byte, slice_split};
@@ -8,11 +8,11 @@ ghost use Rattle.kt_graph.specs.faults.Paths.{with_part};
 use crate::faults::spelling::is_canonical;
 use std::alloc::{AllocError, Global};
 
-/// The name that phony statements with a command need: kati's own, and never there, so that they are always made.
+/// The input that makes Ninja always run the commands of phony targets: a reserved name, which no file ever has.
 pub const ALWAYS_BUILD: &[u8] = b"_kati_always_build_";
 
-/// The one spelling of a name's file: without empty components and `.`, each `..` with the component
-/// before it taken away. No file is looked at.
+/// The canonical spelling of a name's file: without empty components and `.`, and with each `..` removed along with the
+/// component before it. Looks at no file.
 pub(crate) fn canon(alloc: Global, name: &[u8]) -> Result<Vec<u8>, AllocError>
     ensures { IfOk result (λ canon. canon.items ≡ canon_of name.now) }
 {
@@ -44,7 +44,7 @@ fn pieces(alloc: Global, name: &[u8]) -> Result<Vec<&[u8]>, AllocError>
     name.split(|byte| *byte == b'/').collect(alloc)
 }
 
-/// Whether a canonical name is kati's own.
+/// Whether a canonical name is the reserved one.
 pub(crate) fn is_always(canon: &[u8]) -> bool
     ensures { result ≡ bytes_eq canon.now always_name }
 {
@@ -57,7 +57,7 @@ pub(crate) fn is_rooted(name: &[u8]) -> bool
     matches!(name, [b'/', ..])
 }
 
-// Goes on from components by one more.
+// Adds a component to those before it.
 fn add_part<'n>(rooted: bool, parts: &mut Vec<&'n [u8]>, part: &'n [u8]) -> Result<(), AllocError>
     ensures { OnOk result (reverse (map (λ part. part.now) parts.new.items)
         ≡ with_part rooted (reverse (map (λ part. part.now) parts.old.items)) part.now) }
@@ -70,7 +70,7 @@ fn add_part<'n>(rooted: bool, parts: &mut Vec<&'n [u8]>, part: &'n [u8]) -> Resu
     Ok(())
 }
 
-// `..` takes the component before it away. At the front it stays, but not under the root.
+// `..` removes the component before it. Without one it stays, except directly under the root, where it is dropped.
 fn step_up<'n>(rooted: bool, parts: &mut Vec<&'n [u8]>, above: &'n [u8]) -> Result<(), AllocError>
     requires { above.now ≡ above_name }
     ensures { OnOk result (reverse (map (λ part. part.now) parts.new.items)
@@ -86,7 +86,7 @@ fn step_up<'n>(rooted: bool, parts: &mut Vec<&'n [u8]>, above: &'n [u8]) -> Resu
     Ok(parts.push(above)?)
 }
 
-// Whether the last component is a name that `..` takes away.
+// Whether the last component is a name, which `..` removes.
 fn ends_in_name(parts: &[&[u8]]) -> bool
     ensures { result ≡ ends_in_name (reverse (map (λ part. part.now) parts.now)) }
 {
@@ -96,7 +96,7 @@ fn ends_in_name(parts: &[&[u8]]) -> bool
     }
 }
 
-// The name that is spelled by components.
+// The name that components spell.
 fn spelled(alloc: Global, rooted: bool, parts: &[&[u8]]) -> Result<Vec<u8>, AllocError>
     ensures { IfOk result (λ name. name.items ≡ (if rooted then 47 ∷ [] else [])
         ++ join_with_byte 47 (map (λ part. part.now) parts.now)) }

@@ -1,10 +1,10 @@
-//! Rows of numbers, as those of the vertices that each of some vertices leads to.
+//! Rows of numbers, such as the vertices that each vertex leads to.
 ghost use Rattle.std.specs.Prelude.{◌≡◌, [], get_or, IfOk, OnOk};
 ghost use Rattle.kt_graph.specs.inner.faults.Edges.{bare_rows, edges_from, edges_to, rows_held, with_edge, with_edges};
 
 use std::alloc::{AllocError, Global};
 
-/// So many rows with nothing in them.
+/// A given number of empty rows.
 pub(crate) fn bare(alloc: Global, count: usize) -> Result<Vec<Vec<usize>>, AllocError>
     ensures { IfOk result (λ rows. rows_held rows.items ≡ bare_rows count) }
 {
@@ -55,7 +55,7 @@ pub(crate) fn add(rows: &mut Vec<Vec<usize>>, from: usize, to: usize) -> Result<
     Ok(())
 }
 
-/// A row, or nothing where there is none.
+/// A row, or an empty one if there is none.
 pub(crate) fn row_at(rows: &[Vec<usize>], place: usize) -> &[usize]
     ensures { result.now ≡ get_or (rows_held rows.now) place [] }
 {

@@ -1,4 +1,4 @@
-//! Names that are the one spelling of their file as they stand, as most names are.
+//! Names that are already the canonical spelling of their file, as most names are.
 ghost use Rattle.std.specs.Prelude.{◌≡◌, ◌<◌, ◌&&◌, IfSome, MatchOption, length, true};
 ghost use Rattle.kt_graph.specs.inner.faults.Spelling.{has_names_only, is_name};
 ghost use Rattle.kt_graph.specs.faults.Paths.{canon_of};
@@ -6,7 +6,7 @@ ghost use Rattle.kt_graph.specs.faults.Paths.{canon_of};
 use crate::faults::paths::is_rooted;
 use memchr::memchr;
 
-/// Whether a name is the one spelling of its file as it stands. Takes no memory.
+/// Whether all components of a name are plain, so that it is the canonical spelling of its file. Takes no memory.
 pub(crate) fn is_canonical(name: &[u8]) -> bool
     ensures { result ≡ true → canon_of name.now ≡ name.now }
 {
@@ -17,7 +17,7 @@ pub(crate) fn is_canonical(name: &[u8]) -> bool
     }
 }
 
-// Whether each component is a name.
+// Whether each component is plain: not empty, `.` or `..`.
 fn has_names_only(text: &[u8]) -> bool
     ensures { result ≡ has_names_only text.now }
 {
@@ -31,7 +31,7 @@ fn has_names_only(text: &[u8]) -> bool
     is_name(left)
 }
 
-// What stands before the first slash, and after it.
+// The text before the first slash, and the text after it.
 fn first_part(text: &[u8]) -> Option<(&[u8], &[u8])>
     ensures parts { MatchOption result (has_names_only text.now ≡ is_name text.now)
         (λ cut. has_names_only text.now ≡ (is_name cut.0.now && has_names_only cut.1.now)) }

@@ -1,4 +1,4 @@
-//! What is wrong with the names that goals need, without memory.
+//! What is wrong with the names that goals need; a trouble needs no memory.
 ghost use Rattle.std.specs.Prelude.{◌≡◌};
 ghost use Rattle.kt_graph.specs.faults.Faults.{ReportsTrouble, kind_and_name};
 ghost use Rattle.kt_graph.specs.faults.Views.{trouble_view};
@@ -8,21 +8,21 @@ use kt_list::Sequence;
 use kt_rules::FaultKind;
 use std::alloc::Global;
 
-/// What is wrong, with the name in its words.
+/// What is wrong, and the name that the message is about.
 #[derive(Clone, Copy, Debug)]
 pub(crate) enum Trouble<'g> {
     /// No rule makes a goal.
     NoRule(&'g [u8]),
-    /// A name needs itself.
+    /// A name depends on itself.
     Circular(&'g [u8]),
-    /// A name is kati's own.
+    /// A name is reserved for kati.
     Reserved,
-    /// Two names of made targets are names of one file.
+    /// Two made names are names of one file.
     OneFile(&'g [u8]),
 }
 
 impl<'g> Trouble<'g> {
-    /// The fault that tells of it.
+    /// The fault that reports it.
     pub(crate) fn fault(self, alloc: Global) -> GraphFault
         ensures { ReportsTrouble result (trouble_view self.entry) }
     {
@@ -36,7 +36,7 @@ impl<'g> Trouble<'g> {
         }
     }
 
-    // The kind of its fault, and the name in its words, which is empty where there is none.
+    // The kind of the fault, and the name in its message, which is empty if the message has none.
     fn kind_and_name(self) -> (FaultKind, &'g [u8])
         ensures { (result.0, result.1.now) ≡ kind_and_name (trouble_view self.entry) }
     {

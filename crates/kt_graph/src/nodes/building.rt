@@ -1,4 +1,4 @@
-//! The nodes of names by their explicit rules.
+//! Nodes of names from their explicit rules.
 ghost use Rattle.std.specs.Prelude.{◌≡◌, ◌++◌, ◌∷◌, None, Some, List, MatchOption, map, option_map, IfOk, OnOk};
 ghost use Rattle.std.specs.List.{list_any};
 ghost use Rattle.kt_text.specs.Words.{Text};
@@ -6,7 +6,7 @@ ghost use Rattle.kt_rules.specs.Book.{is_double};
 ghost use Rattle.kt_rules.specs.Entry.{Rule};
 ghost use Rattle.kt_rules.specs.declared.entry.Target.{Target as HeldTarget};
 ghost use Rattle.kt_rules.specs.Slots.{rule_view};
-ghost use Rattle.kt_rules.specs.Targets.{needs_view, targets_view};
+ghost use Rattle.kt_rules.specs.Targets.{entry_view, needs_view, targets_view};
 ghost use Rattle.kt_rules.specs.Suffixes.{suffixes_of};
 ghost use Rattle.kt_graph.specs.inner.nodes.Building.{IsCut};
 ghost use Rattle.kt_graph.specs.nodes.Node.{double_node, explicit_node, first_name, group_of, kind_without, part_of};
@@ -16,7 +16,7 @@ ghost use Rattle.kt_graph.specs.nodes.Views.{instance_view};
 
 use crate::nodes::named::{Named, NamedPart};
 use crate::nodes::node::{Instance, NodeKind};
-use kt_rules::{Book, Entry, Kind, Name, NeedsView, TargetRule, Targets};
+use kt_rules::{Book, BookRule, Kind, Name, NeedsView, TargetRule, Targets};
 use std::alloc::{AllocError, Global};
 
 /// The rule whose recipe is used, and the rules before it and after it.
@@ -47,7 +47,7 @@ pub(crate) fn used_rule<'a, 'r>(rules: &'r [TargetRule<'a>]) -> Option<Used<'a, 
     None
 }
 
-/// Each rule is a part.
+/// The node of a name with double-colon rules: each rule is a part.
 pub(crate) fn double_node<'a>(
     alloc: Global,
     book: &Book,
@@ -68,7 +68,7 @@ pub(crate) fn double_node<'a>(
     })
 }
 
-/// The rule whose recipe is used comes first with what it needs.
+/// The node of a name with a recipe: the prerequisites of the rule with that recipe come first.
 pub(crate) fn explicit_node<'a>(
     alloc: Global,
     book: &Book,
@@ -90,7 +90,7 @@ pub(crate) fn explicit_node<'a>(
     })
 }
 
-/// Where no recipe makes the name.
+/// The node of a name that no recipe makes.
 pub(crate) fn plain_node<'a>(
     alloc: Global,
     book: &Book,
@@ -115,7 +115,7 @@ pub(crate) fn plain_node<'a>(
     })
 }
 
-/// What rules need after what is needed first.
+/// The given prerequisites, followed by those of rules.
 pub(crate) fn with_needs<'a: 'n, 'n>(
     alloc: Global,
     first: NeedsView<'n>,
@@ -130,7 +130,7 @@ pub(crate) fn with_needs<'a: 'n, 'n>(
     Ok(needs)
 }
 
-// Puts what rules need after what is needed.
+// Adds the prerequisites of rules at the end.
 fn add_needs<'a: 'n, 'n>(
     needs: &mut Vec<NeedsView<'n>>,
     rules: &[TargetRule<'a>],
@@ -163,7 +163,7 @@ fn is_double(rule: TargetRule) -> bool
     matches!(rule.entry.kind(), Kind::DoubleColon)
 }
 
-// A rule of its target with what it needs.
+// The part for a rule of a target, with these prerequisites.
 fn rule_part<'a>(
     alloc: Global,
     book: &Book,
@@ -181,9 +181,9 @@ fn rule_part<'a>(
     })
 }
 
-// The making of a group's rule.
-fn group_of(alloc: Global, entry: &Entry) -> Result<Option<Instance>, AllocError>
-    ensures { IfOk result (λ making. option_map instance_view making ≡ group_of entry.now) }
+// The making of a rule, if the rule is a group.
+fn group_of(alloc: Global, entry: BookRule<'_>) -> Result<Option<Instance>, AllocError>
+    ensures { IfOk result (λ making. option_map instance_view making ≡ group_of (entry_view entry.entry)) }
 {
     if !matches!(entry.kind(), Kind::Group) {
         return Ok(None);

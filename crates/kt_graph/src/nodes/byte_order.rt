@@ -1,19 +1,20 @@
 //! Names in byte order.
 ghost use Rattle.std.specs.Prelude.{◌≡◌, map, IfOk};
-ghost use Rattle.kt_graph.specs.inner.faults.Files.{AreDistinct, IsByteOrder};
+ghost use Rattle.kt_graph.specs.inner.faults.Files.{IsByteOrder};
 
-use kt_rules::Name;
+use crate::nodes::node::name_of;
+use crate::nodes::numbering::NameNumbers;
 use kt_text::SortKey;
 use std::alloc::{AllocError, Global};
 
-/// The numbers of names, in byte order of these.
-pub(crate) fn byte_order(alloc: Global, names: &[Name]) -> Result<Vec<usize>, AllocError>
-    requires { AreDistinct names.now }
+/// The numbers of names, in byte order of the names.
+pub(crate) fn byte_order(alloc: Global, names: &NameNumbers) -> Result<Vec<usize>, AllocError>
     ensures { IfOk result (λ order. IsByteOrder names.now order.items) }
 {
-    let mut named = Vec::with_capacity(alloc, names.len())?;
-    for (number, name) in names.iter().enumerate() {
-        named.push((SortKey::new(name.as_slice()), number))?;
+    let count = names.len();
+    let mut named = Vec::with_capacity(alloc, count)?;
+    for number in 0..count {
+        named.push((SortKey::new(name_of(names, number)), number))?;
     }
     named.sort_unstable();
     numbers(alloc, named.as_slice())

@@ -26,9 +26,9 @@ use crate::nodes::byte_order::byte_order;
 use crate::nodes::graph_builder::GraphBuilder;
 use crate::nodes::grouping::Groups;
 use crate::nodes::node::{Instance, Node, name_of};
+use crate::nodes::numbering::NameNumbers;
 use crate::nodes::stored::StoredNodes;
 use indexmap::IndexSet;
-use kt_list::Names;
 use kt_rules::{Book, Name};
 use std::alloc::{AllocError, Global};
 use std::marker::Model;
@@ -39,10 +39,10 @@ use std::marker::Model;
 #[derive(Drop)]
 pub struct Graph<'a> {
     alloc: Global,
-    names: Names,
+    names: NameNumbers<'a>,
     nodes: StoredNodes<'a>,
     instances: IndexSet<Instance>,
-    // The numbers in byte order of the names.
+    // The numbers of all names, in byte order of the names.
     order: Vec<usize>,
 }
 
@@ -67,7 +67,7 @@ impl<'a> Graph<'a> {
         ensures { result ≡ self.now }
     {
         Nodes {
-            names: self.names.as_slice(),
+            names: &self.names,
             instances: self.instances.as_slice(),
             nodes: &self.nodes,
             numbers: self.order.as_slice(),
@@ -78,22 +78,20 @@ impl<'a> Graph<'a> {
     pub fn node(&self, name: &[u8]) -> Option<Node<'_>>
         ensures { result ≡ find (λ node. bytes_eq name.now node.name) self.now }
     {
-        let names = self.names.as_slice();
         let instances = self.instances.as_slice();
         match self.names.number_of(name) {
-            Some(number) => node_at(names, instances, &self.nodes, number),
+            Some(number) => node_at(&self.names, instances, &self.nodes, number),
             None => None,
         }
     }
 
-    /// The made nodes, those of one making together: the members in byte order, the groups in byte
-    /// order of their least members.
+    /// The made nodes, grouped by making: the members in byte order, the groups in byte order of their first members.
     pub fn groups(&self) -> Result<Groups<'_>, AllocError>
         ensures { IfOk result (λ groups. groups ≡ groups_of self.now) }
     {
         Groups::of(
             self.alloc,
-            self.names.as_slice(),
+            &self.names,
             self.instances.as_slice(),
             &self.nodes,
             self.order.as_slice(),
@@ -104,7 +102,7 @@ impl<'a> Graph<'a> {
     pub(crate) fn reached(
         alloc: Global,
         book: &'a Book,
-        known: &'a Known,
+        known: &'a Known<'a>,
         goals: &[Name],
     ) -> Result<Graph<'a>, AllocError>
         ensures { IfOk result (IsGraph book.now known.now goals.now) }
@@ -118,24 +116,25 @@ impl<'a> Graph<'a> {
             instances,
             ..
         } = builder;
-        Graph::whole(alloc, numbers.into_names(), nodes, instances)
+        Graph::whole(alloc, numbers, nodes, instances)
     }
 
     // The graph of names and their nodes.
     fn whole(
         alloc: Global,
-        names: Names,
+        names: NameNumbers<'a>,
         nodes: StoredNodes<'a>,
         instances: IndexSet<Instance>,
     ) -> Result<Graph<'a>, AllocError>
         requires numbers { All (HasNumbers (length names) (length instances.keys)) nodes }
         requires all { length nodes ≡ length names }
         ensures { IfOk result (λ graph. (rules : List Rule) (known goals : List Text)
-            → IsDone rules known goals names instances.keys nodes.entry → IsGraph rules known goals graph) }
+            → IsDone rules known goals names.entry instances.keys nodes.entry → IsGraph rules known goals graph) }
     {
-        let order = byte_order(alloc, names.as_slice())?;
-        // A slice of a set tells that no two of its values are equal.
-        let _ = instances.as_slice();
+        let order = byte_order(alloc, &names)?;
+        // These tell that no two names are equal, and no two makings.
+        let _count = names.len();
+        let _instances = instances.as_slice();
         Ok(Graph {
             alloc,
             names,
@@ -145,7 +144,7 @@ impl<'a> Graph<'a> {
         })
     }
 
-    /// What comes first of what is wrong.
+    /// The first thing that is wrong, if anything is.
     pub(crate) fn trouble<'g>(
         &'g self,
         goals: &'g [Name],
@@ -179,7 +178,7 @@ impl<'a> Graph<'a> {
         }
     }
 
-    // The first name in byte order that needs itself.
+    // The first name in byte order that depends on itself.
     fn circular(&self) -> Result<Option<&[u8]>, AllocError>
         ensures { IfOk result (λ found. (rules : List Rule) (known goals : List Text)
             → IsGraph rules known goals self.now
@@ -193,12 +192,12 @@ impl<'a> Graph<'a> {
             &StoredNodes::new(self.alloc),
             self.order.as_slice(),
         )? {
-            Some(number) => Ok(Some(name_of(self.names.as_slice(), number))),
+            Some(number) => Ok(Some(name_of(&self.names, number))),
             None => Ok(None),
         }
     }
 
-    // What is wrong with the files that names stand for.
+    // What is wrong with the files of names.
     fn path_trouble(&self) -> Result<Option<Trouble<'_>>, AllocError>
         ensures { IfOk result (λ trouble. (rules : List Rule) (known goals : List Text)
             → IsGraph rules known goals self.now
@@ -213,12 +212,12 @@ impl<'a> Graph<'a> {
         }
     }
 
-    // The first made name whose file has another made name.
+    // The first made name whose file has another made name, too.
     fn first_repeated(&self) -> Result<Option<&[u8]>, AllocError>
         ensures { IfOk result (λ found. IsStrictlySortedBy (slice_cmp nat_cmp) (map (λ node. node.name) self.now)
             → option_map (λ name. name.now) found ≡ find (is_repeated (made_names self.now)) (made_names self.now)) }
     {
-        // Names differ, so two of one file aren't both its one spelling.
+        // Names differ, so two names of one file aren't both its canonical spelling.
         if are_canonical(self.nodes()) {
             return Ok(None);
         }
@@ -230,7 +229,7 @@ impl<'a> Graph<'a> {
 /// The nodes of a graph, in byte order of their names.
 #[derive(Drop)]
 pub struct Nodes<'g> {
-    names: &'g [Name],
+    names: &'g NameNumbers<'g>,
     instances: &'g [Instance],
     nodes: &'g StoredNodes<'g>,
     numbers: &'g [usize],
@@ -267,7 +266,7 @@ impl<'g> Iterator for Nodes<'g> {
 
 // The first node of numbers, and the numbers after it.
 fn first_node<'g>(
-    names: &'g [Name],
+    names: &'g NameNumbers<'g>,
     instances: &'g [Instance],
     nodes: &'g StoredNodes<'g>,
     numbers: &'g [usize],
@@ -287,9 +286,9 @@ fn first_node<'g>(
     None
 }
 
-// The node of a number.
+// The node with a number.
 fn node_at<'g>(
-    names: &'g [Name],
+    names: &'g NameNumbers<'g>,
     instances: &'g [Instance],
     nodes: &'g StoredNodes<'g>,
     number: usize,

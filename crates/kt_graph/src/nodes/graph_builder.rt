@@ -1,4 +1,4 @@
-//! Builds the node of each name that goals need, by a list of work.
+//! Builds the node of each name that goals need, using a work list.
 ghost use Rattle.std.specs.Prelude.{◌≡◌, ◌<◌, ◌^◌, [], List, None, fold, length, map, option_map, slice_get, take};
 ghost use Rattle.std.specs.Prelude.{IfOk, OnOk};
 ghost use Rattle.kt_text.specs.Words.{Text};
@@ -15,6 +15,7 @@ ghost use Rattle.kt_graph.specs.nodes.Node.{double_node, explicit_node, node_by,
 ghost use Rattle.kt_graph.specs.nodes.Node.{searched};
 ghost use Rattle.kt_graph.specs.inner.nodes.Numbering.{IsMaking, SaysNode};
 ghost use Rattle.kt_graph.specs.inner.nodes.GraphBuilder.{ReachesMore, IsBegun, IsOver, IsBuilt};
+ghost use Rattle.kt_graph.specs.inner.nodes.Reached.{reached_text};
 ghost use Rattle.kt_graph.specs.inner.nodes.Stored.{node_held};
 ghost use Rattle.kt_graph.specs.nodes.Views.{instance_view};
 
@@ -26,6 +27,7 @@ use crate::nodes::inferring::Inferred;
 use crate::nodes::named::{Named, NamedPart};
 use crate::nodes::node::{Instance, NodeKind};
 use crate::nodes::numbering::NameNumbers;
+use crate::nodes::reached_name::ReachedName;
 use crate::nodes::stored::StoredNodes;
 use crate::nodes::stored_node::BuiltNode;
 use crate::search::Search;
@@ -34,17 +36,17 @@ use indexmap::IndexSet;
 use kt_rules::{Book, Name, NeedsView, TargetRule};
 use std::alloc::{AllocError, Global};
 
-/// The names that were reached so far, by numbers, and the nodes of the first of them.
+/// The names reached so far, with their numbers, and the nodes of the first of them.
 ///
-/// The names after those that have nodes are the work that is left.
+/// The names without a node are the remaining work.
 #[derive(Drop)]
 pub(crate) struct GraphBuilder<'a> {
     alloc: Global,
     book: &'a Book,
-    known: &'a Known,
-    // Over this book and these names.
+    known: &'a Known<'a>,
+    // Searches this book with these known names.
     search: Search<'a>,
-    pub(crate) numbers: NameNumbers,
+    pub(crate) numbers: NameNumbers<'a>,
     pub(crate) nodes: StoredNodes<'a>,
     pub(crate) instances: IndexSet<Instance>,
 }
@@ -53,7 +55,7 @@ impl<'a> GraphBuilder<'a> {
     pub(crate) fn new(
         alloc: Global,
         book: &'a Book,
-        known: &'a Known,
+        known: &'a Known<'a>,
     ) -> Result<GraphBuilder<'a>, AllocError>
         ensures over { IfOk result IsOver }
         ensures begun { IfOk result (λ builder. (builder.book ≡ book.entry) × (builder.known ≡ known.entry)
@@ -64,20 +66,20 @@ impl<'a> GraphBuilder<'a> {
             book,
             known,
             search: Search::new(alloc, book, known)?,
-            numbers: NameNumbers::new(alloc),
+            numbers: NameNumbers::new(alloc, book.name_table())?,
             nodes: StoredNodes::new(alloc),
             instances: IndexSet::new(alloc),
         })
     }
 
-    /// Reaches names.
+    /// Adds names to the reached ones, each unless it is there.
     pub(crate) fn reach(&mut self, goals: &[Name]) -> Result<(), AllocError>
         ensures { OnOk result (self.new ≡ record self.old { numbers = fold with_name self.old.numbers goals.now }) }
     {
         self.numbers.reach(goals)
     }
 
-    /// Builds the node of each name that was reached, and those that are reached by it.
+    /// Builds the node of each reached name, and of the names that these need in turn.
     pub(crate) fn build_all(&mut self) -> Result<(), AllocError>
         requires { IsOver self.old }
         ensures { OnOk result ((goals : List Text) → IsBegun goals self.old
@@ -91,15 +93,16 @@ impl<'a> GraphBuilder<'a> {
     }
 
     // The first name that has no node yet.
-    fn next_name(&self) -> Result<Option<Name>, AllocError>
-        ensures next { IfOk result (λ name. name ≡ slice_get self.now.numbers (length self.now.nodes)) }
+    fn next_name(&self) -> Result<Option<ReachedName<'a>>, AllocError>
+        ensures next { IfOk result (λ name. option_map reached_text name
+            ≡ slice_get self.now.numbers (length self.now.nodes)) }
         ensures small { length self.now.numbers < 2 ^ 63 }
     {
         let _count = self.numbers.len();
         self.numbers.name(self.nodes.len())
     }
 
-    // The node of a name. What it needs is reached from then on.
+    // The node of a name. The names that it needs become reached.
     #[tactic(auto, unfolding(crate::specs::nodes::Node::node_of))]
     fn build(&mut self, name: &[u8]) -> Result<BuiltNode<'a>, AllocError>
         requires { IsOver self.old }
@@ -206,7 +209,7 @@ impl<'a> GraphBuilder<'a> {
         self.hold(named)
     }
 
-    // The chosen rule comes first with what it needs.
+    // The prerequisites of the chosen rule come first.
     fn implicit_node(
         &mut self,
         inferred: Inferred<'a>,
@@ -234,7 +237,7 @@ impl<'a> GraphBuilder<'a> {
         self.hold(named)
     }
 
-    // What the pattern rule gives that makes a name; for a phony name none is searched for.
+    // What the pattern rule that makes a name gives it; for a phony name there is no search.
     fn inferred(&mut self, name: &[u8]) -> Result<Option<Inferred<'a>>, AllocError>
         requires { IsOver self.old }
         ensures tells { IfOk result (InfersFrom (searched self.old.book.now self.old.known.now name.now)) }
@@ -249,7 +252,7 @@ impl<'a> GraphBuilder<'a> {
         }
     }
 
-    // What a chosen rule gives.
+    // What a chosen rule gives to the name that it makes.
     fn inference(&self, chosen: Chosen) -> Result<Option<Inferred<'a>>, AllocError>
         ensures { IfOk result (Infers self.now.search.rules chosen) }
     {
@@ -259,7 +262,7 @@ impl<'a> GraphBuilder<'a> {
         }
     }
 
-    // A node with numbers. What it needs is reached from then on.
+    // A node with numbers for its names. The names that it needs become reached.
     fn hold(&mut self, named: Named<'a, '_>) -> Result<BuiltNode<'a>, AllocError>
         ensures says { IfOk result (λ node. (name : Text)
             → SaysNode self.new.numbers self.new.instances.keys (named_view name named.entry) (node_held node)) }

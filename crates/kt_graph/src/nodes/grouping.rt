@@ -1,4 +1,4 @@
-//! The nodes of each making together.
+//! Groups the nodes of each making.
 ghost use Rattle.std.specs.Prelude.{◌≡◌, ◌∷◌, ◌++◌, ◌&&◌, [], false, if◌then◌else◌, not, IfOk, OnOk};
 ghost use Rattle.std.specs.List.{prefix_len};
 ghost use Rattle.kt_graph.specs.inner.faults.Edges.{rows_held};
@@ -10,23 +10,23 @@ ghost use Rattle.kt_graph.specs.inner.nodes.Graph.{AreHeld, IsWhole};
 
 use crate::faults::rows::{add, bare, row_at};
 use crate::nodes::node::{Instance, Node, NodeKind};
+use crate::nodes::numbering::NameNumbers;
 use crate::nodes::stored::StoredNodes;
-use kt_rules::Name;
 use std::alloc::{AllocError, Global};
 use std::marker::Model;
 
-/// The made nodes of a graph that are left, those of one making together: the members in byte order,
-/// the groups in byte order of their least members.
+/// The made nodes of a graph that remain, grouped by making: the members in byte order, the groups in byte order of
+/// their first members.
 ///
-/// A group is told by its least member, so one that has no other takes no memory.
+/// A group is identified by its first member, so a group of one takes no memory.
 #[derive(Drop)]
 pub struct Groups<'g> {
-    names: &'g [Name],
+    names: &'g NameNumbers<'g>,
     instances: &'g [Instance],
     nodes: &'g StoredNodes<'g>,
-    // The numbers that are left.
+    // The numbers that remain.
     numbers: &'g [usize],
-    // The numbers that each making makes.
+    // The numbers of the nodes of each making.
     members: Vec<Vec<usize>>,
 }
 
@@ -48,10 +48,10 @@ impl<'g> Model for Groups<'g> {
 }
 
 impl<'g> Groups<'g> {
-    /// The groups of an order.
+    /// The groups of the nodes of an order.
     pub(crate) fn of(
         alloc: Global,
-        names: &'g [Name],
+        names: &'g NameNumbers<'g>,
         instances: &'g [Instance],
         nodes: &'g StoredNodes<'g>,
         order: &'g [usize],
@@ -70,8 +70,7 @@ impl<'g> Groups<'g> {
         })
     }
 
-    /// Puts the nodes of the next group into a vector, in place of what stood there, if one is left.
-    /// Says whether one was.
+    /// Replaces the contents of a vector with the nodes of the next group, if one remains. Returns whether one did.
     pub fn next_into(&mut self, group: &mut Vec<Node<'g>>) -> Result<bool, AllocError>
         ensures { IfOk result (λ some. self.old ≡ (if some then group.new.items ∷ self.new else [])) }
     {
@@ -96,7 +95,7 @@ impl<'g> Groups<'g> {
     }
 }
 
-// Those of the numbers that each making makes.
+// For each making, those of the numbers whose nodes it makes.
 fn members_of(
     alloc: Global,
     nodes: &StoredNodes,
@@ -123,21 +122,21 @@ fn note(nodes: &StoredNodes, number: usize, members: &mut Vec<Vec<usize>>) -> Re
     Ok(())
 }
 
-// Whether a rule makes the node of a number.
+// Whether a rule makes the node with a number.
 fn is_made_at(nodes: &StoredNodes, number: usize) -> bool
     ensures { result ≡ is_made_at nodes.now number }
 {
     !matches!(nodes.kind(number), NodeKind::Leaf)
 }
 
-// The making that makes other names, too.
+// The making of a node, if the making makes other names, too.
 fn making_at(nodes: &StoredNodes, number: usize) -> Option<usize>
     ensures { result ≡ making_at nodes.now number }
 {
     nodes.made_with(number)
 }
 
-// The place of the first number that is the least of its group, or the end.
+// The place of the first number that is the first of its group, or the end.
 fn leader(nodes: &StoredNodes, members: &[Vec<usize>], numbers: &[usize]) -> usize
     ensures { result ≡ prefix_len (λ number. not (leads_at nodes.now (rows_held members.now) number)) numbers.now }
 {
@@ -147,7 +146,7 @@ fn leader(nodes: &StoredNodes, members: &[Vec<usize>], numbers: &[usize]) -> usi
         .count()
 }
 
-// Whether a number is the least of its group.
+// Whether a number is the first of its group.
 fn leads_at(nodes: &StoredNodes, members: &[Vec<usize>], number: usize) -> bool
     ensures { result ≡ leads_at nodes.now (rows_held members.now) number }
 {
@@ -172,9 +171,9 @@ fn is_first(numbers: &[usize], number: usize) -> bool
     }
 }
 
-// Puts the nodes that stand in one group with a number behind others.
+// Appends the nodes of the group that a number is in.
 fn put_group<'g>(
-    names: &'g [Name],
+    names: &'g NameNumbers<'g>,
     instances: &'g [Instance],
     nodes: &'g StoredNodes<'g>,
     members: &[Vec<usize>],
@@ -192,7 +191,7 @@ fn put_group<'g>(
 }
 
 fn put_all<'g>(
-    names: &'g [Name],
+    names: &'g NameNumbers<'g>,
     instances: &'g [Instance],
     nodes: &'g StoredNodes<'g>,
     numbers: &[usize],
@@ -209,7 +208,7 @@ fn put_all<'g>(
 }
 
 fn put<'g>(
-    names: &'g [Name],
+    names: &'g NameNumbers<'g>,
     instances: &'g [Instance],
     nodes: &'g StoredNodes<'g>,
     number: usize,

@@ -9,7 +9,7 @@ use crate::search::stemming::Stemming;
 use kt_rules::{Name, Needs, Pattern, RecipeLine};
 use std::alloc::{AllocError, Global};
 
-/// What a chosen pattern rule gives to a name.
+/// The recipe, stem, prerequisites and making that a chosen pattern rule gives to a name.
 #[derive(Drop)]
 pub(crate) struct Inferred<'a> {
     pub(crate) recipe: Option<&'a [RecipeLine]>,
@@ -41,7 +41,7 @@ impl<'a> Inferred<'a> {
     }
 }
 
-// Most stems have no directory before them.
+// The two texts together. Most stems have no directory before them.
 fn one_after_other(alloc: Global, front: &[u8], back: &[u8]) -> Result<Name, AllocError>
     ensures { IfOk result (λ name. name ≡ front.now ++ back.now) }
 {
@@ -59,7 +59,7 @@ fn appended(alloc: Global, front: &[u8], back: &[u8]) -> Result<Vec<u8>, AllocEr
     Ok(text)
 }
 
-// The making of a pattern rule with several targets.
+// The making of a pattern rule, if it has several targets.
 fn pattern_making(
     alloc: Global,
     pattern: &Pattern,

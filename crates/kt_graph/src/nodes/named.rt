@@ -1,4 +1,4 @@
-//! Nodes as rules tell them, before what they need has numbers.
+//! Nodes before their names get numbers.
 ghost use Rattle.std.specs.Prelude.{◌≡◌, ◌∷◌, [], IfOk};
 
 use crate::nodes::node::{Instance, NodeKind};
@@ -9,23 +9,23 @@ use std::alloc::{AllocError, Global};
 #[derive(Drop)]
 pub(crate) struct Named<'a, 'n> {
     pub(crate) kind: NodeKind,
-    /// A part for each rule of a double-colon node, else one.
+    /// A part for each rule of a double-colon node, or one part.
     pub(crate) parts: Vec<NamedPart<'a, 'n>>,
-    /// The making of several names.
+    /// The making, if it makes several names.
     pub(crate) making: Option<Instance>,
 }
 
-/// A recipe with what its automatic macros tell.
+/// A recipe with the stem and prerequisites for its automatic macros.
 #[derive(Drop)]
 pub(crate) struct NamedPart<'a, 'n> {
     pub(crate) recipe: Option<&'a [RecipeLine]>,
     pub(crate) stem: Name,
-    /// What one rule after another needs.
+    /// The prerequisites of one rule after another.
     pub(crate) needs: Vec<NeedsView<'n>>,
 }
 
 impl<'a, 'n> Named<'a, 'n> {
-    /// A node of one part.
+    /// A node with one part.
     pub(crate) fn of_part(
         alloc: Global,
         kind: NodeKind,

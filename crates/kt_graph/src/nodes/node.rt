@@ -5,8 +5,9 @@ ghost use Rattle.kt_graph.specs.nodes.Node.{inputs_of, is_leaf, order_only_of};
 ghost use Rattle.kt_graph.specs.nodes.Views.{instance_view, name_at, part_lines, part_needed, part_order_only};
 ghost use Rattle.kt_graph.specs.nodes.Views.{part_stem};
 
+use crate::nodes::numbering::NameNumbers;
 use crate::nodes::stored::StoredNodes;
-use kt_rules::{Name, RecipeLine};
+use kt_rules::RecipeLine;
 use std::marker::Model;
 
 /// What makes a name.
@@ -18,20 +19,20 @@ pub enum NodeKind {
     Explicit,
     /// A pattern rule, which was searched for (GNU make manual, "Using Implicit Rules").
     Implicit,
-    /// That it is phony, and nothing else (GNU make manual, "Phony Targets").
+    /// It is phony, and nothing else makes it (GNU make manual, "Phony Targets").
     Phony,
     /// Nothing.
     Leaf,
 }
 
-/// One making of several names.
+/// One making of several names: one run of a recipe that makes them all.
 #[derive(Debug, PartialEq, Eq, Hash, Drop)]
 pub enum Instance {
-    /// A group, by its first target: no other group has that target (GNU make manual, "Multiple
-    /// Targets in a Rule").
+    /// By a group, identified by its first target: no other group has that target (GNU make manual, "Multiple Targets
+    /// in a Rule").
     Group(Vec<u8>),
-    /// A pattern rule with several targets, by its number among the book's `patterns`, for a directory
-    /// and a stem (GNU make manual, "Introduction to Pattern Rules").
+    /// By a pattern rule with several targets, identified by its number among the book's `patterns`, a directory and a
+    /// stem (GNU make manual, "Introduction to Pattern Rules").
     Pattern {
         rule: usize,
         directory: Vec<u8>,
@@ -41,11 +42,11 @@ pub enum Instance {
 
 /// A name with what makes it and what it needs.
 ///
-/// A double-colon node has a part for each of its rules, numbered from 0; any other node has part 0
-/// alone. Of a part that it doesn't have, a node tells nothing.
+/// A double-colon node has a part for each of its rules, numbered from 0; any other node has only part 0. For any other
+/// part a node returns nothing.
 #[derive(Drop)]
 pub struct Node<'g> {
-    names: &'g [Name],
+    names: &'g NameNumbers<'g>,
     instances: &'g [Instance],
     nodes: &'g StoredNodes<'g>,
     number: usize,
@@ -73,7 +74,7 @@ impl<'g> Node<'g> {
     ghost use Rattle.kt_graph.specs.inner.nodes.Graph.{IsHeld};
 
     pub(crate) fn new(
-        names: &'g [Name],
+        names: &'g NameNumbers<'g>,
         instances: &'g [Instance],
         nodes: &'g StoredNodes<'g>,
         number: usize,
@@ -115,7 +116,7 @@ impl<'g> Node<'g> {
         self.instances.get(self.nodes.made_with(self.number)?)
     }
 
-    /// How many parts it has.
+    /// The number of parts.
     pub fn parts(&self) -> usize
         ensures { result ≡ length self.now.parts }
     {
@@ -129,7 +130,7 @@ impl<'g> Node<'g> {
         self.nodes.part(self.number, part)?.recipe
     }
 
-    /// The stem of a part, as `$*` gives it (GNU make manual, "Automatic Variables").
+    /// The stem of a part, which is the value of `$*` (GNU make manual, "Automatic Variables").
     pub fn stem(&self, part: usize) -> &'g [u8]
         ensures { result.now ≡ part_stem (slice_get self.now.parts part) }
     {
@@ -166,7 +167,7 @@ impl<'g> Node<'g> {
         Inputs::of(self.names, self.nodes.inputs(self.number))
     }
 
-    /// The order-only ones, each once, without the inputs.
+    /// The order-only prerequisites of all parts, each once, without the inputs.
     pub fn order_only(&self) -> Inputs<'g>
         ensures { result ≡ order_only_of self.now }
     {
@@ -177,7 +178,7 @@ impl<'g> Node<'g> {
 /// Names that a node needs, in order.
 #[derive(Drop)]
 pub struct Inputs<'g> {
-    names: &'g [Name],
+    names: &'g NameNumbers<'g>,
     numbers: &'g [usize],
 }
 
@@ -194,20 +195,20 @@ impl<'g> Model for Inputs<'g> {
 impl<'g> Inputs<'g> {
     ghost use Rattle.kt_graph.specs.nodes.Views.{names_at};
 
-    fn of(names: &'g [Name], numbers: &'g [usize]) -> Inputs<'g>
+    fn of(names: &'g NameNumbers<'g>, numbers: &'g [usize]) -> Inputs<'g>
         ensures { result ≡ names_at names.now numbers.now }
     {
         Inputs { names, numbers }
     }
 
-    /// How many names are left. Takes no memory.
+    /// The number of names that remain. Takes no memory.
     pub fn len(&self) -> usize
         ensures { result ≡ length self.now }
     {
         self.numbers.len()
     }
 
-    /// The name at a place of those that are left, if there are so many. Takes no memory.
+    /// The name at a place among those that remain, if there is one. Takes no memory.
     pub fn name(&self, place: usize) -> Option<&'g [u8]>
         ensures { option_map (λ name. name.now) result ≡ slice_get self.now place }
     {
@@ -232,12 +233,12 @@ impl<'g> Iterator for Inputs<'g> {
     }
 }
 
-/// The name of a number.
-pub(crate) fn name_of(names: &[Name], number: usize) -> &[u8]
+/// The name with a number.
+pub(crate) fn name_of<'g>(names: &'g NameNumbers, number: usize) -> &'g [u8]
     ensures { result.now ≡ name_at names.now number }
 {
     match names.get(number) {
-        Some(name) => name.as_slice(),
+        Some(name) => name,
         None => b"",
     }
 }

@@ -1,80 +1,130 @@
-//! Names by numbers.
-ghost use Rattle.std.specs.Prelude.{◌≡◌, ◌^◌, ◌<◌, ◌++◌, [], List, Some, flat_map, fold, length, map, option_map};
-ghost use Rattle.std.specs.Prelude.{slice_get, IfOk, OnOk};
+//! Numbers for names.
+ghost use Rattle.std.specs.Prelude.{◌≡◌, ◌^◌, ◌+◌, ◌<◌, ◌++◌, [], List, Some, bytes_eq, flat_map, fold, is_some};
+ghost use Rattle.std.specs.Prelude.{length, map, option_map, slice_get, IfOk, OnOk};
+ghost use Rattle.std.specs.List.{IsDistinct};
+ghost use Rattle.kt_list.specs.Names.{is_among, place_of};
 ghost use Rattle.kt_text.specs.Words.{Text};
 ghost use Rattle.kt_rules.specs.Names.{with_name};
 ghost use Rattle.kt_rules.specs.Suffixes.{all_needs};
-ghost use Rattle.kt_rules.specs.Targets.{names_view, needs_view};
+ghost use Rattle.kt_rules.specs.Targets.{names_view, needed_view, needs_view};
 ghost use Rattle.kt_graph.specs.inner.nodes.Named.{part_named, put_together};
 ghost use Rattle.kt_graph.specs.inner.nodes.Numbering.{SaysNeeds, SaysPart, SayParts, StandFor};
-ghost use Rattle.kt_graph.specs.inner.nodes.Stored.{part_held, parts_held};
+ghost use Rattle.kt_graph.specs.inner.nodes.Reached.{reached_text};
+ghost use Rattle.kt_graph.specs.inner.nodes.Stored.{HasMore, part_held, parts_held};
+ghost use Rattle.kt_graph.specs.nodes.Views.{name_at};
 
 use crate::nodes::named::NamedPart;
+use crate::nodes::reached::Reached;
+use crate::nodes::reached_name::ReachedName;
 use crate::nodes::stored_node::{Numbered, Part};
 use kt_list::Names;
-use kt_rules::{Name, NeededNames, NeedsView};
+use kt_rules::{Name, NeededName, NeededNames, NeedsView};
 use std::alloc::{AllocError, Global};
 use std::marker::Model;
 
-/// The names that were reached so far. Each has its place as its number.
+/// The names reached so far. The number of a name is its place.
+///
+/// A name that stands in the book is told by its number there, and takes 8 bytes.
 #[derive(Drop)]
-pub(crate) struct NameNumbers {
+pub(crate) struct NameNumbers<'a> {
     alloc: Global,
-    names: Names,
+    // All names of a book, by numbers.
+    table: &'a Names,
+    // Names that don't stand there. Their numbers come after those.
+    others: Names,
+    reached: Reached,
 }
 
-impl Model for NameNumbers {
-    ghost use Rattle.std.specs.Prelude.{ℕ, List};
+impl<'a> Model for NameNumbers<'a> {
+    ghost use Rattle.std.specs.Prelude.{ℕ, List, ◌++◌};
 
     ghost Value = { List (List ℕ) };
 
-    ghost view = { λ numbers. numbers.names };
+    ghost use Rattle.kt_graph.specs.inner.nodes.Reached.{IsPlaced};
+    ghost use Rattle.kt_graph.specs.nodes.Views.{names_at};
+
+    ghost view = { λ s. names_at (s.table.now ++ s.others) s.reached.numbers.items };
+
+    ghost invariant = { λ s. IsPlaced (s.table.now ++ s.others) s.reached.numbers.items s.reached.marks.items };
 }
 
-impl NameNumbers {
-    pub(crate) fn new(alloc: Global) -> NameNumbers
-        ensures { result ≡ [] }
+impl<'a> NameNumbers<'a> {
+    /// No names. Those of a table take no memory of their own later on.
+    pub(crate) fn new(alloc: Global, table: &'a Names) -> Result<NameNumbers<'a>, AllocError>
+        ensures { IfOk result (λ numbers. numbers ≡ []) }
     {
-        NameNumbers {
+        Ok(NameNumbers {
             alloc,
-            names: Names::new(alloc),
-        }
+            table,
+            others: Names::new(alloc),
+            reached: Reached::none(alloc, table.len())?,
+        })
     }
 
-    pub(crate) fn into_names(self) -> Names
-        ensures { result ≡ self }
-    {
-        let NameNumbers { alloc: _, names } = self;
-        names
-    }
-
-    /// How many names there are.
+    /// The number of names.
     pub(crate) fn len(&self) -> usize
         ensures len { result ≡ length self.now }
         ensures small { result < 2 ^ 63 }
+        ensures differ { IsDistinct bytes_eq self.now }
     {
-        self.names.len()
+        self.reached.len()
     }
 
-    /// A copy of the name with a number.
-    pub(crate) fn name(&self, number: usize) -> Result<Option<Name>, AllocError>
-        ensures { IfOk result (λ name. name ≡ slice_get self.now number) }
+    /// The name with a number.
+    pub(crate) fn get(&self, number: usize) -> Option<&[u8]>
+        ensures { option_map (λ name. name.now) result ≡ slice_get self.now number }
     {
-        match self.names.get(number) {
-            Some(name) => Ok(Some(Name::copied(self.alloc, name)?)),
+        let number = self.reached.at(number)?;
+        Some(name_among(self.table, &self.others, number))
+    }
+
+    /// The name with a number, for as long as there is the book.
+    pub(crate) fn name(&self, number: usize) -> Result<Option<ReachedName<'a>>, AllocError>
+        ensures { IfOk result (λ name. option_map reached_text name ≡ slice_get self.now number) }
+    {
+        match self.reached.at(number) {
+            Some(number) => Ok(Some(reached_name(self.alloc, self.table, &self.others, number)?)),
             None => Ok(None),
         }
     }
 
-    /// The number of a name, which is reached from then on.
+    /// The number of a name, if it was reached.
+    pub(crate) fn number_of(&self, name: &[u8]) -> Option<usize>
+        ensures place { result ≡ place_of self.now name.now }
+        ensures found { is_some result ≡ is_among self.now name.now }
+    {
+        let number = number_among(self.table, &self.others, name)?;
+        self.reached.place(number)
+    }
+
+    // The number of a name, which is reached from then on.
     fn number(&mut self, name: &[u8]) -> Result<usize, AllocError>
         ensures numbered { IfOk result (λ number. slice_get self.new number ≡ Some name.now) }
         ensures reached { OnOk result (self.new ≡ with_name self.old name.now) }
     {
-        self.names.number(name)
+        let number = note(self.table, &mut self.others, name)?;
+        self.reached.reach(number)
     }
 
-    /// Reaches names.
+    // The same for a name that is needed. One that stands in the book is neither hashed nor copied.
+    fn needed_number(&mut self, name: NeededName<'_>) -> Result<usize, AllocError>
+        ensures numbered { IfOk result (λ number. slice_get self.new number ≡ Some (needed_view name.entry)) }
+        ensures reached { OnOk result (self.new ≡ with_name self.old (needed_view name.entry)) }
+    {
+        match name.number_in(self.table) {
+            Some(number) => {
+                // A slice of names tells that they differ.
+                let _names = self.table.as_slice();
+                self.reached.reach(number)
+            }
+            None => {
+                let text = name.text(self.alloc)?;
+                self.number(text.as_slice())
+            }
+        }
+    }
+
+    /// Adds names, each unless it is there.
     pub(crate) fn reach(&mut self, names: &[Name]) -> Result<(), AllocError>
         ensures { OnOk result (self.new ≡ fold with_name self.old names.now) }
     {
@@ -84,11 +134,11 @@ impl NameNumbers {
         Ok(())
     }
 
-    /// Parts with numbers. What they need is reached from then on.
-    pub(crate) fn parts<'a>(
+    /// Parts with numbers for names. The names that they need become reached.
+    pub(crate) fn parts<'r>(
         &mut self,
-        parts: Vec<NamedPart<'a, '_>>,
-    ) -> Result<Vec<Part<'a>>, AllocError>
+        parts: Vec<NamedPart<'r, '_>>,
+    ) -> Result<Vec<Part<'r>>, AllocError>
         ensures say { IfOk result (λ numbered. SayParts self.new (map part_named parts.entry.items)
             (parts_held numbered.items)) }
         ensures reached { OnOk result (self.new
@@ -101,7 +151,7 @@ impl NameNumbers {
         Ok(numbered)
     }
 
-    fn part<'a>(&mut self, part: NamedPart<'a, '_>) -> Result<Part<'a>, AllocError>
+    fn part<'r>(&mut self, part: NamedPart<'r, '_>) -> Result<Part<'r>, AllocError>
         ensures says { IfOk result (λ held. SaysPart self.new (part_named part.entry) (part_held held)) }
         ensures reached { OnOk result (self.new ≡ fold with_name self.old (all_needs (part_named part.entry).needs)) }
     {
@@ -118,7 +168,7 @@ impl NameNumbers {
         })
     }
 
-    // What several rules need, put together.
+    // The prerequisites of several rules, joined.
     fn needs(&mut self, rules: &[NeedsView<'_>]) -> Result<Numbered, AllocError>
         ensures says { IfOk result (λ needs. SaysNeeds self.new (put_together (map needs_view rules.now))
             needs.prerequisites.items needs.order_only.items) }
@@ -159,7 +209,7 @@ impl NameNumbers {
         Ok(numbers)
     }
 
-    // Puts the numbers of names after others.
+    // Adds the numbers of names at the end.
     fn add_names(
         &mut self,
         numbers: &mut Vec<usize>,
@@ -171,10 +221,88 @@ impl NameNumbers {
     {
         numbers.reserve(names.len())?;
         for name in names {
-            let text = name.text(self.alloc)?;
-            let number = self.number(text.as_slice())?;
+            let number = self.needed_number(name)?;
             numbers.push(number)?;
         }
         Ok(())
     }
+}
+
+// The name with a number among a table's and others, of which it is a copy.
+fn reached_name<'a>(
+    alloc: Global,
+    table: &'a Names,
+    others: &Names,
+    number: usize,
+) -> Result<ReachedName<'a>, AllocError>
+    ensures { IfOk result (λ name. reached_text name ≡ name_at (table.now ++ others.now) number) }
+{
+    if number < table.len() {
+        Ok(ReachedName::InBook(name_at(table, number)))
+    } else {
+        let other = name_at(others, number - table.len());
+        Ok(ReachedName::Other(Name::copied(alloc, other)?))
+    }
+}
+
+// The name with a number among a table's and others.
+fn name_among<'n>(table: &'n Names, others: &'n Names, number: usize) -> &'n [u8]
+    ensures { result.now ≡ name_at (table.now ++ others.now) number }
+{
+    if number < table.len() {
+        name_at(table, number)
+    } else {
+        name_at(others, number - table.len())
+    }
+}
+
+fn name_at(names: &Names, number: usize) -> &[u8]
+    ensures { result.now ≡ name_at names.now number }
+{
+    match names.get(number) {
+        Some(name) => name,
+        None => b"",
+    }
+}
+
+// The number of a name among a table's and others.
+fn number_among(table: &Names, others: &Names, name: &[u8]) -> Option<usize>
+    ensures { result ≡ place_of (table.now ++ others.now) name.now }
+{
+    match table.number_of(name) {
+        Some(number) => Some(number),
+        None => number_after(table, others, name),
+    }
+}
+
+// The number of a name among others, which come after a table's.
+fn number_after(table: &Names, others: &Names, name: &[u8]) -> Option<usize>
+    ensures { result ≡ option_map (λ number. length table.now + number) (place_of others.now name.now) }
+{
+    let number = others.number_of(name)?;
+    let _count = others.len();
+    Some(table.len() + number)
+}
+
+// The number of a name among a table's and others, to which it is added if it stands nowhere.
+fn note(table: &Names, others: &mut Names, name: &[u8]) -> Result<usize, AllocError>
+    ensures noted { IfOk result (λ number. place_of (table.now ++ others.new) name.now ≡ Some number) }
+    ensures grown { HasMore others.old others.new }
+{
+    match table.number_of(name) {
+        Some(number) => Ok(number),
+        None => note_after(table, others, name),
+    }
+}
+
+fn note_after(table: &Names, others: &mut Names, name: &[u8]) -> Result<usize, AllocError>
+    ensures noted { IfOk result (λ number. option_map (λ place. length table.now + place)
+        (place_of others.new name.now) ≡ Some number) }
+    ensures grown { HasMore others.old others.new }
+{
+    let number = others.number(name)?;
+    // A slice of names tells that they differ.
+    let _names = others.as_slice();
+    let _count = others.len();
+    Ok(table.len() + number)
 }

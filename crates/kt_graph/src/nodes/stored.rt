@@ -1,4 +1,4 @@
-//! Nodes as the graph holds them, all in three lists: names by their numbers.
+//! Nodes as the graph holds them, in three lists, with numbers for names.
 ghost use Rattle.std.specs.Prelude.{◌≡◌, ◌++◌, ◌∷◌, ◌<◌, ◌^◌, [], All, IfOk, OnOk, length, option_map, slice_get};
 ghost use Rattle.kt_graph.specs.inner.nodes.Stored.{ArePartsOf, Grew, HasMore, IsHeadOf, IsPartWithin, IsSpanOf};
 ghost use Rattle.kt_graph.specs.inner.nodes.Stored.{IsWithin, PutsPart, cut, node_held, part_held, part_seen};
@@ -12,16 +12,16 @@ use std::marker::Model;
 
 /// The nodes of the names that were reached first, in the order in which they were.
 ///
-/// Lists of one node after another stand in one vector, and a node has their places in it.
+/// The lists of all nodes are in one vector, one after another, and a node has the places of its own.
 #[derive(Drop)]
 pub(crate) struct StoredNodes<'a> {
     heads: Vec<Head>,
     parts: Vec<HeldPart<'a>>,
-    // What parts need, and the inputs of nodes where they differ from it.
+    // The prerequisites of parts, and the inputs of nodes if they differ.
     numbers: Vec<usize>,
 }
 
-/// A node but for its lists.
+/// A node without its lists.
 #[derive(Drop)]
 pub(crate) struct Head {
     kind: NodeKind,
@@ -31,7 +31,7 @@ pub(crate) struct Head {
     order_only: Span,
 }
 
-/// A part but for its lists.
+/// A part without its lists.
 #[derive(Drop)]
 pub(crate) struct HeldPart<'a> {
     recipe: Option<&'a [RecipeLine]>,
@@ -40,14 +40,14 @@ pub(crate) struct HeldPart<'a> {
     order_only: Span,
 }
 
-/// The places of a list among those of all nodes.
+/// The places of a list in a vector for all nodes.
 #[derive(Clone, Copy)]
 pub(crate) struct Span {
     start: u32,
     end: u32,
 }
 
-/// A part as it is seen.
+/// A part with its lists.
 #[derive(Clone, Copy)]
 pub(crate) struct SeenPart<'g> {
     pub(crate) recipe: Option<&'g [RecipeLine]>,
@@ -78,7 +78,7 @@ impl<'a> StoredNodes<'a> {
         }
     }
 
-    /// How many nodes there are.
+    /// The number of nodes.
     pub(crate) fn len(&self) -> usize
         ensures len { result ≡ length self.now }
         ensures small { result < 2 ^ 63 }
@@ -86,8 +86,7 @@ impl<'a> StoredNodes<'a> {
         self.heads.len()
     }
 
-    /// Puts a node after the others. Beyond 4,294,967,295 numbers or parts none is held, as if memory were refused for
-    /// it.
+    /// Adds a node at the end. With more than 4,294,967,295 numbers or parts, the error is out of memory.
     pub(crate) fn push(&mut self, node: BuiltNode<'a>) -> Result<(), AllocError>
         ensures { OnOk result (self.new ≡ self.old ++ node_held node.entry ∷ []) }
     {
@@ -96,7 +95,7 @@ impl<'a> StoredNodes<'a> {
         Ok(())
     }
 
-    /// The kind of a node. Of a node that there isn't, here and below, as of a leaf that needs nothing.
+    /// The kind of a node. Here and below, a node that doesn't exist is taken for a leaf that needs nothing.
     pub(crate) fn kind(&self, number: usize) -> NodeKind
         ensures { result ≡ (stored_at self.now number).kind }
     {
@@ -106,7 +105,7 @@ impl<'a> StoredNodes<'a> {
         }
     }
 
-    /// The number of the making that makes other names, too.
+    /// The number of the making, if it makes other names, too.
     pub(crate) fn made_with(&self, number: usize) -> Option<usize>
         ensures { result ≡ (stored_at self.now number).made_with }
     {
@@ -116,7 +115,7 @@ impl<'a> StoredNodes<'a> {
         }
     }
 
-    /// How many parts a node has.
+    /// The number of parts of a node.
     pub(crate) fn parts(&self, number: usize) -> usize
         ensures { result ≡ length (stored_at self.now number).parts }
     {
@@ -126,7 +125,7 @@ impl<'a> StoredNodes<'a> {
         }
     }
 
-    /// A part of a node, if it has that.
+    /// A part of a node, if the node has it.
     pub(crate) fn part(&self, number: usize, part: usize) -> Option<SeenPart<'_>>
         ensures { option_map part_seen result ≡ slice_get (stored_at self.now number).parts part }
     {
@@ -150,7 +149,7 @@ impl<'a> StoredNodes<'a> {
         }
     }
 
-    /// The order-only ones, each once and without the inputs.
+    /// The order-only prerequisites of all parts of a node, each once and without the inputs.
     pub(crate) fn order_only(&self, number: usize) -> &[usize]
         ensures { result.now ≡ (stored_at self.now number).order_only }
     {
@@ -161,7 +160,7 @@ impl<'a> StoredNodes<'a> {
     }
 }
 
-// A list among those of all nodes.
+// A list in a vector for all nodes.
 fn cut<T>(items: &[T], span: Span) -> &[T]
     requires { IsWithin (length items.now) span }
     ensures { result.now ≡ cut items.now span }
@@ -169,7 +168,7 @@ fn cut<T>(items: &[T], span: Span) -> &[T]
     &items[span.start as usize..span.end as usize]
 }
 
-// Puts the lists of a node after those of others.
+// Adds the lists of a node at the end of those of the others.
 fn put_node<'a>(
     parts: &mut Vec<HeldPart<'a>>,
     numbers: &mut Vec<usize>,
@@ -192,7 +191,7 @@ fn put_node<'a>(
     })
 }
 
-// Puts parts after others.
+// Adds parts at the end.
 fn put_parts<'a>(
     held: &mut Vec<HeldPart<'a>>,
     numbers: &mut Vec<usize>,
@@ -209,7 +208,7 @@ fn put_parts<'a>(
     span_of(start, held.len())
 }
 
-// Puts a part after others.
+// Adds a part at the end.
 fn put_part<'a>(
     held: &mut Vec<HeldPart<'a>>,
     numbers: &mut Vec<usize>,
@@ -229,7 +228,7 @@ fn put_part<'a>(
     Ok(())
 }
 
-// Puts inputs after other numbers, unless they are the prerequisites of the one part.
+// Adds inputs at the end, unless they are the prerequisites of the only part, whose places then serve for both.
 fn put_inputs(
     held: &[HeldPart],
     numbers: &mut Vec<usize>,
@@ -249,7 +248,7 @@ fn put_inputs(
     put(numbers, inputs)
 }
 
-// Puts numbers after others.
+// Adds numbers at the end.
 fn put(numbers: &mut Vec<usize>, more: &[usize]) -> Result<Span, AllocError>
     ensures grew { HasMore numbers.old.items numbers.new.items }
     ensures span { IfOk result (IsSpanOf numbers.new.items more.now) }
@@ -259,7 +258,7 @@ fn put(numbers: &mut Vec<usize>, more: &[usize]) -> Result<Span, AllocError>
     span_of(start, numbers.len())
 }
 
-// The places from one to another.
+// The span from one place to another.
 fn span_of(start: usize, end: usize) -> Result<Span, AllocError>
     ensures { IfOk result (λ span. (span.start ≡ start) × (span.end ≡ end)) }
 {
@@ -278,8 +277,8 @@ fn narrow_making(making: Option<usize>) -> Result<Option<u32>, AllocError>
     }
 }
 
-// A number in 32 bits. A larger one has none, as if memory were refused for it.
-fn narrow(number: usize) -> Result<u32, AllocError>
+/// A number in 32 bits. A larger one has none, as if memory were refused for it.
+pub(crate) fn narrow(number: usize) -> Result<u32, AllocError>
     ensures { IfOk result (λ narrowed. narrowed ≡ number) }
 {
     if number as u64 > 4_294_967_295 {

@@ -1,4 +1,4 @@
-//! Nodes by numbers, before they are stored.
+//! Nodes with numbers for names, before they are stored.
 ghost use Rattle.std.specs.Prelude.{◌≡◌, [], flat_map, fold, nat_eq, true, IfOk, IfSome, OnOk};
 ghost use Rattle.std.specs.List.{IsDistinct};
 ghost use Rattle.kt_graph.specs.inner.nodes.Numbering.{input_numbers, inputs_held, numbers_without, order_only_held};
@@ -10,24 +10,24 @@ use indexmap::IndexSet;
 use kt_rules::{Name, RecipeLine};
 use std::alloc::{AllocError, Global};
 
-// So many numbers are a few.
+// Up to this many numbers are compared with one another.
 const FEW: usize = 8;
 
 /// What makes a name and what it needs.
 #[derive(Drop)]
 pub(crate) struct BuiltNode<'a> {
     pub(crate) kind: NodeKind,
-    /// A part for each rule of a double-colon node, else one.
+    /// A part for each rule of a double-colon node, or one part.
     pub(crate) parts: Vec<Part<'a>>,
-    /// The number of the making that makes other names, too.
+    /// The number of the making, if it makes other names, too.
     pub(crate) made_with: Option<usize>,
     /// The prerequisites, each once.
     pub(crate) inputs: Vec<usize>,
-    /// The order-only ones, each once and without these.
+    /// The order-only prerequisites, each once and without the inputs.
     pub(crate) order_only: Vec<usize>,
 }
 
-/// A recipe with what its automatic macros tell.
+/// A recipe with the stem and prerequisites for its automatic macros.
 #[derive(Drop)]
 pub(crate) struct Part<'a> {
     pub(crate) recipe: Option<&'a [RecipeLine]>,
@@ -35,7 +35,7 @@ pub(crate) struct Part<'a> {
     pub(crate) needs: Numbered,
 }
 
-/// What is needed, in order and with repeats.
+/// Prerequisites, in order and with repeats.
 #[derive(Drop)]
 pub(crate) struct Numbered {
     pub(crate) prerequisites: Vec<usize>,
@@ -43,7 +43,7 @@ pub(crate) struct Numbered {
 }
 
 impl<'a> BuiltNode<'a> {
-    /// A node of these parts; its inputs are what they need, without repeats.
+    /// A node with these parts; its inputs are their prerequisites without repeats.
     pub(crate) fn new(
         alloc: Global,
         kind: NodeKind,
@@ -67,7 +67,7 @@ impl<'a> BuiltNode<'a> {
     }
 }
 
-// The inputs of parts, and the order-only ones.
+// The inputs of parts, and their order-only prerequisites.
 fn needed(alloc: Global, parts: &[Part]) -> Result<(Vec<usize>, Vec<usize>), AllocError>
     ensures inputs { IfOk result (λ needed. needed.0.items ≡ inputs_held parts.now) }
     ensures order_only { IfOk result (λ needed. needed.1.items ≡ order_only_held parts.now) }
@@ -83,7 +83,7 @@ fn needed(alloc: Global, parts: &[Part]) -> Result<(Vec<usize>, Vec<usize>), All
     ))
 }
 
-// The prerequisites of the one part, where none is order-only, as with most nodes.
+// The prerequisites of the only part if none is order-only, as in most nodes.
 fn prerequisites_alone<'p>(parts: &'p [Part]) -> Option<&'p [usize]>
     ensures inputs { IfSome result (λ numbers. fold with_number [] numbers.now ≡ inputs_held parts.now) }
     ensures order_only { IfSome result (λ _. order_only_held parts.now ≡ []) }
@@ -129,7 +129,7 @@ fn distinct_by_set(alloc: Global, numbers: &[usize]) -> Result<Vec<usize>, Alloc
     Vec::from_slice(alloc, set.as_slice())
 }
 
-// Whether no number stands twice: in order each is greater than the one before. Sorting is cheaper than a set.
+// Whether no number is repeated: when sorted, each is greater than the one before. Sorting is cheaper than a set.
 fn are_distinct(alloc: Global, numbers: &[usize]) -> Result<bool, AllocError>
     ensures { IfOk result (λ distinct. distinct ≡ true → IsDistinct nat_eq numbers.now) }
 {
@@ -152,7 +152,7 @@ fn rise(numbers: &[usize]) -> bool
     }
 }
 
-// Whether each number is greater than the one before, and the first than this one.
+// Whether the first number is greater than a given one, and each other number than the one before it.
 #[tactic(auto, unfolding(crate::specs::inner::nodes::Numbering::rise_after))]
 fn rise_after(first: usize, numbers: &[usize]) -> bool
     ensures { result ≡ rise_after first numbers.now }

@@ -8,28 +8,28 @@ ghost use Rattle.kt_graph.specs.search.Views.{IsWithin, fit_view};
 use kt_text::match_pattern;
 use memchr::{memchr, memrchr};
 
-/// A pattern rule, by its number, in the place in which it makes a name.
+/// A pattern rule, by its number, with the way in which it matches a name.
 #[derive(Clone, Copy, Debug)]
 pub(crate) struct Candidate {
     pub(crate) rule: usize,
     pub(crate) fit: Fit,
-    /// The target that matches is `%` alone.
+    /// Whether the target that matches is `%` alone.
     pub(crate) is_any: bool,
 }
 
-/// The places in a name of what a pattern leaves out and of its stem.
+/// Where a name has the directory that a pattern leaves out, and the stem.
 #[derive(Clone, Copy, Debug)]
 pub(crate) struct Fit {
-    /// How many bytes stand in the directory that a pattern without a slash leaves out.
+    /// The length of the directory that a pattern without a slash leaves out.
     pub(crate) directory: usize,
     pub(crate) start: usize,
     pub(crate) end: usize,
-    /// How long the stem is, with the directory.
+    /// The length of the stem and the directory.
     pub(crate) size: usize,
 }
 
 impl Fit {
-    /// The directory that is left out of a name, with its slash.
+    /// The directory that the pattern leaves out, with its slash.
     pub(crate) fn directory<'n>(&self, name: &'n [u8]) -> &'n [u8]
         requires { IsWithin name.now self.now }
         ensures { result.now ≡ take self.now.directory name.now }
@@ -67,7 +67,7 @@ pub(crate) fn fit_of(pattern: &[u8], name: &[u8]) -> Option<Fit>
     })
 }
 
-// How many bytes of a name a pattern leaves out.
+// The number of bytes of a name that a pattern leaves out.
 fn left_out(pattern: &[u8], name: &[u8]) -> usize
     ensures directory { take result name.now ≡ left_out pattern.now name.now }
     ensures rest { drop result name.now ≡ matched_part pattern.now name.now }
@@ -86,7 +86,7 @@ fn has_slash(text: &[u8]) -> bool
     memchr(b'/', text).is_some()
 }
 
-// How many bytes a name has through its last slash.
+// The number of bytes of a name up to its last slash and with it.
 #[tactic(auto, using(kt_text::proofs::NameLemmas::name_places))]
 fn directory_len(name: &[u8]) -> usize
     ensures value { result ≡ name_place name.now }

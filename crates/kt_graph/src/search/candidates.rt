@@ -16,8 +16,8 @@ use crate::search::stemming::Stemming;
 use kt_rules::{Pattern, Target};
 use std::alloc::{AllocError, Global};
 
-/// The candidates for a name, in a chain or not: the shortest stems first, and of equals the first
-/// (GNU make manual, "How Patterns Match").
+/// The candidates for a name, with or without a chain before it: the shortest stems first, and equal ones in order of
+/// definition (GNU make manual, "How Patterns Match").
 pub(crate) fn candidates_for(
     alloc: Global,
     patterns: &Patterns,
@@ -80,8 +80,7 @@ fn add(candidates: &mut Vec<Candidate>, candidate: Option<Candidate>) -> Result<
     }
 }
 
-// A rule as it makes a name: by the target with the shortest stem, and only where no prerequisite
-// gets too long.
+// A rule as a candidate for a name: by the target with the shortest stem, and only if no prerequisite gets too long.
 fn candidate_of(number: usize, pattern: &Pattern, name: &[u8]) -> Option<Candidate>
     ensures candidate { option_map (candidate_at name.now pattern.now) result
         ≡ candidate_of number pattern.now name.now }
@@ -95,7 +94,7 @@ fn candidate_of(number: usize, pattern: &Pattern, name: &[u8]) -> Option<Candida
     }
 }
 
-// A rule as it makes a name by the first of its targets with the shortest stem.
+// A rule as a candidate for a name, by the first of its targets with the shortest stem.
 fn shortest(number: usize, pattern: &Pattern, name: &[u8]) -> Option<Candidate>
     ensures candidate { option_map (candidate_at name.now pattern.now) result
         ≡ shortest (filter_map (candidate_by number pattern.now name.now) pattern.now.targets) }
@@ -109,7 +108,7 @@ fn shortest(number: usize, pattern: &Pattern, name: &[u8]) -> Option<Candidate>
     best
 }
 
-// A rule as it makes a name by a target, if that matches.
+// A rule as a candidate for a name by one of its targets, if the target matches.
 fn candidate_by(rule: usize, target: &Target, name: &[u8]) -> Option<Candidate>
     ensures candidate { (of : Rule) → option_map (candidate_at name.now of) result
         ≡ candidate_by rule of name.now target.now }
@@ -123,7 +122,7 @@ fn candidate_by(rule: usize, target: &Target, name: &[u8]) -> Option<Candidate>
     })
 }
 
-// The one with the shorter stem, or the first.
+// The candidate with the shorter stem, or the first if they are equal.
 fn shorter(best: Option<Candidate>, other: Option<Candidate>) -> Option<Candidate>
     ensures { result ≡ shorter_of best other }
 {
@@ -134,8 +133,8 @@ fn shorter(best: Option<Candidate>, other: Option<Candidate>) -> Option<Candidat
     }
 }
 
-// Drops nonterminal rules for any name where a chain has begun or a rule matches by another target
-// (GNU make manual, "Match-Anything Pattern Rules").
+// Drops nonterminal match-anything rules if there is a chain or a rule matches by another target (GNU make manual,
+// "Match-Anything Pattern Rules").
 fn drop_any(patterns: &Patterns, in_chain: bool, candidates: &mut Vec<Candidate>)
     ensures { candidates.new.items ≡ held_without_any patterns.now in_chain candidates.old.items }
 {
@@ -163,7 +162,8 @@ fn stays(patterns: &Patterns, candidate: &Candidate) -> bool
     !candidate.is_any || is_last_at(patterns, candidate.rule)
 }
 
-// The shortest stems first, and of equals the first (GNU make manual, "How Patterns Match").
+// Sorts by length of the stem, the shortest first, and keeps the order of equal ones (GNU make manual, "How Patterns
+// Match").
 fn sort_by_size(candidates: &mut Vec<Candidate>) -> Result<(), AllocError>
     ensures sorted { OnOk result ((longest : ℕ)
         → All (λ candidate. fit_size candidate.fit ≤ longest) candidates.old.items →
@@ -173,14 +173,14 @@ fn sort_by_size(candidates: &mut Vec<Candidate>) -> Result<(), AllocError>
     candidates.sort_by_key(|candidate| candidate.fit.size)
 }
 
-/// Whether no rule is searched for that makes a candidate's prerequisites.
+/// Whether a candidate's rule is terminal: no implicit rule is searched for to make its prerequisites.
 pub(crate) fn is_last(patterns: &Patterns, candidate: &Candidate) -> bool
     ensures { IfSome (slice_get patterns.now candidate.now.rule) (λ rule. result ≡ is_terminal rule.kind) }
 {
     is_last_at(patterns, candidate.rule)
 }
 
-// The same by a rule's number.
+// The same, given the rule's number.
 fn is_last_at(patterns: &Patterns, rule: usize) -> bool
     ensures { result ≡ is_last_at patterns.now rule }
 {

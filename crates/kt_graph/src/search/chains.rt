@@ -26,22 +26,21 @@ use indexmap::IndexSet;
 use kt_rules::{Name, Needs, Pattern};
 use std::alloc::{AllocError, Global};
 
-/// How many rules a chain has at most.
+/// The maximum number of rules in a chain.
 const CHAIN_LIMIT: usize = 8;
 
-/// What is searched: pattern rules over known names.
+/// The pattern rules and known names of a search.
 ///
-/// A question is never asked again while its answer is looked for, since the chains of the questions
-/// after it have more rules.
+/// A question is never asked again before it is answered, since the questions that it asks have longer chains.
 #[derive(Drop)]
 pub(crate) struct Chains<'a> {
     alloc: Global,
     patterns: Patterns<'a>,
-    known: &'a Known,
+    known: &'a Known<'a>,
 }
 
 impl<'a> Chains<'a> {
-    pub(crate) fn new(alloc: Global, patterns: Patterns<'a>, known: &'a Known) -> Chains<'a>
+    pub(crate) fn new(alloc: Global, patterns: Patterns<'a>, known: &'a Known<'a>) -> Chains<'a>
         ensures patterns { result.patterns ≡ patterns.entry }
         ensures known { result.known ≡ known.entry }
     {
@@ -58,8 +57,7 @@ impl<'a> Chains<'a> {
         self.patterns.rules()
     }
 
-    /// The rule that makes a name, where no chain has begun. Where memory is refused, questions may be
-    /// left that have no answer.
+    /// The rule that makes a name, without a chain before it. If memory runs out, some questions may have no answer.
     pub(crate) fn choice(&self, tried: &mut Tried, name: &[u8]) -> Result<Choice, AllocError>
         requires { IsRightFor self.now.patterns self.now.known.now tried.old 0 }
         ensures chosen { IfOk result (λ choice. choice
@@ -74,7 +72,7 @@ impl<'a> Chains<'a> {
         }
     }
 
-    // What makes a name after a chain to which a given number of rules may be added.
+    // What makes a name after a chain, if up to `left` more rules may be added.
     #[cycle(search)]
     fn ask(
         &self,
@@ -102,7 +100,7 @@ impl<'a> Chains<'a> {
         }
     }
 
-    // The same where the question stands among the others already, without an answer.
+    // The same for a question that is already stored, without an answer.
     #[cycle(search)]
     fn answer(
         &self,
@@ -125,7 +123,7 @@ impl<'a> Chains<'a> {
         self.first_fitting(tried, left - 1, name, used)
     }
 
-    // What makes a name after a chain to which a rule may be added, and so many after that.
+    // What makes a name after a chain, if one more rule and up to `left` rules after it may be added.
     #[cycle(search)]
     fn first_fitting(
         &self,
@@ -152,7 +150,7 @@ impl<'a> Chains<'a> {
         }
     }
 
-    // The candidates for a name that don't stand in the chain.
+    // The candidates for a name whose rules aren't in the chain.
     fn open(&self, name: &[u8], used: &[usize]) -> Result<Vec<Candidate>, AllocError>
         ensures candidates { IfOk result (λ kept. candidates_view self.now.patterns name.now kept.items
             ≡ open_candidates self.now.patterns used.now name.now) }
@@ -163,7 +161,7 @@ impl<'a> Chains<'a> {
         Ok(open)
     }
 
-    // The first candidate that needs only what is known.
+    // The first candidate whose prerequisites are all known.
     fn first_met(
         &self,
         name: &[u8],
@@ -197,7 +195,7 @@ impl<'a> Chains<'a> {
         }
     }
 
-    // The first candidate of which each unknown prerequisite finds a rule.
+    // The first candidate for which the search finds a rule for each unknown prerequisite.
     #[cycle(search)]
     fn first_inferred(
         &self,
@@ -259,7 +257,7 @@ impl<'a> Chains<'a> {
         self.all_found(tried, left, unknown.as_slice(), chain.as_slice())
     }
 
-    // Whether each of the names finds a rule. None is asked for after one that doesn't.
+    // Whether the search finds a rule for each of the names. It stops at the first name without one.
     #[cycle(search)]
     fn all_found(
         &self,
@@ -288,7 +286,7 @@ impl<'a> Chains<'a> {
         Ok(true)
     }
 
-    // What a candidate needs that isn't known, in order and each once.
+    // The unknown prerequisites of a candidate, in order and each once.
     fn unknown(&self, name: &[u8], candidate: &Candidate) -> Result<IndexSet<Vec<u8>>, AllocError>
         requires { AreWithin self.now.patterns name.now (candidate.now ∷ []) }
         ensures { IfOk result (λ unknown. IfSome (candidate_view self.now.patterns name.now candidate.now)
@@ -352,7 +350,7 @@ impl<'a> Chains<'a> {
         Ok(())
     }
 
-    // A candidate for a name as definitions have it.
+    // The choice of a candidate for a name.
     fn chosen(&self, name: &[u8], candidate: Candidate) -> Result<Chosen, AllocError>
         requires { AreWithin self.now.patterns name.now (candidate ∷ []) }
         ensures { IfOk result (λ chosen. IfSome (candidate_view self.now.patterns name.now candidate)
@@ -374,14 +372,14 @@ fn is_used(used: &[usize], rule: usize) -> bool
     used.iter().any(|other| rule == *other)
 }
 
-// How many rules of a chain aren't above a rule.
+// The number of rules in a chain that aren't greater than a rule: the chain is in rising order.
 fn place_in(used: &[usize], rule: usize) -> usize
     ensures { result ≡ prefix_len (λ other. nat_le other rule) used.now }
 {
     used.iter().take_while(|other| **other <= rule).count()
 }
 
-// The rules of a chain with one more.
+// A chain with one more rule.
 fn with_rule(alloc: Global, used: &[usize], rule: usize) -> Result<Vec<usize>, AllocError>
     ensures { IfOk result (λ chain. chain.items ≡ with_rule rule used.now) }
 {

@@ -6,7 +6,7 @@ use kt_rules::Name;
 pub struct Chosen {
     /// Its number among the book's `patterns`.
     pub rule: usize,
-    /// What stands before the part of the name that the rule matches.
+    /// The part of the name before the part that the rule matches.
     pub directory: Name,
     pub stem: Name,
 }

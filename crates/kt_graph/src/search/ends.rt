@@ -1,4 +1,4 @@
-//! Pattern rules by what stands after the percent signs of their targets.
+//! Pattern rules by the text after the percent sign of their targets.
 ghost use Rattle.std.specs.Prelude.{◌≡◌, ◌++◌, ◌∷◌, [], ℕ, List, IfOk, OnOk};
 ghost use Rattle.kt_text.specs.Match.{pattern_back};
 ghost use Rattle.kt_graph.specs.inner.search.Ends.{HasAll, Notes, NotesAll};
@@ -8,11 +8,11 @@ use kt_rules::{Index, Target};
 use memchr::memchr;
 use std::alloc::{AllocError, Global};
 
-/// The numbers of rules by the ends of their targets.
+/// The numbers of rules, by the ends of their targets.
 #[derive(Drop)]
 pub(crate) struct Ends {
     alloc: Global,
-    // How long ends are: a name is looked up once for each length, and not once for each end.
+    // The lengths of the ends: a name is looked up once for each length instead of once for each end.
     lengths: IndexSet<usize>,
     numbers: Index<usize>,
 }
@@ -47,7 +47,7 @@ impl Ends {
         self.numbers.note(end, number)
     }
 
-    /// The numbers that were noted at ends of a name, in no order.
+    /// The numbers that were noted at the ends of a name, in any order.
     pub(crate) fn found(&self, name: &[u8]) -> Result<Vec<usize>, AllocError>
         ensures { IfOk result (λ found. HasAll self.now name.now self.now.lengths.keys found.items) }
     {
@@ -58,7 +58,7 @@ impl Ends {
         Ok(found)
     }
 
-    // Adds the numbers that were noted at the end of a name that has a length.
+    // Adds the numbers that were noted at the end of a name with this length.
     fn add_found(
         &self,
         name: &[u8],
@@ -75,7 +75,7 @@ impl Ends {
     }
 }
 
-// What stands after the first percent sign of a pattern.
+// The text after the first percent sign of a pattern.
 fn end_of(pattern: &[u8]) -> &[u8]
     ensures { result.now ≡ pattern_back pattern.now }
 {

@@ -1,4 +1,4 @@
-//! Whether what a pattern rule needs for a name is known.
+//! Whether the prerequisites of a pattern rule for a name are known.
 ghost use Rattle.std.specs.Prelude.{◌≡◌, IfOk};
 ghost use Rattle.std.specs.List.{list_all};
 ghost use Rattle.kt_rules.specs.Names.{is_among};
@@ -11,10 +11,10 @@ use kt_rules::{Name, Needs};
 use kt_text::has_percent;
 use std::alloc::{AllocError, Global};
 
-/// Whether all of it is. None is looked at after one that isn't.
+/// Whether all of them are known. Stops at the first that isn't.
 pub(crate) fn knows_all(
     alloc: Global,
-    known: &Known,
+    known: &Known<'_>,
     stemming: Stemming,
     needs: &Needs,
 ) -> Result<bool, AllocError>
@@ -31,7 +31,7 @@ pub(crate) fn knows_all(
 #[tactic(auto, unfolding(crate::specs::search::Candidates::needed_names))]
 fn knows_each(
     alloc: Global,
-    known: &Known,
+    known: &Known<'_>,
     stemming: Stemming,
     names: &[Name],
 ) -> Result<bool, AllocError>
@@ -46,8 +46,13 @@ fn knows_each(
     Ok(true)
 }
 
-// A prerequisite without percent sign takes no memory.
-fn knows(alloc: Global, known: &Known, stemming: Stemming, name: &[u8]) -> Result<bool, AllocError>
+// Whether a prerequisite is known. Without a percent sign it takes no memory.
+fn knows(
+    alloc: Global,
+    known: &Known<'_>,
+    stemming: Stemming,
+    name: &[u8],
+) -> Result<bool, AllocError>
     ensures { IfOk result (λ yes. yes
         ≡ is_among known.now (needed_name stemming.entry.directory.now stemming.entry.stem.now name.now)) }
 {

@@ -43,15 +43,15 @@ impl<'a> Patterns<'a> {
         self.rules.as_slice()
     }
 
-    /// The rule of a number.
+    /// The rule with a number.
     pub(crate) fn get(&self, number: usize) -> Option<&Pattern<'a>>
         ensures { option_map (λ rule. rule.now) result ≡ slice_get self.now number }
     {
         self.rules.as_slice().get(number)
     }
 
-    /// The numbers of rules among which are all that make a name, in order: of those with a target
-    /// that ends as the name does.
+    /// The numbers of the rules with a target that ends as the name does, in order. Each rule that makes the name is
+    /// among them.
     pub(crate) fn numbers(&self, name: &[u8]) -> Result<Vec<usize>, AllocError>
         ensures { IfOk result (λ numbers. candidates_numbered self.now name.now numbers.items
             ≡ matching_from 0 self.now name.now) }

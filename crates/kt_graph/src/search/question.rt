@@ -2,10 +2,10 @@
 use kt_rules::Name;
 use std::alloc::{AllocError, Global};
 
-/// The numbers of the rules in a chain, rising.
+/// The numbers of the rules in a chain, in rising order.
 pub type Used = Vec<usize>;
 
-/// What makes a name, after the rules of a chain.
+/// The question what makes a name, after the rules of a chain.
 #[derive(Debug, PartialEq, Eq, Hash, Drop)]
 pub struct Question {
     pub name: Name,

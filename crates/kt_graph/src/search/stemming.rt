@@ -1,4 +1,4 @@
-//! What a pattern rule needs for a name.
+//! The prerequisites of a pattern rule for a name.
 ghost use Rattle.std.specs.Prelude.{◌≡◌, ◌-◌, ◌^◌, ◌++◌, length, min, take, IfOk, nat_le};
 ghost use Rattle.std.specs.List.{list_all, slice_range};
 ghost use Rattle.kt_text.specs.Functions.{with_stem};
@@ -13,11 +13,11 @@ use kt_text::{has_percent, push_with_stem};
 use memchr::memchr;
 use std::alloc::{AllocError, Global};
 
-/// How many bytes a prerequisite has at most, before a leading `./` is removed. So that a search
-/// whose rules make names longer and longer ends.
+/// The maximum length of a prerequisite, before a leading `./` is removed. It ends a search whose rules make names
+/// longer and longer.
 const NAME_LIMIT: usize = 4096;
 
-/// Stems put into patterns: of one fit in one name.
+/// The directory and stem that are put into the prerequisites of a pattern rule.
 #[derive(Clone, Copy)]
 pub(crate) struct Stemming<'n> {
     pub(crate) directory: &'n [u8],
@@ -36,7 +36,7 @@ impl<'n> Stemming<'n> {
         }
     }
 
-    /// Whether nothing that is needed gets too long.
+    /// Whether no prerequisite gets too long.
     pub(crate) fn keeps_short(self, needs: &Needs) -> bool
         ensures { result ≡ are_short self.entry.directory.now self.entry.stem.now needs.now }
     {
@@ -58,8 +58,7 @@ impl<'n> Stemming<'n> {
         self.len(name) <= NAME_LIMIT
     }
 
-    // How many bytes a prerequisite has, before a leading `./` is removed; where a number can't tell,
-    // the greatest one.
+    // The length of a prerequisite, before a leading `./` is removed, or the greatest number if it overflows.
     fn len(self, name: &[u8]) -> usize
         ensures { result ≡ min (length (spelled_out self.entry.directory.now self.entry.stem.now name.now))
             (2 ^ 64 - 1) }
@@ -72,8 +71,7 @@ impl<'n> Stemming<'n> {
         }
     }
 
-    /// A prerequisite with the stem put in, the directory before it; one without percent sign is
-    /// itself.
+    /// A prerequisite with the stem put in and the directory before it; one without a percent sign is unchanged.
     pub(crate) fn name(self, alloc: Global, name: &[u8]) -> Result<Vec<u8>, AllocError>
         ensures { IfOk result (λ made. made.items ≡ needed_name self.entry.directory.now self.entry.stem.now name.now) }
     {
@@ -83,7 +81,7 @@ impl<'n> Stemming<'n> {
         dotless(alloc, self.spelled_out(alloc, name)?)
     }
 
-    // A name with the stem put in, and the directory before it.
+    // A name with the stem put in and the directory before it.
     fn spelled_out(self, alloc: Global, name: &[u8]) -> Result<Vec<u8>, AllocError>
         ensures { IfOk result (λ text. text.items ≡ self.entry.directory.now
             ++ with_stem name.now self.entry.stem.now) }
@@ -107,7 +105,7 @@ impl<'n> Stemming<'n> {
         Ok(made)
     }
 
-    /// All that is needed.
+    /// All prerequisites, with the stem put in.
     pub(crate) fn needs(self, alloc: Global, needs: &Needs) -> Result<Needs, AllocError>
         ensures { IfOk result (λ made. made ≡ needs_with self.entry.directory.now self.entry.stem.now needs.now) }
     {

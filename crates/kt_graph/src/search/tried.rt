@@ -1,4 +1,4 @@
-//! The questions that a search put, with their answers.
+//! The questions of a search, with their answers.
 ghost use Rattle.std.specs.Prelude.{◌≡◌, [], None, length, map, take, slice_get, slice_set, unwrap_or, IfOk};
 ghost use Rattle.std.specs.List.{IsDistinct};
 ghost use Rattle.kt_graph.specs.inner.search.Chains.{IsPlaced, Keeps};
@@ -10,22 +10,22 @@ use crate::search::question::Question;
 use indexmap::IndexSet;
 use std::alloc::{AllocError, Global};
 
-/// The questions that a search put, each once and in order.
+/// The questions of a search, each once and in order.
 ///
-/// A question stands among the others before its answer is found.
+/// A question is added before its answer is found.
 #[derive(Drop)]
 pub(crate) struct Tried {
     questions: IndexSet<Question>,
-    // What was found for each of them.
+    // The answer to each question.
     answers: Vec<Option<Candidate>>,
 }
 
-/// How a question was placed among the others.
+/// Where a question is among the others.
 #[derive(Clone, Copy, Debug)]
 pub(crate) enum Placed {
-    /// It stood there before, with this answer.
+    /// It was there already, with this answer.
     Before(Option<Candidate>),
-    /// It went to this place, after all others, and has no answer yet.
+    /// It was added at this place, after all others, and has no answer yet.
     Last(usize),
 }
 
@@ -40,7 +40,7 @@ impl Tried {
         }
     }
 
-    /// The questions.
+    /// The questions, in order.
     pub(crate) fn questions(&self) -> &[Question]
         ensures value { result.now ≡ self.now.questions.keys }
         ensures once { IsDistinct asked_eq (map question_view result.now) }
@@ -48,14 +48,14 @@ impl Tried {
         self.questions.as_slice()
     }
 
-    /// How many there are.
+    /// The number of questions.
     pub(crate) fn count(&self) -> usize
         ensures { result ≡ length self.now.questions.keys }
     {
         self.questions.as_slice().len()
     }
 
-    /// Forgets all but the first questions.
+    /// Removes all questions but the first ones.
     pub(crate) fn truncate(&mut self, count: usize)
         ensures questions { self.new.questions.keys ≡ take count self.old.questions.keys }
         ensures answers { self.new.answers.items ≡ take count self.old.answers.items }
@@ -64,8 +64,7 @@ impl Tried {
         self.answers.truncate(count);
     }
 
-    /// Puts a question after the others, if it isn't among them. Where memory is refused, it may
-    /// be left there alone.
+    /// Adds a question, unless it is there. If memory runs out, it may be there without a place for its answer.
     pub(crate) fn put(&mut self, question: Question) -> Result<Placed, AllocError>
         ensures placed { IfOk result (IsPlaced self.old self.new question) }
         ensures kept { Keeps self.old self.new }
@@ -84,7 +83,7 @@ impl Tried {
         self.answers.get(place).copied().flatten()
     }
 
-    /// Notes what was found for a question.
+    /// Sets the answer to a question.
     pub(crate) fn note(&mut self, place: usize, answer: Option<Candidate>)
         ensures questions { self.new.questions ≡ self.old.questions }
         ensures answers { self.new.answers.items ≡ slice_set self.old.answers.items place answer }

@@ -1,4 +1,4 @@
--- Counts of arrivals, while vertices are taken away.
+-- Counts of edges to vertices, while vertices are removed.
 use Rattle.std.proofs.Common.{◌≡◌, ℕ, zero, suc, ◌+◌, ◌-◌, ◌<◌, ◌≤◌, Bool, true, false, not, ◌&&◌, ⊎_elim, if◌then◌else◌, List, [], ◌∷◌, ◌++◌, length, get_or, set, drop, replicate, flat_map, fold, cond, nat_eq, All, refl, sym, ap, ◌∙◌, subst, arith}
 use Rattle.std.specs.List.{Contains, range_with_len}
 use Rattle.std.proofs.lemmas.Bool.{cases_eq, cases_lt, eqb-true, eq-eqb, true≢false}
@@ -12,7 +12,7 @@ use Rattle.kt_graph.specs.inner.faults.Edges.{HasNext, LeadsBack, count_of, hold
 use Rattle.kt_graph.proofs.lemmas.MemberLemmas.{Contains-none}
 use Rattle.kt_graph.proofs.lemmas.faults.CircleLemmas.{Reaches-join, Reaches-step, has_within}
 
--- ---- arrivals among vertices
+-- ---- edges to vertices
 
 abbrev one_if : Bool → ℕ
 one_if test = cond test 1 0
@@ -48,9 +48,9 @@ some_arrival vertex others has =
     let here : one_if_same vertex (get_or others has.0 vertex) ≡ 1 = ap (one_if_same vertex) has.2 ∙ one_itself vertex in
     omega arith
 
--- ---- where those lead that are left
+-- ---- where the remaining vertices lead
 
--- one goes, and what it led to with it
+-- one is removed, and what it led to with it
 gone_left : (vertex : ℕ) (counts : List ℕ) (rows : List (List ℕ)) (place : ℕ) → get_or counts place 0 ≡ 1
     → arrivals_at vertex (next_of_left counts rows)
     ≡ arrivals_at vertex (next_of_left (set counts place 0) rows) + arrivals_at vertex (get_or rows place [])
@@ -75,7 +75,7 @@ gone_left vertex (count ∷ counts) (row ∷ rows) (suc place) e =
     let own : arrivals_at vertex (get_or (row ∷ rows) (suc place) []) ≡ arrivals_at vertex (get_or rows place []) = refl in
     omega arith
 
--- another count of one that stays changes nothing
+-- another count of a vertex that remains changes nothing
 stays_left : (counts : List ℕ) (rows : List (List ℕ)) (place new : ℕ) → is_left new ≡ is_left (get_or counts place 0)
     → next_of_left (set counts place new) rows ≡ next_of_left counts rows
 stays_left [] rows place new e = refl
@@ -92,7 +92,7 @@ is_left_more count less = by (nat_eq count 0) refl
     by true e = let none = eqb-true count 0 e in absurd (omega (arith, less))
     by false e = ap not e
 
--- what a vertex that is left leads to is among these
+-- what a remaining vertex leads to is among these
 left_leads : (counts : List ℕ) (rows : List (List ℕ)) (from to : ℕ) → IsLeftIn counts from → Contains (get_or rows from []) to
     → 1 ≤ arrivals_at to (next_of_left counts rows)
 left_leads [] rows from to left has = let none : 0 < 0 = left in absurd (omega arith)
@@ -127,7 +127,7 @@ left_fewer vertex (count ∷ counts) (row ∷ rows) = by (left_fewer vertex coun
 
 -- ---- a step back
 
--- the vertex before the end of a way
+-- the vertex before the end of a path
 before_last : (edges : Edges) (from : ℕ) (steps : List ℕ) (to last : ℕ) → HasNext edges last from → Leads (HasNext edges) from steps to
     → (before : ℕ) × HasNext edges before to × Reaches (HasNext edges) last before
 before_last edges from [] to last step here = (last, subst (HasNext edges last) here step, ([], refl))
@@ -135,14 +135,14 @@ before_last edges from (next ∷ steps) to last step way =
     let later : (before : ℕ) × HasNext edges before to × Reaches (HasNext edges) from before = before_last edges next steps to from way.0 way.1 in
     (later.0, later.1, Reaches-join (HasNext edges) last from later.0 (Reaches-step (HasNext edges) last from step) later.2)
 
--- what leads back to itself is led to by another that does
+-- what leads back to itself has an edge from another such vertex
 last_back : (edges : Edges) (vertex : ℕ) → LeadsBack edges vertex → (before : ℕ) × HasNext edges before vertex × LeadsBack edges before
 last_back edges vertex back =
     let at : (before : ℕ) × HasNext edges before vertex × Reaches (HasNext edges) vertex before =
     before_last edges back.next back.path.0 vertex vertex back.step back.path.1 in
     (at.0, at.1, record { next = vertex; step = at.1; path = at.2 })
 
--- at which nothing arrives doesn't lead back to itself
+-- a vertex without edges from remaining vertices doesn't lead back to itself
 free_not_back : (edges : Edges) (counts : List ℕ) (vertex : ℕ) → LeavesCircular edges counts
     → arrivals_at vertex (next_of_left counts (rows_of edges)) ≡ 0 → ¬ LeadsBack edges vertex
 free_not_back edges counts vertex circular none back =
@@ -150,7 +150,7 @@ free_not_back edges counts vertex circular none back =
     let some = left_leads counts (rows_of edges) at.0 vertex (circular at.0 at.2) at.1 in
     absurd (omega (arith, none))
 
--- ---- one arrival fewer
+-- ---- one edge less
 
 module _ (edges : Edges) (counts work rest : List ℕ) (place : ℕ) (so_far : AreCounted edges counts work (place ∷ rest)) where
   -- it was the last
@@ -196,7 +196,7 @@ module _ (edges : Edges) (counts work rest : List ℕ) (place : ℕ) (so_far : A
           (λ differ. let other = get_or-set_other counts place vertex 0 0 differ in omega arith)
           (cases_eq vertex place)
 
-  -- more are left
+  -- more remain
   fewer_one : 2 ≤ get_or counts place 0 → AreCounted edges (set counts place (get_or counts place 0 - 1)) work rest
   fewer_one more = record { circular = circular; counted = counted }
     where
@@ -269,7 +269,7 @@ module _ (edges : Edges) (counts work rest : List ℕ) (place : ℕ) (so_far : A
           (cases_eq (get_or counts place 0) 1)))
           (cases_eq (get_or counts place 0) 0)
 
--- several
+-- several edges
 pub all_fewer : (edges : Edges) (counts work vertices rest : List ℕ) → AreCounted edges counts work (vertices ++ rest)
     → AreCounted edges (fold without_arrival (counts, work) vertices).0 (fold without_arrival (counts, work) vertices).1 rest
 all_fewer edges counts work [] rest so_far = so_far
@@ -277,7 +277,7 @@ all_fewer edges counts work (vertex ∷ vertices) rest so_far =
     all_fewer edges (without_arrival (counts, work) vertex).0 (without_arrival (counts, work) vertex).1 vertices rest
     (one_fewer edges counts work (vertices ++ rest) vertex so_far)
 
--- what a vertex of the work leads to comes to the rest
+-- what a vertex of the work list leads to is added to the rest
 pub taken_from_work : (edges : Edges) (counts work rest : List ℕ) (vertex : ℕ) → AreCounted edges counts (work ++ vertex ∷ []) rest
     → AreCounted edges counts work (next_of edges vertex ++ rest)
 taken_from_work edges counts work rest vertex so_far = record {
@@ -293,7 +293,7 @@ taken_from_work edges counts work rest vertex so_far = record {
       omega arith;
 }
 
--- a vertex of the work was looked at, in two parts
+-- a vertex of the work list was looked at, in two parts
 pub after_more : (edges : Edges) (counts middle new work more last rest : List ℕ) (vertex : ℕ) (next others : List ℕ)
     → AreCounted edges counts (work ++ vertex ∷ []) rest → next ++ others ≡ next_of edges vertex
     → (middle, more) ≡ fold without_arrival (counts, work) next → (new, last) ≡ fold without_arrival (middle, more) others → AreCounted edges new last rest
@@ -304,7 +304,7 @@ after_more edges counts middle new work more last rest vertex next others so_far
     subst (λ (state : List ℕ × List ℕ). AreCounted edges state.0 state.1 (others ++ rest)) (sym first) (all_fewer edges counts work next (others ++ rest) begun) in
     subst (λ (state : List ℕ × List ℕ). AreCounted edges state.0 state.1 rest) (sym second) (all_fewer edges middle more others rest half)
 
--- as many are left or in the work as before
+-- as many remain or are in the work list as before
 many_one : (counts work : List ℕ) (vertex : ℕ)
     → count_left (without_arrival (counts, work) vertex).0 + length (without_arrival (counts, work) vertex).1 ≡ count_left counts + length work
 many_one counts work vertex = by (nat_eq (get_or counts vertex 0) 1) refl
@@ -350,7 +350,7 @@ pub many_after : (counts work new last vertices : List ℕ) → (new, last) ≡ 
 many_after counts work new last vertices is =
     ap (λ (state : List ℕ × List ℕ). count_left state.0 + length state.1) is ∙ many_all counts work vertices
 
--- ---- the beginning
+-- ---- the start
 
 counted_all : (vertices counts : List ℕ) (vertex : ℕ) → vertex < length counts
     → (get_or (fold with_arrival counts vertices) vertex 0 ≡ get_or counts vertex 0 + arrivals_at vertex vertices)
@@ -451,7 +451,7 @@ turn_taken edges counts new last vertex rest so_far is =
 
 -- ---- the end
 
--- where none is left, nothing leads back to itself
+-- if none remains, nothing leads back to itself
 pub none_circular : (edges : Edges) (counts : List ℕ) → All (λ count. count ≡ 0) counts → LeavesCircular edges counts → (vertex : ℕ) → ¬ LeadsBack edges vertex
 none_circular edges counts none circular vertex back =
     let some : 0 < get_or counts vertex 0 = circular vertex back in ⊎_elim
@@ -487,7 +487,7 @@ held_more arrivals departures held new place both so_far is both_is =
     get_or_last [] mark = refl
     get_or_last (first ∷ marks) mark = get_or_last marks mark
 
--- the arrivals of a vertex's edges, in two parts
+-- the counts of a vertex's edges, in two parts
 pub arrived : (rows : List (List ℕ)) (place : ℕ) (counts middle new next more : List ℕ) → place < length rows → next ++ more ≡ get_or rows place []
     → middle ≡ fold with_arrival counts next → new ≡ fold with_arrival middle more
     → fold with_arrival new (flat_map (λ row. row) (drop (place + 1) rows)) ≡ fold with_arrival counts (flat_map (λ row. row) (drop place rows))

@@ -1,4 +1,4 @@
--- Ways through a graph, and those that lead back.
+-- Paths through a graph, and those that lead back.
 use Rattle.std.proofs.Common.{◌≡◌, ℕ, Bool, true, false, ◌⊎◌, ⊎_elim, inl, inr, List, [], ◌∷◌, ◌++◌, length, map, get_or, take, drop, All, Vec, Global, ◌+◌, ◌<◌, ◌≤◌, refl, sym, ap, ◌∙◌, subst, arith}
 use Rattle.std.specs.List.{Contains}
 use Rattle.std.proofs.lemmas.Bool.{cases_lt, false≢true}
@@ -10,7 +10,7 @@ use Rattle.kt_graph.specs.inner.faults.Arrivals.{IsLeftIn, LeavesCircular}
 use Rattle.kt_graph.specs.inner.faults.Edges.{AreReversed, HasNext, HoldsCircular, IsDoneWith, IsFirstBack, LeadsBack, LeadsOn, Searches, Visits, count_of, holds_in, next_of, row_of, rows_held, rows_of}
 use Rattle.kt_graph.proofs.lemmas.MemberLemmas.{Contains-none}
 
--- a way goes on
+-- a path continues
 pub Leads-join : {A : Type 0} (Edge : A → A → Type 0) (from : A) (steps : List A) (middle : A) (more : List A) (to : A)
     → Leads Edge from steps middle → Leads Edge middle more to → Leads Edge from (steps ++ more) to
 Leads-join Edge from [] middle more to here on = subst (λ x. Leads Edge x more to) (sym here) on
@@ -25,14 +25,14 @@ Reaches-step Edge from to step = (to ∷ [], (step, refl))
 pub Reaches-none : {A : Type 0} (Edge : A → A → Type 0) (here : A) → Reaches Edge here here
 Reaches-none Edge here = ([], refl)
 
--- a way along one kind of steps is one along another
+-- a path with one kind of steps is one with another
 pub Reaches-by : {A : Type 0} (Edge Other : A → A → Type 0) → ((x y : A) → Edge x y → Reaches Other x y) → (from : A) (steps : List A) (to : A)
     → Leads Edge from steps to → Reaches Other from to
 Reaches-by Edge Other by from [] to here = ([], here)
 Reaches-by Edge Other by from (step ∷ steps) to way =
     Reaches-join Other from step to (by from step way.0) (Reaches-by Edge Other by step steps to way.1)
 
--- ---- ways of one step or more
+-- ---- paths of one step or more
 
 pub on_step : (edges : Edges) (from to : ℕ) → HasNext edges from to → LeadsOn edges from to
 on_step edges from to step = record { next = to; step = step; path = Reaches-none (HasNext edges) to }
@@ -54,7 +54,7 @@ around edges here there (step ∷ steps) way on = record {
       (Reaches-join (HasNext edges) there on.next here (Reaches-step (HasNext edges) there on.next on.step) on.path);
 }
 
--- the next vertex on a way back leads back, too
+-- the next vertex on a path back leads back, too
 pub next_back : (edges : Edges) (vertex : ℕ) (back : LeadsBack edges vertex) → LeadsBack edges back.next
 next_back edges vertex back = around edges back.next vertex back.path.0 back.path.1 (on_step edges vertex back.next back.step)
 
@@ -93,7 +93,7 @@ has_within edges vertex next has = ⊎_elim
     Contains-none next (rw none at has))
     (cases_lt vertex (count_of edges))
 
--- what is left in both directions holds what leads back to itself
+-- what remains in both directions has all that leads back to itself
 pub held_in_both : (edges reversed : Edges) (arrivals departures : List ℕ) (held : List Bool) → AreReversed edges reversed → LeavesCircular edges arrivals
     → LeavesCircular reversed departures
     → ((vertex : ℕ) → IsLeftIn arrivals vertex → IsLeftIn departures vertex → holds_in held vertex ≡ true) → HoldsCircular edges held

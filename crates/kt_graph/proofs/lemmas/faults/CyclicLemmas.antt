@@ -1,4 +1,4 @@
--- The first name that needs itself, by the first vertex that leads back to itself.
+-- The first name that depends on itself, from the first vertex that leads back to itself.
 use Rattle.std.proofs.Common.{◌≡◌, ℕ, ◌<◌, ⊎_elim, List, ◌∷◌, ◌++◌, length, All, sym, ap, ◌∙◌, subst}
 use Rattle.std.specs.List.{Contains}
 use Rattle.std.specs.List.Sorted.{IsStrictlySortedBy}

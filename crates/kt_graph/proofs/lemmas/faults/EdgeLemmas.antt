@@ -109,14 +109,14 @@ bare_added count edges from to has = ⊎_elim
 pub bare_there : (count : ℕ) (edges : List (ℕ × ℕ)) (from to : ℕ) → from < count → Contains edges (from, to) → Contains (get_or (with_edges (bare_rows count) edges) from []) to
 bare_there count edges from to within has = edges_there edges (bare_rows count) from to (subst (λ n. from < n) (sym (length-replicate {A = List ℕ} count [])) within) has
 
--- the rows are as many as before
+-- there are as many rows as before
 pub length-with_edges : (edges : List (ℕ × ℕ)) (rows : List (List ℕ)) → length (with_edges rows edges) ≡ length rows
 length-with_edges [] rows = refl
 length-with_edges (edge ∷ edges) rows = length-with_edges edges (with_edge rows edge) ∙ length-set rows edge.0 (get_or rows edge.0 [] ++ edge.1 ∷ [])
 
 -- ---- in the other direction
 
--- the edges of one vertex were turned
+-- the edges of one vertex were reversed
 pub turned_more : (rows : List (List ℕ)) (place : ℕ) (row : List ℕ) (before after : List (List ℕ)) → place < length rows → row ≡ get_or rows place []
     → after ≡ with_edges before (edges_to place row)
     → with_edges after (turned_from (place + 1) (drop (place + 1) rows)) ≡ with_edges before (turned_from place (drop place rows))
@@ -171,7 +171,7 @@ turned_are edges rows within turned from to = (
       (subst (λ n. Contains (turned_from 0 (rows_of edges)) (from, n)) zeroth (turned_there (rows_of edges) 0 to from has))),
 )
 
--- the edges of a vertex were turned, in two parts
+-- the edges of a vertex were reversed, in two parts
 pub turned_parts : (before middle after : List (List ℕ)) (place : ℕ) (next more : List ℕ) → middle ≡ with_edges before (edges_to place next)
     → after ≡ with_edges middle (edges_to place more) → after ≡ with_edges before (edges_to place (next ++ more))
 turned_parts before middle after place next more first second =

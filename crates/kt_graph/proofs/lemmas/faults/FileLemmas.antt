@@ -15,7 +15,7 @@ use Rattle.kt_graph.specs.faults.Paths.{canon_of}
 
 -- ---- what is held of files
 
--- where two files are two, no key is both
+-- if two files differ, no key is both
 apart : (file other : Text) → bytes_eq other file ≡ false → (key : Vec ℕ Global) → bytes_eq file key.items ≡ true → bytes_eq other key.items ≡ false
 apart file other differ key is =
     nat_list_eq_equiv.symm other key.items
@@ -89,7 +89,7 @@ files_with old new names name file is added held other =
         ∙ sym (ap (λ b. if b then Some (is_some (several_in names other)) else several_in names other) e)
     by false e = held other ∙ sym (ap (λ b. if b then Some (is_some (several_in names other)) else several_in names other) e)
 
--- and tells whether a name is repeated
+-- and says whether a name is repeated
 pub repeated_is : (names : List Text) (name : Text) → unwrap_or (several_in names (canon_of name)) false ≡ is_repeated names name
 repeated_is names name = by (count_of names (canon_of name))
   where

@@ -1,4 +1,4 @@
--- Marks of vertices that are taken away.
+-- Marks of vertices that are removed.
 use Rattle.std.proofs.Common.{◌≡◌, ℕ, zero, suc, ◌+◌, ◌<◌, ◌≤◌, Bool, true, false, ⊎_elim, inl, inr, List, [], ◌∷◌, ◌++◌, length, get_or, set, take, cond, refl, sym, ap, ◌∙◌, arith}
 use Rattle.std.specs.List.{Contains}
 use Rattle.std.proofs.lemmas.Bool.{cases_eq, cases_lt, false≢true}
@@ -7,14 +7,14 @@ use Rattle.std.proofs.lemmas.List.Elements.{Contains-push, Contains-push_cases, 
 use Rattle.std.proofs.lemmas.List.Sums.{sum_by-set}
 use Rattle.kt_graph.specs.inner.faults.Edges.{Visits, count_held, holds_in, work_with}
 
--- a mark that is taken is gone
+-- the mark of a vertex that is taken is removed
 pub taken_itself : (marks : List Bool) (place : ℕ) → holds_in (set marks place false) place ≡ false
 taken_itself marks place = ⊎_elim
     (λ (within : place < length marks). get_or-set_same marks place false false within)
     (λ (past : length marks ≤ place). ap (λ (ms : List Bool). get_or ms place false) (set_past marks place false past) ∙ get_or_past marks place false past)
     (cases_lt place (length marks))
 
--- and none comes
+-- and none is added
 pub taken_others : (marks : List Bool) (place other : ℕ) → holds_in marks other ≡ false → holds_in (set marks place false) other ≡ false
 taken_others marks place other off = ⊎_elim
     (λ (e : other ≡ place). ap (λ n. get_or (set marks place false) n false) e ∙ taken_itself marks place)
@@ -28,7 +28,7 @@ taken_fewer marks place other on = by (holds_in marks other) refl
     by true e = e
     by false e = absurd (false≢true (sym (taken_others marks place other e) ∙ on))
 
--- a mark that is gone was the one that was taken
+-- a mark that was removed is that of the vertex that was taken
 pub taken_one : (marks : List Bool) (place other : ℕ) → holds_in marks other ≡ true → holds_in (set marks place false) other ≡ false → place ≡ other
 taken_one marks place other on off = ⊎_elim
     (λ (e : other ≡ place). sym e)
@@ -151,7 +151,7 @@ visits_join first second old middle new before between after one other = record 
     noted vertex was off true e = other.noted vertex e off
     noted vertex was off false e = other.kept vertex (one.noted vertex was e)
 
--- as many are marked or in the work as before
+-- as many are marked or in the work list as before
 pub many_taken : (marks : List Bool) (work : List ℕ) (vertex : ℕ)
     → count_held (set marks vertex false) + length (work_with (holds_in marks vertex) work vertex) ≡ count_held marks + length work
 many_taken marks work vertex = by (holds_in marks vertex) refl

@@ -40,7 +40,7 @@ above_stays false last parts h = by (bytes_eq last above_name) refl
     by true e = rw e refl
     by false e = absurd (false≢true (sym (rw e at h)))
 
--- `..` takes a name away
+-- `..` removes a name
 pub taken_up : (rooted : Bool) (old new : List (Bor Text)) (popped : Option (Bor Text)) → ends_in_name (reverse (told old)) ≡ true
     → old ≡ new ++ option_to_list popped → MatchOption popped (length old ≡ 0) (λ _. Unit {0})
     → reverse (told new) ≡ step_up rooted (reverse (told old))
@@ -57,7 +57,7 @@ above_first true [] ends some = absurd (some refl refl)
 above_first false [] ends some = refl
 above_first rooted (last ∷ parts) ends some = sym (above_stays rooted last parts ends)
 
--- it stays after another, and at the front of a name without root
+-- it stays after another `..`, and at the start of a name without a root
 pub put_up : (rooted : Bool) (old new : List (Bor Text)) (above : Bor Text) → above.now ≡ above_name → ends_in_name (reverse (told old)) ≡ false
     → (rooted ≡ true → length old ≡ 0 → ⊥) → new ≡ old ++ above ∷ []
     → reverse (told new) ≡ step_up rooted (reverse (told old))
@@ -65,7 +65,7 @@ put_up rooted old new above is ends some grown =
     ap (λ parts. reverse (told parts)) grown ∙ last_first old above ∙ ap (λ part. part ∷ reverse (told old)) is
     ∙ above_first rooted (reverse (told old)) ends (λ r none. some r (sym (length-reverse (told old) ∙ length-map old (λ (part : Bor Text). part.now)) ∙ none))
 
--- and under the root it goes
+-- and under the root it is dropped
 pub root_up : (rooted : Bool) (old : List (Bor Text)) → rooted ≡ true → length old ≡ 0 → reverse (told old) ≡ step_up rooted (reverse (told old))
 root_up rooted [] is none = rw is refl
 root_up rooted (part ∷ old) is none = absurd (omega arith)
@@ -81,7 +81,7 @@ joined_at [] d some = absurd (omega arith)
 joined_at (first ∷ after) d some =
     joined_after first.now after ∙ ap (λ rest. first.now ++ flat_map (λ (part : Bor Text). 47 ∷ part.now) rest) (sym (take_rest (first ∷ after) 1))
 
--- the components of a name, once none is left
+-- the components of a name, once none remains
 pub canon_is : (name : Text) (rooted : Bool) (parts : List (Bor Text)) (left : List Text) → rooted ≡ is_rooted name → left ≡ []
     → fold (with_part rooted) (reverse (told parts)) left ≡ fold (with_part rooted) [] (slice_split (λ byte. byte == 47) name)
     → canon_of name ≡ (if rooted then 47 ∷ [] else []) ++ join_with_byte 47 (told parts)

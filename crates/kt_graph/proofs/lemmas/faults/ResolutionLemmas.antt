@@ -1,4 +1,4 @@
--- What is left of a name's components, in whatever order they go.
+-- What remains of a name's components, in whatever order they are removed.
 use Rattle.std.proofs.Common.{◌≡◌, ◌⊎◌, ⊎_elim, inl, inr, ℕ, zero, suc, Bool, true, false, not, if◌then◌else◌, fold, List, [], ◌∷◌, ◌++◌, reverse, replicate, All, refl, sym, ap, ◌∙◌, subst, arith}
 use Rattle.std.specs.Str.{bytes_eq}
 use Rattle.std.proofs.lemmas.List.{append-nil, append_assoc, reverse-append, reverse-reverse}
@@ -66,7 +66,7 @@ stack_with rooted parts part is stack = record {
   under_root = stack.under_root;
 }
 
--- dot-dot after components: it goes under the root, it stays at the front, or it takes a name away
+-- `..` after components: it is dropped under the root, it stays at the start, or it removes a name
 record GoesUp (rooted : Bool) (parts : List Text) : Type 0 where
   pub kept : IsStack rooted (step_up rooted parts)
   pub how : ((rooted ≡ true) × (parts ≡ []) × (step_up rooted parts ≡ []))
@@ -163,7 +163,7 @@ stack_reduced rooted parts stack = record {
   under_root = stack.under_root;
 }
 
--- ---- what goes
+-- ---- what is removed
 
 step_from : (rooted : Bool) (front gone back : List Text) → MayGo rooted front gone → Reaches (Cancels rooted) (front ++ (gone ++ back)) (front ++ back)
 step_from rooted front gone back may = Reaches-step (Cancels rooted) (front ++ (gone ++ back)) (front ++ back)

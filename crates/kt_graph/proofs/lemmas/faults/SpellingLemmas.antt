@@ -1,4 +1,4 @@
--- A name that is the one spelling of its file.
+-- Names that are the canonical spelling of their file.
 use Rattle.std.proofs.Common.{◌≡◌, ℕ, ◌+◌, ◌==◌, ◌&&◌, Bool, true, false, fold, take, drop, List, [], ◌∷◌, ◌++◌, reverse, Some, None, refl, sym, ap, ◌∙◌, arith, bytes_eq}
 use Rattle.std.specs.List.{join_with_byte, slice_split, list_all, position_or_len}
 use Rattle.std.proofs.lemmas.Bool.{eqb-true, false≢true, false_from_ne_true}
@@ -42,7 +42,7 @@ put_names rooted front (part ∷ parts) h =
     reverse-cons : (part : Text) (front : List Text) → reverse (part ∷ front) ≡ reverse front ++ part ∷ []
     reverse-cons part front = reverse-append (part ∷ []) front
 
--- a name of names alone is the spelling of its file
+-- a name with plain components only is the canonical spelling of its file
 pub spelled_plainly : (name : Text) → is_rooted name ≡ false → has_names_only name ≡ true → canon_of name ≡ name
 unfolding canon_of parts_of has_names_only
 spelled_plainly name plain h =

@@ -1,4 +1,4 @@
--- What is wrong with a graph, as its nodes tell it.
+-- What is wrong with a graph, from its nodes.
 use Rattle.std.proofs.Common.{◌≡◌, ◌<◌, Bool, true, false, not, ◌||◌, cond, ◌⊎◌, ⊎_elim, List, [], ◌∷◌, ◌++◌, length, map, filter, find, All, Option, None, Some, option_map, refl, sym, ap, ◌∙◌, subst, arith}
 use Rattle.std.specs.List.{Contains, list_any}
 use Rattle.std.specs.List.Sorted.{IsStrictlySortedBy}
@@ -124,7 +124,7 @@ rises_none : Rises []
 unfolding IsStrictlySortedBy
 rises_none = tt
 
--- what stands after a name in a list that rises isn't below it
+-- the names after a name in a list that rises aren't below it
 pub none_below : (earlier : List Text) (name : Text) (later : List Text) → Rises (earlier ++ name ∷ later) → (other : Text)
     → Contains (name ∷ later) other → ¬ (order other name ≡ Less)
 none_below [] name later rises other has less = ⊎_elim
@@ -137,7 +137,7 @@ none_below (first ∷ earlier) name later rises other has less =
 pub in_cut : {A : Type 0} (earlier : List A) (x : A) (later : List A) (y : A) → Contains (earlier ++ x ∷ later) y → Contains earlier y ⊎ Contains (x ∷ later) y
 in_cut earlier x later y has = Rattle.std.proofs.lemmas.List.Elements.Contains-append_cases earlier (x ∷ later) y has
 
--- the first that passes in a list that rises is the first of those for which it stands
+-- the first that passes in a list that rises is the first that has the property
 pub first_of : (P : Text → Type 0) (p : Text → Bool) (names : List Text) (name : Text) → Rises names → IsFound p names name
     → P name → ((other : Text) → P other → Contains names other × (p other ≡ true)) → IsFirst P name
 first_of P p names name rises found holds back = record {
@@ -154,7 +154,7 @@ first_of P p names name rises found holds back = record {
 
 -- ---- made names
 
--- what is left of names that rise rises
+-- the rest of names that rise rises
 pub kept_rises : (p : Node → Bool) (nodes : List Node) → Rises (map (λ node. node.name) nodes) → Rises (map (λ node. node.name) (filter p nodes))
 kept_rises p [] rises = rises_none
 kept_rises p (node ∷ nodes) rises =
@@ -264,7 +264,7 @@ another p (first ∷ names) name rises two =
         more h in
         (rest.0, Contains-there first names rest.0 rest.1, rest.2, rest.3)
 
--- ---- names that are the one spelling of their file
+-- ---- names that are the canonical spelling of their file
 
 find_none : {A : Type 0} (xs : List A) → find (λ x. false) xs ≡ None
 find_none [] = refl
@@ -394,7 +394,7 @@ module _ (rules : List Rule) (known goals : List Text) (nodes : List Node) (grap
       let at : (node : Node) × Contains nodes node × (node.name ≡ name) = reached_node name reserved.reached in
       false≢true (sym (any_nowhere (λ (node : Node). is_reserved node.name) nodes off at.0 at.1) ∙ ap is_reserved at.2 ∙ reserved.reserved)
 
-  -- what is wrong with files, by the two answers
+  -- what is wrong with files, from the two results
   pub file_trouble : (found : Option Text) → list_any (λ node. is_reserved node.name) nodes ≡ false
       → found ≡ find (is_repeated (made_names nodes)) (made_names nodes) → IsFileTrouble rules known goals (option_map one_file found)
   file_trouble None off is = (

@@ -1,5 +1,5 @@
 -- One more name gets its node, from the goals on to the last of all.
-use Rattle.std.proofs.Common.{◌≡◌, ℕ, suc, zero, Bool, true, false, ◌<◌, ◌≤◌, if◌then◌else◌, List, [], ◌∷◌, ◌++◌, length, map, fold, take, drop, get_or, Option, Some, None, slice_get, unwrap_or, Contains, All, refl, sym, ap, subst, ◌∙◌, arith, ◌⊎◌, inl, inr, ⊎_elim}
+use Rattle.std.proofs.Common.{◌≡◌, ℕ, suc, zero, Bool, true, false, ◌+◌, ◌-◌, ◌<◌, ◌≤◌, if◌then◌else◌, List, [], ◌∷◌, ◌++◌, length, map, fold, take, drop, get_or, Option, Some, None, slice_get, unwrap_or, Contains, All, refl, sym, ap, subst, ◌∙◌, arith, ◌⊎◌, inl, inr, ⊎_elim, Bor}
 use Rattle.std.specs.Option.{option_map}
 use Rattle.std.proofs.lemmas.List.{length-append, length_push, take-append-drop}
 use Rattle.std.proofs.lemmas.List.Elements.{All-nil, All-cons, All-weaker, All-contains_itself}
@@ -7,11 +7,13 @@ use Rattle.std.proofs.lemmas.Option.{slice_get_within, slice_get-get_or, get_or_
 use Rattle.kt_text.specs.Words.{Text}
 use Rattle.kt_rules.specs.declared.entry.RecipeLine.{RecipeLine}
 use Rattle.kt_rules.specs.declared.entry.Target.{Target}
-use Rattle.kt_rules.specs.Book.{explicit_rules}
+use Rattle.kt_rules.specs.Book.{explicit_rules, patterns_of}
 use Rattle.kt_rules.specs.Entry.{Rule}
 use Rattle.kt_rules.specs.Names.{with_name}
+use Rattle.kt_graph.specs.declared.nodes.graph_builder.GraphBuilder.{GraphBuilder}
 use Rattle.kt_graph.specs.declared.nodes.node.Instance.{Instance as Held}
 use Rattle.kt_graph.specs.declared.nodes.node.NodeKind.{NodeKind}
+use Rattle.kt_graph.specs.declared.nodes.reached_name.ReachedName.{ReachedName}
 use Rattle.kt_graph.specs.inner.nodes.Stored.{StoredPart}
 use Rattle.kt_graph.specs.inner.nodes.Stored.{StoredNode}
 use Rattle.kt_graph.specs.search.Candidates.{Candidate}
@@ -19,12 +21,13 @@ use Rattle.kt_graph.specs.inner.nodes.Named.{needed_by}
 use Rattle.kt_graph.specs.nodes.Node.{Instance, Node, Part, all_inputs, node_by, node_of}
 use Rattle.kt_graph.specs.inner.nodes.Numbering.{AreBelow, HasNumbers, IsMaking, IsNumbered, Says, SaysNode, SaysPart, SayParts, StandFor}
 use Rattle.kt_graph.specs.Reach.{IsReached}
-use Rattle.kt_graph.specs.inner.nodes.GraphBuilder.{IsDone, IsUnderWay}
+use Rattle.kt_graph.specs.inner.nodes.GraphBuilder.{IsBegun, IsDone, IsOver, IsUnderWay, ReachesMore}
+use Rattle.kt_graph.specs.inner.nodes.Reached.{reached_text}
 use Rattle.kt_graph.specs.nodes.Views.{instance_at, instance_view, name_at, names_at, part_view}
 use Rattle.kt_graph.proofs.lemmas.nodes.NumberLemmas.{names_grow, parts_kept, place_kept}
 use Rattle.kt_graph.proofs.lemmas.nodes.ReachLemmas.{goal_reached, inputs_all, reached_all, reached_on, reached_only, reached_stays}
 
--- ---- places of lists that grow
+-- ---- places in lists that grow
 
 place_same : {A : Type 0} (xs more : List A) (k : ℕ) → k < length xs → slice_get (xs ++ more) k ≡ slice_get xs k
 place_same [] more k h = absurd (omega arith)
@@ -124,7 +127,7 @@ one_more rules known goals names instances new nodes name node h at kept says =
           (push_cases nodes node number stored held);
     }
 
--- the same in the words of a step
+-- the same in the terms of a step
 pub stored_more : (rules : List Rule) (known goals names after : List Text) (instances new : List Held) (nodes more : List StoredNode) (name : Text) (node : StoredNode)
     → IsUnderWay rules known goals names instances nodes → slice_get names (length nodes) ≡ Some name → take (length instances) new ≡ instances
     → after ≡ fold with_name names (needed_by (node_of rules known name)) → SaysNode after new (node_of rules known name) node → more ≡ nodes ++ node ∷ []
@@ -135,7 +138,7 @@ stored_more rules known goals names after instances new nodes more name node h a
     (one_more rules known goals names instances new nodes name node h at kept
     (subst (λ l. SaysNode l new (node_of rules known name) node) grown says)))
 
--- the same where the book and the known names are those of the beginning
+-- the same if the book and the known names are those of the start
 pub stored_under : (rules same_rules : List Rule) (known same_known goals names after : List Text) (instances new : List Held) (nodes more : List StoredNode) (name : Text) (node : StoredNode)
     → same_rules ≡ rules → same_known ≡ known → IsUnderWay rules known goals names instances nodes → slice_get names (length nodes) ≡ Some name
     → take (length instances) new ≡ instances → after ≡ fold with_name names (needed_by (node_of same_rules same_known name))
@@ -147,10 +150,42 @@ stored_under rules same_rules known same_known goals names after instances new n
     stored_more rules known goals names after instances new nodes more name node h at kept
     (grown ∙ ap (λ n. fold with_name names (needed_by n)) e) (subst (λ n. SaysNode after new n node) e says) pushed
 
+-- what holds between one name and the next
+pub record HasBuilt (start now : GraphBuilder) : Type 0 where
+  pub over : IsOver now
+  pub book : now.book ≡ start.book
+  pub known_names : now.known ≡ start.known
+  pub right : (goals : List Text) → IsBegun goals start → IsUnderWay start.book.now start.known.now goals now.numbers now.instances.keys now.nodes
+
+pub built_more : (start now built : GraphBuilder) (nodes : List StoredNode) (name : Text) (node : StoredNode) → HasBuilt start now
+    → slice_get now.numbers (length now.nodes) ≡ Some name → ReachesMore now (needed_by (node_of now.book.now now.known.now name)) built
+    → SaysNode built.numbers built.instances.keys (node_of now.book.now now.known.now name) node → nodes ≡ built.nodes ++ node ∷ []
+    → HasBuilt start (record built { nodes = nodes })
+built_more start now built nodes name node h at grown says pushed = record {
+  over = record {
+    rules = grown.searched_rules ∙ h.over.rules ∙ ap (λ (x : Bor (List Rule)). patterns_of x.now) (sym grown.book);
+    known_names = grown.searched_names ∙ h.over.known_names ∙ ap (λ (x : Bor (List Text)). x.now) (sym grown.known_names);
+  };
+  book = grown.book ∙ h.book;
+  known_names = grown.known_names ∙ h.known_names;
+  right = λ goals begins.
+      stored_under start.book.now now.book.now start.known.now now.known.now goals now.numbers built.numbers now.instances.keys built.instances.keys now.nodes nodes name node
+      (ap (λ (x : Bor (List Rule)). x.now) h.book) (ap (λ (x : Bor (List Text)). x.now) h.known_names) (h.right goals begins) at
+      grown.instances grown.names says (pushed ∙ ap (λ (v : List StoredNode). v ++ node ∷ []) grown.nodes);
+}
+
+-- fewer nodes are left
+pub fewer_left : (names : List Text) (nodes built more : List StoredNode) (name : Text) (node : StoredNode) (limit : ℕ) → slice_get names (length nodes) ≡ Some name
+    → length names < limit → built ≡ nodes → more ≡ built ++ node ∷ [] → limit - length more < limit - length nodes
+fewer_left names nodes built more name node limit at small same pushed =
+    let one : length more ≡ length built + 1 = ap length pushed ∙ length_push built node in
+    let none : length built ≡ length nodes = ap length same in
+    omega (arith, one, none, small, slice_get_within names (length nodes) name at)
+
 -- ---- at the end
 
--- no name is left
-pub none_left : (found at : Option Text) → ((x : Text) → found ≡ Some x → ⊥) → found ≡ at → None ≡ at
+-- no name remains
+pub none_left : (found : Option ReachedName) (at : Option Text) → ((x : ReachedName) → found ≡ Some x → ⊥) → option_map reached_text found ≡ at → None ≡ at
 none_left None at h e = e
 none_left (Some x) at h e = absurd (h x refl)
 
@@ -277,13 +312,13 @@ keys_done rules known goals keys instances nodes h none =
       all = count;
     }
 
--- nothing is left
+-- nothing remains
 pub all_done : (rules : List Rule) (known goals names : List Text) (instances : List Held) (nodes : List StoredNode)
     → IsUnderWay rules known goals names instances nodes → None ≡ slice_get names (length nodes)
     → IsDone rules known goals names instances nodes
 all_done rules known goals names instances nodes h none = keys_done rules known goals names instances nodes h none
 
--- each node has the numbers of names and makings alone
+-- all numbers of each node are those of names and makings
 pub done_numbers : (rules : List Rule) (known goals names : List Text) (instances : List Held) (nodes : List StoredNode)
     → IsDone rules known goals names instances nodes → All (HasNumbers (length names) (length instances)) nodes
 done_numbers rules known goals names instances nodes h = λ k d l. (h.stored k (get_or nodes k d) (slice_get-get_or nodes k d l)).numbers

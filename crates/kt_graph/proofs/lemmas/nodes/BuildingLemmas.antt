@@ -1,4 +1,4 @@
--- The rule whose recipe is used, with those before it and after it, and what rules need together.
+-- The rule whose recipe is used, with those before and after it, and the joined prerequisites of rules.
 use Rattle.std.proofs.Common.{◌≡◌, ℕ, suc, zero, Bool, true, false, not, cond, ◌+◌, ◌-◌, ◌<◌, ◌≤◌, List, [], ◌∷◌, ◌++◌, length, map, filter, take, drop, get_or, Option, Some, None, option_map, refl, sym, ap, ◌∙◌, arith, rules}
 use Rattle.std.specs.List.{before_last, after_last, last_or, suffix_len}
 use Rattle.std.proofs.lemmas.List.{append_assoc, drop_at, get_or-append_right, get_or_at, length-append, length-take, length_push, map-append, take-append-drop, take_all, take_at, take_more, take_rest}
@@ -18,7 +18,7 @@ use Rattle.kt_graph.specs.inner.nodes.Named.{named_view, needs_of_each, part_nam
 use Rattle.kt_graph.specs.nodes.Node.{bare_part, explicit_node, group_of, joined_needs, kind_without, needs_after, other_rules, part_of, plain_node, suffix_stem}
 use Rattle.kt_graph.specs.nodes.Views.{instance_view}
 
--- what rules need, put together, in the words of a node
+-- the prerequisites of rules, joined, in the terms of a node
 pub together_is : (rules : List (Rule × Target)) → put_together (needs_of_each rules) ≡ joined_needs rules
 unfolding joined_needs
 together_is rules =
@@ -33,7 +33,7 @@ first_fails : {A : Type 0} (p : A → Bool) (x : A) (xs : List A) (b : Bool) →
 first_fails p x xs true e h = cc
 first_fails p x xs false e h = (e, h)
 
--- where a filter keeps nothing, nothing passes
+-- if a filter keeps nothing, nothing passes
 none_passes : {A : Type 0} (p : A → Bool) (xs : List A) → filter p xs ≡ [] → (k : ℕ) (d : A) → k < length xs → p (get_or xs k d) ≡ false
 none_passes p [] h k d l = absurd (omega arith)
 none_passes p (x ∷ xs) h zero d l = (first_fails p x xs (p x) refl h).0
@@ -43,7 +43,7 @@ last_pushed : {A : Type 0} (o : Option A) (xs : List A) (x : A) → last_or o (x
 last_pushed o [] x = refl
 last_pushed o (y ∷ xs) x = last_pushed (Some y) xs x
 
--- the last that passes, and what stands before it and after it
+-- the last that passes, and what is before and after it
 last_cut : {A : Type 0} (p : A → Bool) (before : List A) (x : A) (after : List A) → p x ≡ true → filter p after ≡ []
     → (last_or None (filter p (before ++ x ∷ after)) ≡ Some x)
     × (before_last p (before ++ x ∷ after) ≡ before) × (after_last p (before ++ x ∷ after) ≡ after)
@@ -68,7 +68,7 @@ last_cut p before x after passes none =
           ∙ drop_at (before ++ x ∷ []) after (length all - (length all - (n + 1))) (length_push before x ∙ omega (arith, len)),
     )
 
--- the same where the last of a front passes, and nothing after the front does
+-- the same if the last of a first part passes, and nothing after that part does
 pub used_at : {B A : Type 0} (p : A → Bool) (f : B → A) (all left : List B) (x : B) → left ≡ take (length left) all → 0 < length left
     → x ≡ get_or left (length left - 1) x → p (f x) ≡ true → filter p (map f (drop (length left) all)) ≡ []
     → (last_or None (filter p (map f all)) ≡ Some (f x))
@@ -107,7 +107,7 @@ plain_told suffixes name rules phony named part kind parts making recipe stem bl
     let made : option_map instance_view named.making ≡ None = ap (option_map instance_view) making in
     cc
 
--- what the rule needs whose recipe is used comes first
+-- the prerequisites of the rule whose recipe is used come first
 used_needs : (used : Rule × Target) (rules earlier later : List (Rule × Target)) → before_last has_recipe rules ≡ earlier → after_last has_recipe rules ≡ later
     → put_together (needs_for used.0 used.1 ∷ (needs_of_each earlier ++ needs_of_each later)) ≡ needs_after (needs_for used.0 used.1) (joined_needs (other_rules rules))
 used_needs used rules earlier later before after =

@@ -30,7 +30,7 @@ use Rattle.kt_graph.proofs.lemmas.nodes.WholeLemmas.{all_below, at_place, find_n
 
 -- ---- keys of sets
 
--- keys of which no two are equal have different places where what is reported of them is different
+-- keys that all differ have different places if the values seen of them differ
 pub places_apart : {A : Type 0} {B : Type 0} (same : A → A → Bool) (told : A → B) → ((x y : A) → told x ≡ told y → same x y ≡ true)
     → (keys : List A) → ((i j : ℕ) (d : A) → i < j → j < length keys → same (get_or keys i d) (get_or keys j d) ≡ Rattle.std.proofs.Common.false)
     → (one other : ℕ) (x y : A) → slice_get keys one ≡ Some x → slice_get keys other ≡ Some y → told x ≡ told y → one ≡ other

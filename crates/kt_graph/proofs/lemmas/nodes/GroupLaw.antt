@@ -1,4 +1,4 @@
--- The groups of a graph are those of names that one making makes.
+-- The groups of a graph are the names that one making makes.
 use Rattle.std.proofs.Common.{◌≡◌, ◌↔◌, Bool, true, false, ◌||◌, ◌⊎◌, ⊎_elim, inl, inr, cond, List, [], ◌∷◌, map, filter, find, All, Option, None, Some, refl, sym, ap, ◌∙◌, subst}
 use Rattle.std.specs.List.{Contains}
 use Rattle.std.specs.List.Sorted.{IsStrictlySortedBy}
@@ -56,7 +56,7 @@ making_told : (one other : Option Instance) → is_one_making one other ≡ true
 making_told None other e = absurd (false≢true e)
 making_told (Some one) other e = (one, refl, sym (one_same (Some one) other e))
 
--- one and the same, or made by one making
+-- equal, or made by one making
 abbrev AreOne : Node → Node → Type 0
 AreOne one other = (one ≡ other) ⊎ ((making : Instance) × (one.made_with ≡ Some making) × (other.made_with ≡ Some making))
 
@@ -98,7 +98,7 @@ module _ (rules : List Rule) (known goals : List Text) (nodes : List Node) (grap
       (λ (made : is_one_making one.made_with other.made_with ≡ true). inr (making_told one.made_with other.made_with made))
       (or_cases (bytes_eq one.name other.name) (is_one_making one.made_with other.made_with) e)
 
-  -- nodes that are one stand together with the same nodes
+  -- nodes that are equal are in groups with the same nodes
   alike : (one other : Node) → Contains (made_nodes nodes) one → Contains (made_nodes nodes) other → AreOne one other
       → (node : Node) → Contains (made_nodes nodes) node → are_together one node ≡ are_together other node
   alike one other first second same node has = both_ways (are_together one node) (are_together other node)
@@ -109,7 +109,7 @@ module _ (rules : List Rule) (known goals : List Text) (nodes : List Node) (grap
       → find (are_together one) (made_nodes nodes) ≡ find (are_together other) (made_nodes nodes)
   same_leader one other first second same = find_agree (are_together one) (are_together other) (made_nodes nodes) (alike one other first second same)
 
-  -- the first that stands with a leader is itself
+  -- the first in a leader's group is the leader itself
   leads_itself : (leader : Node) → Contains (made_nodes nodes) leader → is_leading (made_nodes nodes) leader ≡ true
       → find (are_together leader) (made_nodes nodes) ≡ Some leader
   leads_itself leader has leads = by (find (are_together leader) (made_nodes nodes)) refl leads

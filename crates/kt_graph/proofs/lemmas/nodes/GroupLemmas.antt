@@ -1,4 +1,4 @@
--- When two makings are one.
+-- When two makings are equal.
 use Rattle.std.proofs.Common.{◌≡◌, ℕ, true, nat_eq, Option, None, Some, refl, ap, ◌∙◌}
 use Rattle.std.specs.Str.{bytes_eq}
 use Rattle.std.proofs.lemmas.Bool.{and_from, and_parts, eq-eqb, eqb-true, false≢true}

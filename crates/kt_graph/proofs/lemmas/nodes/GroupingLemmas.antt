@@ -1,4 +1,4 @@
--- The groups that numbers lead are those of the nodes.
+-- The groups of the first numbers are those of the nodes.
 use Rattle.std.proofs.Common.{◌≡◌, ℕ, suc, ◌+◌, ◌<◌, ◌≤◌, Bool, true, false, not, ◌&&◌, ◌||◌, ⊎_elim, cond, if◌then◌else◌, List, [], ◌∷◌, ◌++◌, length, drop, get_or, map, filter, find, nat_eq, Option, None, Some, IfSome, option_map, slice_get, refl, sym, ap, ◌∙◌, subst, arith}
 use Rattle.std.specs.List.{Contains, cons_option, prefix_len}
 use Rattle.std.specs.List.Sorted.{IsStrictlySortedBy}
@@ -143,7 +143,7 @@ module _ (names : List Text) (instances : List Held) (nodes : List StoredNode) (
       ((bytes_eq-Decides (name_at names one) (name_at names other)).0 e)))
       (λ e. (bytes_eq-Decides (name_at names one) (name_at names other)).1 (ap (name_at names) (eqb-true one other e)))
 
-  -- the makings of two numbers are one
+  -- the makings of two numbers are equal
   abbrev is_same : Option ℕ → Option ℕ → Bool
   is_same None other = false
   is_same (Some making) other = is_number making other
@@ -167,13 +167,13 @@ module _ (names : List Text) (instances : List Held) (nodes : List StoredNode) (
   below number node at =
       (All-contains (HasNumbers (length names) (length instances)) nodes node whole.held.numbers (Contains-slice_get nodes number node at)).made_with
 
-  -- whether a number stands in one group with another
+  -- whether a number is in one group with another
   abbrev stands_with : ℕ → ℕ → Bool
   stands_with leader number = is_made_at nodes number && (nat_eq leader number || is_same (making_at nodes leader) (making_at nodes number))
 
   -- ---- the numbers of a group
 
-  -- those that stand with a node, of more numbers
+  -- those in the group of a node, with more numbers
   with_one : (leader : ℕ) (node : StoredNode) → Contains order leader → slice_get nodes leader ≡ Some node → (number : ℕ) → Contains order number
       → filter (are_together (node_view names instances leader node)) (if is_made_at nodes number then told (number ∷ []) else [])
       ≡ told (cond (stands_with leader number) (number ∷ []) [])
@@ -235,7 +235,7 @@ module _ (names : List Text) (instances : List Held) (nodes : List StoredNode) (
       joined true = sym (told_one number (filter (stands_with leader) numbers))
       joined false = refl
 
-  -- a number stands once in numbers whose names rise
+  -- a number is in a list once if the names rise
   none_later : (leader : ℕ) (numbers : List ℕ) (p : ℕ → Bool) → ((number : ℕ) → p number ≡ true → leader ≡ number)
       → IsStrictlySortedBy (slice_cmp nat_cmp) (names_at names (leader ∷ numbers)) → filter p numbers ≡ []
   none_later leader numbers p only rises = kept_none numbers (λ number h. by number h (p number) refl)
@@ -277,7 +277,7 @@ module _ (names : List Text) (instances : List Held) (nodes : List StoredNode) (
           (λ (h : Contains numbers leader). h)
           (Contains-cases first numbers leader inside))
 
-  -- those that stand with a number are its members
+  -- the numbers in the group of a number are its members
   members_are : (leader : ℕ) → Contains order leader → is_made_at nodes leader ≡ true → (making : Option ℕ) → making_at nodes leader ≡ making → IsBelow making
       → filter (stands_with leader) order ≡ members_by members leader making
   members_are leader inside on None is within = once leader order (stands_with leader)
@@ -306,7 +306,7 @@ module _ (names : List Text) (instances : List Held) (nodes : List StoredNode) (
           ap (λ (o : Option ℕ). is_made_at nodes number && (nat_eq leader number || is_same o (making_at nodes number))) is
           ∙ ap (λ b. is_made_at nodes number && b) (absorbed number (nat_eq leader number) refl)
 
-  -- ---- the group that a number leads
+  -- ---- the group of a first number
 
   making_of : (number : ℕ) (node : StoredNode) → slice_get nodes number ≡ Some node → making_at nodes number ≡ node.made_with
   making_of number node at = ap (λ (o : Option StoredNode). option_and_then (λ one. one.made_with) o) at
@@ -330,7 +330,7 @@ module _ (names : List Text) (instances : List Held) (nodes : List StoredNode) (
       by None is e = absurd (false≢true e)
       by (Some node) is e = (node, is)
 
-  -- whether it leads the group
+  -- whether it is the first in the group
   abbrev is_named : ℕ → List Node → Bool
   is_named leader group = option_map_or (λ first. bytes_eq first.name (name_at names leader)) (head_of group) false
 
@@ -443,7 +443,7 @@ module _ (names : List Text) (instances : List Held) (nodes : List StoredNode) (
       not_not true e = refl
       not_not false e = absurd (true≢false e)
 
-  -- nodes behind others
+  -- nodes after others
   pub put_more : (numbers : List ℕ) (place number : ℕ) (before after : List Node) → place < length numbers → number ≡ get_or numbers place number
       → after ≡ before ++ nodes_view names instances nodes (number ∷ [])
       → after ++ nodes_view names instances nodes (drop (place + 1) numbers) ≡ before ++ nodes_view names instances nodes (drop place numbers)

@@ -1,4 +1,4 @@
--- What a chosen rule gives is what the node of the candidate tells that the search finds.
+-- What a chosen rule gives is what the node of the candidate has that the search finds.
 use Rattle.std.proofs.Common.{◌≡◌, true, false, if◌then◌else◌, List, ◌++◌, Option, Some, None, slice_get, refl, sym, ap, ◌∙◌}
 use Rattle.std.specs.Option.{option_and_then, option_map}
 use Rattle.kt_text.specs.Words.{Text}
@@ -15,7 +15,7 @@ use Rattle.kt_graph.specs.search.Views.{choice_view}
 use Rattle.kt_graph.specs.nodes.Views.{instance_view}
 use Rattle.kt_graph.proofs.lemmas.search.ChosenLemmas.{choice_needs}
 
--- nothing is searched for where a name is phony
+-- there is no search for a phony name
 pub phony_tells : (book : List Rule) (known : List Text) (name : Text) → is_phony book name ≡ true → InfersFrom (searched book known name) None
 phony_tells book known name h =
     ap (λ b. if b then None else option_and_then (chosen_rule (patterns_of book)) (choice_of (patterns_of book) known name)) h
@@ -45,7 +45,7 @@ given candidate rule chosen inferred told needing gives name rules =
     let made : option_map instance_view inferred.making ≡ pattern_making rule (choice_view candidate) = gives.making ∙ ap (pattern_making rule) told in
     cc (gives.recipe)
 
--- a rule is found, or the chosen number is that of none
+-- a rule is found, or no rule has the chosen number
 rule_tells : (book : List Rule) (known : List Text) (name : Text) (candidate : Candidate) (chosen : Chosen) (inferred : Option Inferred) → is_phony book name ≡ false
     → choice_of (patterns_of book) known name ≡ Some candidate → chosen ≡ choice_view candidate
     → Infers (patterns_of book) chosen inferred → InfersFrom (searched book known name) inferred

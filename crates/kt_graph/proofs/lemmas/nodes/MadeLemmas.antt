@@ -142,7 +142,7 @@ module _ (rules : List Rule) (known : List Text) where
           let found = found_in (is_inferred known (fitting rules known left) used) (open_candidates rules used name) one e in
           ((kept_by_filter (λ candidate. not (is_used used candidate.rule)) (candidates_for rules (is_begun used) name) one found.0).0, inr found.1)
 
-  -- what it needs and isn't known finds a rule, also outside the chain
+  -- its unknown prerequisites find a rule, without the chain, too
   pub needed_found : (name : Text) (one : Candidate) (input : Text) → choice_of rules known name ≡ Some one → Contains (all_needs one.needs) input → is_among known input ≡ false
       → is_some (choice_of rules known input) ≡ true
   needed_found name one input e c unknown = by (chosen_is 7 [] name one e).1
@@ -228,7 +228,7 @@ module _ (rules : List Rule) (known : List Text) (name : Text) where
       by [] true e = refl
       by [] false e = absurd (true≢false (sym e))
 
-  -- where the search finds a rule, or a name is phony, its node is no leaf
+  -- if the search finds a rule, or a name is phony, its node is no leaf
   pub found_no_leaf : is_some (choice_of (patterns_of rules) known name) ≡ true → is_leaf (node_of rules known name).kind ≡ false
   unfolding node_of
   found_no_leaf found = by (list_any (λ rule. is_double rule.0.kind) made)
@@ -262,7 +262,7 @@ joined_from made input (inr c) =
     let found = from_flat_map (λ (one : Rule × Target). (needs_for one.0 one.1).order_only) made input c in
     (found.0, found.1, Contains-append_right (needs_for found.0.0 found.0.1).prerequisites (needs_for found.0.0 found.0.1).order_only input found.2)
 
--- the chosen rule needs it, or an explicit rule does
+-- it is a prerequisite of the chosen rule, or of an explicit rule
 from_inputs : (name : Text) (made : List (Rule × Target)) (chosen : Candidate) (rule : Rule) (input : Text) → Contains (all_inputs (implicit_node name made chosen rule)) input
     → Contains (all_needs chosen.needs) input ⊎ ((one : Rule × Target) × Contains made one × Contains (all_needs (needs_for one.0 one.1)) input)
 unfolding inputs_of order_only_of
@@ -287,7 +287,7 @@ from_inputs name made chosen rule input c = by (Contains-append_cases (inputs_of
         (empty (chosen.needs.order_only ++ (joined_needs made).order_only) (from_without_repeats ((chosen.needs.order_only ++ (joined_needs made).order_only) ++ []) input
         (kept_by_filter (λ one. not (is_among (inputs_of (implicit_node name made chosen rule)) one)) (without_repeats ((chosen.needs.order_only ++ (joined_needs made).order_only) ++ [])) input c).0)))
 
--- what explicit rules need is known
+-- the prerequisites of explicit rules are known
 needed_known : (rules : List Rule) (files name : Text) (one : Rule × Target) (input : Text) → Contains (explicit_rules rules name) one
     → Contains (all_needs (needs_for one.0 one.1)) input → is_among (known_names rules files) input ≡ true
 unfolding explicit_rules rules_of known_names
@@ -326,7 +326,7 @@ input_reached rules known goals name input reached edge = record {
   path = (reached.path.0 ++ input ∷ [], leads_on (HasInput rules known) reached.goal reached.path.0 name input reached.path.1 edge);
 }
 
--- what an implicit node needs is known, or a rule makes it, where the names are known that the rules themselves tell
+-- what an implicit node needs is known, or a rule makes it, if the names that the rules mention are known
 pub made_inputs : (rules : List Rule) (known goals : List Text) (nodes : List Node) (files : Text) → IsGraph rules known goals nodes → known ≡ known_names rules files → HasMadeInputs known nodes
 made_inputs rules known goals nodes files graph all = λ node input c kind needed unknown.
     let names = map (λ (one : Node). one.name) nodes in

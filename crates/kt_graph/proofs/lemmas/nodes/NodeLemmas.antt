@@ -1,4 +1,4 @@
--- Nodes as definitions have it, and the numbers that stand for their names.
+-- Nodes of the definitions, and numbers for their names.
 use Rattle.std.proofs.Common.{◌≡◌, ℕ, ◌<◌, ◌≤◌, Bool, true, false, not, ◌||◌, cond, if◌then◌else◌, ⊎_elim, List, [], ◌∷◌, ◌++◌, length, get_or, map, filter, fold, nat_eq, All, None, Some, slice_get, refl, sym, ap, ◌∙◌, subst}
 use Rattle.std.specs.List.{flat_map, list_any}
 use Rattle.std.specs.Str.{bytes_eq}
@@ -31,7 +31,7 @@ part_none names parts place past =
 
 -- ---- numbers of names
 
--- two numbers are equal where their names are
+-- two numbers are equal if their names are
 pub same_number : (names : List Text) → AreDistinct names → (one other : ℕ) → one < length names → other < length names
     → bytes_eq (name_at names one) (name_at names other) ≡ nat_eq one other
 same_number names distinct one other first second = ⊎_elim
@@ -43,7 +43,7 @@ same_number names distinct one other first second = ⊎_elim
     by differ false e = e
     by differ true e = absurd (differ (distinct one other first second ((bytes_eq-Decides (name_at names one) (name_at names other)).0 e)))
 
--- so a name is among others where its number is among theirs
+-- so a name is among others if its number is among theirs
 pub among_numbers : (names : List Text) → AreDistinct names → (numbers : List ℕ) (number : ℕ) → number < length names → AreBelow (length names) numbers
     → is_among (names_at names numbers) (name_at names number) ≡ list_any (nat_eq number) numbers
 among_numbers names distinct [] number below all = refl
@@ -52,7 +52,7 @@ among_numbers names distinct (first ∷ numbers) number below all =
     (same_number names distinct number first below (All-head (λ n. n < length names) first numbers all))
     ∙ ap (λ b. nat_eq number first || b) (among_numbers names distinct numbers number below (All-tail (λ n. n < length names) first numbers all))
 
--- a name is put after others where its number is
+-- a name is added to others if its number is
 with_one : (names : List Text) → AreDistinct names → (numbers : List ℕ) (number : ℕ) → number < length names → AreBelow (length names) numbers
     → with_name (names_at names numbers) (name_at names number) ≡ names_at names (with_number numbers number)
 with_one names distinct numbers number below all =

@@ -1,4 +1,4 @@
--- Names by their numbers: what was told of numbers stays where more names are reached.
+-- Numbers for names: what holds of numbers stays when more names are reached.
 use Rattle.std.proofs.Common.{◌≡◌, ℕ, suc, zero, Bool, true, false, ◌+◌, ◌<◌, if◌then◌else◌, List, [], ◌∷◌, ◌++◌, length, map, fold, take, drop, get_or, Some, slice_get, refl, sym, ap, subst, ◌∙◌}
 use Rattle.std.specs.List.{flat_map}
 use Rattle.std.proofs.lemmas.List.{append-nil, append_assoc, map-append, take_more, drop_more}
@@ -26,7 +26,7 @@ name_added : (names : List Text) (name : Text) (b : Bool) → (more : List Text)
 name_added names name true = ([], sym (append-nil names))
 name_added names name false = (name ∷ [], refl)
 
--- names are put after those that there are
+-- names are added at the end
 pub names_grow : (needed names : List Text) → (more : List Text) × (fold with_name names needed ≡ names ++ more)
 names_grow [] names = ([], sym (append-nil names))
 names_grow (name ∷ needed) names =
@@ -45,7 +45,7 @@ stand_longer names more (name ∷ expected) (number ∷ numbers) h =
     let es = stand_longer names more expected numbers rest in
     cc
 
--- numbers stand for their names where more are reached
+-- numbers keep their names when more are reached
 pub stand_kept : (names needed expected : List Text) (numbers : List ℕ) → StandFor names expected numbers
     → StandFor (fold with_name names needed) expected numbers
 stand_kept names needed expected numbers h =
@@ -77,7 +77,7 @@ part_kept names needed expected part h = record {
   needs = needs_kept names needed expected.needs part.prerequisites part.order_only h.needs;
 }
 
--- parts say what they say where more names are reached
+-- parts stay the same when more names are reached
 pub parts_kept : (names needed : List Text) (expected : List Part) (parts : List StoredPart) → SayParts names expected parts
     → SayParts (fold with_name names needed) expected parts
 parts_kept names needed [] [] h = h
@@ -119,7 +119,7 @@ names_said names new earlier all i name numbers more number h at grown put pushe
     (subst (λ l. StandFor new ((earlier ++ take i all) ++ name ∷ []) l) (sym pushed)
     (stand_more names new (earlier ++ take i all) name numbers number grown put said))
 
--- the numbers of the names that aren't left, after earlier ones
+-- the numbers of the names before the remaining ones, after earlier numbers
 abbrev pub IsSaid : List Text → List Text → List Text → List Text → List ℕ → Type 0
 IsSaid names earlier all left numbers = (done : List Text) × (done ++ left ≡ all) × StandFor names (earlier ++ done) numbers
 
@@ -142,7 +142,7 @@ said_end names earlier all left numbers none said =
     let whole : said.0 ≡ all = sym (append-nil said.0) ∙ sym (ap (λ l. said.0 ++ l) none) ∙ said.1 in
     subst (λ l. StandFor names (earlier ++ l) numbers) whole said.2
 
--- what rules need, the prerequisites before the order-only ones
+-- the prerequisites of rules, with the order-only ones last
 pub needs_reached : {B : Type 0} (of : B → Needs) (rules : List B) (old mid new : List Text) → mid ≡ fold with_name old (flat_map (λ r. (of r).prerequisites) rules)
     → new ≡ fold with_name mid (flat_map (λ r. (of r).order_only) rules)
     → new ≡ fold with_name old (all_needs (put_together (map of rules)))
@@ -165,7 +165,7 @@ needs_said of rules mid new these those grown first second = record {
   order_only = subst (λ l. StandFor new l those) (sym (flat_map-map (λ (n : Needs). n.order_only) of rules)) second;
 }
 
--- what one more part needs
+-- the prerequisites of one more part
 pub part_reached : {B : Type 0} (needed : B → List Text) (parts : List B) (part : B) (old mid new : List Text) → mid ≡ fold with_name old (flat_map needed parts)
     → new ≡ fold with_name mid (needed part) → new ≡ fold with_name old (flat_map needed (parts ++ part ∷ []))
 part_reached needed parts part old mid new first second =

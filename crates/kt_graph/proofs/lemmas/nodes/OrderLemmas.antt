@@ -1,8 +1,7 @@
 -- Names that are sorted with their numbers.
-use Rattle.std.proofs.Common.{◌≡◌, ℕ, suc, zero, ◌+◌, ◌<◌, ◌↔◌, false, List, [], ◌∷◌, ◌++◌, length, map, get_or, All, Some, refl, sym, ap, ◌∙◌, subst, arith, add-zero, slice_get}
+use Rattle.std.proofs.Common.{◌≡◌, ℕ, suc, zero, ◌+◌, ◌<◌, ◌↔◌, false, List, [], ◌∷◌, ◌++◌, length, map, get_or, All, refl, sym, ap, ◌∙◌, subst, arith, add-zero}
 use Rattle.std.specs.List.{Contains, range_with_len, swap}
 use Rattle.std.specs.List.Sorted.{IsPermutation, IsSorted, IsSortedBy, IsStrictlySortedBy}
-use Rattle.std.specs.Option.{unwrap_or}
 use Rattle.std.specs.Ordering.{is_eq, is_lt, nat_cmp, ordering_then, ordering_reverse}
 use Rattle.std.specs.Cmp.Lexicographic.{slice_cmp}
 use Rattle.std.specs.declared.cmp.Ordering.{Ordering}
@@ -15,7 +14,6 @@ use Rattle.std.proofs.lemmas.List.FromFn.{length-range_with_len, get_or-range_wi
 use Rattle.std.proofs.lemmas.List.Sorted.{All-permutation, Contains-permutation, IsPermutation-keeps, IsPermutation-map, IsPermutation-swap, length_permutation, ranks_by, sorted_far}
 use Rattle.indexmap.proofs.ReorderLemmas.{exchange, exchange-twice, exchange-within, get_or-swap}
 use Rattle.std.proofs.lemmas.Map.Text.{is_eq-slice_cmp}
-use Rattle.std.proofs.lemmas.Option.{slice_get_read}
 use Rattle.std.proofs.lemmas.Slice.Eq.{bytes_eq-Decides}
 use Rattle.kt_text.specs.Words.{Text}
 use Rattle.kt_graph.specs.inner.faults.Files.{AreDistinct, IsByteOrder}
@@ -23,7 +21,7 @@ use Rattle.kt_graph.specs.nodes.Views.{name_at, names_at}
 
 -- ---- numbers that differ
 
--- no number stands twice
+-- no number is repeated
 IsSingle : List ℕ → Type 0
 IsSingle xs = (i j d : ℕ) → i < length xs → j < length xs → get_or xs i d ≡ get_or xs j d → i ≡ j
 
@@ -46,7 +44,7 @@ single-range n i j d in_i in_j same =
     let at_j : get_or (range_with_len 0 n) j d ≡ 0 + j = get_or-range_with_len 0 n j d (omega arith) in
     omega arith
 
--- numbers in another order stay single
+-- numbers in another order have no repeats
 single_permuted : (n : ℕ) (order : List ℕ) → IsPermutation (range_with_len 0 n) order → IsSingle order
 single_permuted n order moved =
     IsPermutation-keeps (range_with_len 0 n) IsSingle (single-range n) (λ l i j in_i in_j single. single-swap l i j in_i in_j single) order moved
@@ -67,7 +65,7 @@ has_number n order moved number =
 
 -- ---- names that rise
 
--- of two texts that differ, where the second isn't less the first is
+-- of two texts that differ, if the second isn't less, the first is
 less_from : (x y : Text) → is_lt (slice_cmp nat_cmp y x) ≡ false → (x ≡ y → ⊥) → slice_cmp nat_cmp x y ≡ Less
 less_from x y not_less differ = by (slice_cmp nat_cmp x y) refl
   where
@@ -174,16 +172,11 @@ range_more a (suc n) =
     let last : a + suc n ≡ a + 1 + n = omega arith in
     rw (more, last) (ap (λ rest. a ∷ rest) (range_more (a + 1) n ∙ ap (range_with_len (a + 1)) next))
 
-pub numbered_more : (names : List Text) (number : ℕ) (name : Text) (pairs more : List Numbered) (pair : Numbered) → AreNumbered names number pairs
-    → number < length names → name ≡ get_or names number name → pair.0 ≡ name → pair.1 ≡ number → more ≡ pairs ++ pair ∷ []
-    → AreNumbered names (number + 1) more
-numbered_more names number name pairs more pair numbered within is text at grown =
-    let found : slice_get names number ≡ Some name = slice_get_read names (length names) number name refl within is in
-    let told : pair.0 ≡ name_at names pair.1
-    = text ∙ sym (ap (λ o. unwrap_or o []) (ap (slice_get names) at ∙ found)) in
-    record {
-      numbers = ap (map (λ (p : Numbered). p.1)) grown ∙ map-append (λ (p : Numbered). p.1) pairs (pair ∷ [])
-          ∙ ap (λ front. front ++ pair.1 ∷ []) numbered.numbers ∙ ap (λ k. range_with_len 0 number ++ k ∷ []) (at ∙ omega arith) ∙ range_more 0 number;
-      named = subst (λ xs. All (λ (p : Numbered). p.0 ≡ name_at names p.1) xs) (sym grown)
-          (All-push (λ (p : Numbered). p.0 ≡ name_at names p.1) pairs pair numbered.named told);
-    }
+pub numbered_more : (names : List Text) (number : ℕ) (pairs more : List Numbered) (pair : Numbered) → AreNumbered names number pairs
+    → pair.0 ≡ name_at names number → pair.1 ≡ number → more ≡ pairs ++ pair ∷ [] → AreNumbered names (number + 1) more
+numbered_more names number pairs more pair numbered text at grown = record {
+  numbers = ap (map (λ (p : Numbered). p.1)) grown ∙ map-append (λ (p : Numbered). p.1) pairs (pair ∷ [])
+      ∙ ap (λ front. front ++ pair.1 ∷ []) numbered.numbers ∙ ap (λ k. range_with_len 0 number ++ k ∷ []) (at ∙ omega arith) ∙ range_more 0 number;
+  named = subst (λ xs. All (λ (p : Numbered). p.0 ≡ name_at names p.1) xs) (sym grown)
+      (All-push (λ (p : Numbered). p.0 ≡ name_at names p.1) pairs pair numbered.named (text ∙ ap (name_at names) (sym at)));
+}

@@ -22,7 +22,7 @@ added : (names : List Text) (name : Text) (b : Bool) → is_among names name ≡
 added names name true h = among_names names name h
 added names name false h = Contains-push names name
 
--- a name that was there stays
+-- a name that was there stays there
 pub reached_stays : (needed names : List Text) (name : Text) → Contains names name → Contains (fold with_name names needed) name
 reached_stays needed names name h =
     let grown = names_grow needed names in

@@ -1,4 +1,4 @@
--- Steps of the work, one after another, and which node a name has.
+-- Steps of the work list, one after another, and which node a name has.
 use Rattle.std.proofs.Common.{◌≡◌, true, false, ◌≤◌, if◌then◌else◌, List, [], ◌∷◌, length, map, fold, take, Option, option_map, Result, Ok, Err, IfOk, OnOk, sym, ap, subst, ◌∙◌, arith}
 use Rattle.std.specs.List.{list_any}
 use Rattle.std.proofs.lemmas.List.{length-take, take-take}
@@ -82,7 +82,7 @@ implicit_told name rules inferred named part kind parts making recipe stem block
 
 -- ---- what is said of another node
 
--- what holds holds where there is an answer
+-- what holds anyway holds if there is a result
 pub always_ok : {T E P : Type 0} (result : Result T E) → P → OnOk result P
 always_ok (Ok x) p = p
 always_ok (Err e) p = tt

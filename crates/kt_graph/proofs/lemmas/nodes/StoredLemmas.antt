@@ -1,4 +1,4 @@
--- Nodes in three lists: what is stored stays where more comes after it.
+-- Nodes in three lists: what is stored stays when more is added.
 use Rattle.std.proofs.Common.{◌≡◌, ℕ, zero, suc, not, ◌+◌, ◌-◌, ◌<◌, ◌≤◌, List, [], ◌∷◌, ◌++◌, All, Option, Some, length, take, drop, slice_get, refl, sym, ap, ◌∙◌, subst, arith}
 use Rattle.std.specs.List.{slice_range}
 use Rattle.std.proofs.lemmas.List.{append-nil, append_assoc, drop-append-le, length-append, length-drop, map-append, take-append-le}
@@ -88,7 +88,7 @@ head_within_more parts more_parts numbers more head up_parts up h = record {
 pub longer : {A : Type 0} (old new : List A) → HasMore old new → length old ≤ length new
 longer old new more = omega (arith, ap length more.1, length-append old more.0)
 
--- the invariant where lists grew
+-- the invariant, when lists grew
 pub stored_more : (parts new_parts : List HeldPart) (numbers new_numbers : List ℕ) (heads : List Head) → Grew parts numbers new_parts new_numbers
     → AreStored parts numbers heads → AreStored new_parts new_numbers heads
 stored_more parts new_parts numbers new_numbers heads grew h = record {
@@ -105,7 +105,7 @@ stored_push parts numbers heads head h within = record {
   heads_within = All-push (IsHeadWithin (length parts) (length numbers)) heads head h.heads_within within;
 }
 
--- what was stored is the same where lists grew
+-- what was stored is the same when lists grew
 pub nodes_same : (parts new_parts : List HeldPart) (numbers new_numbers : List ℕ) (heads : List Head) → Grew parts numbers new_parts new_numbers
     → AreStored parts numbers heads → nodes_stored new_parts new_numbers heads ≡ nodes_stored parts numbers heads
 nodes_same parts new_parts numbers new_numbers heads grew h =
@@ -160,7 +160,7 @@ grew_part parts new numbers part is within = record {
   within = λ h. subst (All (IsPartWithin (length numbers))) (sym is) (All-push (IsPartWithin (length numbers)) parts part h within);
 }
 
--- the places of what was put last
+-- the places of what was added last
 pub last_span : {A : Type 0} (xs more new : List A) (span : Span) → new ≡ xs ++ more → span.start ≡ length xs → span.end ≡ length new → IsWithin (length new) span × (cut new span ≡ more)
 last_span xs more new span is start end =
     let long : length new ≡ length xs + length more = ap length is ∙ length-append xs more in (
@@ -223,7 +223,7 @@ abbrev node_from : NodeKind → List StoredPart → Option ℕ → List ℕ → 
 node_from kind parts made_with inputs order_only =
     record { kind = kind; parts = parts; made_with = made_with; inputs = inputs; order_only = order_only }
 
--- what stands for a node, by its lists
+-- a node without its lists, from the lists
 pub head_of : (parts : List HeldPart) (numbers : List ℕ) (expected : StoredNode) (head : Head) → head.kind ≡ expected.kind → head.made_with ≡ expected.made_with
     → ArePartsOf parts numbers expected.parts head.parts → IsSpanOf numbers expected.inputs head.inputs → IsSpanOf numbers expected.order_only head.order_only
     → IsHeadOf parts numbers expected head

@@ -1,4 +1,4 @@
--- The inputs of a node of one part, and numbers without repeats.
+-- The inputs of a node with one part, and numbers without repeats.
 use Rattle.std.proofs.Common.{◌≡◌, ℕ, ◌<◌, ◌≤◌, ◌==◌, ◌&&◌, Bool, List, [], ◌∷◌, ◌++◌, ap, append-nil, append_assoc, arith, fold, length, nat_eq, nat_lt, refl, sym, subst, ◌∙◌, false, true, true≢false}
 use Rattle.std.specs.List.{AllByRecursion, IsDistinct, flat_map, list_any}
 use Rattle.std.specs.List.Sorted.{IsPermutation}
@@ -63,7 +63,7 @@ sorted_distinct numbers sorted moved h =
 
 -- ---- numbers without repeats
 
--- one that stands after others isn't among them
+-- a number after others isn't among them
 is_last : (numbers : List ℕ) (number : ℕ) (later : List ℕ) (other : ℕ)
     → AllByRecursion (λ y. nat_eq other y ≡ false) (numbers ++ number ∷ later) → nat_eq number other ≡ false
 is_last [] number later other h = eqb-flips number other ∙ h.0
@@ -88,7 +88,7 @@ all_after front (number ∷ numbers) h =
 pub all_stay : (numbers : List ℕ) → IsDistinct nat_eq numbers → fold with_number [] numbers ≡ numbers
 all_stay numbers h = all_after [] numbers h
 
--- ---- the same where parts are stored
+-- ---- the same for stored parts
 
 pub inputs_same : (parts : List HeldPart) → inputs_held parts ≡ input_numbers (parts_held parts)
 inputs_same parts = ap (fold with_number []) (sym (flat_map-map (λ (part : StoredPart). part.prerequisites) part_held parts))

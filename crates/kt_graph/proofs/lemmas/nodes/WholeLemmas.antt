@@ -1,4 +1,4 @@
--- A graph's vertices and the names that it is told by.
+-- A graph's vertices and the names that they are.
 use Rattle.std.proofs.Common.{◌≡◌, ℕ, zero, suc, ◌+◌, ◌<◌, Bool, true, false, ◌⊎◌, ⊎_elim, inl, inr, List, [], ◌∷◌, ◌++◌, length, get_or, map, filter_map, find, cond, Option, None, Some, IfSome, option_map, slice_get, refl, sym, ap, ◌∙◌, subst, arith}
 use Rattle.std.specs.List.{Contains, cons_option}
 use Rattle.std.specs.Str.{bytes_eq}
@@ -249,7 +249,7 @@ module _ (names : List Text) (instances : List Held) (nodes : List StoredNode) (
           second = made_told other second there ∙ ap (instance_at instances) also ∙ told.1;
         }
 
-    -- whose makings are told alike are made by one
+    -- if one making makes two names, their nodes have the same making
     together_made : (one : ℕ) (first : StoredNode) (other : ℕ) (second : StoredNode) → slice_get nodes one ≡ Some first → slice_get nodes other ≡ Some second
         → AreOneMaking rules known (name_at names one) (name_at names other)
         → (making : ℕ) × (first.made_with ≡ Some making) × (second.made_with ≡ Some making)
@@ -324,7 +324,7 @@ module _ (names : List Text) (instances : List Held) (nodes : List StoredNode) (
           ))
           edge.way
 
-      -- a way from a name or its making to a name
+      -- a path from a name or its making to a name
       ways : (steps : List ℕ) (vertex number last : ℕ) → number < length names → last < length names → (vertex ≡ number) ⊎ AtMaking vertex number
           → Leads (HasNext edges) vertex steps last → Reaches (HasEdge rules known goals) (name_at names number) (name_at names last)
       ways [] vertex number last below end at same = ⊎_elim
@@ -346,7 +346,7 @@ module _ (names : List Text) (instances : List Held) (nodes : List StoredNode) (
           (λ (h : AtMaking step number). ways steps step number last below end (inr h) way.1)
           onward
 
-      -- what comes after the first step of a way back
+      -- what comes after the first step of a path back
       cyclic_at : (vertex number : ℕ) (steps : List ℕ) → number < length names
           → (vertex < length names) × HasEdge rules known goals (name_at names number) (name_at names vertex) → Leads (HasNext edges) vertex steps number
           → IsCyclic rules known goals (name_at names number)

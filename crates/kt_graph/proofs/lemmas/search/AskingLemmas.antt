@@ -1,4 +1,4 @@
--- How many rules stand in the chains of what is asked.
+-- The number of rules in the chains of questions.
 use Rattle.std.proofs.Common.{◌≡◌, ℕ, zero, suc, ◌+◌, ◌-◌, ◌≤◌, Bool, true, false, if◌then◌else◌, cond, List, [], ◌∷◌, ◌++◌, length, take, drop, refl, ap, ◌∙◌, ⊎_elim, arith}
 use Rattle.std.specs.Prelude.{nat_lt, nat_le, is_some}
 use Rattle.std.specs.List.{Contains, list_any, prefix_len}
@@ -22,7 +22,7 @@ length-with_rule rule (first ∷ used) = by (nat_lt rule first) (length-with_rul
     by true more = omega arith
     by false more = omega arith
 
--- it stands after those that aren't above it
+-- it comes after those that aren't above it
 pub with_rule_is : (rule : ℕ) (used : List ℕ)
     → take (prefix_len (λ other. nat_le other rule) used) used ++ rule ∷ drop (prefix_len (λ other. nat_le other rule) used) used ≡ with_rule rule used
 unfolding with_rule
@@ -41,7 +41,7 @@ with_rule_is rule (first ∷ used) = by (nat_lt rule first) refl (with_rule_is r
         = ap (λ b. cond b (1 + prefix_len (λ other. nat_le other rule) used) 0) (le-leb first rule (ltb-false rule first e)) ∙ omega arith in
         ap (λ n. take n (first ∷ used) ++ rule ∷ drop n (first ∷ used)) more ∙ ap (λ xs. first ∷ xs) rest
 
--- the same of a vector that is put together
+-- the same for a vector that is joined
 pub put_between : (rule : ℕ) (used : List ℕ) (place : ℕ) → place ≡ prefix_len (λ other. nat_le other rule) used
     → (take place used ++ rule ∷ []) ++ take (length used - place) (drop place used) ≡ with_rule rule used
 put_between rule used place e =

@@ -1,4 +1,4 @@
--- Candidates as they are held and as definitions have it.
+-- Candidates of the code, and as those of the definitions.
 use Rattle.std.proofs.Common.{◌≡◌, ℕ, suc, zero, ◌+◌, ◌-◌, ◌<◌, ◌≤◌, Bool, true, false, not, ◌||◌, ◌==◌, if◌then◌else◌, List, [], ◌∷◌, ◌++◌, length, take, drop, get_or, filter, filter_map, flat_map, fold, nat_le, All, Option, Some, None, IfSome, option_map, refl, sym, ap, ◌∙◌, subst, arith, slice_get}
 use Rattle.std.specs.List.{cons_option, list_any, range_with_len, slice_range}
 use Rattle.std.specs.List.Sorted.{IsNonDecreasingBy, IsPermutation, IsStableByKey}
@@ -63,7 +63,7 @@ shortest_more name rule (Some best) (Some other) rest b o =
 
 -- ---- the candidates of rules
 
--- a candidate with the rule of its number is told
+-- the view of a candidate, from the rule with its number
 pub told_at : (rules : List Rule) (name : Text) (candidate : HeldCandidate) (rule : Rule) → slice_get rules candidate.rule ≡ Some rule
     → candidate_view rules name candidate ≡ Some (candidate_at name rule candidate)
 told_at rules name candidate rule found = ap (option_map (λ r. candidate_at name r candidate)) found
@@ -118,7 +118,7 @@ one_kept rules name p q candidate one candidates true is told same rest =
 one_kept rules name p q candidate one candidates false is told same rest =
     rw (is, told) (rw same rest)
 
--- tests that agree keep the same
+-- tests that agree keep the same elements
 pub told_filter : (rules : List Rule) (name : Text) (p : HeldCandidate → Bool) (q : Candidate → Bool)
     → ((candidate : HeldCandidate) (rule : Rule) → slice_get rules candidate.rule ≡ Some rule → IsWithin name candidate.fit → p candidate ≡ q (candidate_at name rule candidate))
     → (candidates : List HeldCandidate) → AreWithin rules name candidates → candidates_view rules name (filter p candidates) ≡ filter q (candidates_view rules name candidates)
@@ -147,7 +147,7 @@ stays_at : (rules : List Rule) (name : Text) (candidate : HeldCandidate) (rule :
     → stays rules candidate ≡ (not candidate.is_any || is_terminal rule.kind)
 stays_at rules name candidate rule found = ap (λ o. not candidate.is_any || unwrap_or (option_map (λ (r : Rule). is_terminal r.kind) o) true) found
 
--- those that stay where nonterminal rules for any name are dropped
+-- those that stay when nonterminal match-anything rules are dropped
 pub told_without_any : (rules : List Rule) (name : Text) (in_chain : Bool) (candidates : List HeldCandidate) → AreWithin rules name candidates
     → candidates_view rules name (held_without_any rules in_chain candidates) ≡ without_any in_chain (candidates_view rules name candidates)
 told_without_any rules name in_chain candidates within =

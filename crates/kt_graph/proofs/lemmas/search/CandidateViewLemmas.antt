@@ -1,4 +1,4 @@
--- Candidates as definitions have it, one by one.
+-- Candidates as those of the definitions, one by one.
 use Rattle.std.proofs.Common.{◌≡◌, ℕ, zero, suc, ◌+◌, ◌<◌, ◌≤◌, Bool, true, false, cond, not, List, [], ◌∷◌, length, get_or, drop, filter, Option, Some, None, is_some, refl, sym, ap, ◌∙◌, subst, arith}
 use Rattle.std.specs.Prelude.{◌==◌, option_map, slice_get, IfSome}
 use Rattle.std.proofs.lemmas.Option.{none-some, same_Some}
@@ -23,7 +23,7 @@ pub at_some : {X : Type 0} (o : Option X) (P : X → Type 0) (x : X) → o ≡ S
 at_some o P x e h = rw e at h
 
 module _ (rules : List Rule) (name : Text) where
-  -- a candidate of a rule is told
+  -- the view of a candidate with a rule
   pub told_at : (candidate : HeldCandidate) → candidate.rule < length rules → (told : Candidate) × (candidate_view rules name candidate ≡ Some told)
   told_at candidate h =
       let rule = get_some rules candidate.rule h in
@@ -41,7 +41,7 @@ module _ (rules : List Rule) (name : Text) where
       ap (candidates_view rules name) (drop_more candidates i candidate h ∙ ap (λ one. one ∷ drop (i + 1) candidates) (sym is))
       ∙ told_cons candidate (drop (i + 1) candidates) told e
 
-  -- a test of the rules' numbers keeps the same candidates as definitions have it
+  -- a test of the rules' numbers keeps the same candidates as those of the definitions
   pub filter_told : (p : ℕ → Bool) (candidates : List HeldCandidate)
       → candidates_view rules name (filter (λ candidate. p candidate.rule) candidates) ≡ filter (λ candidate. p candidate.rule) (candidates_view rules name candidates)
   filter_told p [] = refl
@@ -65,7 +65,7 @@ module _ (rules : List Rule) (name : Text) where
 
   module _ (p : Candidate → Bool) (candidates : List HeldCandidate) (i : ℕ)
       (left : find p (candidates_view rules name (drop i candidates)) ≡ find p (candidates_view rules name candidates)) where
-    -- nothing is left
+    -- nothing remains
     pub found_none : length candidates ≤ i → IsFound rules name (find p (candidates_view rules name candidates)) None
     found_none past = record {
       told = ap (λ rest. find p (candidates_view rules name rest)) (sym (drop_all i candidates past)) ∙ left;
@@ -95,7 +95,7 @@ module _ (rules : List Rule) (name : Text) where
         within = own_within;
       }
 
-      -- it stands after this one
+      -- it comes after this one
       pub found_later : passed ≡ false → find p (candidates_view rules name (drop (i + 1) candidates)) ≡ find p (candidates_view rules name candidates)
       found_later not_passed = sym (ap (λ b. cond b (Some told) (find p (candidates_view rules name (drop (i + 1) candidates)))) not_passed) ∙ sym rest_is ∙ left
 
@@ -105,7 +105,7 @@ found_some rules name expected None is = ap is_some (sym is.told)
 found_some rules name expected (Some candidate) is =
     ap is_some (sym is.told ∙ (told_at rules name candidate is.within.0).1)
 
--- a candidate as definitions have it has its rule, and is last as its rule is terminal
+-- a candidate of the definitions has its rule, and is last exactly if its rule is terminal
 module _ (rules : List Rule) (name : Text) (candidate : HeldCandidate) (told : Candidate) where
   pub told_rule : candidate_view rules name candidate ≡ Some told → candidate.rule ≡ told.rule
   told_rule e = by (slice_get rules candidate.rule) e
@@ -129,7 +129,7 @@ if_some (Some x) P h = h x refl
 pub read_itself : {X : Type 0} (xs : List X) (i : ℕ) (d : X) → i < length xs → get_or xs i d ≡ get_or xs i (get_or xs i d)
 read_itself xs i d h = get_or_default xs i d (get_or xs i d) h
 
--- a chain has begun where it isn't empty
+-- there is a chain exactly if it isn't empty
 pub begun_is : (used : List ℕ) (empty : Bool) → empty ≡ (length used == 0) → not empty ≡ is_begun used
 begun_is [] empty e = ap not e
 begun_is (rule ∷ used) true e = absurd (omega (arith, eqb-true (length (rule ∷ used)) 0 (sym e)))

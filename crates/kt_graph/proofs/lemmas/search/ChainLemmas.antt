@@ -74,7 +74,7 @@ module _ (rules : List Rule) (known : List Text) where
       let e : left_for question ≡ left = omega (arith, ap length u) in
       λ j. asking rules known (e j) (u j) (n j)
 
-  -- a question that stood before has its answer, and adds nothing
+  -- a question that was there has its answer, and adds nothing
   module _ (old new : Tried) (question : Question) (answer : Option HeldCandidate) (left : ℕ) (used : List ℕ) (name : Text)
       (n : question.name ≡ name) (u : question.used.items ≡ used) (whole : left + length used ≡ chain_limit)
       (right : IsRightFor rules known old (length used)) (stood : StoodBefore old new question answer) where
@@ -103,7 +103,7 @@ module _ (rules : List Rule) (known : List Text) where
           (subst (λ answers. IsRight rules known old.questions.keys answers (length used)) (sym stood.answers) right);
     }
 
-  -- a new question stands after the others
+  -- a new question is after the others
   module _ (old mid : Tried) (question : Question) (place : ℕ) (used : List ℕ) (u : question.used.items ≡ used)
       (right : IsRightFor rules known old (length used)) (last : StandsLast old mid question place) where
     -- the questions with longer chains are right as they were
@@ -167,14 +167,14 @@ module _ (rules : List Rule) (known : List Text) where
       mid_size : length mid.questions.keys ≡ length old.questions.keys + 1
       mid_size = ap length last.questions ∙ length-append old.questions.keys (question ∷ [])
 
-      -- it stands at its place
+      -- it is at its place
       placed : slice_get new.questions.keys place ≡ Some question
       placed = front_kept mid.questions.keys new.questions.keys keeps.questions place question
           (ap (λ keys. slice_get keys place) last.questions
           ∙ slice_get-get_or (old.questions.keys ++ question ∷ []) place question (omega (arith, last.place_after, length-append old.questions.keys (question ∷ [])))
           ∙ ap Some (get_or_at old.questions.keys question [] question place (sym last.place_after)))
 
-      -- what stands after it has a longer chain
+      -- what comes after it has a longer chain
       longer : (k : ℕ) (one : Question) → place < k → slice_get new.questions.keys k ≡ Some one → length used + 1 ≤ length one.used.items
       longer k one past at =
           after_deep rules known left used name (question_view one)

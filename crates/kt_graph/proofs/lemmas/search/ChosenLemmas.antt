@@ -15,7 +15,7 @@ record IsOf (number : ℕ) (rule : Rule) (candidate : Candidate) : Type 0 where
   numbered : candidate.rule ≡ number
   needing : candidate.needs ≡ needs_with candidate.directory candidate.stem rule.needs
 
--- a candidate needs what its rule does
+-- a candidate has the prerequisites of its rule
 abbrev NeedsIt : List Rule → Candidate → Type 0
 NeedsIt rules candidate =
     (rule : Rule) → slice_get rules candidate.rule ≡ Some rule → candidate.needs ≡ needs_with candidate.directory candidate.stem rule.needs
@@ -127,7 +127,7 @@ chosen_needs rules known (suc left) used name =
     (find_holds (NeedsIt rules) (is_met known) (open_candidates rules used name) all)
     (find_holds (NeedsIt rules) (is_inferred known (fitting rules known left) used) (open_candidates rules used name) all)
 
--- what is chosen needs what its rule does
+-- what is chosen has the prerequisites of its rule
 pub choice_needs : (rules : List Rule) (known : List Text) (name : Text) (candidate : Candidate) (rule : Rule) → choice_of rules known name ≡ Some candidate
     → slice_get rules candidate.rule ≡ Some rule → candidate.needs ≡ needs_with candidate.directory candidate.stem rule.needs
 choice_needs rules known name candidate rule found at =

@@ -27,7 +27,7 @@ use Rattle.kt_graph.specs.search.Views.{AreWithin, IsWithin, candidate_at, candi
 use Rattle.kt_graph.proofs.lemmas.search.CandidateLemmas.{matching_at, matching_none, rule_at, told_at}
 use Rattle.kt_graph.proofs.lemmas.MemberLemmas.{Contains-cases, Contains-none}
 
--- nothing stands after a percent sign that isn't there
+-- without a percent sign, nothing is after it
 pub no_back : (pattern : Text) → IsFirstByte (is_byte 37) pattern None → [] ≡ pattern_back pattern
 unfolding pattern_back is_percent
 no_back pattern found =

@@ -1,4 +1,4 @@
--- Where a pattern's stem stands in a name.
+-- Where a pattern's stem is in a name.
 use Rattle.std.proofs.Common.{◌≡◌, ℕ, ◌+◌, ◌-◌, ◌<◌, ◌≤◌, ◌==◌, [], ◌∷◌, length, drop, take, refl, sym, ◌∙◌, ap, arith, Option, Some, None, is_some}
 use Rattle.std.specs.List.{position_or_len, slice_range}
 use Rattle.std.proofs.lemmas.Bool.{lt-ltb, le-ltb}

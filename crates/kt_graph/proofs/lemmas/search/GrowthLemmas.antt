@@ -1,4 +1,4 @@
--- Trees stay where a chain has fewer rules and more may be added: what makes a name after a chain makes it outside one.
+-- Trees stay when a chain has fewer rules and more may be added: what makes a name after a chain makes it without one.
 use Rattle.std.proofs.Common.{◌≡◌, ℕ, zero, suc, ◌+◌, ◌≤◌, Bool, true, false, not, ◌||◌, if◌then◌else◌, List, [], ◌∷◌, length, filter, refl, sym, ap, ◌∙◌, subst, true≢false, ◌⊎◌, inl, inr, ⊎_elim, arith}
 use Rattle.std.specs.Prelude.{◌==◌, nat_eq, nat_lt}
 use Rattle.std.specs.List.{Contains, flat_map, list_any, range_with_len}
@@ -54,7 +54,7 @@ unfolding candidates_for
 outside_chain rules name one c =
     by_size_more name (without_any true (matching_from 0 rules name)) (without_any false (matching_from 0 rules name)) (outside (matching_from 0 rules name)) one c
 
--- ---- the rules of chains
+-- ---- the rules in chains
 
 abbrev pub HasAll : List ℕ → List ℕ → Type 0
 HasAll used fewer = (rule : ℕ) → is_used fewer rule ≡ true → is_used used rule ≡ true

@@ -1,4 +1,4 @@
--- How a question is placed among others, as the set tells it that holds them.
+-- Where a question is placed among others, in the set that holds them.
 use Rattle.std.proofs.Common.{◌≡◌, ℕ, ◌+◌, Bool, true, false, cond, not, ◌&&◌, ◌||◌, if◌then◌else◌, List, [], ◌∷◌, ◌++◌, length, map, Option, Some, None, refl, sym, ap, ◌∙◌, true≢false, arith}
 use Rattle.std.specs.Prelude.{nat_eq, slice_get, unwrap_or}
 use Rattle.std.specs.List.{list_any, position_or_len}
@@ -12,7 +12,7 @@ use Rattle.kt_graph.specs.inner.search.Chains.{StandsLast, StoodBefore}
 use Rattle.kt_graph.specs.search.Search.{asked_eq}
 use Rattle.kt_graph.specs.search.Views.{question_view}
 
--- whether two questions are equal, as they tell it themselves
+-- whether two questions are equal, by their own equality
 abbrev pub questions_eq : Question → Question → Bool
 questions_eq one other = pointwise nat_eq one.name other.name && pointwise nat_eq one.used.items other.used.items
 
@@ -30,7 +30,7 @@ place_after p (other ∷ others) h = by (p other) refl (place_after p others)
         let later : position_or_len p others ≡ length others = rest (sym (ap (λ b. b || list_any p others) e) ∙ h) in
         ap (λ b. cond (not b) (1 + position_or_len p others) 0) e ∙ omega arith
 
--- a new one goes last
+-- a new one is added at the end
 pub placed_last : (old new : Tried) (question : Question) (place : ℕ) (is_new : Bool) → is_new ≡ true → is_new ≡ not (list_any (questions_eq question) old.questions.keys)
     → new.questions.keys ≡ insert_key questions_eq old.questions.keys question → place ≡ position_or_len (questions_eq question) old.questions.keys
     → new.answers.items ≡ old.answers.items ++ None ∷ [] → StandsLast old new question place
@@ -43,7 +43,7 @@ placed_last old new question place is_new yes_new tells grown at pushed =
       answers = pushed;
     }
 
--- another stands where it stood
+-- another one is where it was
 pub placed_before : (old new : Tried) (question : Question) (place : ℕ) (is_new : Bool) (answer : Option HeldCandidate) → is_new ≡ false
     → is_new ≡ not (list_any (questions_eq question) old.questions.keys) → new.questions.keys ≡ insert_key questions_eq old.questions.keys question
     → (one : Question) × (slice_get new.questions.keys place ≡ Some one) × (questions_eq question one ≡ true)

@@ -32,26 +32,26 @@ is_put one asked = by (list_any (asked_eq one) asked) refl
     by true e = e
     by false e = list_any-append (asked_eq one) asked (one ∷ []) ∙ or_right (list_any (asked_eq one) asked) _ (or_left _ _ (asked_itself one))
 
--- a question that stands stays
+-- a question that is there stays there
 pub stays_put : (question : Asked) (asked more : List Asked) → list_any (asked_eq question) asked ≡ true → list_any (asked_eq question) (fold with_question asked more) ≡ true
 stays_put question asked [] h = h
 stays_put question asked (one ∷ more) h = stays_put question (with_question asked one) more (stays_with_one question one asked h)
 
--- what is put stands
+-- a question that is added is there
 pub all_put : (asked more : List Asked) (question : Asked) → Contains more question → list_any (asked_eq question) (fold with_question asked more) ≡ true
 all_put asked [] question c = absurd (none_in_empty question c)
 all_put asked (one ∷ more) question c =
     ⊎_elim (λ e. stays_put question (with_question asked one) more (subst (λ q. list_any (asked_eq q) (with_question asked one) ≡ true) e (is_put one asked)))
     (λ rest. all_put (with_question asked one) more question rest) (first_or_rest one question more c)
 
--- what stands already adds nothing
+-- a question that is there adds nothing
 pub none_new : (asked more : List Asked) → ((question : Asked) → Contains more question → list_any (asked_eq question) asked ≡ true) → fold with_question asked more ≡ asked
 none_new asked [] h = refl
 none_new asked (one ∷ more) h =
     ap (λ b. fold with_question (if b then asked else asked ++ one ∷ []) more) (h one (in_first one more))
     ∙ none_new asked more (λ question c. h question (in_rest one question more c))
 
--- what is put goes after what stands
+-- a question that is added is after those that are there
 record IsBehind (asked more all : List Asked) : Type 0 where
   added : List Asked
   whole : all ≡ asked ++ added
@@ -84,7 +84,7 @@ put_after asked more place question past at =
     ∙ ap (λ xs. get_or xs place question) (sym all.whole) ∙ get_or_from_slice_get (fold with_question asked more) place question question at in
     all.from question (place - length asked, omega arith, found)
 
--- questions that differ are told differently
+-- questions that differ have different views
 module _ (eq : Question → Question → Bool) (same : (one other : Question) → eq one other ≡ asked_eq (question_view one) (question_view other)) where
   told_apart : (one : Question) (others : List Question) → AllByRecursion (λ other. eq one other ≡ false) others
       → AllByRecursion (λ other. asked_eq (question_view one) other ≡ false) (map question_view others)

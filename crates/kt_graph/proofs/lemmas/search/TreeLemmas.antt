@@ -1,4 +1,4 @@
--- The search finds a rule for a name exactly where a tree makes it.
+-- The search finds a rule for a name exactly if a tree makes it.
 use Rattle.std.proofs.Common.{◌≡◌, ℕ, zero, suc, true, false, not, ◌||◌, List, [], get_or, is_some, Option, None, Some, option_map, sym, ap, ◌∙◌, true≢false, ⊎_elim, arith}
 use Rattle.std.specs.Prelude.{◌↔◌, All}
 use Rattle.std.specs.List.{Contains, list_any, find}
@@ -12,7 +12,7 @@ use Rattle.kt_graph.proofs.lemmas.Membership.{any_passes, all_pass, each_passes,
 use Rattle.kt_graph.proofs.lemmas.search.UnknownLemmas.{met_none, none_met}
 
 module _ (rules : List Rule) (known : List Text) where
-  -- the names that a candidate needs besides what is known have rules exactly where they have trees
+  -- a candidate's unknown prerequisites have rules exactly if they have trees
   abbrev SameFor : ℕ → Type 0
   SameFor left = (used : List ℕ) (name : Text) → (is_some (fitting rules known left used name) ≡ true) ↔ HasTree rules known left used name
 
@@ -83,7 +83,7 @@ module _ (rules : List Rule) (known : List Text) where
   found_as_trees zero used name = (λ e. absurd (true≢false (sym e)), λ none. absurd none)
   found_as_trees (suc left) used name = (found_tree left (found_as_trees left) used name, tree_found left (found_as_trees left) used name)
 
--- what is reported of what was found is there exactly where that is
+-- a view of what was found exists exactly if something was found
 pub told_as_trees : {A B Tree : Type 0} (told : A → B) (found : Option A) → ((is_some found ≡ true) ↔ Tree)
     → (is_some (option_map told found) ≡ true) ↔ Tree
 told_as_trees told None trees = trees

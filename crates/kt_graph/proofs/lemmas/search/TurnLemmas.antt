@@ -1,4 +1,4 @@
--- The steps of a search: what is asked for names and candidates in turn.
+-- The steps of a search: the questions for names and candidates in turn.
 use Rattle.std.proofs.Common.{◌≡◌, ℕ, zero, suc, ◌+◌, ◌-◌, ◌<◌, ◌≤◌, Bool, true, false, not, ◌&&◌, if◌then◌else◌, List, [], ◌∷◌, ◌++◌, length, get_or, drop, map, Option, Some, None, is_some, Vec, Global, refl, sym, ap, ◌∙◌, subst, arith}
 use Rattle.std.specs.Prelude.{fold, slice_get, IfSome}
 use Rattle.std.specs.List.{find, list_all}
@@ -18,7 +18,7 @@ use Rattle.kt_graph.proofs.lemmas.search.ChainLemmas.{keeps_all, keeps_more}
 use Rattle.kt_graph.proofs.lemmas.Membership.{found_any}
 use Rattle.kt_graph.proofs.lemmas.search.CandidateViewLemmas.{at_some, found_some, if_some, told_at, told_from, told_last, told_rule}
 
--- all this is to be asked, and so much of it is left
+-- all this is to be asked, and this much of it remains
 pub record IsAsking (rules : List Rule) (known : List Text) (old now : Tried) (least : ℕ) (all left : List Asked) : Type 0 where
   pub right : IsRightFor rules known now least
   pub kept : Keeps old now

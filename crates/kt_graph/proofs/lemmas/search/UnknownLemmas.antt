@@ -1,4 +1,4 @@
--- Names without repeats, and what a candidate needs that isn't known.
+-- Names without repeats, and the unknown prerequisites of a candidate.
 use Rattle.std.proofs.Common.{◌≡◌, ℕ, ◌+◌, ◌<◌, ◌≤◌, Bool, true, false, cond, not, ◌&&◌, ◌||◌, if◌then◌else◌, List, [], ◌∷◌, ◌++◌, length, get_or, drop, map, Vec, Global, refl, sym, ap, ◌∙◌, subst, true≢false, ◌⊎◌, inl, inr, ⊎_elim}
 use Rattle.std.specs.Prelude.{nat_eq, fold}
 use Rattle.std.specs.List.{Contains, list_all, list_any}
@@ -80,7 +80,7 @@ from_without_repeats names one c = ⊎_elim (λ none. absurd (none_in_empty one 
 
 -- ---- what isn't known
 
--- what a candidate needs that isn't known
+-- the unknown prerequisites of a candidate
 pub is_needed : (known : List Text) (candidate : Candidate) (name : Text) → Contains (unknown_needs known candidate) name
     → Contains (all_needs candidate.needs) name × (is_among known name ≡ false)
 is_needed known candidate name c =
@@ -97,7 +97,7 @@ empty_list : {X : Type 0} (xs : List X) → ((x : X) → Contains xs x → ⊥) 
 empty_list [] h = refl
 empty_list (x ∷ xs) h = absurd (h x (in_first x xs))
 
--- where all that a candidate needs is known, nothing of it isn't
+-- if all prerequisites of a candidate are known, none is unknown
 pub met_none : (known : List Text) (candidate : Candidate) → is_met known candidate ≡ true → unknown_needs known candidate ≡ []
 met_none known candidate met = empty_list (unknown_needs known candidate) (λ name c.
     let needed = is_needed known candidate name c in
@@ -115,7 +115,7 @@ any_items : (keys : List (Vec ℕ Global)) (name : Vec ℕ Global)
 any_items [] name = refl
 any_items (key ∷ keys) name = ap (λ b. pointwise nat_eq name.items key.items || b) (any_items keys name)
 
--- a name that is inserted into a set of vectors is one more name after the others, if it isn't among them
+-- a name that is inserted into a set of vectors is added at the end, unless it is there
 pub inserted_name : (keys : List (Vec ℕ Global)) (name : Vec ℕ Global)
     → map (λ v. v.items) (insert_key (λ x y. pointwise nat_eq x.items y.items) keys name) ≡ with_name (map (λ v. v.items) keys) name.items
 inserted_name keys name = rw (any_items keys name) (by (list_any (pointwise nat_eq name.items) (map (λ v. v.items) keys)))
@@ -124,12 +124,12 @@ inserted_name keys name = rw (any_items keys name) (by (list_any (pointwise nat_
     by true = refl
     by false = map-append (λ v. v.items) keys (name ∷ [])
 
--- none is left
+-- none remains
 pub unknown_past : (known : List Text) (directory stem : Text) (names : List Text) (i : ℕ) → length names ≤ i → unknown_of known (needed_names directory stem (drop i names)) ≡ []
 unfolding needed_names
 unknown_past known directory stem names i past = ap (λ rest. unknown_of known (needed_names directory stem rest)) (drop_all i names past)
 
--- those before the bar and those after it
+-- the prerequisites before `|` and those after it
 pub unknown_both : (known before after : List Text)
     → fold with_name (fold with_name [] (unknown_of known before)) (unknown_of known after) ≡ without_repeats (unknown_of known (before ++ after))
 unfolding without_repeats
@@ -145,7 +145,7 @@ one_unknown known name b e = ap (λ c. cond (not c) (name ∷ []) []) e ∙ by b
     by true = refl
     by false = refl
 
--- the next of the names that are needed
+-- the next prerequisite
 pub unknown_step : (known : List Text) (directory stem : Text) (names before : List Text) (i : ℕ) (name needed : Text) → i < length names → name ≡ get_or names i name
     → needed ≡ needed_name directory stem name
     → fold with_name before (unknown_of known (needed_names directory stem (drop i names)))
@@ -167,7 +167,7 @@ pub known_first : (known before after : List Text) → false ≡ list_all (is_am
 known_first known before after first =
     ap (λ c. c && list_all (is_among known) after) first ∙ sym (list_all-append (is_among known) before after)
 
--- the next of the names that are needed
+-- the next prerequisite
 pub known_step : (known : List Text) (directory stem : Text) (names : List Text) (i : ℕ) (name : Text) (b : Bool) → i < length names → name ≡ get_or names i name
     → b ≡ is_among known (needed_name directory stem name)
     → list_all (is_among known) (needed_names directory stem (drop i names)) ≡ (b && list_all (is_among known) (needed_names directory stem (drop (i + 1) names)))

@@ -1,5 +1,5 @@
--- Vertices and where they lead, as the code finds cycles among them (kati's own). A vertex of a name has its number;
--- after the names stand the makings of several names.
+-- Vertices and their edges, as the code finds cycles in them (kati's own). The vertex of a name is its number; the
+-- makings of several names come after the names.
 use Rattle.std.specs.Prelude.{◌≡◌, ◌↔◌, ℕ, suc, ◌+◌, ◌<◌, true, false, Bool, ◌⊎◌, List, [], ◌∷◌, ◌++◌, length, get_or}
 use Rattle.std.specs.Prelude.{set, replicate, flat_map, fold, map, All, IfSome, if◌then◌else◌, Option, Some, None}
 use Rattle.std.specs.Prelude.{slice_get, Vec}
@@ -14,15 +14,15 @@ use Rattle.kt_graph.specs.Reach.{Reaches}
 abbrev pub rows_held : List (Vec ℕ Global) → List (List ℕ)
 rows_held rows = map (λ row. row.items) rows
 
--- what a node needs
+-- the numbers of all inputs of a node
 abbrev pub needed_numbers : StoredNode → List ℕ
 needed_numbers node = node.inputs ++ node.order_only
 
--- the number at a place alone
+-- the number at a place, as a list
 abbrev pub one_at : List ℕ → ℕ → List ℕ
 one_at numbers place = option_to_list (slice_get numbers place)
 
--- where a name leads: one that is made alone to what it needs, any other one to its making
+-- where a name leads: to its making, if it has one, or else to what it needs
 abbrev pub row_by : List ℕ → StoredNode → Option ℕ → List ℕ
 row_by makings node None = needed_numbers node
 row_by makings node (Some making) = one_at makings making
@@ -34,11 +34,11 @@ row_of makings node = row_by makings node node.made_with
 abbrev pub rows_of : Edges → List (List ℕ)
 rows_of edges = map (row_of edges.makings.items) edges.nodes.now ++ rows_held edges.rows.items
 
--- how many there are
+-- the number of vertices
 abbrev pub count_of : Edges → ℕ
 count_of edges = length edges.nodes.now + length edges.rows.items
 
--- where one does
+-- where one vertex leads
 abbrev pub next_of : Edges → ℕ → List ℕ
 next_of edges vertex = get_or (rows_of edges) vertex []
 
@@ -51,11 +51,11 @@ pub record LeadsOn (edges : Edges) (from to : ℕ) : Type 0 where
   pub step : HasNext edges from next
   pub path : Reaches (HasNext edges) next to
 
--- or to itself
+-- a vertex leads to itself in one step or more
 abbrev pub LeadsBack : Edges → ℕ → Type 0
 LeadsBack edges vertex = LeadsOn edges vertex vertex
 
--- with one more edge, and with several
+-- rows with one more edge, and with several
 abbrev pub with_edge : List (List ℕ) → ℕ × ℕ → List (List ℕ)
 with_edge rows edge = set rows edge.0 (get_or rows edge.0 [] ++ edge.1 ∷ [])
 
@@ -72,7 +72,7 @@ edges_to to froms = map (λ from. (from, to)) froms
 abbrev pub edges_from : ℕ → List ℕ → List (ℕ × ℕ)
 edges_from from numbers = map (λ to. (from, to)) numbers
 
--- the edges of vertices from a number on, each in the other direction
+-- the edges of vertices from a number on, reversed
 abbrev pub turned_from : ℕ → List (List ℕ) → List (ℕ × ℕ)
 turned_from number [] = []
 turned_from number (row ∷ rows) = edges_to number row ++ turned_from (suc number) rows
@@ -81,18 +81,18 @@ turned_from number (row ∷ rows) = edges_to number row ++ turned_from (suc numb
 abbrev pub LeadToVertices : Edges → Type 0
 LeadToVertices edges = (from to : ℕ) → HasNext edges from to → to < count_of edges
 
--- the same edges in the other direction
+-- the same edges, reversed
 abbrev pub AreReversed : Edges → Edges → Type 0
 AreReversed edges reversed = (from to : ℕ) → HasNext reversed from to ↔ HasNext edges to from
 
 -- ---- the edges of nodes
 
--- a name that is made alone leads to what it needs, any other one to its making
+-- a name leads to its making, if it has one, or else to what it needs
 abbrev pub LeadsTo : ℕ → StoredNode → Option ℕ → ℕ → Type 0
 LeadsTo names node None to = Contains (needed_numbers node) to
 LeadsTo names node (Some making) to = to ≡ names + making
 
--- the edges of a making, by its number, that a node gives it
+-- the edges from a making, by its number, that one of its nodes adds
 abbrev pub making_edges : Option ℕ → List ℕ → List (ℕ × ℕ)
 making_edges None numbers = []
 making_edges (Some making) numbers = edges_from making numbers
@@ -100,11 +100,11 @@ making_edges (Some making) numbers = edges_from making numbers
 abbrev pub makings_edges : List StoredNode → List (ℕ × ℕ)
 makings_edges nodes = flat_map (λ node. making_edges node.made_with (needed_numbers node)) nodes
 
--- so many makings stand after so many names
+-- the numbers of makings, which come after the names
 abbrev pub numbers_after : ℕ → ℕ → List ℕ
 numbers_after names count = map (λ making. names + making) (range_with_len 0 count)
 
--- an edge from a name's vertex, or from a making to what one of its names needs
+-- an edge from a name, or from a making to what one of its names needs
 abbrev pub IsEdgeOf : ℕ → ℕ → StoredNode → ℕ → ℕ → Type 0
 IsEdgeOf names number node from to =
     ((from ≡ number) × LeadsTo names node node.made_with to)
@@ -120,27 +120,27 @@ pub record IsEdge (nodes : List StoredNode) (from to : ℕ) : Type 0 where
 abbrev pub AreMadeBelow : ℕ → List StoredNode → Type 0
 AreMadeBelow count nodes = All (λ node. IfSome node.made_with (λ making. making < count)) nodes
 
--- what nodes need has numbers of nodes
+-- the inputs of nodes are numbers of nodes
 abbrev pub AreNeededBelow : List StoredNode → Type 0
 AreNeededBelow nodes = All (λ node. All (λ number. number < length nodes) (needed_numbers node)) nodes
 
 abbrev pub AreEdgesOf : List StoredNode → Edges → Type 0
 AreEdgesOf nodes edges = (from to : ℕ) → HasNext edges from to ↔ IsEdge nodes from to
 
--- ---- what is left
+-- ---- what remains
 
 abbrev pub holds_in : List Bool → ℕ → Bool
 holds_in held vertex = get_or held vertex false
 
--- how many are left
+-- the number of remaining vertices
 abbrev pub count_held : List Bool → ℕ
 count_held held = count_by (λ is. is) held
 
--- each vertex that leads back to itself is left
+-- each vertex that leads back to itself remains
 abbrev pub HoldsCircular : Edges → List Bool → Type 0
 HoldsCircular edges held = (vertex : ℕ) → LeadsBack edges vertex → holds_in held vertex ≡ true
 
--- the first of an order that leads back to itself
+-- the first vertex of an order that leads back to itself
 pub record IsFirstBack (edges : Edges) (order : List ℕ) (vertex : ℕ) : Type 0 where
   pub earlier : List ℕ
   pub later : List ℕ
@@ -150,11 +150,11 @@ pub record IsFirstBack (edges : Edges) (order : List ℕ) (vertex : ℕ) : Type 
 
 -- ---- what a vertex leads to
 
--- a vertex after the others of the work, if it is taken
+-- the work list with a vertex at the end, if it is taken
 abbrev pub work_with : Bool → List ℕ → ℕ → List ℕ
 work_with taken work vertex = if taken then work ++ vertex ∷ [] else work
 
--- vertices were taken from those that weren't visited, and put to the work
+-- the unvisited ones of some vertices were visited and added to the work list
 pub record Visits (vertices : List ℕ) (old new : List Bool) (old_work new_work : List ℕ) : Type 0 where
   pub many : count_held new + length new_work ≡ count_held old + length old_work
   pub fewer : (vertex : ℕ) → holds_in new vertex ≡ true → holds_in old vertex ≡ true
@@ -163,13 +163,12 @@ pub record Visits (vertices : List ℕ) (old new : List Bool) (old_work new_work
   pub kept : (vertex : ℕ) → Contains old_work vertex → Contains new_work vertex
   pub only : (vertex : ℕ) → Contains new_work vertex → Contains old_work vertex ⊎ Contains vertices vertex
 
--- a vertex other than the first one is done with: all that it leads to was visited
+-- a vertex other than the first one is finished: all that it leads to was visited
 pub record IsDoneWith (edges : Edges) (first : ℕ) (unvisited : List Bool) (vertex : ℕ) : Type 0 where
   pub other : ¬ (vertex ≡ first)
   pub onward : (next : ℕ) → HasNext edges vertex next → holds_in unvisited next ≡ false
 
--- while a search goes on from a vertex: what is in the work is reached, and what was visited is in the work or done
--- with
+-- during a search from a vertex: the work list is reached from it, and what was visited is in the work list or finished
 pub record Searches (edges : Edges) (first : ℕ) (held unvisited : List Bool) (work : List ℕ) : Type 0 where
   pub reached : (vertex : ℕ) → Contains work vertex → LeadsOn edges first vertex
   pub begun : (next : ℕ) → HasNext edges first next → holds_in unvisited next ≡ false

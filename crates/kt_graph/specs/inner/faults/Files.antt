@@ -15,25 +15,25 @@ use Rattle.kt_graph.specs.nodes.Node.{Node}
 use Rattle.kt_graph.specs.faults.Paths.{canon_of}
 use Rattle.kt_graph.specs.nodes.Views.{name_at, names_at}
 
--- how many of some names are names of a file
+-- the number of names that are names of a file
 abbrev pub count_of : List Text → Text → ℕ
 count_of names file = length (filter (λ name. bytes_eq (canon_of name) file) names)
 
--- a name has a file that others of these names have, too
+-- the file of a name has another of these names, too
 abbrev pub is_repeated : List Text → Text → Bool
 is_repeated names name = nat_lt 1 (count_of names (canon_of name))
 
 abbrev pub made_names : List Node → List Text
 made_names nodes = map (λ node. node.name) (made_nodes nodes)
 
--- whether several of these names have a file, if any has it
+-- whether several of these names are names of a file, if any is
 abbrev pub several_in : List Text → Text → Option Bool
 several_in names file = if nat_eq (count_of names file) 0 then None else Some (nat_lt 1 (count_of names file))
 
 abbrev pub held_for : List (Vec ℕ Global × Bool) → Text → Option Bool
 held_for entries file = lookup (λ key. bytes_eq file key.items) entries
 
--- this is held of each file
+-- the code holds this for each file
 abbrev pub HasFiles : Files → List Text → Type 0
 HasFiles files names = (file : Text) → held_for files.several.entries file ≡ several_in names file
 
@@ -42,7 +42,7 @@ abbrev pub AreDistinct : List Text → Type 0
 AreDistinct names = (one other : ℕ) → one < length names → other < length names
     → name_at names one ≡ name_at names other → one ≡ other
 
--- the numbers of all names, in byte order of these
+-- the numbers of all names, in byte order of the names
 pub record IsByteOrder (names : List Text) (order : List ℕ) : Type 0 where
   pub rises : IsStrictlySortedBy (slice_cmp nat_cmp) (names_at names order)
   pub all : (number : ℕ) → Contains order number ↔ (number < length names)

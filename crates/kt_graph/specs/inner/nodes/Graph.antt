@@ -15,26 +15,26 @@ AreApart instances =
     (one other : ℕ) → one < length instances → other < length instances → instance_at instances (Some one)
     ≡ instance_at instances (Some other) → one ≡ other
 
--- a node's numbers are those of names and makings, and no two of these are equal
+-- a node's numbers are numbers of names and makings, and no two makings are equal
 pub record IsHeld (names : List Text) (instances : List Held) (node : StoredNode) : Type 0 where
   pub distinct : AreDistinct names
   pub apart : AreApart instances
   pub numbers : HasNumbers (length names) (length instances) node
 
--- so are those of several
+-- the same for several nodes
 pub record AreHeld (names : List Text) (instances : List Held) (nodes : List StoredNode) : Type 0 where
   pub distinct : AreDistinct names
   pub apart : AreApart instances
   pub numbers : All (HasNumbers (length names) (length instances)) nodes
 
--- each name has its node, and the order is that of the names
+-- each name has its node, and the order is the byte order of the names
 pub record IsWhole (names : List Text) (instances : List Held) (nodes : List StoredNode)
     (order : List ℕ) : Type 0 where
   pub held : AreHeld names instances nodes
   pub as_many : length nodes ≡ length names
   pub rises : IsByteOrder names order
 
--- whether a rule makes a name, as nodes tell it
+-- whether the nodes say that a rule makes a name
 abbrev pub makes_among : List Node → Text → Bool
 makes_among nodes name = option_map_or
     (λ node. not (is_leaf node.kind)) (find (λ node. bytes_eq name node.name) nodes) false

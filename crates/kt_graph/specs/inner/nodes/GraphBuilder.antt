@@ -1,4 +1,4 @@
--- The names that were reached so far, and the nodes of the first of them, as the code holds them (kati's own).
+-- The names reached so far, and the nodes of the first of them, as the code holds them (kati's own).
 use Rattle.std.specs.Prelude.{◌≡◌, ℕ, ◌≤◌, List, [], length, fold, take, All, Some, slice_get}
 use Rattle.std.specs.List.{Contains}
 use Rattle.kt_text.specs.Words.{Text}
@@ -13,12 +13,12 @@ use Rattle.kt_graph.specs.inner.nodes.Numbering.{Says, SaysNode}
 use Rattle.kt_graph.specs.Reach.{IsReached}
 use Rattle.kt_graph.specs.nodes.Views.{name_at}
 
--- rules are searched for in the book, over its known names
+-- the search uses the rules of the book and its known names
 pub record IsOver (builder : GraphBuilder) : Type 0 where
   pub rules : builder.search.rules ≡ patterns_of builder.book.now
   pub known_names : builder.search.known ≡ builder.known.now
 
--- names are reached; those that were reached before keep their numbers, as makings do, and all else stays
+-- names are reached; those reached before and the makings keep their numbers, and all else stays
 pub record ReachesMore (old : GraphBuilder) (needed : List Text) (new : GraphBuilder) : Type 0 where
   pub book : new.book ≡ old.book
   pub known_names : new.known ≡ old.known
@@ -33,7 +33,7 @@ pub record IsBegun (goals : List Text) (builder : GraphBuilder) : Type 0 where
   pub names : builder.numbers ≡ fold with_name [] goals
   pub nodes : builder.nodes ≡ []
 
--- what was reached is needed by goals, and what has a node has the right one
+-- what was reached is needed by goals, and each node is the right one
 pub record IsUnderWay (rules : List Rule) (known goals names : List Text) (instances : List Held)
     (nodes : List StoredNode) : Type 0 where
   pub reached : All (IsReached rules known goals) names
@@ -52,7 +52,7 @@ pub record IsDone (rules : List Rule) (known goals : List Text) (names : List Te
       → Says names instances (name_at names number) (node_of rules known (name_at names number)) node
   pub all : length nodes ≡ length names
 
--- no node is left to be built
+-- no node remains to be built
 abbrev pub IsBuilt : List Rule → List Text → List Text → GraphBuilder → Type 0
 IsBuilt rules known goals builder =
     IsDone rules known goals builder.numbers builder.instances.keys builder.nodes

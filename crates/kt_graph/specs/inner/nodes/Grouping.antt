@@ -9,11 +9,11 @@ use Rattle.kt_graph.specs.nodes.Node.{Node, is_leaf}
 use Rattle.kt_graph.specs.nodes.Views.{nodes_view}
 use Rattle.kt_graph.specs.inner.faults.Edges.{with_edge}
 
--- whether a rule makes the node of a number
+-- whether a rule makes the node with a number
 abbrev pub is_made_at : List StoredNode → ℕ → Bool
 is_made_at nodes number = option_map_or (λ node. not (is_leaf node.kind)) (slice_get nodes number) false
 
--- the making that makes other names, too
+-- the making of a node, if the making makes other names, too
 abbrev pub making_at : List StoredNode → ℕ → Option ℕ
 making_at nodes number = option_and_then (λ node. node.made_with) (slice_get nodes number)
 
@@ -24,13 +24,13 @@ is_number making (Some other) = nat_eq making other
 abbrev pub is_made_with : List StoredNode → ℕ → ℕ → Bool
 is_made_with nodes making number = is_made_at nodes number && is_number making (making_at nodes number)
 
--- those of the numbers that each making makes, of so many makings
+-- for each of a number of makings, those of the numbers whose nodes it makes
 pub record HasMembers (nodes : List StoredNode) (makings : ℕ) (numbers : List ℕ) (members : List
     (List ℕ)) : Type 0 where
   pub many : length members ≡ makings
   pub each : (making : ℕ) → making < makings → get_or members making [] ≡ filter (is_made_with nodes making) numbers
 
--- with one more number
+-- the members with one more number
 abbrev pub with_making : List (List ℕ) → ℕ → Option ℕ → List (List ℕ)
 with_making members number None = members
 with_making members number (Some making) = with_edge members (making, number)
@@ -39,7 +39,7 @@ abbrev pub with_member : List StoredNode → List (List ℕ) → ℕ → List (L
 with_member nodes members number = if is_made_at nodes number then with_making members number (making_at nodes number)
     else members
 
--- the numbers that stand in one group with a number
+-- the numbers in the same group as a number
 abbrev pub members_by : List (List ℕ) → ℕ → Option ℕ → List ℕ
 members_by members number None = number ∷ []
 members_by members number (Some making) = get_or members making []
@@ -47,7 +47,7 @@ members_by members number (Some making) = get_or members making []
 abbrev pub members_of : List StoredNode → List (List ℕ) → ℕ → List ℕ
 members_of nodes members number = members_by members number (making_at nodes number)
 
--- whether it is the first of these
+-- whether a number is the first in a list
 abbrev pub is_first : List ℕ → ℕ → Bool
 is_first [] number = false
 is_first (first ∷ others) number = nat_eq first number
@@ -59,7 +59,7 @@ leads_by members number (Some making) = is_first (get_or members making []) numb
 abbrev pub leads_at : List StoredNode → List (List ℕ) → ℕ → Bool
 leads_at nodes members number = is_made_at nodes number && leads_by members number (making_at nodes number)
 
--- the groups that numbers lead
+-- the group of a number, if the number is the first in it
 abbrev pub group_at : List Text → List Held → List StoredNode → List (List ℕ) → ℕ → List (List Node)
 group_at names instances nodes members number =
     if leads_at nodes members number then nodes_view names instances nodes (members_of nodes members number)

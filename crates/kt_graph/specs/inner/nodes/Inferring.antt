@@ -16,20 +16,20 @@ abbrev pub pattern_making : Rule → Chosen → Option Instance
 pattern_making rule chosen = if nat_lt 1 (length rule.targets)
     then Some (of_pattern chosen.rule chosen.directory chosen.stem) else None
 
--- what a rule gives that was chosen
+-- what the code has is what the chosen rule gives
 pub record GivesChosen (rule : Rule) (chosen : Chosen) (inferred : Inferred) : Type 0 where
   pub recipe : option_map (λ lines. lines.now) inferred.recipe ≡ rule.recipe
   pub stem : inferred.stem ≡ chosen.directory ++ chosen.stem
   pub needs : inferred.needs ≡ needs_with chosen.directory chosen.stem rule.needs
   pub making : option_map instance_view inferred.making ≡ pattern_making rule chosen
 
--- what the rule gives that has the chosen number, if there is such a rule
+-- what the rule with the chosen number gives, if there is such a rule
 abbrev pub Infers : List Rule → Chosen → Option Inferred → Type 0
 Infers rules chosen inferred =
     MatchOption inferred (slice_get rules chosen.rule ≡ None) (λ some. (rule : Rule)
     × (slice_get rules chosen.rule ≡ Some rule) × GivesChosen rule chosen some)
 
--- the node of a name to which it is given
+-- the node of a name, from what the chosen rule gives
 abbrev pub inferred_node : Text → List (Rule × Target) → Inferred → Node
 inferred_node name rules inferred = record {
   name = name;
@@ -42,7 +42,7 @@ inferred_node name rules inferred = record {
   made_with = option_map instance_view inferred.making;
 }
 
--- what is given is that of the candidate that the search finds, with its rule
+-- what is given comes from the candidate that the search finds and its rule
 abbrev pub InfersFrom : Option (Candidate × Rule) → Option Inferred → Type 0
 InfersFrom found inferred =
     MatchOption inferred (found ≡ None) (λ some. (one : Candidate × Rule) × (found ≡ Some one)

@@ -1,4 +1,4 @@
--- Nodes as rules tell them, before what they need has numbers (kati's own).
+-- Nodes before their names have numbers (kati's own).
 use Rattle.std.specs.Prelude.{List, map, flat_map, option_map}
 use Rattle.kt_text.specs.Words.{Text}
 use Rattle.kt_rules.specs.declared.entry.Needs.{Needs}
@@ -11,14 +11,14 @@ use Rattle.kt_graph.specs.declared.nodes.named.NamedPart.{NamedPart}
 use Rattle.kt_graph.specs.nodes.Node.{Node, Part}
 use Rattle.kt_graph.specs.nodes.Views.{instance_view}
 
--- what rules need, put together in order
+-- the prerequisites of rules, joined in order
 abbrev pub put_together : List Needs → Needs
 put_together needs = record {
   prerequisites = flat_map (λ some. some.prerequisites) needs;
   order_only = flat_map (λ some. some.order_only) needs;
 }
 
--- what each rule of a name needs
+-- the prerequisites of each rule of a name
 abbrev pub needs_of_each : List (Rule × Target) → List Needs
 needs_of_each rules = map (λ made. needs_for made.0 made.1) rules
 

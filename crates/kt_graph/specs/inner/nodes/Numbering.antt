@@ -10,16 +10,16 @@ use Rattle.kt_graph.specs.inner.nodes.Stored.{StoredNode, StoredPart}
 use Rattle.kt_graph.specs.nodes.Node.{Instance, Node, Part}
 use Rattle.kt_graph.specs.nodes.Views.{instance_at, name_at, node_view}
 
--- a number after others, if it isn't among them
+-- numbers with one more at the end, unless they have it already
 abbrev pub with_number : List ℕ → ℕ → List ℕ
 with_number numbers number = if list_any (nat_eq number) numbers then numbers else numbers ++ number ∷ []
 
--- each number is greater than the one before, the first than this one
+-- the first number is greater than a given one, and each other number than the one before it
 unfoldable pub rise_after : ℕ → List ℕ → Bool
 rise_after last [] = true
 rise_after last (number ∷ numbers) = nat_lt last number && rise_after number numbers
 
--- each number is greater than the one before
+-- each number is greater than the one before it
 unfoldable pub rise : List ℕ → Bool
 rise [] = true
 rise (first ∷ numbers) = rise_after first numbers
@@ -27,7 +27,7 @@ rise (first ∷ numbers) = rise_after first numbers
 abbrev pub AreBelow : ℕ → List ℕ → Type 0
 AreBelow count numbers = All (λ number. number < count) numbers
 
--- what a part needs are names
+-- the prerequisites of a part are numbers of names
 pub record IsNumbered (count : ℕ) (part : StoredPart) : Type 0 where
   pub prerequisites : AreBelow count part.prerequisites
   pub order_only : AreBelow count part.order_only
@@ -36,16 +36,16 @@ pub record IsNumbered (count : ℕ) (part : StoredPart) : Type 0 where
 abbrev pub input_numbers : List StoredPart → List ℕ
 input_numbers parts = fold with_number [] (flat_map (λ part. part.prerequisites) parts)
 
--- those of some numbers that aren't among others
+-- the numbers that aren't among others
 abbrev pub numbers_without : List ℕ → List ℕ → List ℕ
 numbers_without others numbers = filter (λ number. not (list_any (nat_eq number) others)) numbers
 
--- the order-only ones, each once and without the inputs
+-- the order-only prerequisites of parts, each once and without the inputs
 abbrev pub order_only_numbers : List StoredPart → List ℕ
 order_only_numbers parts =
     fold with_number [] (numbers_without (input_numbers parts) (flat_map (λ part. part.order_only) parts))
 
--- the same of parts that aren't stored yet
+-- the same for parts that aren't stored yet
 abbrev pub inputs_held : List HeldPart → List ℕ
 inputs_held parts = fold with_number [] (flat_map (λ part. part.needs.prerequisites.items) parts)
 
@@ -53,22 +53,22 @@ abbrev pub order_only_held : List HeldPart → List ℕ
 order_only_held parts =
     fold with_number [] (numbers_without (inputs_held parts) (flat_map (λ part. part.needs.order_only.items) parts))
 
--- a node has the numbers of names and of makings alone; its inputs are what its parts need, each once
+-- all numbers of a node are those of names and makings; its inputs are the prerequisites of its parts, each once
 pub record HasNumbers (names makings : ℕ) (node : StoredNode) : Type 0 where
   pub parts : All (IsNumbered names) node.parts
   pub inputs : node.inputs ≡ input_numbers node.parts
   pub order_only : node.order_only ≡ order_only_numbers node.parts
   pub made_with : IfSome node.made_with (λ making. making < makings)
 
--- what is held for a name says a node
+-- the stored node of a name is the expected one
 pub record Says (names : List Text) (instances : List Held) (name : Text) (expected : Node)
     (node : StoredNode) : Type 0 where
   pub numbers : HasNumbers (length names) (length instances) node
   pub told : (number : ℕ) → name_at names number ≡ name → node_view names instances number node ≡ expected
 
--- ---- the same where the names are texts
+-- ---- the same with texts for names
 
--- numbers stand for names
+-- the numbers are those of the names
 abbrev pub StandFor : List Text → List Text → List ℕ → Type 0
 StandFor names expected numbers = map (slice_get names) numbers ≡ map Some expected
 
@@ -89,7 +89,7 @@ pub record IsMaking (instances : List Held) (expected : Option Instance) (number
   pub numbers : IfSome number (λ making. making < length instances)
   pub told : instance_at instances number ≡ expected
 
--- what is held says a node, whatever its name
+-- the stored node is the expected one, whatever its name
 pub record SaysNode (names : List Text) (instances : List Held) (expected : Node) (node : StoredNode) : Type 0 where
   pub kind : node.kind ≡ expected.kind
   pub parts : SayParts names expected.parts node.parts

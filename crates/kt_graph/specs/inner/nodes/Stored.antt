@@ -1,4 +1,4 @@
--- Nodes as the graph holds them: names by their numbers, and the lists of one node after another in one (kati's own).
+-- Nodes as the graph holds them: with numbers for names, and with the lists of all nodes in one (kati's own).
 use Rattle.std.specs.Prelude.{◌≡◌, ℕ, ◌≤◌, List, [], ◌++◌, ◌∷◌, length, map, All, Option, None, option_map, get_or}
 use Rattle.std.specs.List.{slice_range}
 use Rattle.kt_text.specs.Words.{Text}
@@ -12,7 +12,7 @@ use Rattle.kt_graph.specs.declared.nodes.stored.HeldPart.{HeldPart}
 use Rattle.kt_graph.specs.declared.nodes.stored.SeenPart.{SeenPart}
 use Rattle.kt_graph.specs.declared.nodes.stored.Span.{Span}
 
--- a recipe with what its automatic macros tell; what it needs in order and with repeats
+-- a recipe with the stem and prerequisites for its automatic macros; the prerequisites in order and with repeats
 pub record StoredPart : Type 0 where
   pub recipe : Option (List RecipeLine)
   pub stem : Text
@@ -27,7 +27,7 @@ pub record StoredNode : Type 0 where
   pub inputs : List ℕ
   pub order_only : List ℕ
 
--- the node of a number; where there is none, a leaf that needs nothing
+-- the node with a number; where there is none, a leaf that needs nothing
 abbrev pub stored_at : List StoredNode → ℕ → StoredNode
 stored_at nodes number = get_or nodes number (record {
   kind = Leaf;
@@ -95,7 +95,7 @@ part_seen part = record {
   order_only = part.order_only.now;
 }
 
--- places of a list that has so many
+-- places in a list of this length
 pub record IsWithin (count : ℕ) (span : Span) : Type 0 where
   pub rises : span.start ≤ span.end
   pub ends : span.end ≤ count
@@ -109,18 +109,18 @@ pub record IsHeadWithin (many_parts many_numbers : ℕ) (head : Head) : Type 0 w
   pub inputs : IsWithin many_numbers head.inputs
   pub order_only : IsWithin many_numbers head.order_only
 
--- all places are those of parts and numbers that there are
+-- all places are in the lists of parts and numbers
 pub record AreStored (parts : List HeldPart) (numbers : List ℕ) (heads : List Head) : Type 0 where
   pub parts_within : All (IsPartWithin (length numbers)) parts
   pub heads_within : All (IsHeadWithin (length parts) (length numbers)) heads
 
 -- ---- steps
 
--- what is there stays, and more may come after it
+-- a list may have more elements at the end
 abbrev pub HasMore : {A : Type 0} → List A → List A → Type 0
 HasMore {A} old new = (more : List A) × (new ≡ old ++ more)
 
--- parts and numbers come after those that there are
+-- parts and numbers were added at the end
 pub record Grew (parts : List HeldPart) (numbers : List ℕ) (new_parts : List HeldPart)
     (new_numbers : List ℕ) : Type 0 where
   pub more_parts : HasMore parts new_parts
@@ -138,13 +138,13 @@ pub record ArePartsOf (parts : List HeldPart) (numbers : List ℕ) (expected : L
   pub within : IsWithin (length parts) span
   pub are : parts_stored numbers (cut parts span) ≡ expected
 
--- one part comes after those that there are
+-- one part was added at the end
 pub record PutsPart (parts new_parts : List HeldPart) (numbers : List ℕ) (expected : StoredPart) : Type 0 where
   pub part : HeldPart
   pub put : new_parts ≡ parts ++ part ∷ []
   pub is : part_stored numbers part ≡ expected
 
--- what stands for a node beside its lists
+-- a node without its lists
 pub record IsHeadOf (parts : List HeldPart) (numbers : List ℕ) (expected : StoredNode) (head : Head) : Type 0 where
   pub within : IsHeadWithin (length parts) (length numbers) head
   pub is : node_stored parts numbers head ≡ expected

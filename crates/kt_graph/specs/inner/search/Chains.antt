@@ -14,7 +14,7 @@ use Rattle.kt_graph.specs.search.Search.{Asked, asked_eq, asked_inside, asking, 
 use Rattle.kt_graph.specs.search.Search.{with_question}
 use Rattle.kt_graph.specs.search.Views.{IsWithin, question_view, found_view}
 
--- what was found for a name is this candidate; it is one of a rule, and its places lie in the name
+-- the candidate that was found for a name is the expected one; it has a rule, and its places are in the name
 pub record IsFound (rules : List Rule) (name : Text) (expected : Option Candidate)
     (found : Option HeldCandidate) : Type 0 where
   pub told : found_view rules name found ≡ expected
@@ -28,14 +28,14 @@ left_for question = chain_limit - length question.used.items
 abbrev pub expected_for : List Rule → List Text → Question → Option Candidate
 expected_for rules known question = fitting rules known (left_for question) question.used.items question.name
 
--- what a question asks besides itself
+-- what a question asks, without itself
 unfoldable pub asked_besides : List Rule → List Text → ℕ → List ℕ → Text → List Asked
 asked_besides rules known zero used name = []
 asked_besides rules known (suc left) used name =
     asked_inside known (fitting rules known left) (asking rules known left) used (open_candidates rules used name)
 
--- the questions with at least a given number of rules in their chains have their answers, and stand with all that these
--- asked for; those with fewer may still be open
+-- the questions with at least a given number of rules in their chains have their answers, and all that these asked are
+-- there; those with fewer rules may have no answer yet
 pub record IsRight (rules : List Rule) (known : List Text) (tried : List Question)
     (answers : List (Option HeldCandidate)) (least : ℕ) : Type 0 where
   pub as_many : length answers ≡ length tried
@@ -51,31 +51,31 @@ pub record IsRight (rules : List Rule) (known : List Text) (tried : List Questio
 abbrev pub IsRightFor : List Rule → List Text → Tried → ℕ → Type 0
 IsRightFor rules known tried least = IsRight rules known tried.questions.keys tried.answers.items least
 
--- these questions were put, as far as they weren't before
+-- these questions were added, each unless it was there
 abbrev pub Asks : Tried → Tried → List Asked → Type 0
 Asks old new asked =
     map question_view new.questions.keys ≡ fold with_question (map question_view old.questions.keys) asked
 
--- what a step of the search leaves, where all that it asks has a given number of rules in its chain: it has asked this,
--- and all of it has its answer
+-- after a step of the search whose questions have a given number of rules in their chains: it has asked all of them,
+-- and each has its answer
 pub record HasAnswered (rules : List Rule) (known : List Text) (old new : Tried) (least : ℕ)
     (asked : List Asked) : Type 0 where
   pub put : Asks old new asked
   pub right : IsRightFor rules known new least
 
--- the second begins with the first: whatever number of elements is taken from the front of both, within the first, they
--- are the same
+-- the second list begins with the first: any number of elements at the start, up to the length of the first, is the
+-- same in both
 abbrev pub IsPrefix : {A : Type 0} → List A → List A → Type 0
 IsPrefix old new = (length old ≤ length new) × ((count : ℕ) → count ≤ length old → take count new ≡ take count old)
 
--- no question is taken back, and none that stood has another answer
+-- no question is removed, and none gets another answer
 pub record Keeps (old new : Tried) : Type 0 where
   pub questions : IsPrefix old.questions.keys new.questions.keys
   pub answers : IsPrefix old.answers.items new.answers.items
 
--- ---- how a question is placed
+-- ---- where a question is placed
 
--- it stood there before, with this answer
+-- it was there already, with this answer
 pub record StoodBefore (old new : Tried) (question : Question) (answer : Option HeldCandidate) : Type 0 where
   pub place : ℕ
   pub one : Question
@@ -85,7 +85,7 @@ pub record StoodBefore (old new : Tried) (question : Question) (answer : Option 
   pub questions : new.questions.keys ≡ old.questions.keys
   pub answers : new.answers.items ≡ old.answers.items
 
--- it is new, and went after the others without an answer
+-- it is new, and was added at the end without an answer
 pub record StandsLast (old new : Tried) (question : Question) (place : ℕ) : Type 0 where
   pub place_after : place ≡ length old.questions.keys
   pub absent : list_any (asked_eq (question_view question)) (map question_view old.questions.keys) ≡ false

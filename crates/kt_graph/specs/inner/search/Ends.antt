@@ -10,15 +10,15 @@ use Rattle.kt_rules.specs.Indexes.{noted_at}
 use Rattle.kt_graph.specs.declared.search.ends.Ends.{Ends}
 use Rattle.kt_graph.specs.search.Candidates.{Candidate, candidate_of}
 
--- the numbers of an end
+-- the numbers at an end
 abbrev pub numbers_at : Ends → Text → List ℕ
 numbers_at ends end = noted_at ends.numbers end
 
--- a number is there at an end, and the end's length
+-- a number is noted at an end, and the end's length is noted
 abbrev pub IsNoted : Ends → Text → ℕ → Type 0
 IsNoted ends end number = Contains (numbers_at ends end) number × Contains ends.lengths.keys (length end)
 
--- what was there stays
+-- what was noted stays noted
 abbrev pub KeepsNoted : Ends → Ends → Type 0
 KeepsNoted old new = (end : Text) (number : ℕ) → IsNoted old end number → IsNoted new end number
 
@@ -26,7 +26,7 @@ pub record Notes (old new : Ends) (end : Text) (number : ℕ) : Type 0 where
   pub noted : IsNoted new end number
   pub kept : KeepsNoted old new
 
--- a number is there at the ends of these targets
+-- a number is noted at the ends of these targets
 abbrev pub AreNoted : Ends → List Target → ℕ → Type 0
 AreNoted ends targets number = All (λ target. IsNoted ends (pattern_back target.name) number) targets
 
@@ -34,18 +34,18 @@ pub record NotesAll (old new : Ends) (targets : List Target) (number : ℕ) : Ty
   pub noted : AreNoted new targets number
   pub kept : KeepsNoted old new
 
--- each rule's number is there at the ends of its targets
+-- each rule's number is noted at the ends of its targets
 abbrev pub AreAllNoted : Ends → List Rule → Type 0
 AreAllNoted ends rules = (number : ℕ) (rule : Rule) → slice_get rules number ≡ Some rule
     → AreNoted ends rule.targets number
 
--- all that is there at an end of the name is found, where the end has one of these lengths
+-- all that is noted at the ends of the name with one of these lengths is found
 abbrev pub HasAll : Ends → Text → List ℕ → List ℕ → Type 0
 HasAll ends name lengths found =
     (length_of : ℕ) (number : ℕ) → Contains lengths length_of → length_of ≤ length name
     → Contains (numbers_at ends (drop (length name - length_of) name)) number → Contains found number
 
--- the rule of a number as it makes a name
+-- the rule with a number as a candidate for a name
 abbrev pub candidate_numbered : List Rule → Text → ℕ → Option Candidate
 candidate_numbered rules name number = option_and_then (λ rule. candidate_of number rule name) (slice_get rules number)
 

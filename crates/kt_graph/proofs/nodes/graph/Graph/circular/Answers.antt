@@ -13,7 +13,7 @@ pub returns-in-Some : goal.returns-in-Some
 returns-in-Some c = λ rules known goals graph.
     let held = c.self.inside in
     let first = MatchOption-at_some _ _ c.in-Some.number c.in-Some.is c.in_ok-number.ensures in
-    rw (c.name_of.ensures, c.as_slice-in-Some.ensures.names)
+    rw c.name_of.ensures
     (first_cyclic held.names held.instances.keys held.nodes held.order.items c.self.invariant rules known goals
     (subst (IsGraph rules known goals) (sym c.self.view_is) graph) c.in_ok-edges.edges
     c.in_ok-edges.ensures.edges c.in-Some.number

@@ -11,5 +11,5 @@ returns-in-None c =
 pub returns-in-Some : goal.returns-in-Some
 returns-in-Some c =
     let graph = c.self.inside in
-    rw (← c.self.view_is, c.node_at.ensures, c.as_slice-names.ensures.names, c.as_slice-instances.ensures.keys)
+    rw (← c.self.view_is, c.node_at.ensures, c.as_slice-instances.ensures.keys)
     (node_found graph.names graph.instances.keys graph.nodes graph.order.items c.self.invariant c.args.name.now c.in-Some.number (sym c.in-Some.ensures.place))

@@ -18,9 +18,8 @@ whole-requires-clause-numbers c =
       nodes = ap (λ (s : GraphBuilder). s.nodes) reach ∙ start.3;
     } in
     let self = c.build_all.new.self in
-    rw c.into_names.ensures
-    (done_numbers c.reach.new.self.book.now c.reach.new.self.known.now c.args.goals.now self.numbers self.instances.keys self.nodes
-    (c.in_ok-build_all.ensures c.args.goals.now begun))
+    done_numbers c.reach.new.self.book.now c.reach.new.self.known.now c.args.goals.now self.numbers self.instances.keys self.nodes
+    (c.in_ok-build_all.ensures c.args.goals.now begun)
 
 pub returns : goal.returns
 returns c =
@@ -32,7 +31,7 @@ returns c =
       nodes = ap (λ (s : GraphBuilder). s.nodes) reach ∙ start.3;
     } in
     let self = c.build_all.new.self in
-    let keys = c.into_names.result in
+    let keys = self.numbers in
     let by_book : c.reach.new.self.book.now ≡ c.args.book.now
     = ap (λ (s : GraphBuilder). s.book.now) reach ∙ ap (λ (b : Bor (List Rule)). b.now) start.0 in
     let by_known : c.reach.new.self.known.now ≡ c.args.known.now
@@ -40,7 +39,7 @@ returns c =
     let done : IsDone c.args.book.now c.args.known.now goals keys self.instances.keys self.nodes
     = subst (λ r. IsDone r c.args.known.now goals keys self.instances.keys self.nodes) by_book
     (subst (λ k. IsDone c.reach.new.self.book.now k goals keys self.instances.keys self.nodes) by_known
-    (rw c.into_names.ensures (c.in_ok-build_all.ensures goals begun))) in
+    (c.in_ok-build_all.ensures goals begun)) in
     IfOk-weaker c.whole.result
     (λ graph. (rules : List Rule) (known others : List Text) → IsDone rules known others keys self.instances.keys self.nodes → IsGraph rules known others graph)
     (IsGraph c.args.book.now c.args.known.now goals) (λ graph h. h c.args.book.now c.args.known.now goals done) c.whole.ensures

@@ -28,7 +28,7 @@ rule_of : Instance → ℕ
 rule_of (of_group first) = 0
 rule_of (of_pattern rule directory stem) = rule
 
--- makings that are told alike are equal
+-- makings with the same parts are equal
 told_same : (x y : Held) → instance_view x ≡ instance_view y → eq-value.it x y ≡ true
 unfolding is_grouped first_of directory_of rule_of
 told_same (held.Group first) (held.Group other) e = (bytes_eq-Decides first.items other.items).1 (ap first_of e)
@@ -40,21 +40,16 @@ told_same (held.Pattern rule directory stem) (held.Pattern other beside rest) e 
     let three = (bytes_eq-Decides stem.items rest.items).1 (ap first_of e) in
     and_from _ _ one (and_from _ _ two three)
 
-pub byte_order-requires : goal.byte_order-requires
-byte_order-requires c =
-    rw c.as_slice.ensures.names
-    (names_distinct c.args.names (λ i j d less within. apart_from_distinct _ c.args.names i j d c.as_slice.ensures.differ less within))
-
 pub invariant_of-result : goal.invariant_of-result
 invariant_of-result c = record {
   held = record {
-    distinct = names_distinct c.args.names (λ i j d less within. apart_from_distinct _ c.args.names i j d c.as_slice.ensures.differ less within);
+    distinct = names_distinct c.args.names (λ i j d less within. apart_from_distinct _ c.args.names i j d c.len-count.ensures.differ less within);
     apart = makings_apart eq-value.it told_same c.args.instances.keys
-        (λ i j d less within. apart_from_distinct eq-value.it c.args.instances.keys i j d c.as_slice-2.ensures.unique less within);
+        (λ i j d less within. apart_from_distinct eq-value.it c.args.instances.keys i j d c.as_slice-instances.ensures.unique less within);
     numbers = c.requires.numbers;
   };
   as_many = c.requires.all;
-  rises = rw c.as_slice.ensures.names at c.in_ok-order.ensures;
+  rises = c.in_ok-order.ensures;
 }
 
 pub returns : goal.returns
@@ -62,12 +57,12 @@ returns c = λ rules known goals done.
     graph_is c.args.names c.args.instances.keys c.args.nodes c.in_ok-order.order.items
     record {
       held = record {
-        distinct = names_distinct c.args.names (λ i j d less within. apart_from_distinct _ c.args.names i j d c.as_slice.ensures.differ less within);
+        distinct = names_distinct c.args.names (λ i j d less within. apart_from_distinct _ c.args.names i j d c.len-count.ensures.differ less within);
         apart = makings_apart eq-value.it told_same c.args.instances.keys
-            (λ i j d less within. apart_from_distinct eq-value.it c.args.instances.keys i j d c.as_slice-2.ensures.unique less within);
+            (λ i j d less within. apart_from_distinct eq-value.it c.args.instances.keys i j d c.as_slice-instances.ensures.unique less within);
         numbers = c.requires.numbers;
       };
       as_many = c.requires.all;
-      rises = rw c.as_slice.ensures.names at c.in_ok-order.ensures;
+      rises = c.in_ok-order.ensures;
     }
     rules known goals done

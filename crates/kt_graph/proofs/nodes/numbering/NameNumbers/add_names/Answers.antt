@@ -1,4 +1,4 @@
-use Rattle.std.proofs.Common.{◌≡◌, ◌∙◌, ap, fold, sym}
+use Rattle.std.proofs.Common.{◌∙◌, ap, fold, sym}
 use Rattle.kt_rules.specs.Names.{with_name}
 use Rattle.kt_rules.specs.Targets.{names_view, needed_view}
 use Rattle.kt_graph.proofs.lemmas.nodes.NumberLemmas.{said_more}
@@ -9,27 +9,10 @@ loop-name-preserved c =
     let name = needed_view c.in-Some.name in
     let left = names_view c.loop-name.name-iterator in
     let rest = names_view c.next.new.self in
-    let text : c.as_slice.result.now ≡ name = c.as_slice.ensures.value ∙ c.in_ok-text.ensures in
-    let reached = rw text at c.in_ok-number.ensures.reached in
-    let numbered = rw text at c.in_ok-number.ensures.numbered in
+    let reached = c.in_ok-number.ensures.reached in
     record {
       reached = ap (λ l. fold with_name l rest) reached ∙ sym (ap (fold with_name c.loop-name.self) c.in-Some.ensures.steps) ∙ c.loop-name.invariant.reached;
       say = λ earlier h.
-          said_more c.loop-name.self c.number.new.self earlier (names_view c.args.names) left rest name c.loop-name.numbers.items c.push.new.self.items c.in_ok-number.number
-          c.in-Some.ensures.steps reached numbered c.in_ok-push.ensures.items (c.loop-name.invariant.say earlier h);
-    }
-
-pub loop-name-preserved-in_ok-push : goal.loop-name-preserved-in_ok-push
-loop-name-preserved-in_ok-push c =
-    let name = needed_view c.in-Some.name in
-    let left = names_view c.loop-name.name-iterator in
-    let rest = names_view c.next.new.self in
-    let text : c.as_slice.result.now ≡ name = c.as_slice.ensures.value ∙ c.in_ok-text.ensures in
-    let reached = rw text at c.in_ok-number.ensures.reached in
-    let numbered = rw text at c.in_ok-number.ensures.numbered in
-    record {
-      reached = ap (λ l. fold with_name l rest) reached ∙ sym (ap (fold with_name c.loop-name.self) c.in-Some.ensures.steps) ∙ c.loop-name.invariant.reached;
-      say = λ earlier h.
-          said_more c.loop-name.self c.number.new.self earlier (names_view c.args.names) left rest name c.loop-name.numbers.items c.push.new.self.items c.in_ok-number.number
-          c.in-Some.ensures.steps reached numbered c.in_ok-push.ensures.items (c.loop-name.invariant.say earlier h);
+          said_more c.loop-name.self c.needed_number.new.self earlier (names_view c.args.names) left rest name c.loop-name.numbers.items c.push.new.self.items c.in_ok-number.number
+          c.in-Some.ensures.steps reached c.in_ok-number.ensures.numbered c.in_ok-push.ensures.items (c.loop-name.invariant.say earlier h);
     }

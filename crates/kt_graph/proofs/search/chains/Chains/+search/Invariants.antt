@@ -1,5 +1,5 @@
--- How far down the chain a step stands: a question stands above what it asks, and each question after it has one rule more.
--- The loops: what is left to be asked and found from here is what was to be asked and found from the start.
+-- How deep in the chain a step is: a question is above the questions that it asks, each of which has one rule more. The
+-- loops: what remains to be asked and found from here is what was to be asked and found from the start.
 use Rattle.std.proofs.Common.{◌≡◌, ◌+◌, ◌-◌, ◌*◌, length, map, drop, is_some}
 use Rattle.std.specs.List.{find, list_all}
 use Rattle.kt_graph.specs.search.Search.{asked_among, asked_for, asking, fitting, is_inferred}

@@ -5,7 +5,7 @@ use Rattle.kt_graph.specs.search.Candidates.{needed_names}
 use Rattle.kt_graph.specs.Known.{unknown_of}
 use Rattle.kt_graph.proofs.search.chains.Chains.add_unknown.Given as goal
 
--- what is left to be added from here is what was to be added from the start
+-- what remains to be added from here is what was to be added from the start
 abbrev pub invariant-loop-name : goal.invariant-loop-name
 invariant-loop-name l =
     let left = unknown_of l.self.known.now (needed_names l.stemming.directory.now l.stemming.stem.now (drop l.name-index l.names)) in

@@ -1,0 +1,18 @@
+use Rattle.std.proofs.Common.{◌∙◌, [], List, fold, sym, ap}
+use Rattle.std.specs.List.{flat_map}
+use Rattle.std.proofs.lemmas.Grind.{fold-append}
+use Rattle.kt_text.specs.Words.{Text}
+use Rattle.kt_rules.specs.Names.{with_name, without_repeats}
+use Rattle.kt_rules.specs.Suffixes.{suffixes_of}
+use Rattle.kt_graph.specs.Known.{known_names, listed_names, named_by}
+use Rattle.kt_graph.proofs.known.Known.of.Goals as goal
+
+pub returns : goal.returns
+unfolding known_names without_repeats
+returns c =
+    let rules = c.args.book.now in
+    let listed = listed_names c.args.files.now in
+    let named = flat_map (named_by (suffixes_of rules)) rules in
+    ap (fold with_name c.add_listed.new.names) c.in_ok-book.ensures
+    ∙ ap (λ (names : List Text). fold with_name names named) (c.in_ok-add_listed.ensures ∙ ap (λ (names : List Text). fold with_name names listed) c.new-list.ensures)
+    ∙ sym (fold-append with_name [] listed named)
