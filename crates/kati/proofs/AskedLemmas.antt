@@ -40,7 +40,7 @@ list_after store asked name = list_asks name (traced [] (asked ++ name ∷ [])) 
 
 -- ---- the makefile
 
--- a reading that was cut or came to its end
+-- a reading that was stopped or came to its end
 pub reads_asked : {A C : Type 0} (see : A → C) (result : Result A Stop) (trace : Trace) (end : Outcome Trace C) → Gives see result trace end
     → IfCut result (ComesBefore trace (left_of end)) → IsPrefix trace.asked (left_of end).asked
 reads_asked {C} see (Ok x) trace end is cut = subst (λ (o : Outcome Trace C). IsPrefix trace.asked (left_of o).asked) (sym is) (front_same trace.asked)
@@ -66,14 +66,14 @@ makefile_stops : (args : Args) (store : Store) (list : Text) (trace : Trace) (na
 makefile_stops args store list trace names h =
     asked_then names (makefile_read args store trace) (λ read. telling (wanted_by args list read)) (goals_front args list) h
 
--- where the list was stopped
+-- if the list was stopped
 pub list_stops : (args : Args) (store : Store) (asked names : List Text) → IsPrefix names (left_of (listed store args.files (traced [] asked))).asked
     → IsPrefix names (names_asked args store asked)
 list_stops args store asked names h = asked_then names (listed store args.files (traced [] asked))
     (λ list trace. then_do (makefile_read args store trace) (λ read. telling (wanted_by args list read)))
     (λ list trace. makefile_stops args store list trace trace.asked (before_makefile args store trace)) h
 
--- where the list was read, and the makefile came to an end or was stopped
+-- if the list was read, and the makefile came to an end or was stopped
 pub list_read : (args : Args) (store : Store) (asked middle names : List Text) (list : Text)
     → listed store args.files (traced [] asked) ≡ Gave (traced [] middle) list
     → IsPrefix names (left_of (makefile_read args store (traced [] middle))).asked → IsPrefix names (names_asked args store asked)

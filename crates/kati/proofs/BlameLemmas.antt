@@ -1,4 +1,4 @@
--- What is to blame for a refusal, where no file was asked for.
+-- What caused a refusal, if no file was asked for.
 use Rattle.std.proofs.Common.{subst, ◌≡◌, ℕ, List, Option, Some, None, Result, Ok, Err}
 use Rattle.std.specs.Prelude.{IfSome, OnErr, OnOk}
 use Rattle.kt_text.specs.Words.{Text}

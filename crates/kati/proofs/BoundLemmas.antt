@@ -26,11 +26,11 @@ use Rattle.kati.proofs.FitLemmas.{Below, bound, chosen_fits, from_drop, from_tak
 
 -- ---- the inputs of a node
 
--- an explicit rule of a name needs it
+-- it is a prerequisite of an explicit rule of a name
 abbrev IsNamed : List (Rule × Target) → Text → Type 0
 IsNamed made input = (one : Rule × Target) × Contains made one × Contains (all_needs (needs_for one.0 one.1)) input
 
--- the candidate that is chosen for a name needs it
+-- it is a prerequisite of the candidate that is chosen for a name
 abbrev IsChosenBy : List Rule → List Text → Text → Text → Type 0
 IsChosenBy rules known name input =
     (one : Candidate) × (choice_of (patterns_of rules) known name ≡ Some one) × Contains (all_needs one.needs) input

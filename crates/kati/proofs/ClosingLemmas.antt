@@ -1,4 +1,4 @@
--- Lists that are closed under steps, and what can be told of their members.
+-- Lists that are closed under steps, and what can be decided of their members.
 use Rattle.std.proofs.Common.{◌≡◌, ◌⊎◌, ◌≤◌, ℕ, zero, suc, Bool, true, false, List, [], ◌∷◌, ◌++◌, length, refl, sym, ap, ◌∙◌, subst, ⊎_elim, inl, inr, arith}
 use Rattle.std.specs.List.{Contains}
 use Rattle.std.specs.Str.{bytes_eq}
@@ -11,13 +11,13 @@ use Rattle.kt_rules.specs.Entry.{Rule}
 use Rattle.kt_graph.specs.Reach.{HasInput}
 use Rattle.kt_graph.proofs.lemmas.MemberLemmas.{Contains-cases, Contains-here, Contains-none, Contains-there}
 
--- whether something holds can be told
+-- whether something holds can be decided
 abbrev pub Decided : Type 0 → Type 0
 Decided P = P ⊎ (P → ⊥)
 
 -- ---- the first of a list
 
--- the first name of a list of which something holds
+-- the first name of a list with a property
 pub record FirstOf (P : Text → Type 0) (names : List Text) : Type 0 where
   pub earlier : List Text
   pub one : Text
@@ -110,7 +110,7 @@ module _ (next : Text → List Text) (starts universe : List Text) (Met : Text �
       ))
       by (inr isnt) (inr none) = inr (λ missing. ⊎_elim isnt (λ (p : (one : Text) × Contains done one × Contains (next one) name). none p.0 p.1 p.2) missing)
 
-  -- these are met, and each name of the universe is one of them or left
+  -- these are met, and each name of the universe is one of them or remains
   record Covers (done rest : List Text) : Type 0 where
     met : (name : Text) → Contains done name → Met name
     inside : (name : Text) → Contains done name → Contains universe name
@@ -171,7 +171,7 @@ module _ (next : Text → List Text) (starts universe : List Text) (Met : Text �
     cover = λ name has. inr has;
   })
 
--- a list of names that holds the goals and, with a name, its inputs
+-- a list of names that has the goals and, with a name, its inputs
 pub record IsClosed (rules : List Rule) (known goals names : List Text) : Type 0 where
   pub begun : (name : Text) → Contains goals name → Contains names name
   pub closed : (name input : Text) → Contains names name → HasInput rules known name input → Contains names input

@@ -1,12 +1,12 @@
--- The statements that are told of a sketch are those of the plan.
-use Rattle.std.proofs.Common.{◌≡◌, ℕ, ◌+◌, Bool, true, false, not, List, [], ◌∷◌, ◌++◌, length, Option, Some, None, Result, Ok, Err, refl, sym, ap, ◌∙◌, append-nil, arith, zero, suc, ◌&&◌, ◌||◌}
+-- The statements read from a sketch are those of the plan.
+use Rattle.std.proofs.Common.{◌≡◌, ◌<◌, ℕ, ◌+◌, Bool, true, false, not, List, [], ◌∷◌, ◌++◌, length, drop, get_or, Option, Some, None, Result, Ok, Err, refl, sym, ap, ◌∙◌, append-nil, arith, zero, suc, ◌&&◌, ◌||◌}
 use Rattle.std.specs.Prelude.{IfOk, is_some, min, slice_get}
 use Rattle.std.specs.List.{list_any}
-use Rattle.std.proofs.lemmas.List.{append_assoc, length-append}
+use Rattle.std.proofs.lemmas.List.{append_assoc, drop_more, length-append}
 use Rattle.kt_text.specs.Words.{Text}
 use Rattle.kt_rules.specs.Entry.{Rule}
 use Rattle.kt_rules.specs.Names.{without_repeats}
-use Rattle.kt_eval.specs.Outcome.{Outcome, Gave, Stopped, Gives, done, then_do}
+use Rattle.kt_eval.specs.Outcome.{Outcome, Gave, Stopped, Fails, Gives, done, then_do}
 use Rattle.kt_eval.specs.macros.Macros.{Table}
 use Rattle.kt_eval.specs.declared.stop.Stop.{Stop}
 use Rattle.kt_eval.specs.declared.stop.Stop.TheVariants as stops
@@ -21,7 +21,7 @@ use Rattle.kati.proofs.SingleLemmas.{own_inputs, own_order_only}
 abbrev stated : List Text → Made → List Text → List Text → List Text → Statement
 stated outs made inputs implicit order_only = record { outs = outs; made = made; inputs = inputs; implicit = implicit; order_only = order_only }
 
--- what is drawn of a group tells its statement
+-- what is stored for a group gives its statement
 pub told_is : (rules : List Rule) (group : List Node) (command : Option Text) → statement_drawn group (drawn_of rules group command) ≡ statement_of rules group command
 unfolding statement_of without_repeats
 told_is rules [] command = refl
@@ -63,7 +63,7 @@ told_size [] drawn = omega arith
 told_size (group ∷ groups) [] = omega arith
 told_size (group ∷ groups) (one ∷ drawn) = omega (arith, told_size groups drawn)
 
--- ---- what is always built
+-- ---- the statement `always_built`
 
 implicit_if : (always : Bool) → not (is_empty (implicit_of always)) ≡ always
 implicit_if true = refl
@@ -130,7 +130,7 @@ module _ (rules : List Rule) (table : Table) (limit : ℕ) where
       by copy (Gave left command) f = omega (arith, length-append before (drawn_of rules group command ∷ []), copy command left f)
       by copy (Stopped left fault) f = absurd (cc f)
 
-  -- a sketch tells the statements of its groups
+  -- a sketch gives the statements of its groups
   pub sketch_gives : (groups : List (List Node)) (said heard : List Text) (result : Result (List Drawn) Stop)
       → Gives (λ (drawn : List Drawn). drawn) result heard (draw_groups rules table limit groups [] said)
       → Gives (λ (drawn : List Drawn). statements_drawn groups drawn) result heard (plan_groups rules table limit groups [] said)
@@ -145,3 +145,37 @@ module _ (rules : List Rule) (table : Table) (limit : ℕ) where
       → Gives (λ (drawn : List Drawn). drawn) result heard (draw_groups rules table limit groups [] said) → IfOk result (AlwaysFirst groups)
   sketch_always groups said heard (Ok drawn) h = always_first groups drawn (omega (arith, size_drawn groups [] drawn said heard h))
   sketch_always groups said heard (Err stop) h = tt
+
+-- ---- groups by their places
+
+draws_then : {A B : Type 0} (x : Outcome (List Text) A) (put : A → List Drawn) (next : List Drawn → List Text → Outcome (List Text) B)
+    → then_do x (λ a. next (put a)) ≡ then_do (then_do x (λ a. done (put a))) next
+draws_then (Gave said a) put next = refl
+draws_then (Stopped said fault) put next = refl
+
+module _ (rules : List Rule) (table : Table) (limit : ℕ) (groups : List (List Node)) (place : ℕ) (within : place < length groups) (sketch : List Drawn) (said : List Text) where
+  -- the outcome after the group at a place is added
+  abbrev pub next_drawn : Outcome (List Text) (List Drawn)
+  next_drawn =
+      then_do (command_for table limit (get_or groups place []) said)
+      (λ command. done (sketch ++ drawn_of rules (get_or groups place []) command ∷ []))
+
+  abbrev from_next : List Drawn → List Text → Outcome (List Text) (List Drawn)
+  from_next drawn heard = draw_groups rules table limit (drop (place + 1) groups) drawn heard
+
+  on_next : draw_groups rules table limit (drop place groups) sketch said ≡ then_do next_drawn from_next
+  unfolding draw_groups
+  on_next =
+      ap (λ (gs : List (List Node)). draw_groups rules table limit gs sketch said) (drop_more groups place [] within)
+      ∙ draws_then (command_for table limit (get_or groups place []) said)
+      (λ command. sketch ++ drawn_of rules (get_or groups place []) command ∷ []) from_next
+
+  pub draw_next : (drawn : List Drawn) (heard : List Text) → next_drawn ≡ Gave heard drawn
+      → draw_groups rules table limit (drop (place + 1) groups) drawn heard ≡ draw_groups rules table limit (drop place groups) sketch said
+  draw_next drawn heard is = sym (on_next ∙ ap (λ (o : Outcome (List Text) (List Drawn)). then_do o from_next) is)
+
+  pub draw_stops : (stop : Stop) (heard : List Text) → Fails stop heard next_drawn
+      → Fails stop heard (draw_groups rules table limit (drop place groups) sketch said)
+  draw_stops (stops.Fault fault) heard is = on_next ∙ ap (λ (o : Outcome (List Text) (List Drawn)). then_do o from_next) is
+  draw_stops (stops.Device name) heard is = tt
+  draw_stops stops.Memory heard is = tt

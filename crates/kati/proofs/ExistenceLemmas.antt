@@ -1,4 +1,4 @@
--- Each run has a meaning: what goals come to can be told, since the names that they may need are in a list.
+-- Each run has a meaning: the result of its goals can be decided, since the names that they may need are in a list.
 use Rattle.std.proofs.Common.{◌≡◌, ◌⊎◌, ℕ, Bool, true, false, List, [], ◌∷◌, ◌++◌, map, filter, find, flat_map, Option, Some, None, refl, sym, ap, ◌∙◌, subst, ⊎_elim, inl, inr}
 use Rattle.std.specs.List.{Contains, list_any}
 use Rattle.std.specs.List.Sorted.{IsStrictlySortedBy}
@@ -32,7 +32,7 @@ use Rattle.kati.specs.Steps.{telling}
 use Rattle.kati.proofs.BoundLemmas.{closed_names}
 use Rattle.kati.proofs.ClosingLemmas.{Closed, Decided, FirstOf, IsClosed, closing, decide_in, first_or_none}
 
--- what goals come to: what is first of what is wrong, or the graph
+-- the result of goals: the first thing that is wrong, or the graph
 abbrev pub ComesTo : List Rule → List Text → List Text → Type 0
 ComesTo rules known goals =
     ((trouble : Trouble) × ComesFirst rules known goals (Some trouble)) ⊎ ((nodes : List Node) × IsSoundGraph rules known goals nodes)

@@ -1,4 +1,4 @@
--- What pattern rules make of names: texts of bounded length, of the symbols that stand there.
+-- What pattern rules make of names: texts of bounded length, of the symbols that are there.
 use Rattle.std.proofs.Common.{◌≡◌, ◌⊎◌, ◌≤◌, ◌<◌, ◌+◌, ◌-◌, ◌==◌, ◌&&◌, ◌||◌, ℕ, zero, suc, Bool, true, false, not, List, [], ◌∷◌, ◌++◌, length, map, filter, flat_map, take, drop, Option, Some, None, refl, sym, ap, subst, ⊎_elim, arith, if◌then◌else◌}
 use Rattle.std.specs.Prelude.{fold, nat_le, option_map, filter_map}
 use Rattle.std.specs.List.{Contains, list_any, slice_range}
@@ -61,7 +61,7 @@ from_numbers (suc n) symbol has = ⊎_elim
     (λ (later : Contains (numbers n) symbol). omega (arith, from_numbers n symbol later))
     (Contains-cases n (numbers n) symbol has)
 
--- the texts of at most so many symbols below a number
+-- the texts of at most a number of symbols below a number
 unfoldable pub texts : ℕ → ℕ → List Text
 texts most zero = [] ∷ []
 texts most (suc n) = [] ∷ flat_map (λ text. map (λ symbol. symbol ∷ text) (numbers most)) (texts most n)
@@ -318,7 +318,7 @@ module _ (most : ℕ) (enough : 48 ≤ most) where
       by true h = (from_filter (λ candidate. not candidate.is_any || candidate.is_last) candidates one h).0
       by false h = h
 
-  -- what a candidate of some rules needs fits
+  -- the prerequisites of a candidate of some rules fit
   pub chosen_fits : (rules : List Rule) (in_chain : Bool) (name : Text) (one : Candidate) (input : Text) → Below most name
       → ((rule : Rule) (need : Text) → Contains rules rule → Contains (all_needs rule.needs) need → Below most need)
       → Contains (candidates_for rules in_chain name) one → Contains (all_needs one.needs) input → Below most input × (length input ≤ 4096)

@@ -1,5 +1,7 @@
 pub mod DrawnLemmas
+pub mod RangeLemmas
 pub mod SketchLemmas
+pub mod NodeGroupLemmas
 pub mod GraphPlanLemmas
 pub mod TellingLemmas
 pub mod PlanLemmas

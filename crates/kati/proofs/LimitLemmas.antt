@@ -1,4 +1,4 @@
--- What isn't too deep with a limit is the same with a larger one.
+-- A result that isn't too deep with a limit is the same with a larger one.
 use Rattle.std.proofs.Common.{ℕ, zero, suc, ◌+◌, ◌-◌, true, false, List, [], ◌∷◌, ◌++◌, None, refl, sym, ap, ◌∙◌, subst, inl, inr, arith}
 use Rattle.std.specs.Prelude.{codes}
 use Rattle.kt_text.specs.Words.{Text}
@@ -120,7 +120,7 @@ one_more args store asked limit m means fine =
     after_mean limit (prepared (with_limit limit args) store (traced [] asked)) (prepared (with_limit (suc limit) args) store (traced [] asked)) m fine
     (prepared_deeper args store limit (traced [] asked)) means
 
--- so many more
+-- this many more
 some_more : (args : Args) (store : Store) (asked : List Text) (limit more : ℕ) (m : Meaning) → Means (with_limit limit args) store asked m
     → (IsTooDeep m.result → ⊥) → Means (with_limit (more + limit) args) store asked m
 some_more args store asked limit zero m means fine = subst (λ (n : ℕ). Means (with_limit n args) store asked m) (omega arith) means

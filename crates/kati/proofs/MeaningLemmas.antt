@@ -1,4 +1,4 @@
--- What a call that comes to goals and their plan means, by what it returned.
+-- The meaning of a call that comes to goals and their plan, from its result.
 use Rattle.std.proofs.Common.{◌≡◌, ℕ, List, [], None, Result, Ok, Err, refl, sym, ap, ◌∙◌, subst, inl, inr}
 use Rattle.kt_text.specs.Words.{Text}
 use Rattle.kt_rules.specs.Entry.{Rule}
@@ -39,7 +39,7 @@ pub plan_means : (limit : ℕ) (want : Wanted) (trace : Trace) (nodes : List Nod
     → Ends (GoalsEnd limit want) trace (λ (plan : Plan). plan) result (traced heard trace.asked)
 plan_means limit want trace nodes heard result sound is = seen_means (λ (plan : Plan). plan) limit want trace nodes heard result sound is
 
--- what comes first of what is wrong with a graph
+-- the first thing that is wrong with a graph
 pub first_stop : (rules : List Rule) (known goals : List Text) (fault : GraphFault) (stop : Stop) → ReportsFirst rules known goals fault → IsStopOf fault stop
     → IsFirstStop rules known goals stop
 first_stop rules known goals graphs.Memory stop tells is = subst (λ (s : Stop). IsFirstStop rules known goals s) (sym is) tt
@@ -54,7 +54,7 @@ trouble_means limit want trace (stops.Fault fault) first =
 trouble_means limit want trace (stops.Device name) first = tt
 trouble_means limit want trace stops.Memory first = tt
 
--- nothing that is wrong with a graph is a device's failure
+-- nothing that is wrong with a graph is a failure of a device
 pub first_asks : (rules : List Rule) (known goals : List Text) (stop : Stop) → IsFirstStop rules known goals stop → IsOfNoDevice stop
 first_asks rules known goals (stops.Fault fault) first = tt
 first_asks rules known goals (stops.Device name) first = first

@@ -33,7 +33,7 @@ telling_asks {A} trace step = by (step trace.said)
     by (Gave said x) = refl
     by (Stopped said fault) = refl
 
--- names that are asked for before the end of a step are before that of a longer one
+-- names that are asked for before the end of a step are before those of a longer step
 pub asked_then : {A B : Type 0} (names : List Text) (first : Outcome Trace A) (next : A → StepOver Trace B)
     → ((x : A) (trace : Trace) → IsPrefix trace.asked (left_of (next x trace)).asked) → IsPrefix names (left_of first).asked
     → IsPrefix names (left_of (then_do first next)).asked

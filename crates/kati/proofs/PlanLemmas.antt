@@ -1,4 +1,4 @@
--- The plan of what goals need can be written, where its names and commands can.
+-- The plan of what goals need can be written, if its names and commands can.
 use Rattle.std.proofs.Common.{◌≡◌, ◌≢◌, ℕ, ◌+◌, Bool, true, false, not, ◌&&◌, if◌then◌else◌, cond, List, [], ◌∷◌, ◌++◌, map, filter, find, flat_map, Option, Some, None, refl, sym, ap, ◌∙◌, subst, ⊎_elim, append-nil, arith, ◌||◌}
 use Rattle.std.specs.Prelude.{IfOk, MatchOption, Result, Ok, Err, length, nat_eq, slice_get}
 use Rattle.std.specs.Option.{option_and_then, option_map_or}
@@ -277,7 +277,7 @@ module _ (rules : List Rule) (known goals : List Text) (nodes : List Node) (soun
             (λ goal has. Contains-there always_build (outputs statements) goal (each_goal goal has));
       }
 
--- the plan of a sound graph, as it is seen, where its texts can be written
+-- the plan of a sound graph can be written, if its texts can
 pub plan_writable : {A : Type 0} (see : A → Plan) (rules : List Rule) (table : Table) (limit : ℕ) (known goals : List Text) (nodes : List Node) (said heard : List Text) (statements : List Statement)
     → IsSoundGraph rules known goals nodes → plan_groups rules table limit (groups_of nodes) [] said ≡ Gave heard statements
     → (plan : Plan) → plan ≡ plan_of statements goals

@@ -1,4 +1,4 @@
--- What is so of a plan that is meant, and how a run ends that checks a file.
+-- What holds for a plan that is meant, and how a run ends that checks a file.
 use Rattle.std.proofs.Common.{◌≡◌, ◌∙◌, List, [], ◌∷◌, ◌++◌, Option, Some, Result, Ok, Err, refl, sym, ap, subst, inr}
 use Rattle.std.specs.Prelude.{IfErr, IfOk, OnOk}
 use Rattle.kt_text.specs.Words.{Text}
@@ -21,7 +21,7 @@ use Rattle.kati.proofs.ExactLemmas.{are_graphs}
 use Rattle.kati.proofs.MeaningLemmas.{meant}
 use Rattle.kati.proofs.SoundLemmas.{are_sound}
 
--- ---- what is so of a plan that is meant
+-- ---- what holds for a plan that is meant
 
 if_plan : (P : Plan → Type 0) (result : Result Plan Fault) → ((plan : Plan) → result ≡ Ok plan → P plan) → IfOk result P
 if_plan P (Ok plan) each = each plan refl

@@ -1,4 +1,4 @@
--- The inputs of one name alone are those of its statement as they stand.
+-- The inputs of a single name are those of its statement as they are.
 use Rattle.std.proofs.Common.{◌≡◌, Bool, true, false, not, cond, ◌||◌, if◌then◌else◌, List, [], ◌∷◌, ◌++◌, filter, flat_map, refl, sym, ap, ◌∙◌, append-nil, true≢false}
 use Rattle.std.specs.Prelude.{fold}
 use Rattle.std.specs.Cmp.Lexicographic.{pointwise}

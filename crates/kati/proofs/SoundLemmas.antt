@@ -101,7 +101,7 @@ module _ (read : Read) (limit : ℕ) (known goals : List Text) (plan : Plan) (te
   always_free : IsMade read.book known goals always_build → ⊥
   always_free made = free always_build made always_reserved
 
-  -- a step of the plan is one of the graph, or leads to what is always built
+  -- a step of the plan is one of the graph, or leads to `always_build`
   step_of : (name input : Text) → NeedsInput plan.statements name input → HasEdge read.book known goals name input ⊎ (input ≡ always_build)
   step_of name input step = by (tells.grouped step.statement step.among)
     where
@@ -131,7 +131,7 @@ module _ (read : Read) (limit : ℕ) (known goals : List Text) (plan : Plan) (te
           (subst (λ (s : Statement). Contains (s.inputs ++ (s.implicit ++ s.order_only)) input) of.is step.needs))
       by (inr always) = Contains-none input (subst (λ (s : Statement). Contains (s.inputs ++ (s.implicit ++ s.order_only)) input) always.0 step.needs)
 
-  -- what is always built needs nothing
+  -- `always_build` needs nothing
   no_step : (name input : Text) → name ≡ always_build → NeedsInput plan.statements name input → ⊥
   no_step name input is step = by (tells.grouped step.statement step.among)
     where
@@ -182,7 +182,7 @@ module _ (read : Read) (limit : ℕ) (known goals : List Text) (plan : Plan) (te
           (λ (is : name ≡ always_build). other is) made
       by (inr is) = ended round.path.0 is round.path.1
 
-  -- a name that is the file of what is always built is reserved
+  -- a name of the same file as `always_build` is reserved
   reserved_by : (name : Text) → canon_of name ≡ canon_of always_build → is_reserved name ≡ true
   reserved_by name same = ap (λ (path : Text). bytes_eq path always_name) same ∙ always_reserved
 
@@ -206,7 +206,7 @@ module _ (read : Read) (limit : ℕ) (known goals : List Text) (plan : Plan) (te
       by (inr always) (inl made_other) = absurd (free other made_other (reserved_by other (sym same ∙ ap canon_of always)))
       by (inr always_one) (inr always_other) = always_one ∙ sym always_other
 
-  -- what a member of a group needs is reached
+  -- the inputs of a member of a group are reached
   needed_reached : (group : List Node) → Contains (groups_of tells.nodes) group → (input : Text) → IsNeededBy group input
       → IsReached read.book known goals input
   needed_reached group is_group input needed =

@@ -1,4 +1,4 @@
--- What a sink is told in pieces, and what is reported at the end.
+-- What is written to a sink in pieces, and what is reported at the end.
 use Rattle.std.proofs.Common.{◌≡◌, ◌≤◌, ◌++◌, Result, Ok, Err, refl, sym, subst, inl, inr, arith}
 use Rattle.std.specs.Prelude.{IfErr, OnErr, OnOk}
 use Rattle.kt_list.specs.Counters.{Rises}
@@ -11,13 +11,13 @@ use Rattle.kati.specs.Devices.{devices}
 use Rattle.kt_eval.specs.files.Files.{FilesSeen}
 use Rattle.kati.specs.ErrorOutput.{WritesOrFails, ReportsEnd, fault_words}
 
--- the first piece was taken, and the others are told after it
+-- the first piece was taken, and the others are written after it
 pub told_after : (a b : Text) (old middle new : SinkSeen) → old.failed ≤ middle.failed → Takes old middle a → WritesOrFails b middle new
     → WritesOrFails (a ++ b) old new
 told_after a b old middle new counts one (inl whole) = inl (takes_twice old middle new a b one whole)
 told_after a b old middle new counts one (inr cut) = inr (omega (arith, cut.0), front_after old middle new a b one cut.1)
 
--- the first piece was cut
+-- the first piece was taken in part
 pub told_cut : (a b : Text) (old new : SinkSeen) → Rises old.failed new.failed → GrowsByFront old new a → WritesOrFails (a ++ b) old new
 told_cut a b old new fails grows = inr (fails, front_of_more old new a b grows)
 

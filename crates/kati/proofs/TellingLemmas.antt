@@ -88,7 +88,7 @@ stop_blames (stops.Fault fault) said (Err (faults.Read name)) out err err' none 
 stop_blames (stops.Device name) said result out err err' none h blames = absurd none
 stop_blames stops.Memory said result out err err' none h blames = subst (λ (r : Result Status RunFault). TellsBlames r out out err err') (sym h.0) tt
 
--- ---- what is told of an end
+-- ---- what is written about an end
 
 module _ {X : Type 0} (R : X → Outcome Trace Plan → Type 0) (x : X) (asked said : List Text) where
   pub plan_tells : (plan : Plan) (result : Result Status RunFault) (out out' err err' : SinkSeen) → R x (Gave (traced said asked) plan)
@@ -147,13 +147,13 @@ module _ {X : Type 0} (R : X → Outcome Trace Plan → Type 0) (x : X) (asked s
   stop_tells stops.Memory result out err err' means h =
       subst (λ (r : Result Status RunFault). TellsAndWrites R x asked r out out err err') (sym h.0) (refl, h.1)
 
--- ---- of the whole run
+-- ---- for the whole run
 
 module _ (args : Args) (store : Store) (before asked : List Text) (trace : Trace) (want : Wanted) (is : prepared args store (traced [] before) ≡ Gave trace want) where
   lifted : (m : Meaning) → MeansGoals args.limit want trace m → Means args store before m
   lifted m means = subst (λ (o : Outcome Trace Wanted). MeansAfter args.limit o m) (sym is) means
 
-  -- what is reported of the goals is told of the makefile
+  -- what holds for the goals holds for the makefile
   pub goals_tell : (result : Result Status RunFault) (out out' err err' : SinkSeen) → TellsAndWrites (GoalsEnd args.limit want) trace asked result out out' err err'
       → TellsAndWrites (EndMeans args store) before asked result out out' err err'
   goals_tell (Ok status) out out' err err' t = record {
@@ -234,7 +234,7 @@ leaves_by args store (Err faults.WriteErr) old new is front t = record {
 leaves_by args store (Err (faults.Read name)) old new is front t = inl (record { names = front; written = t.0; told = t.1 })
 leaves_by args store (Err faults.Memory) old new is front t = inl (record { names = front; written = t.0; told = t.1 })
 
--- ---- what is to blame
+-- ---- what caused a fault
 
 pub goals_blame : (result : Result Status RunFault) (files files' : FilesSeen) (out out' err err' : SinkSeen) → files'.failed ≡ files.failed
     → TellsBlames result out out' err err' → Blames result (devices files out err) (devices files' out' err')
@@ -244,7 +244,7 @@ goals_blame (Err faults.WriteErr) files files' out out' err err' same b = b
 goals_blame (Err (faults.Read name)) files files' out out' err err' same b = absurd b
 goals_blame (Err faults.Memory) files files' out out' err err' same b = same
 
--- what is to blame for a stop doesn't depend on what was to come
+-- the cause of a stop doesn't depend on what was to come
 same_blame : (A : Type 0) (stop : Stop) (old new : ℕ) (asked : List Text) → BlamesBy {A = A} (Err stop) old new asked → BlamesBy {A = Unit {0}} (Err stop) old new asked
 same_blame A (stops.Fault fault) old new asked by = by
 same_blame A (stops.Device name) old new asked by = by

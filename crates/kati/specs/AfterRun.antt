@@ -1,4 +1,4 @@
--- What a run leaves on its devices, and the program with it (kati's own).
+-- The state of the devices after a run, and after the program (kati's own).
 use Rattle.std.specs.Prelude.{◌≡◌, ◌⊎◌, ℕ, List, [], Option, Some, None, Result, Ok, Err, IfOk, IfSome, IsOk}
 use Rattle.std.specs.Prelude.{string_bytes}
 use Rattle.kt_list.specs.Counters.{Rises}
@@ -26,18 +26,18 @@ use Rattle.kati.specs.Messages.{err_text}
 use Rattle.kati.specs.Sound.{IsSoundPlan}
 use Rattle.kati.specs.ErrorOutput.{RefusesBy, ReportsEnd}
 
--- the output has taken the plan's text, which read by Ninja's rules is the plan
+-- the output has taken the plan's text, which is read by Ninja's rules as the plan
 pub record WritesPlan (plan : Plan) (old new : SinkSeen) : Type 0 where
   pub taken : Takes old new (plan_text plan)
   pub read : IsReadAs (plan_text plan) plan
 
--- what the output has taken: a plan's text; nothing where a file is to be checked, and nothing after a makefile's fault
+-- what the output has taken: a plan's text, or nothing if a file is to be checked or the makefile has a fault
 abbrev pub HasOutput : Option Text → Result Plan Fault → SinkSeen → SinkSeen → Type 0
 HasOutput None (Ok plan) old new = WritesPlan plan old new
 HasOutput None (Err fault) old new = new ≡ old
 HasOutput (Some checked) result old new = new ≡ old
 
--- the run came to its end: messages, plan or fault, and names asked for are those of the meaning; a plan is just the
+-- the run came to its end: messages, plan or fault, and names asked for are those of the meaning; a plan is exactly the
 -- graph of its goals, and its text is on the output
 pub record Ends (args : Args) (store : Store) (status : Status) (old new : Devices) : Type 0 where
   pub meaning : Meaning
@@ -49,7 +49,8 @@ pub record Ends (args : Args) (store : Store) (status : Status) (old new : Devic
   pub written : HasOutput args.check meaning.result old.out new.out
   pub told : Takes old.err new.err (err_text meaning)
 
--- the output failed: the makefile has a plan, the output a prefix of its text, and the error output all of its
+-- the output failed: the makefile has a plan, the output has a prefix of its text, and the error output has all of its
+-- own
 pub record EndsAtOut (args : Args) (store : Store) (old new : Devices) : Type 0 where
   pub meaning : Meaning
   pub means : Means args store old.files.names meaning
@@ -60,7 +61,7 @@ pub record EndsAtOut (args : Args) (store : Store) (old new : Devices) : Type 0 
   pub written : GrowsByFront old.out new.out (plan_text plan)
   pub told : Takes old.err new.err (err_text meaning)
 
--- the error output failed: it has a prefix of its text, and the output nothing
+-- the error output failed: it has a prefix of its text, and the output has nothing
 pub record EndsAtErr (args : Args) (store : Store) (old new : Devices) : Type 0 where
   pub meaning : Meaning
   pub means : Means args store old.files.names meaning
@@ -68,14 +69,14 @@ pub record EndsAtErr (args : Args) (store : Store) (old new : Devices) : Type 0 
   pub written : new.out ≡ old.out
   pub told : GrowsByFront old.err new.err (err_text meaning)
 
--- the translation was stopped: nothing was written, and the names asked for are a prefix of those that are asked for
--- without that
+-- the translation was stopped: nothing was written, and the names asked for are a prefix of those of a translation that
+-- isn't stopped
 pub record EndsEarly (args : Args) (store : Store) (old new : Devices) : Type 0 where
   pub names : IsPrefix new.files.names (names_asked args store old.files.names)
   pub written : new.out ≡ old.out
   pub told : new.err ≡ old.err
 
--- the file to be checked couldn't be read: the error output has the messages, and the output nothing
+-- the file to be checked couldn't be read: the error output has the messages, and the output has nothing
 pub record EndsAtCheck (args : Args) (store : Store) (fault : RunFault) (old new : Devices) : Type 0 where
   pub meaning : Meaning
   pub means : Means args store old.files.names meaning
@@ -86,11 +87,11 @@ pub record EndsAtCheck (args : Args) (store : Store) (fault : RunFault) (old new
   pub written : new.out ≡ old.out
   pub told : Takes old.err new.err (err_text meaning)
 
--- the run was kept from its end before anything was written, or at the file to be checked
+-- the run didn't come to its end: nothing was written, or the file to be checked wasn't read
 abbrev pub IsKept : Args → Store → RunFault → Devices → Devices → Type 0
 IsKept args store fault old new = EndsEarly args store old new ⊎ EndsAtCheck args store fault old new
 
--- what a run over these files leaves, as it ended
+-- the devices after a run over these files, by how it ended
 abbrev pub Leaves : Args → Store → Result Status RunFault → Devices → Devices → Type 0
 Leaves args store (Ok status) old new = Ends args store status old new
 Leaves args store (Err faults.WriteOut) old new = EndsAtOut args store old new
@@ -98,8 +99,8 @@ Leaves args store (Err faults.WriteErr) old new = EndsAtErr args store old new
 Leaves args store (Err (faults.Read name)) old new = IsKept args store (faults.Read name) old new
 Leaves args store (Err faults.Memory) old new = IsKept args store faults.Memory old new
 
--- what is to blame for a fault of a run: the counter of that device rose, by the name that was asked for last where
--- it is the files'; or memory was refused, and no file failed; a run that comes to its end has met no failure
+-- what caused a fault of a run: the failures of that device rose, and a file is reported with the name asked for last;
+-- or memory ran out, and no file failed; a run that comes to its end has met no failure
 abbrev pub Blames : Result Status RunFault → Devices → Devices → Type 0
 Blames (Ok status) old new = (new.files.failed ≡ old.files.failed) × (new.out.failed ≡ old.out.failed)
     × (new.err.failed ≡ old.err.failed)
@@ -109,7 +110,7 @@ Blames (Err faults.Memory) old new = new.files.failed ≡ old.files.failed
 Blames (Err faults.WriteOut) old new = Rises old.out.failed new.out.failed
 Blames (Err faults.WriteErr) old new = Rises old.err.failed new.err.failed
 
--- the same of a step that only reads
+-- the same for a step that only reads
 abbrev pub ReadBlames : {A : Type 0} → Result A RunFault → FilesSeen → FilesSeen → Type 0
 ReadBlames (Ok x) old new = new.failed ≡ old.failed
 ReadBlames (Err (faults.Read name)) old new = Rises old.failed new.failed × (last new.names ≡ Some (string_bytes name))
@@ -117,12 +118,12 @@ ReadBlames (Err faults.Memory) old new = new.failed ≡ old.failed
 ReadBlames (Err faults.WriteOut) old new = ⊥
 ReadBlames (Err faults.WriteErr) old new = ⊥
 
--- a translation is the meaning, and has asked for its names
+-- a translation has the run's meaning, and has asked for its names
 abbrev pub Translates : Args → Store → Outcome → List Text → List Text → Type 0
 Translates args store outcome asked asked' =
     Means args store asked (record { messages = outcome.messages; result = outcome.result; asked = asked' })
 
--- a run by these arguments, and the exit status; only what kept the run from its end is told after it
+-- a run with these arguments, and the exit status; after it, only the reason why it didn't come to its end is written
 pub record RunExits (args : Args) (code : ℕ) (old new : Devices) : Type 0 where
   pub run : Result Status RunFault
   pub ended : Devices
@@ -131,14 +132,14 @@ pub record RunExits (args : Args) (code : ℕ) (old new : Devices) : Type 0 wher
   pub exit : code ≡ exit_code run
   pub told : ReportsEnd run ended new
 
--- words that ask for no run ask for no file, too
+-- words that ask for no run ask for no file, either
 abbrev pub ExitsBy : (Args → ℕ → Devices → Devices → Type 0) → Text → Result Args ArgFault → ℕ → Devices → Devices
     → Type 0
 ExitsBy Runs lead (Ok args) code old new = Runs args code old new
 ExitsBy Runs lead (Err fault) code old new = (new.files ≡ old.files)
     × RefusesBy lead fault code old.out new.out old.err new.err
 
--- a whole program: what its words ask for, and how that ends, by how it runs and what stands over its help
+-- a whole program: what its words ask for, and how that ends, given what a run is and what comes before the help
 pub record Exits (Runs : Args → ℕ → Devices → Devices → Type 0) (lead : Text) (words : List Text) (code : ℕ)
     (old new : Devices) : Type 0 where
   pub answered : Result Args ArgFault

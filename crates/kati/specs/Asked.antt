@@ -7,11 +7,11 @@ use Rattle.kt_eval.specs.Outcome.{left_of}
 use Rattle.kati_args.specs.declared.args.Args.{Args}
 use Rattle.kati.specs.Meaning.{Meaning, Means, prepared}
 
--- nothing is asked for once the goals are chosen, but the file to be checked; these names were asked for before
+-- after the goals are chosen no name is asked for but the file to be checked; these names were asked for before
 abbrev pub names_asked : Args → Store → List Text → List Text
 names_asked args store asked = (left_of (prepared args store (traced [] asked))).asked
 
--- the names that a run means are these, whatever its goals need
+-- a run asks for exactly these names, whatever its goals need
 abbrev pub NamesAreAsked : Type 0
 NamesAreAsked = (args : Args) (store : Store) (asked : List Text) (m : Meaning) → Means args store asked m
     → m.asked ≡ names_asked args store asked

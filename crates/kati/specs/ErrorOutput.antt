@@ -1,4 +1,4 @@
--- What the outputs get beside a plan's text, the messages and the makefile's fault (kati's own).
+-- What the outputs get besides a plan's text, the messages and the makefile's fault (kati's own).
 use Rattle.std.specs.Prelude.{◌≡◌, ℕ, ◌++◌, ◌⊎◌, Result, Ok, Err, codes, string_bytes}
 use Rattle.kt_list.specs.Counters.{Rises}
 use Rattle.kt_text.specs.Words.{Text}
@@ -11,18 +11,18 @@ use Rattle.kati.specs.declared.status.Status.{Status}
 use Rattle.kati.specs.Devices.{Devices}
 use Rattle.kati.specs.Exits.{fault_code, usage_code}
 
--- what kept a run from its end
+-- why a run didn't come to its end
 abbrev pub fault_words : RunFault → Text
 fault_words (faults.Read name) = codes "kati: cannot read " ++ (string_bytes name ++ codes "\n")
 fault_words faults.WriteOut = codes "kati: cannot write\n"
 fault_words faults.WriteErr = codes "kati: cannot write\n"
 fault_words faults.Memory = codes "kati: no memory\n"
 
--- a sink took the text; or it failed, and took a prefix of it
+-- a sink took the text, or it failed and took a prefix of it
 abbrev pub WritesOrFails : Text → SinkSeen → SinkSeen → Type 0
 WritesOrFails text old new = Takes old new text ⊎ (Rises old.failed new.failed × GrowsByFront old new text)
 
--- after a run the error output gets what kept it from its end, and nothing else changes
+-- after a run the error output gets the reason why the run didn't come to its end, and nothing else changes
 abbrev pub ReportsEnd : Result Status RunFault → Devices → Devices → Type 0
 ReportsEnd (Ok status) old new = new ≡ old
 ReportsEnd (Err fault) old new =
@@ -35,11 +35,11 @@ GivesHelp text code out out' err err' =
     ⊎ ((code ≡ fault_code faults.WriteOut) × Rises out.failed out'.failed × GrowsByFront out out' text
     × WritesOrFails (fault_words faults.WriteOut) err err')
 
--- what else words can ask for that is no run goes to the error output
+-- all other results of words that ask for no run go to the error output
 abbrev pub Refuses : ℕ → Text → ℕ → SinkSeen → SinkSeen → SinkSeen → SinkSeen → Type 0
 Refuses expected text code out out' err err' = (code ≡ expected) × (out' ≡ out) × WritesOrFails text err err'
 
--- how a program ends whose words ask for no run; its help stands after these words
+-- how a program ends if its words ask for no run; its help comes after the lead
 abbrev pub RefusesBy : Text → ArgFault → ℕ → SinkSeen → SinkSeen → SinkSeen → SinkSeen → Type 0
 RefusesBy lead (refusals.Help text) code out out' err err' =
     GivesHelp (lead ++ string_bytes text) code out out' err err'

@@ -22,7 +22,7 @@ use Rattle.kati.specs.Meaning.{Meaning, Means, Wanted, prepared}
 use Rattle.kati.specs.Planning.{always_build, always_built, command_for, first_output, has_implicit, statement_of}
 use Rattle.kati.specs.Planning.{with_always_built}
 
--- the command of a group's least member, whatever messages came before it
+-- the command of a group's least member, whatever messages come before it
 pub record IsCommandOf (table : Table) (limit : ℕ) (group : List Node) (command : Option Text) : Type 0 where
   pub said : List Text
   pub heard : List Text
@@ -43,12 +43,11 @@ pub record IsMadeOnce (statements : List Statement) (name : Text) : Type 0 where
   pub stands : Contains statement.outs name
   pub single : (other : Statement) → Contains statements other → Contains other.outs name → other ≡ statement
 
--- the statement of what is always built, which stands only where another needs it
+-- the statement `always_built`, which is there only if another one needs it
 abbrev pub IsAlwaysBuilt : List Statement → Statement → Type 0
 IsAlwaysBuilt statements statement = (statement ≡ always_built) × (list_any has_implicit statements ≡ true)
 
--- the statements of groups, in byte order of their least outputs; before them stands that of what is always built,
--- where one of them needs it
+-- the statements of groups, in byte order of their least outputs, after `always_built` if one of them needs it
 pub record StandInOrder (statements : List Statement) : Type 0 where
   pub groups : List Statement
   pub are : statements ≡ with_always_built groups
@@ -59,26 +58,26 @@ pub record TellsGraph (read : Read) (limit : ℕ) (known goals : List Text) (pla
   pub graph : IsSoundGraph read.book known goals nodes
   -- each target that a rule makes and the goals reach has its statement
   pub each : (name : Text) → IsMade read.book known goals name → IsMadeOnce plan.statements name
-  -- no name is an output twice, so that no statement stands twice
+  -- no name is an output twice, so no statement is repeated
   pub different : AllPairs (λ one other. one ≢ other) (outputs plan.statements)
   -- and there is no other output and no other statement
   pub only : (name : Text) → Contains (outputs plan.statements) name → IsMade read.book known goals name
       ⊎ (name ≡ always_build)
   pub grouped : (statement : Statement) → Contains plan.statements statement
       → IsOfGroup read limit (groups_of nodes) statement ⊎ IsAlwaysBuilt plan.statements statement
-  -- what is always built has its statement where one needs it
+  -- `always_built` is there if one needs it
   pub always : list_any has_implicit plan.statements ≡ true → Contains plan.statements always_built
   pub ordered : StandInOrder plan.statements
   pub defaults : plan.defaults ≡ goals
 
--- the graph is that of the goals, by the list, the makefile and the arguments
+-- the graph is that of the goals, from the list, the makefile and the arguments
 pub record IsGraphOf (args : Args) (store : Store) (asked : List Text) (plan : Plan) : Type 0 where
   pub want : Wanted
   pub trace : Trace
   pub is_prepared : prepared args store (traced [] asked) ≡ Gave trace want
   pub tells : TellsGraph want.read args.limit want.known want.goals plan
 
--- each plan that a run means is just that graph
+-- each plan that a run means is exactly that graph
 abbrev pub PlansAreGraphs : Type 0
 PlansAreGraphs = (args : Args) (store : Store) (asked : List Text) (m : Meaning) (plan : Plan)
     → Means args store asked m → m.result ≡ Ok plan

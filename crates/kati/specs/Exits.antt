@@ -5,13 +5,13 @@ use Rattle.kati.specs.declared.faults.RunFault.TheVariants as faults
 use Rattle.kati.specs.declared.status.Status.{Status}
 use Rattle.kati.specs.declared.status.Status.TheVariants as statuses
 
--- of a run that came to its end: written or as checked, checked and different, or a makefile's fault
+-- of a run that came to its end: written or equal to the plan, different from the plan, or a makefile's fault
 abbrev pub code_of : Status → ℕ
 code_of statuses.Done = 0
 code_of statuses.Differs = 1
 code_of statuses.Fault = 2
 
--- of a run that was kept from it: by a device, or by being out of memory
+-- of a run that didn't: because of a device, or out of memory
 abbrev pub fault_code : RunFault → ℕ
 fault_code (faults.Read name) = 3
 fault_code faults.WriteOut = 3

@@ -1,5 +1,4 @@
--- What is to be made (GNU make manual, "Arguments to Specify the Goals", "Other Special Variables", on
--- `.DEFAULT_GOAL`).
+-- The goals (GNU make manual, "Arguments to Specify the Goals", "Other Special Variables", on `.DEFAULT_GOAL`).
 use Rattle.std.specs.Prelude.{ℕ, List, [], ◌∷◌, None, codes}
 use Rattle.kt_text.specs.Words.{Text}
 use Rattle.kt_rules.specs.declared.fault_kind.FaultKind.TheVariants.{NoTargets}
@@ -10,7 +9,7 @@ use Rattle.kt_eval.specs.macros.Macros.{Table}
 use Rattle.kt_graph.specs.Goals.{default_goals, named_goals}
 use Rattle.kati.specs.Steps.{fault_nowhere}
 
--- there is something to make, or there is no target
+-- the goals, or the fault that there is no target
 abbrev pub goals_or_none : List Text → StepOver (List Text) (List Text)
 goals_or_none [] = stop_at (fault_nowhere NoTargets [])
 goals_or_none (goal ∷ goals) = done (goal ∷ goals)

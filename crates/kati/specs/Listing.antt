@@ -14,22 +14,22 @@ use Rattle.kati.specs.Steps.{ask_for, fault_nowhere}
 abbrev pub nul_fault : Text → ℕ → Fault
 nul_fault name line = fault_of (Some (record { file = name; line = line })) NulByte []
 
--- by the line of the first NUL, if there is one
+-- the text, unless it has a NUL, given the line of the first one
 abbrev pub if_without_nul : Text → Text → Option ℕ → StepOver Trace Text
 if_without_nul name text (Some line) = stop_at (nul_fault name line)
 if_without_nul name text None = done text
 
--- by whether it is too large
+-- the text, unless it is too large
 abbrev pub if_small : Text → Text → Bool → StepOver Trace Text
 if_small name text true = stop_at (fault_nowhere FileTooLarge name)
 if_small name text false = if_without_nul name text (nul_line text)
 
--- by whether it is there
+-- the text, if the file exists
 abbrev pub list_in : Text → Option Text → StepOver Trace Text
 list_in name None = stop_at (fault_nowhere NoFile name)
 list_in name (Some text) = if_small name text (nat_lt largest_file (length text))
 
--- the text of the list, which is empty where none is asked for
+-- the text of the list, which is empty if no list is asked for
 abbrev pub listed : Store → Option Text → StepOver Trace Text
 listed store None = done []
 listed store (Some name) = do

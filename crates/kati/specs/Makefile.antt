@@ -12,16 +12,16 @@ use Rattle.kt_eval.specs.Outcome.{StepOver}
 use Rattle.kati_args.specs.declared.args.Args.{Args}
 use Rattle.kati_args.specs.declared.args.Macro.{Macro}
 
--- `-f FILE`, or the names that a makefile is looked for by, in this order
+-- `-f FILE`, or the default names of a makefile, in this order
 abbrev pub makefile_names : Option Text → List Text
 makefile_names None = codes "makefile" ∷ codes "Makefile" ∷ []
 makefile_names (Some name) = name ∷ []
 
--- a macro of the command line is deferred, and has no blanks before its value
+-- a macro of the command line is deferred, and its value has no blanks before it
 abbrev pub set_by_command_line : Text → Entry
 set_by_command_line value = record { flavour = Deferred; origin = CommandLine; value = trimmed_start value }
 
--- of two of one name the later counts
+-- of two macros with one name the later one counts
 abbrev pub with_macro : Table → Macro → Table
 with_macro table entry = put entry.name (set_by_command_line entry.value) table
 

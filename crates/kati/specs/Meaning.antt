@@ -18,7 +18,7 @@ use Rattle.kati.specs.Makefile.{makefile_read}
 use Rattle.kati.specs.Goals.{chosen_goals}
 use Rattle.kati.specs.Planning.{planned}
 
--- the names asked for are those that were before the run, and its own
+-- the names asked for are those from before the run, and its own
 pub record Meaning : Type 0 where
   pub messages : List Text
   pub result : Result Plan Fault
@@ -30,7 +30,7 @@ meaning_of (Stopped trace fault) = record { messages = trace.said; result = Err 
 
 -- ---- first the files are listed, the makefile is read, and the goals are chosen
 
--- what is to be made, by which makefile, where these names are known
+-- the goals, with the makefile and the known names that make them
 pub record Wanted : Type 0 where
   pub read : Read
   pub known : List Text
@@ -47,7 +47,7 @@ prepared args store = do
   read ← makefile_read args store
   telling (wanted_by args list read)
 
--- ---- then there is the plan of the graph that the goals need, or what comes first of what is wrong with it
+-- ---- then the plan of the graph that the goals need, or the first thing that is wrong with it
 
 pub record MeansPlan (limit : ℕ) (want : Wanted) (trace : Trace) (m : Meaning) : Type 0 where
   pub nodes : List Node
@@ -64,11 +64,11 @@ MeansGoals limit want trace m = MeansPlan limit want trace m ⊎ MeansTrouble wa
 
 -- ---- the whole
 
--- steps that came to what is wanted mean what that means, and those that stopped mean their fault
+-- steps that came to what is wanted have its meaning, and those that stopped mean their fault
 abbrev pub MeansAfter : ℕ → Outcome Trace Wanted → Meaning → Type 0
 MeansAfter limit (Gave trace want) m = MeansGoals limit want trace m
 MeansAfter limit (Stopped trace fault) m = m ≡ meaning_of (Stopped trace fault)
 
--- by these arguments over these files, after these names were asked for
+-- a run with these arguments over these files, after these names were asked for
 abbrev pub Means : Args → Store → List Text → Meaning → Type 0
 Means args store asked m = MeansAfter args.limit (prepared args store (traced [] asked)) m

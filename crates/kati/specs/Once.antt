@@ -5,7 +5,7 @@ use Rattle.kt_eval.specs.files.Files.{Store}
 use Rattle.kati_args.specs.declared.args.Args.{Args}
 use Rattle.kati.specs.Meaning.{Meaning, Means}
 
--- two meanings of one run are the same: messages, plan or fault, and names asked for
+-- two meanings of one run are equal: messages, plan or fault, and names asked for
 abbrev pub HasOneMeaning : Type 0
 HasOneMeaning = (args : Args) (store : Store) (asked : List Text) (m n : Meaning) → Means args store asked m
     → Means args store asked n → m ≡ n

@@ -1,5 +1,5 @@
 -- The plan of what goals need (Ninja manual, "Build statements", "Build dependencies", "Default target statements";
--- which statements there are, their order and the name that is always built are kati's own).
+-- which statements there are, their order and the name `always_build` are kati's own).
 use Rattle.std.specs.Prelude.{ℕ, Bool, not, ◌&&◌, List, [], ◌∷◌, ◌++◌, map, filter, flat_map, Option, Some, None}
 use Rattle.std.specs.Prelude.{is_some, slice_get, if◌then◌else◌}
 use Rattle.std.specs.List.{list_any}
@@ -24,7 +24,7 @@ use Rattle.kt_ninja.specs.Writable.{Obstacle, is_empty, no_output, bad_name, bad
 use Rattle.kt_ninja.specs.Writable.{obstacle_of_statements}
 use Rattle.kati.specs.Steps.{fault_nowhere}
 
--- the target that is never there, so that what needs it is always made
+-- the target that never exists, so that what needs it is always made
 abbrev pub always_build : Text
 always_build = always_name
 
@@ -37,7 +37,7 @@ outs_of group = map (λ node. node.name) group
 abbrev pub joined_inputs : List Node → List Text
 joined_inputs group = without_repeats (flat_map inputs_of group)
 
--- the order-only ones likewise, without these
+-- the order-only inputs of the members, each once, without the inputs
 abbrev pub joined_order_only : List Node → List Text
 joined_order_only group =
     filter (λ name. not (is_among (joined_inputs group) name)) (without_repeats (flat_map order_only_of group))
@@ -64,12 +64,12 @@ statement_of rules group command = record {
 
 -- ---- statements one after another
 
--- the command is that of the least member, which stands first
+-- the command is that of the least member, which comes first
 abbrev pub command_for : Table → ℕ → List Node → StepOver (List Text) (Option Text)
 command_for table limit [] = done None
 command_for table limit (least ∷ others) = shell_of table limit least
 
--- one for each group, after these
+-- a statement for each group, after the given ones
 unfoldable pub plan_groups : List Rule → Table → ℕ → List (List Node) → List Statement
     → StepOver (List Text) (List Statement)
 plan_groups rules table limit [] before = done before
@@ -85,7 +85,7 @@ has_implicit statement = not (is_empty statement.implicit)
 abbrev pub always_built : Statement
 always_built = record { outs = always_build ∷ []; made = Phony; inputs = []; implicit = []; order_only = [] }
 
--- the statement of what is always built comes first, where one needs it
+-- the statement `always_built` comes first, if one needs it
 unfoldable pub with_always_built : List Statement → List Statement
 with_always_built statements = if list_any has_implicit statements then always_built ∷ statements else statements
 
@@ -110,7 +110,7 @@ text_fault statements (no_output number) = None
 text_fault statements (repeated name) = None
 text_fault statements (not_an_output name) = None
 
--- the first name or command that can't be written, statement by statement, names first
+-- the first name or command that can't be written, statement by statement, with names first
 unfoldable pub unwritable_in : List Statement → Option Fault
 unwritable_in statements = option_and_then (text_fault statements) (obstacle_of_statements 0 statements)
 

@@ -1,5 +1,5 @@
--- What no plan has: a name that needs itself, two outputs that are one file, a name that is kati's own (kati's own;
--- Ninja manual, "Build statements").
+-- What no plan has: a name that depends on itself, two outputs that are one file, a name that is reserved for kati
+-- (kati's own; Ninja manual, "Build statements").
 use Rattle.std.specs.Prelude.{◌≡◌, ◌⊎◌, false, List, ◌++◌, Ok}
 use Rattle.std.specs.List.{Contains}
 use Rattle.kt_text.specs.Words.{Text}
@@ -13,21 +13,21 @@ use Rattle.kati_args.specs.declared.args.Args.{Args}
 use Rattle.kati.specs.Meaning.{Meaning, Means}
 use Rattle.kati.specs.Planning.{always_build, always_built}
 
--- one of the statements makes the name, and needs the input
+-- a statement that makes the name has the input
 pub record NeedsInput (statements : List Statement) (name input : Text) : Type 0 where
   pub statement : Statement
   pub among : Contains statements statement
   pub makes : Contains statement.outs name
   pub needs : Contains (statement.inputs ++ (statement.implicit ++ statement.order_only)) input
 
--- a name needs itself, in one step or more
+-- a name depends on itself, in one step or more
 pub record NeedsItself (statements : List Statement) (name : Text) : Type 0 where
   pub next : Text
   pub step : NeedsInput statements name next
   pub path : Reaches (NeedsInput statements) next name
 
--- no output, input or order-only input of the statement is a spelling of what is always built, and it has no other
--- implicit input than that
+-- no output, input or order-only input of the statement is a spelling of `always_build`, and its implicit inputs are
+-- that name only
 pub record IsUnreserved (statement : Statement) : Type 0 where
   pub free : (name : Text) → Contains (statement.outs ++ (statement.inputs ++ statement.order_only)) name
       → is_reserved name ≡ false
@@ -38,7 +38,7 @@ pub record IsSoundPlan (plan : Plan) : Type 0 where
   pub files_differ : (one other : Text) → Contains (outputs plan.statements) one
       → Contains (outputs plan.statements) other
       → canon_of one ≡ canon_of other → one ≡ other
-  -- what is always built stands as the output of its own statement and among implicit inputs, and nowhere else
+  -- `always_build` is the output of its own statement and among implicit inputs, and nowhere else
   pub unreserved : (statement : Statement) → Contains plan.statements statement
       → IsUnreserved statement ⊎ (statement ≡ always_built)
 

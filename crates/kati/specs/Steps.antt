@@ -7,7 +7,7 @@ use Rattle.kt_eval.specs.reading.Machine.{Trace, traced}
 use Rattle.kt_eval.specs.Outcome.{Gave, StepOver, leaving}
 use Rattle.kt_eval.specs.Step.{fault_of}
 
--- a fault that tells of a name, and is at no line
+-- a fault about a name, at no line
 abbrev pub fault_nowhere : FaultKind → Text → Fault
 fault_nowhere kind name = fault_of None kind name
 
@@ -15,6 +15,6 @@ fault_nowhere kind name = fault_of None kind name
 abbrev pub ask_for : Text → StepOver Trace (Unit {0})
 ask_for name trace = Gave (traced trace.said (trace.asked ++ name ∷ [])) tt
 
--- a step of which messages are left, and that asks for no file
+-- a step that leaves messages and asks for no file
 abbrev pub telling : {A : Type 0} → StepOver (List Text) A → StepOver Trace A
 telling step trace = leaving (λ said. traced said trace.asked) (step trace.said)

@@ -1,6 +1,7 @@
--- What only contracts of private functions and proofs cite: nothing here has to be read to know what is promised.
+-- What only contracts of private functions and proofs cite: none of this is needed to read the public contracts.
 pub mod Stops
 pub mod Views
+pub mod Ranges
 pub mod Drawn
 pub mod Shown
 pub mod Delivered

@@ -11,7 +11,7 @@ use kt_eval::{FileFault, Files};
 use kt_ninja::{Plan, ReadFault, read_plan};
 use std::alloc::Global;
 
-/// Whether the file of this name is there and read as the plan, however it is spelled.
+/// Whether the file with this name exists and is read as the plan, however it is spelled.
 pub(crate) fn check<F: Files>(
     alloc: Global,
     plan: &Plan,
@@ -24,7 +24,7 @@ pub(crate) fn check<F: Files>(
         (λ fault. AskedAtCheck fault name.now (F.seen files.old).names (F.seen files.new).names) }
     ensures blames { ReadBlames result (F.seen files.old) (F.seen files.new) }
 {
-    // Copied before the read, so that a failed device always has its name.
+    // Copied before the read, so that a failed device is always reported with its name.
     let copy = name.to_string(alloc)?;
     match files.read(name) {
         Ok(found) => compare(alloc, plan, found),
@@ -33,7 +33,7 @@ pub(crate) fn check<F: Files>(
     }
 }
 
-// Whether a file that was looked for is there and is the plan.
+// Whether a file that was looked for exists and is the plan.
 fn compare(alloc: Global, plan: &Plan, found: Option<Vec<u8>>) -> Result<Status, RunFault>
     ensures checks { IfOk result (IsChecked plan.now (option_map (λ text. text.items) found)) }
     ensures blames { IfErr result (λ fault. fault ≡ Memory) }

@@ -1,14 +1,14 @@
-//! What keeps a run from its end.
+//! Why a run doesn't come to its end.
 ghost use Rattle.std.specs.Prelude.{◌≡◌};
 ghost use Rattle.kati.specs.declared.faults.RunFault.TheVariants.{Memory};
 
 use std::alloc::AllocError;
 use thiserror::Error;
 
-/// What kept a run from its end.
+/// Why a run didn't come to its end.
 #[derive(Debug, Drop, Error)]
 pub enum RunFault {
-    /// The device of this file failed.
+    /// The device of the file with this name failed.
     #[error("kati: cannot read {0}")]
     Read(String),
     /// The output failed.
@@ -33,7 +33,7 @@ impl RunFault {
     ghost use Rattle.std.specs.Prelude.{◌≡◌};
     ghost use Rattle.kati.specs.Exits.{fault_code};
 
-    /// The exit status: 3 after a device's failure, 4 where memory was refused.
+    /// The exit status: 3 after a failure of a device, 4 if memory ran out.
     pub fn exit_code(&self) -> u8
         ensures { result ≡ fault_code self.now }
     {

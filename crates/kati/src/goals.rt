@@ -1,4 +1,4 @@
-//! What is to be made.
+//! The goals.
 ghost use Rattle.std.specs.Prelude.{[], List};
 ghost use Rattle.kt_text.specs.Words.{Text};
 ghost use Rattle.kt_eval.specs.Outcome.{AsksNothing, Gives};
@@ -47,7 +47,7 @@ fn default_goals(
     one_goal(alloc, &makefile.book, text.as_slice())
 }
 
-// The text of the macro that names the goal.
+// The expanded macro that names the goal.
 #[tactic(auto, unfolding(crate::specs::Goals::default_goal_text))]
 fn default_goal_text(
     macros: &Macros,

@@ -1,23 +1,24 @@
-//! The plan of a graph, told from the graph.
-ghost use Rattle.std.specs.Prelude.{◌≡◌, None, map, option_map, slice_get};
+//! The plan of a graph, read from the graph.
+ghost use Rattle.std.specs.Prelude.{◌≡◌, None, option_map, slice_get};
 ghost use Rattle.kt_ninja.specs.View.{made_at, made_by as made_seen, names_at, names_listed};
 ghost use Rattle.kati.specs.inner.Drawn.{inputs_drawn, order_only_drawn, statements_drawn};
 ghost use Rattle.kati.specs.inner.Shown.{names_view, part_view, plan_view};
 
 use crate::name_list::NameList;
+use crate::node_groups::NodeGroups;
 use crate::sketch::{Drawing, Sketch};
 use kt_graph::Node;
 use kt_ninja::{Listed, PlanView};
 use kt_rules::Name;
 
-/// The plan of a graph, of which no statement is built: names are those of the graph's nodes, and commands stand in one
-/// text.
+/// The plan of a graph, without statements of its own: names are those of the graph's nodes, and all commands are in
+/// one text.
 #[derive(Drop)]
 pub(crate) struct GraphPlan<'g> {
-    pub groups: Vec<Vec<Node<'g>>>,
-    /// What is held of each group beside its nodes.
+    pub groups: NodeGroups<'g>,
+    /// What is stored for each group besides its nodes.
     pub sketch: Sketch,
-    /// Whether the statement of what is always built comes first.
+    /// Whether the statement of `ALWAYS_BUILD` comes first.
     pub always: bool,
     pub goals: Vec<Name>,
 }
@@ -26,7 +27,7 @@ pub(crate) struct GraphPlan<'g> {
 #[derive(Drop)]
 enum Part<'a, 'g> {
     Missing,
-    // That of what is always built.
+    // That of `ALWAYS_BUILD`.
     Always,
     Group(&'a [Node<'g>], Drawing<'a>),
 }
@@ -36,11 +37,11 @@ impl<'g> GraphPlan<'g> {
     #[inline(always)]
     fn group(&self, place: usize) -> Part<'_, 'g>
         ensures { part_view result
-            ≡ slice_get (statements_drawn (map (λ group. group.items) self.now.groups.items) self.now.sketch) place }
+            ≡ slice_get (statements_drawn self.now.groups self.now.sketch) place }
     {
-        match self.groups.as_slice().get(place) {
+        match self.groups.get(place) {
             Some(nodes) => match self.sketch.get(place) {
-                Some(drawing) => Part::Group(nodes.as_slice(), drawing),
+                Some(drawing) => Part::Group(nodes, drawing),
                 None => Part::Missing,
             },
             None => Part::Missing,
@@ -145,7 +146,7 @@ impl<'a, 'g> Part<'a, 'g> {
     }
 }
 
-// What the first of the nodes needs.
+// The inputs of the first node.
 #[inline(always)]
 fn first_inputs<'a, 'g>(nodes: &'a [Node<'g>]) -> NameList<'a, 'g>
     ensures { names_view result ≡ inputs_drawn nodes.now None }

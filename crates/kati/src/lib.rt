@@ -9,6 +9,7 @@ pub mod laws;
 mod listing;
 mod makefile;
 mod name_list;
+mod node_groups;
 mod outcome;
 mod planning;
 mod program;

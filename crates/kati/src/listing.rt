@@ -15,7 +15,7 @@ use kt_rules::{FaultKind, Place};
 use kt_text::nul_line;
 use std::alloc::{AllocError, Global};
 
-/// The text of the list, which is empty where none is asked for.
+/// The text of the list, which is empty if no list is asked for.
 pub(crate) fn listed<F: Files>(
     alloc: Global,
     name: &Option<Word>,
@@ -45,7 +45,7 @@ fn read_list<F: Files>(alloc: Global, name: &str, files: &mut F) -> Result<Vec<u
     ensures keeps { (F.seen files.new).known ≡ (F.seen files.old).known }
     ensures blames { Blames result (F.seen files.old) (F.seen files.new) }
 {
-    // Copied before the read, so that a failed device always has its name.
+    // Copied before the read, so that a failed device is always reported with its name.
     let copy = name.to_string(alloc)?;
     match files.read(name) {
         Ok(found) => list_in(alloc, name, found),

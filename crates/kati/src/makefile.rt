@@ -15,7 +15,7 @@ use kt_list::{Sequence, Shared};
 use kt_rules::Book;
 use std::alloc::{AllocError, Global};
 
-/// What the makefile says, and its messages, those before a fault too.
+/// The macros and rules of the makefile, and its messages, including those before a fault.
 pub(crate) fn makefile_read<F: Files>(
     alloc: Global,
     args: &Args,
@@ -35,7 +35,7 @@ pub(crate) fn makefile_read<F: Files>(
     }
 }
 
-// A machine that has read nothing but the command line.
+// A machine that has read only the command line.
 fn machine_of(alloc: Global, args: &Args) -> Result<Machine, AllocError>
     ensures { IfOk result (λ machine. machine ≡ nothing_read args.now.limit (command_line_table args.now.macros)) }
 {
@@ -53,7 +53,7 @@ fn macros_of(alloc: Global, definitions: &[Definition]) -> Result<Macros, AllocE
     Ok(macros)
 }
 
-// The value is without the blanks before it.
+// The value has no blanks before it.
 fn set(alloc: Global, macros: &mut Macros, definition: &Definition) -> Result<(), AllocError>
     ensures { OnOk result (macros.new ≡ with_macro macros.old definition.now) }
 {
@@ -86,7 +86,7 @@ fn read<F: Files>(
     told_and_read(ended, machine.finish())
 }
 
-// Reads the file of this name, or the first of the names that a makefile is looked for by.
+// Reads the file with this name, or the first of the default names of a makefile that exists.
 fn read_by_name<F: Files>(
     machine: &mut Machine,
     name: &Option<Word>,

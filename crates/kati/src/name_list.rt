@@ -10,11 +10,11 @@ use kt_rules::Name;
 #[derive(Drop)]
 pub(crate) enum NameList<'a, 'g> {
     Empty,
-    /// The target that is never there.
+    /// The target that never exists.
     AlwaysBuild,
     /// The names of a group's nodes.
     Members(&'a [Node<'g>]),
-    /// What a node needs.
+    /// Inputs of a node.
     Needs(Inputs<'g>),
     Names(&'a [Name]),
 }
@@ -33,7 +33,7 @@ impl<'a, 'g> NameList<'a, 'g> {
         }
     }
 
-    /// The name at a place, if there are so many.
+    /// The name at a place, if there is one.
     #[inline(always)]
     pub(crate) fn name(&self, place: usize) -> Option<&'a [u8]>
         ensures { option_map (λ name. name.now) result ≡ slice_get (names_view self.now) place }

@@ -1,4 +1,4 @@
-//! What a makefile comes to.
+//! The result of translating a makefile.
 use kt_eval::Fault;
 use kt_list::Sequence;
 use kt_ninja::Plan;

@@ -1,5 +1,5 @@
 //! The plan of a graph.
-ghost use Rattle.std.specs.Prelude.{◌≡◌, ◌++◌, ◌∷◌, [], List, map, IfOk, MatchOption, None, Some, false};
+ghost use Rattle.std.specs.Prelude.{◌≡◌, ◌<◌, ◌++◌, ◌∷◌, [], List, get_or, length, IfOk, MatchOption, None, Some, false};
 ghost use Rattle.kt_text.specs.Words.{Text};
 ghost use Rattle.kt_eval.specs.declared.fault.Fault.{Fault as FaultType};
 ghost use Rattle.kt_graph.specs.faults.Faults.{IsSoundGraph};
@@ -15,6 +15,7 @@ ghost use Rattle.kati.specs.inner.Stops.{IsFaultOf};
 ghost use Rattle.kati.specs.inner.Views.{is_text_trouble};
 
 use crate::graph_plan::GraphPlan;
+use crate::node_groups::NodeGroups;
 use crate::sketch::Sketch;
 use crate::statements::sketch_group;
 use crate::words::stop_on;
@@ -25,9 +26,8 @@ use kt_ninja::{Listed, Plan, PlanView, Unwritable, copied_plan, texts_can_be_wri
 use kt_recipe::Commands;
 use kt_rules::{Book, FaultKind, Name};
 use std::alloc::{AllocError, Global};
-use std::mem;
 
-/// A statement for each group, in order, and before them that of what is always built.
+/// A statement for each group, in order, after that of `ALWAYS_BUILD` if one needs it.
 #[tactic(auto, unfolding(crate::specs::Planning::planned))]
 pub(crate) fn graph_plan<'g>(
     alloc: Global,
@@ -44,11 +44,11 @@ pub(crate) fn graph_plan<'g>(
         → IfOk result (λ plan. IsWritable (plan_view plan)) }
 {
     let groups = all_groups(alloc, graph)?;
-    let sketch = sketched(alloc, makefile, limit, groups.as_slice(), messages)?;
+    let sketch = sketched(alloc, makefile, limit, &groups, messages)?;
     written(alloc, plan_of(groups, sketch, goals))
 }
 
-/// The same, built.
+/// The same, copied into a `Plan`.
 pub(crate) fn plan(
     alloc: Global,
     makefile: &Makefile,
@@ -68,30 +68,30 @@ pub(crate) fn plan(
 }
 
 // The groups, one after another.
-fn all_groups<'g>(alloc: Global, graph: &'g Graph<'_>) -> Result<Vec<Vec<Node<'g>>>, AllocError>
-    ensures { IfOk result (λ groups. map (λ group. group.items) groups.items ≡ groups_of graph.now) }
+fn all_groups<'g>(alloc: Global, graph: &'g Graph<'_>) -> Result<NodeGroups<'g>, AllocError>
+    ensures { IfOk result (λ groups. groups ≡ groups_of graph.now) }
 {
     let mut left = graph.groups()?;
-    let mut groups = Vec::new(alloc);
+    let mut groups = NodeGroups::new(alloc);
     let mut group = Vec::new(alloc);
     while left.next_into(&mut group)? {
-        groups.push(mem::replace(&mut group, Vec::new(alloc)))?;
+        groups.push(&mut group)?;
     }
     Ok(groups)
 }
 
-// What is held of each group.
+// What is stored for each group besides its nodes.
 fn sketched(
     alloc: Global,
     makefile: &Makefile,
     limit: u64,
-    groups: &[Vec<Node>],
+    groups: &NodeGroups<'_>,
     messages: &mut Vec<Sequence<u8>>,
 ) -> Result<Sketch, Stop>
-    ensures gives { Gives (λ sketch. statements_drawn (map (λ group. group.items) groups.now) sketch) result
+    ensures gives { Gives (λ sketch. statements_drawn groups.now sketch) result
         messages.new.items (plan_groups makefile.now.book makefile.now.macros limit
-        (map (λ group. group.items) groups.now) [] messages.old.items) }
-    ensures always { IfOk result (λ sketch. AlwaysFirst (map (λ group. group.items) groups.now) sketch) }
+        groups.now [] messages.old.items) }
+    ensures always { IfOk result (λ sketch. AlwaysFirst groups.now sketch) }
     ensures asks_nothing { AsksNothing result }
 {
     let commands = Commands::new(alloc, &makefile.macros, limit)?;
@@ -103,22 +103,23 @@ fn sketch_groups(
     alloc: Global,
     book: &Book,
     commands: &Commands<'_>,
-    groups: &[Vec<Node>],
+    groups: &NodeGroups<'_>,
     messages: &mut Vec<Sequence<u8>>,
 ) -> Result<Sketch, Stop>
     ensures gives { Gives (λ sketch. sketch) result messages.new.items
-        (draw_groups book.now commands.now.table commands.now.limit (map (λ group. group.items) groups.now) []
+        (draw_groups book.now commands.now.table commands.now.limit groups.now []
         messages.old.items) }
     ensures asks_nothing { AsksNothing result }
 {
     let mut sketch = Sketch::new(alloc);
     let mut command = Vec::new(alloc);
-    for group in groups {
-        add(
+    for place in 0..groups.len() {
+        add_at(
             alloc,
             book,
             commands,
-            group.as_slice(),
+            groups,
+            place,
             &mut command,
             &mut sketch,
             messages,
@@ -127,7 +128,30 @@ fn sketch_groups(
     Ok(sketch)
 }
 
-// Adds a group. The command has room of its own, which serves one group after the other.
+// Adds the group at a place.
+fn add_at(
+    alloc: Global,
+    book: &Book,
+    commands: &Commands<'_>,
+    groups: &NodeGroups<'_>,
+    place: usize,
+    command: &mut Vec<u8>,
+    sketch: &mut Sketch,
+    messages: &mut Vec<Sequence<u8>>,
+) -> Result<(), Stop>
+    requires { place < length groups.now }
+    ensures gives { Gives (λ _. sketch.new) result messages.new.items
+        (then_do (command_for commands.now.table commands.now.limit (get_or groups.now place []) messages.old.items)
+        (λ command. done (sketch.old ++ drawn_of book.now (get_or groups.now place []) command ∷ []))) }
+    ensures asks_nothing { AsksNothing result }
+{
+    match groups.get(place) {
+        Some(group) => add(alloc, book, commands, group, command, sketch, messages),
+        None => Ok(()),
+    }
+}
+
+// Adds a group. The text for the command is reused for one group after another.
 fn add(
     alloc: Global,
     book: &Book,
@@ -147,7 +171,7 @@ fn add(
     Ok(())
 }
 
-// Makes the text the command of the least member, which stands first.
+// Sets the text to the command of the least member, which comes first.
 fn put_command(
     commands: &Commands<'_>,
     group: &[Node],
@@ -167,10 +191,9 @@ fn put_command(
     }
 }
 
-fn plan_of<'g>(groups: Vec<Vec<Node<'g>>>, sketch: Sketch, goals: Vec<Name>) -> GraphPlan<'g>
-    requires { AlwaysFirst (map (λ group. group.items) groups.items) sketch }
-    ensures { plan_view result
-        ≡ plan_of (statements_drawn (map (λ group. group.items) groups.entry.items) sketch) goals.items }
+fn plan_of<'g>(groups: NodeGroups<'g>, sketch: Sketch, goals: Vec<Name>) -> GraphPlan<'g>
+    requires { AlwaysFirst groups sketch }
+    ensures { plan_view result ≡ plan_of (statements_drawn groups.entry sketch) goals.items }
 {
     let always = sketch.has_always();
     GraphPlan {
@@ -181,7 +204,7 @@ fn plan_of<'g>(groups: Vec<Vec<Node<'g>>>, sketch: Sketch, goals: Vec<Name>) -> 
     }
 }
 
-// The plan, unless a name or a command of it can't be written.
+// The plan, unless one of its names or commands can't be written.
 #[tactic(auto, unfolding(crate::specs::Planning::written))]
 fn written<'g>(alloc: Global, plan: GraphPlan<'g>) -> Result<GraphPlan<'g>, Stop>
     ensures gives { (said : List Text) → Gives plan_view result said (written (plan_view plan.entry) said) }

@@ -15,10 +15,10 @@ use kt_eval::Files;
 use kt_ninja::{Sink, WriteFault, put};
 use std::alloc::Global;
 
-/// The exit status where the words are no command line.
+/// The exit status if the words are no command line.
 pub const USAGE: u8 = 64;
 
-/// Puts the words, the name and a newline, as far as the sink takes them.
+/// Writes the words, the name and a newline, as far as the sink takes them.
 fn put_line<E: Sink>(err: &mut E, words: &[u8], name: &str) -> Result<(), WriteFault>
     ensures told { WritesOrFails (words.now ++ (name.now ++ codes "\n")) (E.seen err.old) (E.seen err.new) }
     ensures counts { (E.seen err.old).failed ≤ (E.seen err.new).failed }
@@ -28,7 +28,7 @@ fn put_line<E: Sink>(err: &mut E, words: &[u8], name: &str) -> Result<(), WriteF
     put(err, b"\n")
 }
 
-/// Puts the text, as far as the sink takes it.
+/// Writes the text, as far as the sink takes it.
 fn tell_text<E: Sink>(err: &mut E, text: &[u8])
     ensures told { WritesOrFails text.now (E.seen err.old) (E.seen err.new) }
     ensures counts { (E.seen err.old).failed ≤ (E.seen err.new).failed }
@@ -36,7 +36,7 @@ fn tell_text<E: Sink>(err: &mut E, text: &[u8])
     let _ = put(err, text);
 }
 
-/// Puts the line of these words and this name, as far as the sink takes it.
+/// Writes the line of these words and this name, as far as the sink takes it.
 fn tell_line<E: Sink>(err: &mut E, words: &[u8], name: &str)
     ensures told { WritesOrFails (words.now ++ (name.now ++ codes "\n")) (E.seen err.old) (E.seen err.new) }
     ensures counts { (E.seen err.old).failed ≤ (E.seen err.new).failed }
@@ -44,7 +44,7 @@ fn tell_line<E: Sink>(err: &mut E, words: &[u8], name: &str)
     let _ = put_line(err, words, name);
 }
 
-/// Tells what kept a run from its end, as far as the sink takes it. Takes no memory.
+/// Reports why a run didn't come to its end, as far as the sink takes it. Takes no memory.
 fn tell<E: Sink>(err: &mut E, fault: &RunFault)
     ensures told { WritesOrFails (fault_words fault.now) (E.seen err.old) (E.seen err.new) }
     ensures counts { (E.seen err.old).failed ≤ (E.seen err.new).failed }
@@ -56,7 +56,7 @@ fn tell<E: Sink>(err: &mut E, fault: &RunFault)
     }
 }
 
-/// The exit status of a run, after telling what kept it from its end.
+/// The exit status of a run. If the run didn't come to its end, reports why.
 pub fn finish<E: Sink>(err: &mut E, ended: Result<Status, RunFault>) -> u8
     ensures code { result ≡ exit_code ended }
     ensures quiet { OnOk ended (err.new ≡ err.old) }
@@ -72,7 +72,7 @@ pub fn finish<E: Sink>(err: &mut E, ended: Result<Status, RunFault>) -> u8
     }
 }
 
-/// Puts the help after what stands over it, as far as the sink takes it.
+/// Writes the lead and the help, as far as the sink takes them.
 fn put_help<O: Sink>(out: &mut O, lead: &[u8], text: &str) -> Result<(), WriteFault>
     ensures ok { OnOk result (Takes (O.seen out.old) (O.seen out.new) (lead.now ++ text.now)) }
     ensures fault { OnErr result (GrowsByFront (O.seen out.old) (O.seen out.new) (lead.now ++ text.now)) }
@@ -82,7 +82,7 @@ fn put_help<O: Sink>(out: &mut O, lead: &[u8], text: &str) -> Result<(), WriteFa
     put(out, text.as_bytes())
 }
 
-/// Puts out the help, and gives the exit status.
+/// Writes the help, and returns the exit status.
 fn give_help<O: Sink, E: Sink>(lead: &[u8], out: &mut O, err: &mut E, text: &str) -> u8
     ensures { GivesHelp (lead.now ++ text.now) result (O.seen out.old) (O.seen out.new) (E.seen err.old)
         (E.seen err.new) }
@@ -93,7 +93,7 @@ fn give_help<O: Sink, E: Sink>(lead: &[u8], out: &mut O, err: &mut E, text: &str
     }
 }
 
-/// The exit status of words that ask for no run, after telling why. Over the help stand the words of `lead`.
+/// The exit status of words that ask for no run, after writing the help or why. `lead` comes before the help.
 pub fn refuse<O: Sink, E: Sink>(lead: &[u8], out: &mut O, err: &mut E, fault: &ArgFault) -> u8
     ensures { RefusesBy lead.now fault.now result (O.seen out.old) (O.seen out.new) (E.seen err.old)
         (E.seen err.new) }
@@ -112,12 +112,11 @@ pub fn refuse<O: Sink, E: Sink>(lead: &[u8], out: &mut O, err: &mut E, fault: &A
     }
 }
 
-/// The whole program on these words, of which the first is its name: the command line, a run, a line on the error
-/// output where something kept the run from its end, and the exit status.
+/// The whole program on these words, the first of which is its name: the command line, a run, a line on the error
+/// output if the run didn't come to its end, and the exit status.
 ///
-/// It is 0 where the plan was written, or the file to be checked is the plan, 1 where that file isn't, 2 after a
-/// makefile's fault, 3 after a device's failure, 4 where memory was refused, and 64 where the words are no command
-/// line.
+/// The status is 0 if the plan was written or the file to be checked is the plan, 1 if that file isn't, 2 after a fault
+/// of the makefile, 3 after a failure of a device, 4 if memory ran out, and 64 if the words are no command line.
 pub fn whole<F: Files, O: Sink, E: Sink>(
     alloc: Global,
     words: &[String],

@@ -18,10 +18,10 @@ use kt_eval::{Fault, Files};
 use kt_ninja::{Plan, Sink};
 use std::alloc::Global;
 
-/// Translates the makefile that the files hold: messages and the line of a fault go to the error output, and the
-/// plan's text to the output, or the file to be checked is compared with the plan.
+/// Translates the makefile in the files: messages and a fault line go to the error output, and the plan's text goes to
+/// the output, or the file to be checked is compared with the plan.
 ///
-/// The error output gets its text first, at once, and after a fault the output gets nothing.
+/// The error output is written first, all at once, and after a fault the output gets nothing.
 pub fn run<F: Files, O: Sink, E: Sink>(
     alloc: Global,
     args: &Args,
@@ -43,7 +43,7 @@ pub fn run<F: Files, O: Sink, E: Sink>(
     }
 }
 
-// Compares the file of this name with the plan.
+// Compares the file with this name with the plan.
 fn run_check<F: Files, E: Sink>(
     alloc: Global,
     args: &Args,

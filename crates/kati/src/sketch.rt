@@ -1,4 +1,4 @@
-//! What is held of the groups of a plan beside their nodes.
+//! What is stored for the groups of a plan besides their nodes.
 ghost use Rattle.std.specs.Prelude.{◌≡◌, ◌≤◌, ◌++◌, ◌∷◌, [], OnOk, length, option_map, slice_get};
 ghost use Rattle.std.specs.List.{list_any};
 ghost use Rattle.kt_recipe.specs.Views.{command_in};
@@ -9,14 +9,14 @@ use std::alloc::{AllocError, Global};
 use std::boxed::Box;
 use std::marker::Model;
 
-/// What the members of a group need together.
+/// The joined prerequisites of the members of a group.
 #[derive(Drop)]
 pub(crate) struct Joined {
     pub inputs: Vec<Name>,
     pub order_only: Vec<Name>,
 }
 
-// What is held of a group; its command stands between two places of the text of all.
+// What is stored for a group. Its command is between two places of the text of all commands.
 #[derive(Drop)]
 struct Mark {
     start: usize,
@@ -25,18 +25,18 @@ struct Mark {
     joined: Option<Box<Joined>>,
 }
 
-/// The same as definitions have it.
+/// The same, with the command as a text of its own.
 #[derive(Clone, Copy)]
 pub(crate) struct Drawing<'a> {
-    /// Whether it is always made.
+    /// Whether the group is always made.
     pub always: bool,
-    /// What its members need, if it has several.
+    /// The joined prerequisites of the members, if there are several.
     pub joined: Option<&'a Joined>,
-    /// Its command; empty where it has none.
+    /// The command, which is empty if there is none.
     pub command: &'a [u8],
 }
 
-/// What is held of each group, in order. The commands of all stand in one text.
+/// What is stored for each group, in order. The commands of all groups are in one text.
 #[derive(Drop)]
 pub(crate) struct Sketch {
     text: Vec<u8>,
@@ -64,7 +64,7 @@ impl Sketch {
         }
     }
 
-    /// How many groups there are.
+    /// The number of groups.
     pub(crate) fn len(&self) -> usize
         ensures { result ≡ length self.now }
     {
@@ -78,7 +78,7 @@ impl Sketch {
         any_always(self.marks.as_slice())
     }
 
-    /// Puts one more behind the others.
+    /// Adds a group at the end.
     pub(crate) fn push(
         &mut self,
         always: bool,
@@ -102,7 +102,7 @@ impl Sketch {
         Ok(())
     }
 
-    /// What is held of the group at a place.
+    /// What is stored for the group at a place.
     #[inline(always)]
     pub(crate) fn get(&self, place: usize) -> Option<Drawing<'_>>
         ensures { option_map drawing_view result ≡ slice_get self.now place }

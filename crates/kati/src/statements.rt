@@ -1,4 +1,4 @@
-//! What is held of the groups of a plan.
+//! Stores the groups of a plan.
 ghost use Rattle.std.specs.Prelude.{◌≡◌, ◌&&◌, ◌++◌, ◌∷◌, [], filter, flat_map, fold, is_some, map, not, option_map};
 ghost use Rattle.std.specs.Prelude.{IfOk, OnOk};
 ghost use Rattle.kt_rules.specs.Names.{is_among, with_name, without_repeats};
@@ -14,7 +14,7 @@ use kt_rules::{Book, Name};
 use std::alloc::{AllocError, Global};
 use std::boxed::Box;
 
-/// Puts what is held of a group behind that of others. Its command is empty where it has none.
+/// Adds what is stored for a group at the end. Its command is empty if it has none.
 pub(crate) fn sketch_group(
     alloc: Global,
     book: &Book,
@@ -28,7 +28,7 @@ pub(crate) fn sketch_group(
     sketch.push(is_always_made(book, group, command), joined, command)
 }
 
-// A phony member with a command is always made.
+// Whether a group is always made: it has a command and a phony member.
 fn is_always_made(book: &Book, group: &[Node], command: &[u8]) -> bool
     ensures { result ≡ (is_some (command_in command.now) && has_phony book.now group.now) }
 {
@@ -38,7 +38,7 @@ fn is_always_made(book: &Book, group: &[Node], command: &[u8]) -> bool
     }
 }
 
-// What the members need together. One alone has its own as they are.
+// The joined prerequisites of the members. A single member's own are used as they are.
 fn joined_if_several(alloc: Global, group: &[Node]) -> Result<Option<Box<Joined>>, AllocError>
     ensures { IfOk result (λ joined. option_map (λ b. joined_view b.value) joined ≡ joined_of group.now) }
 {
@@ -80,7 +80,7 @@ fn joined_inputs(alloc: Global, group: &[Node]) -> Result<IndexSet<Vec<u8>>, All
     Ok(inputs)
 }
 
-// The order-only inputs of all, each once, without these.
+// The order-only inputs of all, each once, without the inputs.
 fn joined_order_only(
     alloc: Global,
     group: &[Node],

@@ -2,7 +2,7 @@
 ghost use Rattle.std.specs.Prelude.{◌≡◌};
 ghost use Rattle.kati.specs.Exits.{code_of};
 
-/// The end of a run that wasn't kept from it.
+/// How a run came to its end.
 #[derive(Debug, Drop, Clone, Copy, PartialEq, Eq)]
 pub enum Status {
     /// The plan was written, or the file to be checked is the plan: exit status 0.

@@ -1,4 +1,4 @@
-//! What a run tells on the error output.
+//! What a run writes to the error output.
 ghost use Rattle.std.specs.Prelude.{◌≡◌, ◌≤◌, ◌++◌, codes, IfOk, OnOk, option_map};
 ghost use Rattle.kt_eval.specs.Faults.{fault_line};
 ghost use Rattle.kati.specs.Messages.{messages_text};
@@ -36,7 +36,7 @@ fn append_messages(text: &mut Vec<u8>, messages: &[Sequence<u8>]) -> Result<(), 
     Ok(())
 }
 
-// Each message on a line, and the line of the fault, if there is one.
+// Each message on a line, and the fault line, if there is a fault.
 fn error_text(
     alloc: Global,
     messages: &[Sequence<u8>],
@@ -51,7 +51,7 @@ fn error_text(
     Ok(text)
 }
 
-/// Tells each message on a line of the error output, and the line of the fault, if there is one, at once.
+/// Writes each message on a line of the error output, and the fault line, if there is a fault, all at once.
 pub(crate) fn tell<E: Sink>(
     alloc: Global,
     messages: &[Sequence<u8>],

@@ -12,7 +12,7 @@ ghost use Rattle.kati.specs.AfterRun.{ReadBlames, Translates};
 ghost use Rattle.kati.specs.Meaning.{prepared, wanted_by};
 ghost use Rattle.kati.specs.Sound.{IsSoundPlan};
 ghost use Rattle.kati.specs.inner.Stops.{IsFirstStop, IsStopOf};
-ghost use Rattle.kati.specs.inner.Views.{EndMeans, GoalsEnd, outcome_of, read_view, wanted_view};
+ghost use Rattle.kati.specs.inner.Views.{EndMeans, GoalsEnd, found_view, outcome_of, read_view, wanted_view};
 
 use crate::faults::RunFault;
 use crate::goals::chosen_goals;
@@ -26,13 +26,13 @@ use kt_graph::{Graph, GraphFault, Known, graph};
 use kt_list::Sequence;
 use kt_ninja::Plan;
 use kt_rules::Name;
-use std::alloc::Global;
+use std::alloc::{AllocError, Global};
 use std::mem;
 
-/// Translates the makefile that the arguments name, or else the first of `makefile` and `Makefile` that is there.
+/// Translates the makefile that the arguments name, or else the first of `makefile` and `Makefile` that exists.
 ///
-/// Its rules, known names and graph are given back only where a check is asked for, which wants their memory: else a
-/// run translates once and ends, and would spend much of its time on giving back a million texts one by one.
+/// The memory of its rules, known names and graph is freed only if a check is asked for, which needs it: otherwise a
+/// run translates once and ends, and would spend much of its time on freeing a million texts one by one.
 pub fn translate<F: Files>(alloc: Global, args: &Args, files: &mut F) -> Result<Outcome, RunFault>
     ensures means { IfSome (F.seen files.old).known
         (λ store. IfOk result
@@ -49,7 +49,7 @@ pub fn translate<F: Files>(alloc: Global, args: &Args, files: &mut F) -> Result<
     outcome_of(messages, ended)
 }
 
-// How a run goes on that came to a plan or was stopped.
+// The outcome of a run that came to a plan or was stopped.
 fn outcome_of(messages: Vec<Sequence<u8>>, ended: Result<Plan, Stop>) -> Result<Outcome, RunFault>
     ensures { result ≡ outcome_of messages.items ended }
 {
@@ -67,7 +67,7 @@ fn outcome_of(messages: Vec<Sequence<u8>>, ended: Result<Plan, Stop>) -> Result<
     }
 }
 
-// The makefile's plan: first what is wanted, and then its plan.
+// The plan of the makefile: first the files are read and the goals chosen, and then the goals are planned.
 fn planned<F: Files>(
     alloc: Global,
     args: &Args,
@@ -84,17 +84,24 @@ fn planned<F: Files>(
     ensures writable { IfOk result IsWritable }
     ensures sound { IfOk result IsSoundPlan }
 {
-    let (sources, goals) = prepared(alloc, args, files, messages)?;
-    let plan = planned_goals(alloc, args, &sources, goals, messages);
-    leave(sources, args);
+    let (found, goals) = prepared(alloc, args, files, messages)?;
+    let plan = planned_of(alloc, args, &found, goals, messages);
+    leave(found, args);
     plan
+}
+
+/// What was read: the makefile, and the list of files.
+#[derive(Drop)]
+pub(crate) struct Found {
+    pub makefile: Makefile,
+    pub list: Vec<u8>,
 }
 
 /// What the goals are made from.
 #[derive(Drop)]
-pub(crate) struct Sources {
-    pub makefile: Makefile,
-    pub known: Known,
+pub(crate) struct Sources<'a> {
+    pub makefile: &'a Makefile,
+    pub known: Known<'a>,
 }
 
 /// The list of files, the makefile, and the goals.
@@ -103,9 +110,9 @@ pub(crate) fn prepared<F: Files>(
     args: &Args,
     files: &mut F,
     messages: &mut Vec<Sequence<u8>>,
-) -> Result<(Sources, Vec<Name>), Stop>
+) -> Result<(Found, Vec<Name>), Stop>
     requires { messages.old.items ≡ [] }
-    ensures gives { IfSome (F.seen files.old).known (λ store. Gives (λ found. wanted_view found.0 found.1.items) result
+    ensures gives { IfSome (F.seen files.old).known (λ store. Gives (λ found. found_view found.0 found.1.items) result
         (traced messages.new.items (F.seen files.new).names)
         (prepared args.now store (traced [] (F.seen files.old).names))) }
     ensures asked { IfSome (F.seen files.old).known
@@ -117,52 +124,66 @@ pub(crate) fn prepared<F: Files>(
     let (told, read) = makefile_read(alloc, args, files);
     *messages = told;
     let makefile = read?;
-    chosen(alloc, args, list.as_slice(), makefile, messages)
+    chosen(alloc, args, list, makefile, messages)
 }
 
 // The goals, with what they are made from.
 fn chosen(
     alloc: Global,
     args: &Args,
-    list: &[u8],
+    list: Vec<u8>,
     makefile: Makefile,
     messages: &mut Vec<Sequence<u8>>,
-) -> Result<(Sources, Vec<Name>), Stop>
-    ensures gives { Gives (λ found. wanted_view found.0 found.1.items) result messages.new.items
-        (wanted_by args.now list.now (read_view makefile) messages.old.items) }
+) -> Result<(Found, Vec<Name>), Stop>
+    ensures gives { Gives (λ found. found_view found.0 found.1.items) result messages.new.items
+        (wanted_by args.now list.items (read_view makefile) messages.old.items) }
     ensures asks_nothing { AsksNothing result }
 {
-    match goals_and_names(alloc, args, list, &makefile, messages) {
-        Ok((goals, known)) => Ok((Sources { makefile, known }, goals)),
-        Err(stop) => Err(stop),
-    }
+    let goals = chosen_goals(
+        alloc,
+        args.goals.as_slice(),
+        args.limit,
+        &makefile,
+        messages,
+    )?;
+    Ok((Found { makefile, list }, goals))
 }
 
-// The goals, and the names that are known.
-fn goals_and_names(
+// The plan of these goals, from what was read.
+fn planned_of(
     alloc: Global,
     args: &Args,
-    list: &[u8],
-    makefile: &Makefile,
+    found: &Found,
+    goals: Vec<Name>,
     messages: &mut Vec<Sequence<u8>>,
-) -> Result<(Vec<Name>, Known), Stop>
-    ensures gives { Gives (λ found. record {
-      read = read_view makefile.now;
-      known = found.1;
-      goals = found.0.items;
-    }) result messages.new.items (wanted_by args.now list.now (read_view makefile.now) messages.old.items) }
+) -> Result<Plan, Stop>
+    ensures means { (asked : List Text) → Ends (GoalsEnd args.now.limit (found_view found.now goals.items))
+        (traced messages.old.items asked) (λ plan. plan) result (traced messages.new.items asked) }
     ensures asks_nothing { AsksNothing result }
+    ensures writable { IfOk result IsWritable }
+    ensures sound { IfOk result IsSoundPlan }
 {
-    let goals = chosen_goals(alloc, args.goals.as_slice(), args.limit, makefile, messages)?;
-    let known = Known::of(alloc, &makefile.book, list)?;
-    Ok((goals, known))
+    let sources = sources_of(alloc, found)?;
+    let plan = planned_goals(alloc, args, &sources, goals, messages);
+    leave(sources, args);
+    plan
+}
+
+/// The makefile, with the known names.
+pub(crate) fn sources_of(alloc: Global, found: &Found) -> Result<Sources<'_>, AllocError>
+    ensures { IfOk result (λ sources. (goals : List Text) → wanted_view sources goals ≡ found_view found.now goals) }
+{
+    Ok(Sources {
+        makefile: &found.makefile,
+        known: Known::of(alloc, &found.makefile.book, found.list.as_slice())?,
+    })
 }
 
 // The plan of these goals.
 fn planned_goals(
     alloc: Global,
     args: &Args,
-    sources: &Sources,
+    sources: &Sources<'_>,
     goals: Vec<Name>,
     messages: &mut Vec<Sequence<u8>>,
 ) -> Result<Plan, Stop>
@@ -173,14 +194,7 @@ fn planned_goals(
     ensures sound { IfOk result IsSoundPlan }
 {
     let graph = sound_graph(alloc, sources, goals.as_slice())?;
-    let plan = plan(
-        alloc,
-        &sources.makefile,
-        args.limit,
-        &graph,
-        goals,
-        messages,
-    );
+    let plan = plan(alloc, sources.makefile, args.limit, &graph, goals, messages);
     leave(graph, args);
     plan
 }
@@ -188,11 +202,11 @@ fn planned_goals(
 /// The graph of these goals, unless something is wrong with it.
 pub(crate) fn sound_graph<'a>(
     alloc: Global,
-    sources: &'a Sources,
+    sources: &'a Sources<'a>,
     goals: &[Name],
 ) -> Result<Graph<'a>, Stop>
-    ensures graph { IfOk result (IsSoundGraph sources.now.makefile.book sources.now.known goals.now) }
-    ensures first { IfErr result (IsFirstStop sources.now.makefile.book sources.now.known goals.now) }
+    ensures graph { IfOk result (IsSoundGraph sources.now.makefile.now.book sources.now.known goals.now) }
+    ensures first { IfErr result (IsFirstStop sources.now.makefile.now.book sources.now.known goals.now) }
 {
     match graph(alloc, &sources.makefile.book, &sources.known, goals) {
         Ok(graph) => Ok(graph),
@@ -200,7 +214,7 @@ pub(crate) fn sound_graph<'a>(
     }
 }
 
-// Leaves a value to the end of the process, or gives it back, where a check will want its memory.
+// Leaks a value until the process ends, or drops it if a check will need its memory.
 fn leave<T: Drop>(value: T, args: &Args) {
     match &args.check {
         None => mem::forget(value),

@@ -1,4 +1,4 @@
-//! Faults of a makefile in the words of their lines.
+//! Faults of a makefile with their messages.
 ghost use Rattle.kt_eval.specs.Step.{fault_of};
 ghost use Rattle.kati.specs.inner.Stops.{IsFaultOf};
 
@@ -6,7 +6,7 @@ use kt_eval::{Fault, Stop};
 use kt_rules::{FaultKind, Place};
 use std::alloc::Global;
 
-/// The stop for a fault of this kind, which tells of this name, or for being out of memory for its words.
+/// The stop for a fault of this kind about this name, or for out of memory while its message is made.
 pub(crate) fn stop_on(alloc: Global, kind: FaultKind, name: &[u8], place: Option<Place>) -> Stop
     ensures { IsFaultOf (fault_of place kind name.now) result }
 {

@@ -12,14 +12,14 @@ ghost use Rattle.kati.specs.Messages.{messages_text};
 ghost use Rattle.kati.specs.inner.Delivered.{TellsAndWrites, TellsBlames, TellsFault, TellsPlan, TellsStop, TextBlames};
 ghost use Rattle.kati.specs.inner.Delivered.{Writes};
 ghost use Rattle.kati.specs.inner.Shown.{plan_view};
-ghost use Rattle.kati.specs.inner.Views.{GoalsEnd, wanted_view};
+ghost use Rattle.kati.specs.inner.Views.{GoalsEnd, found_view, wanted_view};
 
 use crate::faults::RunFault;
 use crate::graph_plan::GraphPlan;
 use crate::planning::graph_plan;
 use crate::status::Status;
 use crate::telling::tell;
-use crate::translating::{Sources, prepared, sound_graph};
+use crate::translating::{Found, Sources, prepared, sound_graph, sources_of};
 use kati_args::Args;
 use kt_eval::{Fault, Files, Stop};
 use kt_graph::Graph;
@@ -29,10 +29,10 @@ use kt_rules::Name;
 use std::alloc::Global;
 use std::mem;
 
-/// Writes the plan of the makefile. No plan is built: it is told from the graph.
+/// Writes the plan of the makefile. No plan is built: it is read from the graph.
 ///
-/// What the plan is made from is left to the end of the process, since a run ends after it, and would spend much of its
-/// time on giving back a million texts one by one.
+/// What the plan is made from isn't freed: the process ends after the run, which would spend much of its time on
+/// freeing a million texts one by one.
 pub(crate) fn write_plan_of<F: Files, O: Sink, E: Sink>(
     alloc: Global,
     args: &Args,
@@ -50,12 +50,38 @@ pub(crate) fn write_plan_of<F: Files, O: Sink, E: Sink>(
 {
     let mut messages = Vec::new(alloc);
     match prepared(alloc, args, files, &mut messages) {
-        Ok((sources, goals)) => {
+        Ok((found, goals)) => {
+            let status = write_found(alloc, args, &found, goals, messages, out, err);
+            mem::forget(found);
+            status
+        }
+        Err(stop) => tell_stop(alloc, messages.as_slice(), stop, err),
+    }
+}
+
+// Writes the plan of these goals, from what was read.
+fn write_found<O: Sink, E: Sink>(
+    alloc: Global,
+    args: &Args,
+    found: &Found,
+    goals: Vec<Name>,
+    messages: Vec<Sequence<u8>>,
+    out: &mut O,
+    err: &mut E,
+) -> Result<Status, RunFault>
+    ensures tells { (asked : List Text) → TellsAndWrites (GoalsEnd args.now.limit (found_view found.now goals.items))
+        (traced messages.items asked) asked result
+        (O.seen out.old) (O.seen out.new) (E.seen err.old) (E.seen err.new) }
+    ensures blames { TellsBlames result (O.seen out.old) (O.seen out.new) (E.seen err.old) (E.seen err.new) }
+    ensures counts { (E.seen err.old).failed ≤ (E.seen err.new).failed }
+{
+    match sources_of(alloc, found) {
+        Ok(sources) => {
             let status = write_goals(alloc, args, &sources, goals, messages, out, err);
             mem::forget(sources);
             status
         }
-        Err(stop) => tell_stop(alloc, messages.as_slice(), stop, err),
+        Err(_refused) => Err(RunFault::Memory),
     }
 }
 
@@ -63,7 +89,7 @@ pub(crate) fn write_plan_of<F: Files, O: Sink, E: Sink>(
 fn write_goals<O: Sink, E: Sink>(
     alloc: Global,
     args: &Args,
-    sources: &Sources,
+    sources: &Sources<'_>,
     goals: Vec<Name>,
     messages: Vec<Sequence<u8>>,
     out: &mut O,
@@ -89,14 +115,14 @@ fn write_goals<O: Sink, E: Sink>(
 fn write_graph<O: Sink, E: Sink>(
     alloc: Global,
     args: &Args,
-    sources: &Sources,
+    sources: &Sources<'_>,
     graph: &Graph,
     goals: Vec<Name>,
     messages: Vec<Sequence<u8>>,
     out: &mut O,
     err: &mut E,
 ) -> Result<Status, RunFault>
-    requires { IsSoundGraph sources.now.makefile.book sources.now.known goals.items graph.now }
+    requires { IsSoundGraph sources.now.makefile.now.book sources.now.known goals.items graph.now }
     ensures tells { (asked : List Text) → TellsAndWrites (GoalsEnd args.now.limit (wanted_view sources.now goals.items))
         (traced messages.items asked) asked result
         (O.seen out.old) (O.seen out.new) (E.seen err.old) (E.seen err.new) }
@@ -106,7 +132,7 @@ fn write_graph<O: Sink, E: Sink>(
     let mut messages = messages;
     let plan = graph_plan(
         alloc,
-        &sources.makefile,
+        sources.makefile,
         args.limit,
         graph,
         goals,
@@ -122,7 +148,7 @@ fn write_graph<O: Sink, E: Sink>(
     }
 }
 
-// Tells the messages, and writes the plan.
+// Writes the messages, and then the plan.
 fn tell_plan<O: Sink, E: Sink>(
     alloc: Global,
     messages: &[Sequence<u8>],
@@ -154,7 +180,7 @@ fn write<O: Sink>(plan: &GraphPlan, out: &mut O) -> Result<Status, RunFault>
     }
 }
 
-// Tells the messages, and the fault that ended the run, if it was one of the makefile.
+// Writes the messages and the fault that ended the run, if it was a fault of the makefile.
 fn tell_stop<E: Sink>(
     alloc: Global,
     messages: &[Sequence<u8>],

@@ -1,4 +1,4 @@
--- What a run that writes its plan tells and writes (kati's own).
+-- What a run that writes its plan writes to its outputs (kati's own).
 use Rattle.std.specs.Prelude.{◌≡◌, List, [], ◌++◌, Option, Some, None, Result, Ok, Err, codes}
 use Rattle.kt_list.specs.Counters.{Rises}
 use Rattle.kt_text.specs.Words.{Text}
@@ -26,14 +26,14 @@ Writes plan (Err faults.WriteErr) old new = ⊥
 Writes plan (Err (faults.Read name)) old new = ⊥
 Writes plan (Err faults.Memory) old new = ⊥
 
--- ---- what a run that writes its plan tells and writes, from where its makefile is read
+-- ---- what such a run writes after its makefile is read
 
--- what stands on a line of its own for a fault
+-- the fault line with its newline, if there is a fault
 abbrev pub fault_view : Option Fault → Text
 fault_view None = []
 fault_view (Some fault) = fault_line fault ++ codes "\n"
 
--- a text on the error output
+-- a text is written to the error output
 abbrev pub TellsText : {A : Type 0} → Result A RunFault → Text → SinkSeen → SinkSeen → Type 0
 TellsText (Ok done) text err err' = Takes err err' text
 TellsText (Err faults.WriteErr) text err err' = GrowsByFront err err' text
@@ -48,7 +48,7 @@ TextBlames (Err faults.Memory) err err' = Unit {0}
 TextBlames (Err faults.WriteOut) err err' = Unit {0}
 TextBlames (Err (faults.Read name)) err err' = Unit {0}
 
--- a stop, after these messages
+-- a stop is reported, after these messages
 abbrev pub TellsFault : Text → Result Status RunFault → SinkSeen → SinkSeen → Type 0
 TellsFault text (Ok status) err err' = (status ≡ statuses.Fault) × Takes err err' text
 TellsFault text (Err fault) err err' = TellsText {A = Status} (Err fault) text err err'
@@ -59,7 +59,7 @@ TellsStop (stops.Fault fault) said result err err' =
 TellsStop (stops.Device name) said result err err' = (result ≡ Err (faults.Read name)) × (err' ≡ err)
 TellsStop stops.Memory said result err err' = (result ≡ Err faults.Memory) × (err' ≡ err)
 
--- a plan, after these messages
+-- a plan is written, after these messages
 abbrev pub TellsPlan : Plan → List Text → Result Status RunFault → SinkSeen → SinkSeen → SinkSeen → SinkSeen → Type 0
 TellsPlan plan said (Ok status) out out' err err' = (status ≡ statuses.Done) × Takes out out' (plan_text plan)
     × Takes err err' (messages_text said ++ [])
@@ -74,7 +74,7 @@ abbrev pub HasWritten : Result Plan Fault → Status → SinkSeen → SinkSeen �
 HasWritten (Ok plan) status out out' = (status ≡ statuses.Done) × Takes out out' (plan_text plan)
 HasWritten (Err fault) status out out' = (status ≡ statuses.Fault) × (out' ≡ out)
 
--- an end that `R` allows for `x`, of which all is told and written, after these names were asked for
+-- an end that `R` allows for `x`, all of which is written, after these names were asked for
 pub record TellsAll {X : Type 0} (R : X → Outcome Trace Plan → Type 0) (x : X) (asked : List Text) (status : Status)
     (out out' err err' : SinkSeen) : Type 0 where
   pub end : Outcome Trace Plan
@@ -83,7 +83,7 @@ pub record TellsAll {X : Type 0} (R : X → Outcome Trace Plan → Type 0) (x : 
   pub told : Takes err err' (err_text (meaning_of end))
   pub written : HasWritten (meaning_of end).result status out out'
 
--- one whose plan is written in part
+-- an end whose plan is written in part
 pub record TellsPart {X : Type 0} (R : X → Outcome Trace Plan → Type 0) (x : X) (asked : List Text)
     (out out' err err' : SinkSeen) : Type 0 where
   pub end : Outcome Trace Plan
@@ -94,7 +94,7 @@ pub record TellsPart {X : Type 0} (R : X → Outcome Trace Plan → Type 0) (x :
   pub planned : (meaning_of end).result ≡ Ok plan
   pub written : GrowsByFront out out' (plan_text plan)
 
--- one of which a part is told
+-- an end whose messages and fault are written in part
 pub record TellsFront {X : Type 0} (R : X → Outcome Trace Plan → Type 0) (x : X) (asked : List Text)
     (out out' err err' : SinkSeen) : Type 0 where
   pub end : Outcome Trace Plan
@@ -103,7 +103,7 @@ pub record TellsFront {X : Type 0} (R : X → Outcome Trace Plan → Type 0) (x 
   pub told : GrowsByFront err err' (err_text (meaning_of end))
   pub written : out' ≡ out
 
--- the one or the other, as the run ended, or nothing
+-- one of these, by how the run ended, or nothing
 abbrev pub TellsAndWrites : {X : Type 0} → (X → Outcome Trace Plan → Type 0) → X → List Text → Result Status RunFault
     → SinkSeen
     → SinkSeen → SinkSeen → SinkSeen → Type 0
@@ -113,7 +113,7 @@ TellsAndWrites R x asked (Err faults.WriteErr) out out' err err' = TellsFront R 
 TellsAndWrites R x asked (Err (faults.Read name)) out out' err err' = (out' ≡ out) × (err' ≡ err)
 TellsAndWrites R x asked (Err faults.Memory) out out' err err' = (out' ≡ out) × (err' ≡ err)
 
--- what is to blame for a fault of it, which asks for no file
+-- what caused a fault of this part of a run, which asks for no file
 abbrev pub TellsBlames : Result Status RunFault → SinkSeen → SinkSeen → SinkSeen → SinkSeen → Type 0
 TellsBlames (Ok status) out out' err err' = (out'.failed ≡ out.failed) × (err'.failed ≡ err.failed)
 TellsBlames (Err faults.WriteOut) out out' err err' = Rises out.failed out'.failed

@@ -1,5 +1,5 @@
--- A plan that is told from the graph (kati's own).
-use Rattle.std.specs.Prelude.{◌≡◌, ℕ, ◌≤◌, ◌&&◌, Bool, List, [], ◌∷◌, ◌++◌, Option, Some, None, option_map, is_some}
+-- A plan that is read from the graph (kati's own).
+use Rattle.std.specs.Prelude.{◌≡◌, ℕ, ◌&&◌, Bool, List, [], ◌∷◌, ◌++◌, Option, Some, None, option_map, is_some}
 use Rattle.std.specs.Prelude.{if◌then◌else◌}
 use Rattle.std.specs.List.{list_any, slice_range}
 use Rattle.kt_text.specs.Words.{Text}
@@ -12,16 +12,17 @@ use Rattle.kt_ninja.specs.declared.plan.Statement.{Statement}
 use Rattle.kati.specs.declared.sketch.Joined.{Joined as HeldJoined}
 use Rattle.kati.specs.declared.sketch.Mark.{Mark}
 use Rattle.kati.specs.declared.sketch.Drawing.{Drawing}
+use Rattle.kati.specs.inner.Ranges.{AreRanges}
 use Rattle.kati.specs.Planning.{always_built, command_for, has_phony, implicit_of, joined_inputs, joined_order_only}
 use Rattle.kati.specs.Planning.{made_by, outs_of, with_always_built}
 
--- what the members of a group need together
+-- the joined prerequisites of the members of a group
 pub record Joined : Type 0 where
   pub inputs : List Text
   pub order_only : List Text
 
--- what is held of a group beside its nodes: whether it is always made, what its members need, if it has several, and
--- its command
+-- what is stored for a group besides its nodes: whether it is always made, the joined prerequisites, if it has several
+-- members, and its command
 pub record Drawn : Type 0 where
   pub always : Bool
   pub joined : Option Joined
@@ -42,7 +43,7 @@ drawn_of rules group command = record {
   command = command;
 }
 
--- ---- the statements of groups, by what is held of each
+-- ---- the statements of groups, from what is stored for each
 
 abbrev pub inputs_drawn : List Node → Option Joined → List Text
 inputs_drawn group (Some joined) = joined.inputs
@@ -68,28 +69,28 @@ statements_drawn [] drawn = []
 statements_drawn (group ∷ groups) [] = []
 statements_drawn (group ∷ groups) (one ∷ drawn) = statement_drawn group one ∷ statements_drawn groups drawn
 
--- the statement of what is always built comes first, where one needs it
+-- the statement `always_built` comes first, if one needs it
 abbrev pub always_drawn : Bool → List Statement → List Statement
 always_drawn always statements = if always then always_built ∷ statements else statements
 
--- and that is where a statement needs it
+-- and it is there exactly if a statement needs it
 abbrev pub AlwaysFirst : List (List Node) → List Drawn → Type 0
 AlwaysFirst groups drawn = always_drawn (list_any (λ one. one.always) drawn) (statements_drawn groups drawn)
     ≡ with_always_built (statements_drawn groups drawn)
 
--- what is drawn of each group, after these
+-- what is stored for each group, after the given ones
 unfoldable pub draw_groups : List Rule → Table → ℕ → List (List Node) → List Drawn → StepOver (List Text) (List Drawn)
 draw_groups rules table limit [] before = done before
 draw_groups rules table limit (group ∷ groups) before = do
   command ← command_for table limit group
   draw_groups rules table limit groups (before ++ drawn_of rules group command ∷ [])
 
--- ---- as it is held
+-- ---- as the code stores it
 
 abbrev pub joined_view : HeldJoined → Joined
 joined_view joined = record { inputs = joined.inputs.items; order_only = joined.order_only.items }
 
--- the command of a mark stands between its places in the text of all commands
+-- the command of a mark is between its places in the text of all commands
 abbrev pub drawn_view : Text → Mark → Drawn
 drawn_view text mark = record {
   always = mark.always;
@@ -97,10 +98,9 @@ drawn_view text mark = record {
   command = command_in (slice_range text mark.start mark.end);
 }
 
--- the places of marks lie in a text of this length
+-- the places of marks are in a text of this length
 abbrev pub AreWithin : ℕ → List Mark → Type 0
-AreWithin size [] = Unit {0}
-AreWithin size (mark ∷ marks) = (mark.start ≤ mark.end) × (mark.end ≤ size) × AreWithin size marks
+AreWithin size marks = AreRanges (λ (mark : Mark). mark.start) (λ (mark : Mark). mark.end) size marks
 
 abbrev pub drawing_view : Drawing → Drawn
 drawing_view drawing = record {

@@ -1,5 +1,5 @@
--- What the code's own types show of a plan (kati's own).
-use Rattle.std.specs.Prelude.{List, [], ◌∷◌, map, Option, Some, None}
+-- The plan in the code's own types (kati's own).
+use Rattle.std.specs.Prelude.{List, [], ◌∷◌, Option, Some, None}
 use Rattle.kt_text.specs.Words.{Text}
 use Rattle.kt_ninja.specs.declared.plan.Statement.{Statement}
 use Rattle.kt_ninja.specs.declared.plan.Plan.{Plan}
@@ -14,7 +14,7 @@ use Rattle.kati.specs.inner.Drawn.{always_drawn, drawing_view, statement_drawn, 
 -- the plan
 abbrev pub plan_view : GraphPlan → Plan
 plan_view plan = record {
-  statements = always_drawn plan.always (statements_drawn (map (λ group. group.items) plan.groups.items) plan.sketch);
+  statements = always_drawn plan.always (statements_drawn plan.groups plan.sketch);
   defaults = plan.goals.items;
 }
 
@@ -27,7 +27,7 @@ names_view (lists.Members nodes) = outs_of nodes.now
 names_view (lists.Needs inputs) = inputs
 names_view (lists.Names names) = names.now
 
--- the statement that a part of the plan is, if it is one
+-- the statement of a part of the plan, if it has one
 abbrev pub part_view : Part → Option Statement
 part_view parts.Missing = None
 part_view parts.Always = Some always_built

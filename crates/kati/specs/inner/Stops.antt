@@ -1,4 +1,4 @@
--- What a step returns that doesn't go on (kati's own).
+-- What a step returns that stops (kati's own).
 use Rattle.std.specs.Prelude.{◌≡◌, List, None, Some}
 use Rattle.kt_text.specs.Words.{Text}
 use Rattle.kt_rules.specs.Entry.{Rule}
@@ -11,18 +11,18 @@ use Rattle.kt_eval.specs.Step.{fault_at}
 use Rattle.kt_eval.specs.declared.stop.Stop.{Stop}
 use Rattle.kt_eval.specs.declared.stop.Stop.TheVariants as stops
 
--- this fault, or being out of memory for its words
+-- this fault, or out of memory while its message is made
 abbrev pub IsFaultOf : Fault → Stop → Type 0
 IsFaultOf expected (stops.Fault fault) = fault ≡ expected
 IsFaultOf expected (stops.Device name) = ⊥
 IsFaultOf expected stops.Memory = Unit {0}
 
--- a fault of the graph, which is at no line
+-- a fault of the graph, at no line
 abbrev pub IsStopOf : GraphFault → Stop → Type 0
 IsStopOf graphs.Memory stop = stop ≡ stops.Memory
 IsStopOf (graphs.Refused number words) stop = stop ≡ stops.Fault (fault_at None number words)
 
--- what comes first of what is wrong with a graph, which is at no line, or being out of memory
+-- the first thing that is wrong with a graph, as a fault at no line, or out of memory
 abbrev pub IsFirstStop : List Rule → List Text → List Text → Stop → Type 0
 IsFirstStop rules known goals (stops.Fault fault) =
     (trouble : Trouble) × ComesFirst rules known goals (Some trouble)

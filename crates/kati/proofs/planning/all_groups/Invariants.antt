@@ -1,10 +1,9 @@
-use Rattle.std.proofs.Common.{◌≡◌, ◌++◌, Vec, Global, length, map}
-use Rattle.kt_graph.specs.nodes.Node.{Node}
+use Rattle.std.proofs.Common.{◌≡◌, ◌++◌, length}
 use Rattle.kt_graph.specs.nodes.Groups.{groups_of}
 use Rattle.kati.proofs.planning.all_groups.Given as goal
 
 abbrev pub invariant-loop-group : goal.invariant-loop-group
-invariant-loop-group l = map (λ (group : Vec Node Global). group.items) l.groups.items ++ l.left ≡ groups_of l.graph
+invariant-loop-group l = l.groups ++ l.left ≡ groups_of l.graph
 
 abbrev pub decreases-loop-group : goal.decreases-loop-group
 decreases-loop-group l = length l.left

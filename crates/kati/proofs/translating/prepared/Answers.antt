@@ -14,7 +14,7 @@ pub returns-clause-gives : goal.returns-clause-gives
 returns-clause-gives g c =
     let ok : c.makefile_read-told.result.1 ≡ Ok c.in_ok-makefile.makefile = search rules in
     let reads = rw ok at c.makefile_read-told.ensures.gives in
-    let chosen = rw c.as_slice.ensures.value at c.chosen.ensures.gives in
+    let chosen = c.chosen.ensures.gives in
     if_some-joined (g.F.Files.seen c.args.files.now).known (g.F.Files.seen c.listed.new.files).known _ _ _ c.in_ok-list.ensures.keeps
     (λ store is also. chosen_after _ c.args.args.now store (g.F.Files.seen c.args.files.now).names (g.F.Files.seen c.listed.new.files).names
     (g.F.Files.seen c.makefile_read-told.new.files).names c.makefile_read-told.result.0.items c.chosen.new.messages.items c.in_ok-list.list.items

@@ -17,4 +17,4 @@ returns-in-Err-clause-tells g c = λ asked.
 pub returns-in-Err-clause-blames : goal.returns-in-Err-clause-blames
 returns-in-Err-clause-blames g c =
     stop_blames c.in-Err.stop c.args.messages.items c.tell_stop.result (g.O.Sink.seen c.args.out.now)
-    (g.E.Sink.seen c.args.err.now) (g.E.Sink.seen c.tell_stop.new.err) (first_asks c.args.sources.now.makefile.book c.args.sources.now.known c.as_slice.result.now c.in-Err.stop c.in-Err.ensures.first) (search rules) c.tell_stop.ensures.blames
+    (g.E.Sink.seen c.args.err.now) (g.E.Sink.seen c.tell_stop.new.err) (first_asks c.args.sources.now.makefile.now.book c.args.sources.now.known c.as_slice.result.now c.in-Err.stop c.in-Err.ensures.first) (search rules) c.tell_stop.ensures.blames

@@ -6,11 +6,11 @@ use Rattle.kati.proofs.graph_plan.GraphPlanPlanView.statement_count.Goals as goa
 pub returns-then-self : goal.returns-then-self
 returns-then-self c =
     let plan = c.args.self.now in
-    let both : c.min-groups.result ≡ min (length plan.groups.items) (length plan.sketch) = search rules in
-    ap (λ (n : ℕ). n + 1) both ∙ size_with_always plan.groups.items plan.sketch plan.always (search rules)
+    let both : c.min-groups.result ≡ min (length plan.groups) (length plan.sketch) = search rules in
+    ap (λ (n : ℕ). n + 1) both ∙ size_with_always plan.groups plan.sketch plan.always (search rules)
 
 pub returns-else-self : goal.returns-else-self
 returns-else-self c =
     let plan = c.args.self.now in
-    let both : c.min-groups.result ≡ min (length plan.groups.items) (length plan.sketch) = search rules in
-    both ∙ size_without_always plan.groups.items plan.sketch plan.always (search rules)
+    let both : c.min-groups.result ≡ min (length plan.groups) (length plan.sketch) = search rules in
+    both ∙ size_without_always plan.groups plan.sketch plan.always (search rules)

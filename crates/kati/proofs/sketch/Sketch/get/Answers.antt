@@ -1,21 +1,23 @@
 use Rattle.std.proofs.Common.{Some, ◌∙◌, ap, sym, length, refl}
 use Rattle.std.proofs.lemmas.Bool.{ltb-false}
 use Rattle.std.proofs.lemmas.Option.{slice_get_past, slice_get_read}
-use Rattle.kati.proofs.SketchLemmas.{drawn_nowhere, drawn_there, within_at}
+use Rattle.kati.specs.declared.sketch.Mark.{Mark}
+use Rattle.kati.proofs.RangeLemmas.{range_at}
+use Rattle.kati.proofs.SketchLemmas.{drawn_nowhere, drawn_there}
 use Rattle.kati.proofs.sketch.Sketch.get.Goals as goal
 
 pub drawing_of-requires-clause-rises : goal.drawing_of-requires-clause-rises
 drawing_of-requires-clause-rises c =
     let mark = c.in-Some.mark.now in
     let there = slice_get_read c.as_slice.result.now (length c.as_slice.result.now) c.args.place mark refl c.in-Some.ensures.lookup.3.0 c.in-Some.ensures.lookup.1 in
-    (within_at (length c.self.inside.text.items) c.self.inside.marks.items c.args.place mark c.self.invariant (rw c.as_slice.ensures.value at there)).0
+    (range_at (λ (m : Mark). m.start) (λ (m : Mark). m.end) (length c.self.inside.text.items) c.self.inside.marks.items c.args.place mark c.self.invariant (rw c.as_slice.ensures.value at there)).0
 
 pub drawing_of-requires-clause-within : goal.drawing_of-requires-clause-within
 drawing_of-requires-clause-within c =
     let mark = c.in-Some.mark.now in
     let there = slice_get_read c.as_slice.result.now (length c.as_slice.result.now) c.args.place mark refl c.in-Some.ensures.lookup.3.0 c.in-Some.ensures.lookup.1 in
     rw c.as_slice-in-Some.ensures.value
-    (within_at (length c.self.inside.text.items) c.self.inside.marks.items c.args.place mark c.self.invariant (rw c.as_slice.ensures.value at there)).1
+    (range_at (λ (m : Mark). m.start) (λ (m : Mark). m.end) (length c.self.inside.text.items) c.self.inside.marks.items c.args.place mark c.self.invariant (rw c.as_slice.ensures.value at there)).1
 
 pub returns-in-Some : goal.returns-in-Some
 returns-in-Some c =

@@ -1,0 +1,20 @@
+use Rattle.std.proofs.Common.{◌∙◌, subst, rules}
+use Rattle.std.proofs.lemmas.Result.{err_from_is_err_and}
+use Rattle.kt_eval.specs.Outcome.{Fails, Outcome}
+use Rattle.kati.specs.inner.Drawn.{Drawn}
+use Rattle.kati.proofs.DrawnLemmas.{draw_next, draw_stops}
+use Rattle.kati.proofs.planning.sketch_groups.Goals as goal
+
+pub loop-place-preserved : goal.loop-place-preserved
+loop-place-preserved c =
+    draw_next c.args.book.now c.args.commands.now.table c.args.commands.now.limit c.args.groups.now c.loop-place.place (search rules)
+    c.loop-place.sketch c.loop-place.messages.items c.add_at.new.sketch c.add_at.new.messages.items c.in_ok-add_at.ensures.gives
+    ∙ c.loop-place.invariant
+
+pub returns-in_err-add_at-clause-gives : goal.returns-in_err-add_at-clause-gives
+returns-in_err-add_at-clause-gives c =
+    let p = err_from_is_err_and c.from_residual.result c.from_residual.ensures.1 in
+    rw (p.1, p.2)
+    (rw c.loop-place.invariant at
+    (draw_stops c.args.book.now c.args.commands.now.table c.args.commands.now.limit c.args.groups.now c.loop-place.place (search rules)
+    c.loop-place.sketch c.loop-place.messages.items c.in_err-add_at.field-0.0 c.add_at.new.messages.items c.in_err-add_at.ensures.gives))
