@@ -1,4 +1,4 @@
--- What the error output gets where the host gives no words (kati's own).
+-- What the error output gets if the host gives no words (kati's own).
 use Rattle.std.specs.Prelude.{◌≡◌, ℕ, codes}
 use Rattle.kt_ninja.specs.Written.{SinkSeen}
 use Rattle.kati.specs.declared.faults.RunFault.TheVariants as faults
@@ -7,7 +7,7 @@ use Rattle.kati.specs.ErrorOutput.{WritesOrFails, fault_words}
 use Rattle.kati_host.specs.declared.words.Wordless.{Wordless}
 use Rattle.kati_host.specs.declared.words.Wordless.TheVariants as reasons
 
--- the line and the exit status of each reason
+-- the line and the exit status for each reason
 abbrev pub Refuses : Wordless → ℕ → SinkSeen → SinkSeen → Type 0
 Refuses reasons.NotText code err err' =
     (code ≡ usage_code) × WritesOrFails (codes "kati: a word is not UTF-8\n") err err'

@@ -1,14 +1,15 @@
-//! The host's files. No contract tells what they hold.
+//! The host's files. No contract says what they hold.
 ghost use Rattle.std.specs.Prelude.{◌≡◌, ◌≤◌, ◌↔◌, [], None, map, string_bytes, vec_len, IfErr, IfOk, IsNone, IsOk};
 
 use kt_eval::{FileFault, Files};
 use std::fs;
 use std::io::{ErrorKind, Read};
 
-/// The most bytes, and the most calls, that reading one file takes. With it every read of a file ends.
+/// The maximum number of bytes, and of calls, for reading one file. It makes every read of a file end.
 const MOST: usize = 1_073_741_824;
 
-/// The bytes that one call reads. The block is cleared once for each file, which for a small file is most of the work.
+/// The number of bytes that one call reads. The block is cleared once for each file, which for a small file is most of
+/// the work.
 const BLOCK: usize = 16_384;
 
 /// The host's files, by paths from the current directory.
@@ -20,7 +21,7 @@ pub struct HostFiles<'a> {
 }
 
 impl<'a> HostFiles<'a> {
-    /// No file was asked for yet.
+    /// Files of which none was asked for yet.
     pub fn new(rt: &'a HostRuntime) -> HostFiles<'a>
         ensures asked { result.asked.items ≡ [] }
         ensures failures { result.failures ≡ 0 }
@@ -33,7 +34,7 @@ impl<'a> HostFiles<'a> {
     }
 }
 
-/// The bytes that the reader has up to its end, which are no more than the bound.
+/// All bytes up to the reader's end, unless they are more than the bound.
 fn read_to_end<R: Read>(rt: &HostRuntime, reader: &mut R) -> Result<Vec<u8>, FileFault>
     ensures { IfOk result (λ bytes. vec_len bytes ≤ MOST) }
 {
@@ -54,7 +55,7 @@ fn read_to_end<R: Read>(rt: &HostRuntime, reader: &mut R) -> Result<Vec<u8>, Fil
     Err(FileFault::Device)
 }
 
-/// What it means that a file can't be opened: it isn't there, or the device failed.
+/// The result if a file can't be opened: it doesn't exist, or the device failed.
 fn unopened(kind: ErrorKind) -> Result<Option<Vec<u8>>, FileFault>
     ensures absent { IsOk result ↔ (kind ≡ ErrorKind.NotFound) }
     ensures none { IfOk result IsNone }
@@ -66,7 +67,7 @@ fn unopened(kind: ErrorKind) -> Result<Option<Vec<u8>>, FileFault>
     }
 }
 
-/// The bytes of the file, or `None` where nothing is there.
+/// The bytes of the file, or `None` if there is no file.
 fn read_file(rt: &HostRuntime, name: &str) -> Result<Option<Vec<u8>>, FileFault> {
     match fs::open(rt, name) {
         Ok(mut file) => Ok(Some(read_to_end(rt, &mut file)?)),

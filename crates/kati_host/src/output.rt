@@ -1,4 +1,4 @@
-//! The host's outputs. No contract tells what they took.
+//! The host's outputs. No contract says what they took.
 ghost use Rattle.std.specs.Prelude.{◌≡◌, ◌<◌, ◌≤◌, IfSome, None, length};
 
 use kt_ninja::{Sink, SinkFault};
@@ -12,7 +12,7 @@ pub struct HostSink<W: Write + Drop> {
 }
 
 impl<W: Write + Drop> HostSink<W> {
-    /// An output of which no write failed yet.
+    /// An output without a failed write so far.
     pub fn new(output: W) -> HostSink<W>
         ensures { result.failures ≡ 0 }
     {
@@ -23,7 +23,7 @@ impl<W: Write + Drop> HostSink<W> {
     }
 }
 
-/// Writes and flushes; `None` where either fails, or nothing was taken.
+/// Writes and flushes. `None` if either fails, or nothing was taken.
 fn send<W: Write>(output: &mut W, piece: &[u8]) -> Option<usize>
     ensures { IfSome result (λ n. (0 < n) × (n ≤ length piece.now)) }
 {

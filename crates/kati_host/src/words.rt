@@ -1,4 +1,4 @@
-//! The words that the host gives a program.
+//! The command line that the host gives a program.
 ghost use Rattle.std.specs.Prelude.{◌≤◌};
 ghost use Rattle.kati_host.specs.Refused.{Refuses};
 ghost use Rattle.kati_host.specs.declared.words.Wordless.TheVariants.{NotText};
@@ -16,7 +16,7 @@ pub enum Wordless {
     Memory,
 }
 
-/// The words of the command line, of which the first is the program's name.
+/// The words of the command line, the first of which is the program's name.
 pub fn words_of(rt: &HostRuntime) -> Result<Vec<String>, Wordless> {
     let words = env::args(rt).map_err(|error| match error.kind() {
         ErrorKind::OutOfMemory => Wordless::Memory,
@@ -29,7 +29,7 @@ impl Wordless {
     ghost use Rattle.std.specs.Prelude.{◌≤◌};
     ghost use Rattle.kati_host.specs.Refused.{Refuses};
 
-    /// The exit status of a program that got no words, after telling why, as far as the error output takes it.
+    /// The exit status of a program that got no words, after reporting why, as far as the error output takes it.
     pub fn refuse<E: Sink>(self, err: &mut E) -> u8
         ensures told { Refuses self result (E.seen err.old) (E.seen err.new) }
         ensures counts { (E.seen err.old).failed ≤ (E.seen err.new).failed }

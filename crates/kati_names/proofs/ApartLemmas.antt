@@ -1,4 +1,4 @@
--- That the lines tell the names apart.
+-- The lines identify the names.
 use Rattle.std.proofs.Common.{eqb, ◌≡◌, ℕ, Bool, true, false, List, [], ◌∷◌, ◌++◌, refl, sym, ap, ◌∙◌, append_assoc}
 use Rattle.std.specs.List.{list_any}
 use Rattle.std.proofs.lemmas.Bool.{eq-eqb, or_parts, true≢false}
@@ -18,7 +18,7 @@ abbrev is_empty : List ℕ → Bool
 is_empty [] = true
 is_empty (x ∷ xs) = false
 
--- a byte that is a newline and isn't one
+-- a byte can't be a newline and not be one
 not_both : {A : Type 0} (byte : ℕ) → byte ≡ 10 → eqb byte 10 ≡ false → A
 not_both byte is isnt = absurd (true≢false (sym (eq-eqb byte 10 is) ∙ isnt))
 
@@ -35,7 +35,7 @@ cut_alike (a ∷ one) (b ∷ other) one_rest other_rest h k e =
     let first : a ≡ b = ap first_of e in
     (rw (first, cut.0) refl, cut.1)
 
--- no name is written as nothing
+-- no name is written as an empty text
 never_none : {A : Type 0} (name : Text) (names : List Text) → names_text (name ∷ names) ≡ [] → A
 never_none [] names e = absurd (true≢false (sym (ap is_empty e)))
 never_none (byte ∷ name) names e = absurd (true≢false (sym (ap is_empty e)))

@@ -9,7 +9,7 @@ use Rattle.kt_eval.specs.files.Files.{FilesSeen}
 use Rattle.kati.specs.AfterRun.{Blames}
 use Rattle.kati_names.specs.Names.{NamesAfter, nothing_seen}
 
--- what is to blame for a fault of the run is to blame for the end, too; its own output doesn't fail
+-- what caused a fault of the run causes that of the end, too; its own output doesn't fail
 blames_kept : (fault : RunFault) (files files' : FilesSeen) (out out' err err' : SinkSeen)
     → Blames (Err fault) (devices files nothing_seen err) (devices files' nothing_seen err')
     → Blames (Err fault) (devices files out err) (devices files' out' err')

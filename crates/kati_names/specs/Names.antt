@@ -17,8 +17,8 @@ use Rattle.kati.specs.ErrorOutput.{ReportsEnd}
 abbrev pub names_text : List Text → Text
 names_text names = flat_map (λ name. name ++ codes "\n") names
 
--- the names after a run with this status: the output has all of them, or it failed and has a prefix of them, or there
--- was no memory for them and it has nothing
+-- the names after a run with this status: the output has all of them, or it failed and has a prefix of them, or memory
+-- ran out and it has nothing
 abbrev pub PutsNames : Status → Result Status RunFault → List Text → SinkSeen → SinkSeen → Type 0
 PutsNames status (Ok status') names old new = (status' ≡ status) × (new.failed ≡ old.failed)
     × Takes old new (names_text names)
@@ -28,8 +28,8 @@ PutsNames status (Err faults.Memory) names old new = new ≡ old
 PutsNames status (Err faults.WriteErr) names old new = ⊥
 PutsNames status (Err (faults.Read name)) names old new = ⊥
 
--- how the program ends after a run: the names are written where the run came to its end, and nothing where it was kept
--- from it; the run's own output, which nobody reads, doesn't fail
+-- how the program ends after a run: the names are written if the run came to its end, and otherwise nothing is; the
+-- run's own output, which nobody reads, doesn't fail
 abbrev pub NamesAfter : Result Status RunFault → Result Status RunFault → List Text → SinkSeen → SinkSeen → Type 0
 NamesAfter (Ok status) ended names old new = PutsNames status ended names old new
 NamesAfter (Err fault) ended names old new = (ended ≡ Err fault) × (new ≡ old)
@@ -38,8 +38,8 @@ NamesAfter (Err fault) ended names old new = (ended ≡ Err fault) × (new ≡ o
 abbrev pub nothing_seen : SinkSeen
 nothing_seen = record { written = None; failed = 0 }
 
--- a run of kati by these arguments, whose output nobody reads; then the names that were asked for; then the exit
--- status, and what the error output gets where something kept the program from its end
+-- a run of kati with these arguments, whose output nobody reads; then the names that were asked for; then the exit
+-- status, and the line on the error output if the program didn't come to its end
 pub record RunExits (args : Args) (code : ℕ) (old new : Devices) : Type 0 where
   pub run : Result Status RunFault
   pub ran : Devices
@@ -52,10 +52,10 @@ pub record RunExits (args : Args) (code : ℕ) (old new : Devices) : Type 0 wher
   pub exit : code ≡ exit_code ended
   pub told : ReportsEnd ended named new
 
--- the line over kati's help
+-- the line before kati's help
 abbrev pub help_lead : Text
 help_lead = codes "kati-asked writes the names that kati asks for:\n\n"
 
--- the whole program: as kati, but for its run and the line over the help
+-- the whole program: like kati, but for its run and the line before the help
 abbrev pub AskedExits : List Text → ℕ → Devices → Devices → Type 0
 AskedExits words code old new = Exits RunExits help_lead words code old new

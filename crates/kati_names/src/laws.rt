@@ -1,8 +1,7 @@
-//! A law of what is written. The function does nothing: its contract is what counts.
+//! A law of what is written. The function does nothing: only its contract matters.
 ghost use Rattle.kati_names.specs.Apart.{LinesTellNames};
 
-/// Names that hold no newline are recognised by their lines: no other list of such names is written
-/// alike.
+/// The lines of names without newlines identify the names: no other list of such names is written as the same text.
 pub fn lines_tell_names()
     ensures { LinesTellNames }
 {}

@@ -19,7 +19,7 @@ fn names_text(alloc: Global, names: &[String]) -> Result<Vec<u8>, AllocError>
     Ok(text)
 }
 
-/// Puts out the names after a run with this status, at once. Where there is no memory for them, nothing is put out.
+/// Writes the names after a run with this status, all at once. If memory runs out, nothing is written.
 fn put_names<O: Sink>(
     alloc: Global,
     status: Status,
@@ -35,8 +35,8 @@ fn put_names<O: Sink>(
     }
 }
 
-/// How the program ends after a run: where that came to its end, also at a fault of the makefile, the names that were
-/// asked for are put out.
+/// How the program ends after a run. If the run came to its end, even with a fault of the makefile, writes the names
+/// that were asked for.
 pub(crate) fn with_names<F: Files, O: Sink>(
     alloc: Global,
     run: Result<Status, RunFault>,

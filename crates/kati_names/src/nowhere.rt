@@ -1,4 +1,4 @@
-//! Where the output of a run goes that nobody reads.
+//! An output for a run whose output nobody reads.
 ghost use Rattle.kati_names.specs.Names.{nothing_seen};
 
 use kt_ninja::{Sink, SinkFault};

@@ -10,10 +10,10 @@ use kt_eval::Files;
 use kt_ninja::Sink;
 use std::alloc::Global;
 
-/// What stands over kati's help.
+/// The text before kati's help.
 const HELP_LEAD: &[u8] = b"kati-asked writes the names that kati asks for:\n\n";
 
-/// The exit status of a run of kati by these arguments, which writes the names asked for in place of its plan.
+/// The exit status of a run of kati with these arguments, which writes the names asked for instead of its plan.
 fn names_of_run<F: Files, O: Sink, E: Sink>(
     alloc: Global,
     args: &Args,
@@ -31,12 +31,12 @@ fn names_of_run<F: Files, O: Sink, E: Sink>(
     finish(err, ended)
 }
 
-/// The whole program kati-asked on these words, which are kati's, and of which the first is its name: a run of kati
+/// The whole program kati-asked on these words, which are kati's, and the first of which is its name: a run of kati
 /// whose output nobody reads, and then each name that the run asked for, in order, on a line of the output. Names of
-/// files that aren't there are among them.
+/// files that don't exist are among them.
 ///
-/// The names are written where the run came to its end, also at a fault of the makefile. Error output and exit status
-/// are kati's; the status is also 3 where the names can't be written, and 4 where there is no memory for them.
+/// The names are written if the run came to its end, even with a fault of the makefile. Error output and exit status
+/// are kati's; the status is also 3 if the names can't be written, and 4 if memory runs out for them.
 pub fn asked_names<F: Files, O: Sink, E: Sink>(
     alloc: Global,
     words: &[String],

@@ -9,7 +9,7 @@ use Rattle.kt_syntax.specs.Roles.{line_text}
 use Rattle.kt_eval.specs.macros.Assignments.{body_text}
 use Rattle.kt_eval.specs.reading.Reading.{raw_line}
 
--- what is left of a body, with what comes before its next line
+-- the rest of a body, with what comes before its next line
 unfoldable pub left_of_body : Text → List Text → Text
 left_of_body separator [] = []
 left_of_body separator (line ∷ lines) = separator ++ (condensed_of line ++ left_of_body (10 ∷ []) lines)

@@ -14,7 +14,7 @@ unfolding evaluator
 evaluator_above reads store zero h = absurd (omega arith)
 evaluator_above reads store (suc n) h = let e : suc n - 1 ≡ n = omega arith in ap (λ m. above store (evaluator reads store m)) (sym e)
 
--- each level reads lines or none does
+-- each level reads lines, or none does
 pub evaluator_reads : (reads : Bool) (store : Store) (n : ℕ) → (evaluator reads store n).reads ≡ reads
 unfolding evaluator above none_left
 evaluator_reads reads store zero = refl

@@ -1,4 +1,4 @@
--- What is left of blocks after their last line.
+-- What remains of blocks after their last line.
 use Rattle.std.proofs.Common.{◌≡◌, ℕ, zero, suc, List, [], ◌∷◌, None, drop, refl, sym}
 use Rattle.std.specs.List.{slice_get}
 use Rattle.std.proofs.lemmas.Option.{none-some}

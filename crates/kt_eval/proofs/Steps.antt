@@ -1,4 +1,4 @@
--- The lemmas of each step under one name, as attributes of functions name them.
+-- The lemmas of each step under one name, for the attributes of functions.
 use Rattle.kt_eval.specs.expanding.Expansion.{referred, body_of, each_term, expanded, term_of}
 use Rattle.kt_eval.specs.State.{lookup}
 use Rattle.kt_eval.specs.inner.Plain.{put_of, still_deferred, put_by, left_by}

@@ -1,14 +1,14 @@
--- The line that tells of a fault (kati's own).
+-- The line that reports a fault (kati's own).
 use Rattle.std.specs.Prelude.{ℕ, ◌++◌, codes, decimal, nat_lt, if◌then◌else◌}
 use Rattle.kt_text.specs.Words.{Text}
 use Rattle.kt_eval.specs.declared.fault.Fault.{Fault}
 use Rattle.kt_eval.specs.State.{message_place}
 
--- a number in two digits at least
+-- a number with at least two digits
 abbrev pub two_digits : ℕ → Text
 two_digits number = if nat_lt number 10 then codes "0" ++ decimal number else decimal number
 
--- `FILE:LINE: *** WORDS [Enn]`, with the program's name where there is no place
+-- `FILE:LINE: *** WORDS [Enn]`, with the program's name if there is no place
 abbrev pub fault_line : Fault → Text
 fault_line fault =
     message_place fault.place ++ (codes ": *** "

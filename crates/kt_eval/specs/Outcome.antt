@@ -1,11 +1,11 @@
--- How a call ends. A step gives a value or stops at a fault, and leaves something: a world, messages, or messages and
+-- How a call ends. A step returns a value or stops at a fault, and leaves something: a world, messages, or messages and
 -- names asked for.
 use Rattle.std.specs.Prelude.{◌≡◌, Result, Ok, Err}
 use Rattle.kt_eval.specs.declared.fault.Fault.{Fault}
 use Rattle.kt_eval.specs.declared.stop.Stop.{Stop}
 use Rattle.kt_eval.specs.declared.stop.Stop.TheVariants as stops
 
--- how a step ends that leaves an L and gives an A
+-- how a step ends that leaves an L and returns an A
 pub data Outcome (L A : Type 0) : Type 0 where
   Gave : (left : L) (value : A) → Outcome L A
   Stopped : (left : L) (fault : Fault) → Outcome L A
@@ -15,11 +15,11 @@ abbrev pub left_of : {L A : Type 0} → Outcome L A → L
 left_of (Gave left x) = left
 left_of (Stopped left fault) = left
 
--- a step by what was left before it
+-- a step, given what was left before it
 abbrev pub StepOver : Type 0 → Type 0 → Type 0
 StepOver L A = L → Outcome L A
 
--- what comes after it; a fault ends all that it stands in
+-- one step after another; a fault ends them all
 abbrev pub then_do : {L A B : Type 0} → Outcome L A → (A → StepOver L B) → Outcome L B
 then_do (Gave left x) next = next x left
 then_do (Stopped left fault) next = Stopped left fault
@@ -32,29 +32,28 @@ infixl 10 ◌>>◌
 abbrev pub ◌>>◌ : {L A B : Type 0} → StepOver L A → StepOver L B → StepOver L B
 (step >> next) left = then_do (step left) (λ _. next)
 
--- nothing but this value
+-- only this value
 abbrev pub done : {L A : Type 0} → A → StepOver L A
 done x left = Gave left x
 
--- nothing but this fault
+-- only this fault
 abbrev pub stop_at : {L A : Type 0} → Fault → StepOver L A
 stop_at fault left = Stopped left fault
 
--- the same outcome by what a caller sees of what is left
+-- the same outcome, with what a caller sees of what is left
 abbrev pub leaving : {L M A : Type 0} → (L → M) → Outcome L A → Outcome M A
 leaving see (Gave left x) = Gave (see left) x
 leaving see (Stopped left fault) = Stopped (see left) fault
 
 -- ---- what a call returned
 
--- `R` allows the end of a call that was stopped, and left this, for `x`; where memory was refused or a device failed,
--- nothing is said
+-- `R` allows for `x` that a call was stopped and left this; if memory ran out or a device failed, this says nothing
 abbrev pub Stops : {X L A : Type 0} → (X → Outcome L A → Type 0) → X → Stop → L → Type 0
 Stops R x (stops.Fault fault) left = R x (Stopped left fault)
 Stops R x (stops.Device name) left = Unit {0}
 Stops R x stops.Memory left = Unit {0}
 
--- the same of what any call returned, of which a value is seen by `see`
+-- the same for any call, with a value seen by `see`
 abbrev pub Ends : {X L A B : Type 0} → (X → Outcome L B → Type 0) → X → (A → B) → Result A Stop → L → Type 0
 Ends R x see (Ok value) left = R x (Gave left (see value))
 Ends R x see (Err stop) left = Stops R x stop left
@@ -66,7 +65,7 @@ Fails stop left outcome = Stops ◌≡◌ outcome stop left
 abbrev pub Gives : {L A B : Type 0} → (A → B) → Result A Stop → L → Outcome L B → Type 0
 Gives see result left outcome = Ends ◌≡◌ outcome see result left
 
--- this stands where memory was refused or a device failed
+-- this holds if memory ran out or a device failed
 abbrev pub IfCutBy : Stop → Type 0 → Type 0
 IfCutBy (stops.Fault fault) P = Unit {0}
 IfCutBy (stops.Device name) P = P
@@ -76,7 +75,7 @@ abbrev pub IfCut : {A : Type 0} → Result A Stop → Type 0 → Type 0
 IfCut (Ok x) P = Unit {0}
 IfCut (Err stop) P = IfCutBy stop P
 
--- a step that asks for no file is stopped by no device
+-- a step that asks for no file isn't stopped by a device
 abbrev pub IsOfNoDevice : Stop → Type 0
 IsOfNoDevice (stops.Fault fault) = Unit {0}
 IsOfNoDevice (stops.Device name) = ⊥

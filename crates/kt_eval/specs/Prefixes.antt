@@ -2,8 +2,8 @@
 use Rattle.std.specs.Prelude.{◌≡◌, ℕ, ◌≤◌, ◌-◌, List, Option, length, take}
 use Rattle.std.specs.List.{slice_get}
 
--- the second begins with the first: whatever number of elements is taken from the front of both, within the first, they
--- are the same
+-- the second list begins with the first: any number of elements at the start, up to the length of the first, is the
+-- same in both
 abbrev pub IsPrefix : {A : Type 0} → List A → List A → Type 0
 IsPrefix old new = (length old ≤ length new) × ((count : ℕ) → count ≤ length old → take count new ≡ take count old)
 

@@ -16,11 +16,11 @@ use Rattle.kt_eval.specs.files.Files.{Store}
 use Rattle.kt_eval.specs.expanding.Pure.{expanded_pure}
 use Rattle.kt_eval.specs.reading.Machine.{Trace, traced, Read, read_of, reading}
 
--- a text expanded as a recipe is, with a given number of levels
+-- a text expanded as in a recipe, with a given number of levels
 abbrev pub comes_to : Table → ℕ → Text → Outcome (List Text) Text
 comes_to table limit text = expanded_pure table [] None limit text []
 
--- the same where `@` is an automatic macro that stands for `t`
+-- the same with an automatic macro `@` whose value is `t`
 abbrev pub comes_to_at : Table → ℕ → Text → Outcome (List Text) Text
 comes_to_at table limit text = expanded_pure table ((codes "@", codes "t") ∷ []) None limit text []
 
@@ -79,7 +79,7 @@ pub record RowsOfAssignments : Type 0 where
   pub quotes : compared_of (codes "\" a\"'a'") ≡ Some (record { first = codes " a"; second = codes "a" })
   pub unclosed : compared_of (codes "($(a,b)") ≡ None
 
--- how a reading is seen: its messages, the names asked for, and the fault, if there is one
+-- what is seen of a reading: its messages, the names asked for, and the fault, if there is one
 abbrev pub heard_of : Outcome Trace Read → List Text × (List Text × Option Fault)
 heard_of (Gave trace read) = (trace.said, (trace.asked, None))
 heard_of (Stopped trace fault) = (trace.said, (trace.asked, Some fault))

@@ -17,8 +17,8 @@ use Rattle.kt_eval.specs.declared.state.Frame.TheVariants.{Loop, Call}
 use Rattle.kt_eval.specs.files.Files.{Store, look}
 use Rattle.kt_eval.specs.macros.Macros.{Table, find, put}
 
--- the bindings stand innermost last; `automatic` has the automatic macros of a recipe, `book` the rules that are
--- closed, `rule` the one that is open
+-- the innermost binding is the last one; `automatic` has the automatic macros of a recipe, `book` the rules that are
+-- closed, `rule` the open one
 pub record World : Type 0 where
   pub table : Table
   pub automatic : Store
@@ -33,16 +33,16 @@ pub record World : Type 0 where
 abbrev pub is_digits : Text → Bool
 is_digits name = is_nonempty name && list_all is_ascii_digit name
 
--- a number with a zero before it, which is the name of no argument (kati's own)
+-- a number with a leading zero, which is the name of no argument (kati's own)
 abbrev pub is_padded : Text → Bool
 is_padded [] = false
 is_padded (first ∷ rest) = first == 48 && is_nonempty rest
 
--- the argument of this number, or the empty text beyond the last
+-- the argument with this number, or an empty text after the last
 abbrev pub argument : Text → List Text → Text
 argument name arguments = if is_padded name then [] else unwrap_or (slice_get arguments (digits_value 10 name)) []
 
--- what a binding says of a name; a call says something of each name of digits (kati's own)
+-- the value of a name in a binding; a call has one for each name of digits (kati's own)
 unfoldable pub seen : Text → Frame → Option Text
 seen name (Loop bound word) = if bytes_eq bound name then Some word else None
 seen name (Call arguments) = if is_digits name then Some (argument name arguments) else None
@@ -52,7 +52,7 @@ abbrev pub newer : {A : Type 0} → Option A → Option A → Option A
 newer found None = found
 newer found (Some other) = Some other
 
--- what the innermost binding says that says something, or what was found before
+-- the value of a name in the innermost binding that has one, or what was found before
 unfoldable pub innermost : Text → Option Text → List Frame → Option Text
 innermost name found [] = found
 innermost name found (frame ∷ frames) = innermost name (newer found (seen name frame)) frames
@@ -69,22 +69,22 @@ abbrev pub fixed_or : Option Text → Option Found → Option Found
 fixed_or None other = other
 fixed_or (Some value) other = Some (fixed value)
 
--- what a name stands for that nothing binds: an automatic macro comes before the table (GNU make manual, "Automatic
+-- the value of a name without a binding: an automatic macro comes before the table (GNU make manual, "Automatic
 -- Variables")
 abbrev pub unbound : Text → Store → Table → Option Found
 unbound name automatic table = fixed_or (look automatic name) (option_map found_of (find name table))
 
--- bindings from the innermost on, then automatic macros, then the table (kati's own)
+-- the value of a name: bindings from the innermost on, then automatic macros, then the table (kati's own)
 unfoldable pub lookup : Text → World → Option Found
 lookup name w =
     fixed_or (innermost name None w.frames) (unbound name w.automatic w.table)
 
--- the value as it stands, or nothing for a name that isn't defined (GNU make manual, "The value Function")
+-- the unexpanded value, or nothing for a name that isn't defined (GNU make manual, "The value Function")
 abbrev pub raw_value : Option Found → Text
 raw_value None = []
 raw_value (Some found) = found.value
 
--- the place of a message; without a place the program's name stands for it (kati's own)
+-- the place of a message, or the program's name if there is no place (kati's own)
 abbrev pub message_place : Option Place → Text
 message_place None = codes "kati"
 message_place (Some place) = place_text place
@@ -103,7 +103,7 @@ frozen_world table automatic place said =
       rule = None;
     }
 
--- what each change leaves
+-- the world after each change
 abbrev pub bind : Frame → World → World
 bind frame w = record w { frames = w.frames ++ frame ∷ [] }
 

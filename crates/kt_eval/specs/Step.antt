@@ -1,4 +1,4 @@
--- The steps of an evaluation, which leave a world, and what a call leaves beside it.
+-- The steps of an evaluation, which leave a world, and what else a call leaves.
 use Rattle.std.specs.Prelude.{◌≡◌, ℕ, ◌≤◌, true, Option, Some, is_some, unwrap_or, List, [], length, take, Result, Ok}
 use Rattle.std.specs.Prelude.{Err, string_bytes}
 use Rattle.kt_list.specs.Counters.{Rises}
@@ -14,8 +14,8 @@ use Rattle.kt_eval.specs.Prefixes.{last}
 use Rattle.kt_eval.specs.Outcome.{Gave, Stopped, StepOver}
 use Rattle.kt_eval.specs.State.{World}
 
--- what is seen of an evaluation: its world, the bytes of the named files of its files, where they are known, how often
--- a read failed, and by which reference it holds the files
+-- what is seen of an evaluation: its world, the bytes of its named files, if they are known, how often a read failed,
+-- and the reference by which it holds the files
 pub record Seen : Type 0 where
   pub world : World
   pub known : Option Store
@@ -44,7 +44,7 @@ GoesOn old new =
     ((of : Trail) → length (trail of old) ≤ length (trail of new))
     × ((of : Trail) (count : ℕ) → count ≤ length (trail of old) → take count (trail of new) ≡ take count (trail of old))
 
--- the files are the same, with the same bytes; no failure is forgotten, no message is taken back, and no name asked for
+-- the files are the same, with the same bytes; failures, messages and names asked for are only added to
 abbrev pub Keeps : Seen → Seen → Type 0
 Keeps old new =
     (new.known ≡ old.known) × (new.lender ≡ old.lender) × (old.failed ≤ new.failed) × GoesOn old.world new.world
@@ -55,11 +55,11 @@ Step A = StepOver World A
 abbrev pub fault_at : Option Place → ℕ → Text → Fault
 fault_at place number words = record { place = place; number = number; words = words }
 
--- a fault of this kind, which tells of this name, or of none where it is empty
+-- a fault of this kind about this name, or about none if it is empty
 abbrev pub fault_of : Option Place → FaultKind → Text → Fault
 fault_of place kind name = fault_at place (number_of kind) (words_with kind name)
 
--- such a fault at the place where the world stands
+-- such a fault at the world's current place
 abbrev pub stop : {A : Type 0} → FaultKind → Text → Step A
 stop kind name w = Stopped w (fault_of w.place kind name)
 
@@ -71,18 +71,18 @@ change f w = Gave (f w) tt
 abbrev pub AreKnown : Option Store → Type 0
 AreKnown known = is_some known ≡ true
 
--- they, where they are
+-- the bytes, if they are known
 abbrev pub store_of : Option Store → Store
 store_of known = unwrap_or known []
 
--- a failed device is returned where the count of failures rose, by the name that was asked for last; nothing else is
--- returned where a device failed
+-- a failed device is returned if the count of failures rose, with the name asked for last; nothing else is returned if
+-- a device failed
 abbrev pub BlamesBy : {A : Type 0} → Result A Stop → ℕ → ℕ → List Text → Type 0
 BlamesBy (Ok x) old new asked = new ≡ old
 BlamesBy (Err (stops.Fault fault)) old new asked = new ≡ old
 BlamesBy (Err (stops.Device name)) old new asked = Rises old new × (last asked ≡ Some (string_bytes name))
 BlamesBy (Err stops.Memory) old new asked = new ≡ old
 
--- the same by what is seen of the files before and after
+-- the same, from what is seen of the files before and after
 abbrev pub Blames : {A : Type 0} → Result A Stop → FilesSeen → FilesSeen → Type 0
 Blames result old new = BlamesBy result old.failed new.failed new.names

@@ -1,5 +1,5 @@
--- What a text is expanded to. In go a text and a world; out comes the expanded text and the world that is left, or a
--- fault. `expanded` in `Expansion` is the definition to begin with; `Levels` puts one level on the other.
+-- What a text expands to: from a text and a world, the expanded text and the new world, or a fault. Begin with the
+-- definition `expanded` in `Expansion`; `Levels` puts one level on top of another.
 pub mod TextFunctions
 pub mod Calls
 pub mod Expansion

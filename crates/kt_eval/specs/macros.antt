@@ -1,4 +1,4 @@
--- Macros, and what an assignment does to them. In go a table, an operator, a name and a text; out comes the table that
--- is left. `assigning` in `Macros` is the definition to begin with.
+-- Macros, and what an assignment does to them: from a table, an operator, a name and a text, the new table. Begin with
+-- the definition `assigning` in `Macros`.
 pub mod Macros
 pub mod Assignments

@@ -21,7 +21,7 @@ use kt_text::TextFault;
 use std::alloc::{AllocError, Global};
 use std::marker::Model;
 
-/// What an evaluation knows and changes.
+/// The state of an evaluation.
 #[derive(Drop)]
 pub(crate) struct Evaluation<'a, M: Scope, F: Files> {
     pub(crate) alloc: Global,
@@ -66,7 +66,7 @@ impl<'a, M: Scope, F: Files> Evaluation<'a, M, F> {
     ghost use Rattle.kt_eval.specs.State.{bind, unbind, say, warn, message_place};
     ghost use Rattle.kt_eval.specs.Step.{fault_of};
 
-    // What a name stands for.
+    // The flavour and value of a name.
     #[tactic(auto, unfolding(crate::specs::State::lookup))]
     pub(crate) fn lookup(&self, name: &[u8]) -> Result<Option<Found>, AllocError>
         ensures { IfOk result (λ found. found ≡ lookup name.now self.now.world) }
@@ -80,8 +80,7 @@ impl<'a, M: Scope, F: Files> Evaluation<'a, M, F> {
         }
     }
 
-    // Appends what a name stands for, as far as it is what it is expanded to with a given number of
-    // levels below; what isn't is given.
+    // Appends the value of a name if it needs no expansion with `below` levels left, and otherwise returns it.
     #[tactic(auto, unfolding(crate::proofs::Steps::lookup_open))]
     pub(crate) fn put_value(
         &self,
@@ -99,7 +98,7 @@ impl<'a, M: Scope, F: Files> Evaluation<'a, M, F> {
         self.macros.put_value(name, below, out)
     }
 
-    // Appends what a term gives, as far as this takes no level of its own, and tells what is left of it.
+    // Appends the text of a term, if this needs no further level, and returns what remains to be expanded.
     #[tactic(auto, unfolding(crate::proofs::Steps::plain_open))]
     pub(crate) fn put_plain(
         &self,
@@ -139,7 +138,7 @@ impl<'a, M: Scope, F: Files> Evaluation<'a, M, F> {
         self.macros.is_writable()
     }
 
-    // Binds innermost.
+    // Adds an innermost binding.
     pub(crate) fn bind(&mut self, frame: Frame) -> Result<(), AllocError>
         ensures refused { OnErr result (self.new ≡ self.old) }
         ensures done { OnOk result (self.new ≡ record self.old { world = bind frame self.old.world }) }
@@ -148,7 +147,7 @@ impl<'a, M: Scope, F: Files> Evaluation<'a, M, F> {
         Ok(())
     }
 
-    // Ends the innermost binding.
+    // Removes the innermost binding.
     pub(crate) fn unbind(&mut self)
         ensures { self.new ≡ record self.old { world = unbind self.old.world } }
     {
@@ -163,7 +162,7 @@ impl<'a, M: Scope, F: Files> Evaluation<'a, M, F> {
         Ok(())
     }
 
-    // Says a message after its place.
+    // Adds a message that begins with the current place.
     pub(crate) fn warn(&mut self, message: &[u8]) -> Result<(), AllocError>
         ensures refused { OnErr result (self.new ≡ self.old) }
         ensures done { OnOk result (self.new ≡ record self.old { world = warn message.now self.old.world }) }
@@ -182,7 +181,7 @@ impl<'a, M: Scope, F: Files> Evaluation<'a, M, F> {
         Ok(text)
     }
 
-    // A fault of this kind at the place that is being read, which tells of this name.
+    // A fault of this kind about this name, at the current place.
     pub(crate) fn fault(&self, kind: FaultKind, name: &[u8]) -> Result<Fault, AllocError>
         ensures { IfOk result (λ fault. fault ≡ fault_of self.now.world.place kind name.now) }
     {
@@ -190,7 +189,7 @@ impl<'a, M: Scope, F: Files> Evaluation<'a, M, F> {
         Fault::new(self.alloc, kind, name, place)
     }
 
-    // The refusal of an argument of a function.
+    // Fails because an argument of the function with this name is bad.
     pub(crate) fn bad_argument(&self, name: &[u8]) -> Result<Vec<u8>, Stop>
         ensures gives { Gives (λ v. v.items) result self.now.world (bad_argument name.now self.now.world) }
         ensures cut { IfCut result (GoesOn self.now.world (left_of (bad_argument {A = Text} name.now self.now.world))) }
@@ -199,7 +198,7 @@ impl<'a, M: Scope, F: Files> Evaluation<'a, M, F> {
         Err(Stop::Fault(self.fault(FaultKind::BadArgument, name)?))
     }
 
-    // What a function of texts returned.
+    // The result of a text function, with a bad argument as a fault.
     #[tactic(auto, using(crate::proofs::Steps::accepted_goes))]
     pub(crate) fn accept(
         &self,
@@ -229,7 +228,7 @@ impl<'a, M: Scope, F: Files> Evaluation<'a, M, F> {
     ghost use Rattle.kt_eval.specs.macros.Macros.{assigning, find, set_by_makefile};
     ghost use Rattle.kt_eval.specs.inner.Views.{assigning_view, front_view, raw_view};
 
-    // Moves to a line of a source; all lines of an `eval` are where it stands.
+    // Moves to a line of a source. All lines of an `eval` are at the place of the `eval`.
     #[tactic(auto, unfolding(crate::specs::reading::Reading::at_number))]
     pub(crate) fn move_to(&mut self, source: &Source, number: u64) -> Result<(), AllocError>
         ensures refused { OnErr result (self.new ≡ self.old) }
@@ -247,7 +246,7 @@ impl<'a, M: Scope, F: Files> Evaluation<'a, M, F> {
         }
     }
 
-    // Moves to the line at a place of a page.
+    // Moves to the line at a place of a page, and returns the line.
     pub(crate) fn at_line<'p>(
         &mut self,
         page: &'p Page<'_>,
@@ -264,7 +263,7 @@ impl<'a, M: Scope, F: Files> Evaluation<'a, M, F> {
         Ok(line)
     }
 
-    // The present place, to come back to.
+    // The current place, to return to later.
     pub(crate) fn place(&self) -> Result<Option<Place>, AllocError>
         ensures { IfOk result (λ place. place ≡ self.now.world.place) }
     {
@@ -288,7 +287,7 @@ impl<'a, M: Scope, F: Files> Evaluation<'a, M, F> {
         assignment_of(operator, self.macros.get(name))
     }
 
-    // Sets a macro to a text, after an old value and a space if there is one.
+    // Sets a macro to a text, after an old value and a space if an old value is given.
     pub(crate) fn set_macro(
         &mut self,
         name: Vec<u8>,
@@ -360,7 +359,7 @@ impl<'a, M: Scope, F: Files> Evaluation<'a, M, F> {
         }
     }
 
-    // Puts a rule into the book.
+    // Adds a rule to the book.
     #[tactic(auto, using(crate::proofs::Steps::enter_rule_goes), unfolding(crate::specs::reading::Rules::enter_rule))]
     fn enter_rule(&mut self, rule: Entry) -> Result<(), Stop>
         requires { M.writable ≡ true }
@@ -402,7 +401,7 @@ impl<'a, M: Scope, F: Files> Evaluation<'a, M, F> {
         }
     }
 
-    // Opens a rule again with one more line of its recipe.
+    // Adds a line to the recipe of a rule, and makes it the open rule again.
     #[tactic(auto, unfolding(crate::specs::reading::Rules::recipe_line))]
     pub(crate) fn recipe_line(&mut self, rule: Entry, text: &[u8]) -> Result<(), Stop>
         ensures gives { Gives (λ u. u) result self.new.world (recipe_line rule text.now self.old.world) }
@@ -419,8 +418,8 @@ impl<'a, M: Scope, F: Files> Evaluation<'a, M, F> {
         Ok(())
     }
 
-    // Reads the bytes of a file, if it is there. Its name is copied first, so that no failure of the device ends in
-    // being out of memory.
+    // Reads the bytes of a file, if it exists. The name is copied first, so that a failure of the device isn't reported
+    // as out of memory.
     #[tactic(auto, using(crate::proofs::Steps::read_bytes_steps), unfolding(crate::specs::reading::Reading::read_bytes))]
     pub(crate) fn read_bytes(&mut self, name: &str) -> Result<Option<Vec<u8>>, Stop>
         ensures gives { AreKnown self.old.known → Gives (λ found. option_map

@@ -1,8 +1,7 @@
-//! Texts expanded.
+//! Expands texts.
 //!
-//! In go a text with references, the macros, the names that are bound, and how many levels are
-//! left. Out comes the text without references, or a fault; messages, assignments and rules on the
-//! way go to the evaluation.
+//! Takes a text with references, the macros, the bound names, and the number of levels that remain, and returns the
+//! text without references, or a fault. Messages, assignments and rules on the way go to the evaluation.
 
 mod applying;
 pub(crate) mod calls;

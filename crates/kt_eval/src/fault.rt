@@ -1,4 +1,4 @@
-//! What can be wrong with a makefile.
+//! Faults of makefiles.
 ghost use Rattle.std.specs.Prelude.{◌≡◌, ◌++◌, IfOk, OnErr, OnOk, option_map};
 ghost use Rattle.kt_text.specs.Begun.{HasBegun};
 ghost use Rattle.kt_eval.specs.Faults.{fault_line, two_digits};
@@ -13,16 +13,16 @@ use std::alloc::{AllocError, Global};
 /// A fault of a makefile, which ends its reading.
 #[derive(Debug, Drop)]
 pub struct Fault {
-    /// Where it is, if it is at a line.
+    /// Its place, if it is at a line.
     pub place: Option<Place>,
-    /// The number that a fault line ends with, as 26 of `[E26]`.
+    /// The number at the end of the fault line, such as 26 in `[E26]`.
     pub number: u8,
-    /// What it says, in bytes: names stand in it as they are.
+    /// The message, as bytes: names are copied into it as they are.
     pub words: Sequence<u8>,
 }
 
 impl Fault {
-    /// A fault of this kind, which tells of this name.
+    /// A fault of this kind about this name.
     pub fn new(
         alloc: Global,
         kind: FaultKind,
@@ -39,9 +39,8 @@ impl Fault {
         })
     }
 
-    /// Appends the line that tells of the fault: `FILE:LINE: *** WORDS [Enn]`, without its newline. Where the fault is
-    /// at no line, the program's name stands for its place. Where memory is refused, the text holds a prefix of it
-    /// more.
+    /// Appends the fault line: `FILE:LINE: *** WORDS [Enn]`, without its newline. If the fault is at no line, the
+    /// program's name is in its place. If memory runs out, a prefix of the line may have been appended.
     pub fn append_to(&self, text: &mut Vec<u8>) -> Result<(), AllocError>
         ensures appended { OnOk result (text.new.items ≡ text.old.items ++ fault_line self.now) }
         ensures refused { OnErr result (HasBegun (fault_line self.now) text.old.items text.new.items) }
@@ -56,7 +55,7 @@ impl Fault {
     }
 }
 
-// Appends the place, or the program's name where there is none.
+// Appends the place, or the program's name if there is none.
 pub(crate) fn append_place(place: &Option<Place>, text: &mut Vec<u8>) -> Result<(), AllocError>
     ensures appended { OnOk result (text.new.items ≡ text.old.items ++ message_place place.now) }
     ensures refused { OnErr result (HasBegun (message_place place.now) text.old.items text.new.items) }
@@ -67,7 +66,7 @@ pub(crate) fn append_place(place: &Option<Place>, text: &mut Vec<u8>) -> Result<
     }
 }
 
-// Appends a number in two digits at least.
+// Appends a number with at least two digits.
 fn append_number(number: u8, text: &mut Vec<u8>) -> Result<(), AllocError>
     ensures appended { OnOk result (text.new.items ≡ text.old.items ++ two_digits number) }
     ensures refused { OnErr result (HasBegun (two_digits number) text.old.items text.new.items) }

@@ -1,7 +1,7 @@
-//! Where makefiles are read from.
+//! The files that makefiles are read from.
 //!
-//! In goes a name. Out come the bytes of the file, or that there is none, or that its device
-//! failed; which names were asked for, and how often a device failed, can be seen at any time.
+//! Takes a name, and returns the bytes of the file, or that there is none, or that its device failed. The names that
+//! were asked for and the number of failures can be read at any time.
 ghost use Rattle.std.specs.Prelude.{◌≡◌, option_map, map, string_bytes, IfOk, IfSome, ◌≤◌};
 ghost use Rattle.kt_eval.specs.files.Files.{AskedAfter, CountedAfter, FilesSeen, look};
 
@@ -15,20 +15,20 @@ use thiserror::Error;
 /// A file couldn't be read.
 #[derive(Debug, Drop, Clone, Copy, PartialEq, Eq, Error)]
 pub enum FileFault {
-    /// The device failed. A file that isn't there is no failure.
+    /// The device failed. A missing file is no failure.
     #[error("cannot read")]
     Device,
     #[error("out of memory")]
     Memory,
 }
 
-/// Files by their names, and a record of what was asked for.
+/// Files by name, and a record of what was asked for.
 pub trait Files {
-    /// What is seen of them.
+    /// What contracts see of them.
     ghost seen: { Self → FilesSeen };
 
-    /// The bytes of the file, or `None` where there is none of this name. The name counts as asked for, but where
-    /// memory was refused. A failure of the device is counted, and nothing else is.
+    /// The bytes of the file, or `None` if there is no file with this name. The name counts as asked for, unless memory
+    /// ran out. A failure of the device is counted, and nothing else is.
     fn read(&mut self, name: &str) -> Result<Option<Vec<u8>>, FileFault>
         ensures found { IfSome (seen self.old).known
             (λ store. IfOk result (λ found. option_map (λ v. v.items) found ≡ look store name.now)) }
@@ -41,7 +41,7 @@ pub trait Files {
     fn asked(&self) -> &[String]
         ensures { map string_bytes result.now ≡ (seen self.now).names };
 
-    /// How often a read failed by its device.
+    /// The number of reads that failed because of the device.
     fn failures(&self) -> u64
         ensures { result ≡ (seen self.now).failed };
 }

@@ -1,4 +1,4 @@
-//! Laws of the definitions. These functions do nothing: their contracts are what counts.
+//! Laws of the definitions. These functions do nothing: only their contracts matter.
 ghost use Rattle.std.specs.Prelude.{ℕ, Bool, List};
 ghost use Rattle.kt_text.specs.Words.{Text};
 ghost use Rattle.kt_syntax.specs.Blocks.{Items};
@@ -34,8 +34,8 @@ pub fn rows_of_reading()
     ensures { RowsOfReading }
 {}
 
-/// No message is taken back, and no name that was asked for: by expanding, by applying a function, and by reading the
-/// first file that is there, the tree of a text's lines, or a text.
+/// Messages and the names asked for are only added to: by expanding, by applying a function, and by reading the first
+/// file that exists, the tree of a text's lines, or a text.
 pub fn nothing_is_taken_back()
     ensures expanding { (reads : Bool) (store : Store) (levels : ℕ) (text : Text)
         → TakesNothingBack (expanded (evaluator reads store levels) text) }
@@ -49,8 +49,8 @@ pub fn nothing_is_taken_back()
         → TakesNothingBack (read_text (evaluator reads store levels) source text) }
 {}
 
-/// What isn't too deep (E08) with a given number of levels is the same with one more, whatever the
-/// state before it.
+/// A result that isn't too deep (E08) with a given number of levels is the same with one more, whatever the state
+/// before it.
 pub fn one_deeper()
     ensures expanding { (reads : Bool) (store : Store) (text : Text)
         → StaysOneDeeper (λ levels. expanded (evaluator reads store levels) text) }
@@ -64,19 +64,19 @@ pub fn one_deeper()
         → StaysOneDeeper (λ levels. read_text (evaluator reads store levels) source text) }
 {}
 
-/// Each text is cut into the arguments of a call in exactly one way: with a comma between each two
-/// they are the text, and those of a balanced text are balanced.
+/// Each text is cut into the arguments of a call in exactly one way: joined with commas they are the text, and those of
+/// a balanced text are balanced.
 pub fn law_of_arguments()
     ensures { ArgumentLaw }
 {}
 
-/// A text with each dollar doubled, as `:::=` leaves it, is expanded to the text.
+/// A text with each dollar doubled, as `:::=` stores it, expands to the text.
 pub fn doubled_texts_expand_to_themselves()
     ensures { DoublingLaw }
 {}
 
-/// The comma of `ifeq (a,b)`, and its closing parenthesis, are the first ones before which each parenthesis that is
-/// opened is closed; where there is none, none is found.
+/// The comma of `ifeq (a,b)`, and its closing parenthesis, are the first ones before which each opened parenthesis is
+/// closed; if there is none, none is found.
 pub fn law_of_bare_places()
     ensures { BarePlaceLaw }
 {}

@@ -1,8 +1,7 @@
 //! The macros of a makefile.
 //!
-//! In goes an assignment or a `define`: an operator, a name and a text. Out comes the table in
-//! which the name has its value, as it stands or expanded; a scope says where names are looked up,
-//! and whether anything may be set.
+//! Takes an assignment or a `define`: an operator, a name and a text, and returns the table in which the name has its
+//! value, as written or expanded. A scope decides where names are looked up, and whether anything may be set.
 ghost use Rattle.std.specs.Prelude.{◌≡◌, ◌++◌, ◌==◌, IfOk, OnOk, Some, option_map};
 ghost use Rattle.std.specs.List.{list_any};
 ghost use Rattle.kt_eval.specs.State.{found_of};
@@ -25,9 +24,9 @@ use std::marker::Model;
 /// Variables").
 #[derive(Clone, Copy, Debug, PartialEq, Eq)]
 pub enum Flavour {
-    /// At each use.
+    /// It is expanded at each use.
     Deferred,
-    /// It was when it was assigned, and isn't again.
+    /// It was expanded when it was assigned, and isn't again.
     Immediate,
 }
 
@@ -40,7 +39,7 @@ pub enum Origin {
     CommandLine,
 }
 
-/// What a name stands for.
+/// The value of a macro, and how it was set.
 #[derive(Debug, Drop)]
 pub struct Macro {
     pub flavour: Flavour,
@@ -52,7 +51,7 @@ impl Macro {
     ghost use Rattle.std.specs.Prelude.{codes};
     ghost use Rattle.kt_eval.specs.macros.Macros.{set_by_makefile};
 
-    // One that a makefile sets.
+    // A macro that a makefile sets.
     pub(crate) fn of_makefile(flavour: Flavour, value: Shared<u8>) -> Macro
         ensures { result ≡ set_by_makefile flavour value }
     {
@@ -63,7 +62,7 @@ impl Macro {
         }
     }
 
-    // Puts a space and more text after the value; in place, where nothing else holds it.
+    // Appends a space and more text to the value; in place, if nothing else holds the value.
     fn append(&mut self, more: &[u8]) -> Result<(), AllocError>
         ensures { OnOk result (self.new ≡ record self.old { value = (self.old.value ++ codes " ") ++ more.now }) }
     {
@@ -71,8 +70,7 @@ impl Macro {
         self.value.extend_from_slice(more)
     }
 
-    // Appends the value where it is what it is expanded to, with a given number of levels below;
-    // else it is given, held once more.
+    // Appends the value if it needs no expansion with `below` levels left, and otherwise returns it, shared.
     #[tactic(auto, unfolding(crate::proofs::Steps::value_open))]
     pub(crate) fn put_value(
         &self,
@@ -90,7 +88,7 @@ impl Macro {
         Ok(Some(self.value.share()?))
     }
 
-    // What a name stands for that stands for this; its value is held once more.
+    // The flavour and value of the macro; the value is shared, not copied.
     pub(crate) fn found(&self) -> Result<Found, AllocError>
         ensures { IfOk result (λ found. found ≡ found_of self.now) }
     {
@@ -101,7 +99,7 @@ impl Macro {
     }
 }
 
-// Whether a value is what it is expanded to.
+// Whether a value needs no expansion: it is immediate, or it has no dollar and a level is left.
 fn is_plain(below: u64, flavour: Flavour, value: &[u8]) -> bool
     ensures { result ≡ is_plain below flavour value.now }
 {
@@ -137,7 +135,7 @@ impl Macros {
     ghost use Rattle.std.specs.Prelude.{[], OnErr, codes};
     ghost use Rattle.kt_eval.specs.macros.Macros.{find, put, set_by_makefile};
 
-    /// None.
+    /// No macros.
     pub fn new(alloc: Global) -> Macros
         ensures { result ≡ [] }
     {
@@ -147,14 +145,14 @@ impl Macros {
         }
     }
 
-    /// What a name stands for.
+    /// The macro with a name.
     pub fn get(&self, name: &[u8]) -> Option<&Macro>
         ensures { option_map (λ entry. entry.now) result ≡ find name.now self.now }
     {
         self.entries.get(name)
     }
 
-    // What a name stands for, its value held once more.
+    // The flavour and value of a name; the value is shared, not copied.
     pub(crate) fn found(&self, name: &[u8]) -> Result<Option<Found>, AllocError>
         ensures { IfOk result (λ found. found ≡ option_map found_of (find name.now self.now)) }
     {
@@ -164,7 +162,7 @@ impl Macros {
         }
     }
 
-    // Appends what a name stands for, as far as it is what it is expanded to; what isn't is given.
+    // Appends the value of a name if it needs no expansion with `below` levels left, and otherwise returns it.
     #[tactic(auto, unfolding(crate::proofs::Steps::value_open))]
     pub(crate) fn put_value(
         &self,
@@ -183,7 +181,7 @@ impl Macros {
         }
     }
 
-    /// Sets what a name stands for: a name that is there keeps its place, and a new one goes last.
+    /// Sets the macro with a name: a name that is there keeps its place, and a new one is added at the end.
     pub fn insert(&mut self, name: Vec<u8>, value: Macro) -> Result<(), AllocError>
         ensures set { OnOk result (self.new ≡ put name.items value self.old) }
         ensures refused { OnErr result (self.new ≡ self.old) }
@@ -192,8 +190,8 @@ impl Macros {
         Ok(())
     }
 
-    // Sets a macro to a text after `front` and a space. Where `front` was the value of this macro
-    // and nothing else holds it, it grows in place: the macro's own hold ends first.
+    // Sets a macro to `front`, a space and a text. If `front` was the value of this macro and nothing else holds it, it
+    // grows in place, since the macro's own share is dropped first.
     pub(crate) fn append(
         &mut self,
         name: Vec<u8>,

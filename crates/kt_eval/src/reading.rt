@@ -1,8 +1,7 @@
-//! Makefiles read, line by line.
+//! Reads makefiles, line by line.
 //!
-//! In go the bytes of a makefile. Each line does what its kind says: it assigns, opens a rule, goes
-//! on with a recipe, includes a file, or chooses a branch. Out come macros, rules and messages, or
-//! the first fault.
+//! Takes the bytes of a makefile. Each line does what its kind says: it assigns, opens a rule, continues a recipe,
+//! includes a file, or chooses a branch. Returns macros, rules and messages, or the first fault.
 ghost use Rattle.std.specs.Prelude.{◌≡◌, ◌<◌, ◌≤◌, ◌+◌, length, option_map, IfErr, IfOk, Some, false, true};
 ghost use Rattle.std.specs.List.{slice_get, slice_range};
 ghost use Rattle.kt_syntax.specs.Kinds.{kind_of, kind_view, line_kind};
@@ -44,7 +43,7 @@ pub use machine::{Machine, Reading};
 use std::alloc::{AllocError, Global};
 
 impl<'a, M: Scope, F: Files> Evaluation<'a, M, F> {
-    // The end that is missing.
+    // Fails if the end of a block is missing.
     #[tactic(auto, using(crate::proofs::Steps::read_end_goes), unfolding(crate::specs::reading::Reading::read_end))]
     fn read_end(&mut self, source: &Source, missing: Option<Missing>) -> Result<(), Stop>
         ensures gives { Gives (λ u. u) result self.new.world (read_end source.now missing self.old.world) }
@@ -78,7 +77,7 @@ impl<'a, M: Scope, F: Files> Evaluation<'a, M, F> {
         }
     }
 
-    // The text of an `eval` has rules of its own.
+    // The text of an `eval` has an open rule of its own; afterwards the outer one is open again.
     #[cycle(evaluate)]
     #[tactic(auto, unfolding(crate::specs::reading::Reading::read_held))]
     pub(crate) fn read_held(&mut self, below: u64, text: &[u8]) -> Result<(), Stop>
@@ -135,7 +134,7 @@ impl<'a, M: Scope, F: Files> Evaluation<'a, M, F> {
         Ok(())
     }
 
-    // Reads the line of a place, or tests a conditional, and gives the place to go on from.
+    // Reads the line at a place, or tests a conditional, and returns the place to continue from.
     #[cycle(evaluate)]
     #[tactic(auto, using(crate::proofs::Steps::read_items_goes), unfolding(crate::specs::reading::Reading::read_items))]
     pub(crate) fn read_step(
@@ -185,7 +184,7 @@ impl<'a, M: Scope, F: Files> Evaluation<'a, M, F> {
         }
     }
 
-    // Finds the branch of a conditional that is read.
+    // Finds the branch of a conditional that is taken, and returns the place to continue from.
     #[cycle(evaluate)]
     #[tactic(auto, using(crate::proofs::lemmas::reading::ReadingLemmas::branch_steps))]
     pub(crate) fn read_conditional(
@@ -254,7 +253,7 @@ impl<'a, M: Scope, F: Files> Evaluation<'a, M, F> {
         self.read_kind(below, &line, classify(&line, false))
     }
 
-    // A line that begins with a tab is one of the open rule's recipe, if there is one.
+    // A line that begins with a tab belongs to the recipe of the open rule, if there is one.
     #[cycle(evaluate)]
     #[tactic(auto, unfolding(crate::specs::reading::Reading::read_tab))]
     pub(crate) fn read_tab(&mut self, below: u64, text: &[u8]) -> Result<(), Stop>
@@ -313,7 +312,7 @@ impl<'a, M: Scope, F: Files> Evaluation<'a, M, F> {
         self.assign_line(below, name.as_slice(), operator, value.as_slice())
     }
 
-    // A line by its kind; an assignment, an include and a rule line close the rule that is open.
+    // Reads a line by its kind; an assignment, an include and a rule line close the open rule.
     #[cycle(evaluate)]
     #[tactic(auto, using(crate::proofs::Steps::read_kind_steps), unfolding(crate::specs::reading::Reading::read_kind))]
     pub(crate) fn read_kind(
@@ -361,7 +360,7 @@ impl<'a, M: Scope, F: Files> Evaluation<'a, M, F> {
         self.include_line(below, optional, text.as_slice())
     }
 
-    // The first line of a define, and its body.
+    // A define, from its first line and its body.
     #[cycle(evaluate)]
     #[tactic(auto, using(crate::proofs::Steps::read_define_goes))]
     pub(crate) fn read_define(&mut self, below: u64, line: &[u8], body: &[u8]) -> Result<(), Stop>
@@ -409,7 +408,7 @@ impl<'a, M: Scope, F: Files> Evaluation<'a, M, F> {
         }
     }
 
-    // A rule line by its parts.
+    // A rule line, from its parts.
     #[cycle(evaluate)]
     #[tactic(auto, using(crate::proofs::Steps::read_rule_steps), unfolding(crate::specs::reading::Rules::rule_of_parts))]
     pub(crate) fn read_rule(
@@ -432,7 +431,7 @@ impl<'a, M: Scope, F: Files> Evaluation<'a, M, F> {
     }
 }
 
-// The recipe that a rule line has itself.
+// The recipe on the rule line itself.
 fn recipe_of(alloc: Global, recipe: Option<&[u8]>) -> Result<Option<Sequence<u8>>, AllocError>
     ensures { IfOk result (λ text. text ≡ option_map recipe_of (option_map (λ part. part.now) recipe.entry)) }
 {

@@ -4,14 +4,14 @@ ghost use Rattle.std.specs.Prelude.{◌≡◌};
 use crate::macros::Flavour;
 use kt_list::{Sequence, Shared};
 
-/// What a name stands for while it is used.
+/// The flavour and value of a name while it is used.
 #[derive(Debug, Drop)]
 pub struct Found {
     pub flavour: Flavour,
     pub value: Shared<u8>,
 }
 
-/// What is left of a term, once what needs no level of its own is put.
+/// What remains of a term after all that needs no further level was appended.
 #[derive(Debug, Drop)]
 pub(crate) enum Left {
     Nothing,
@@ -24,8 +24,8 @@ pub(crate) enum Left {
 /// A binding of `foreach` or `call` (GNU make manual, "The foreach Function" and "The call Function").
 #[derive(Debug, Drop)]
 pub enum Frame {
-    /// The name of a loop and the word that it stands for.
+    /// The name of a loop's variable, and its current word.
     Loop(Shared<u8>, Shared<u8>),
-    /// The arguments of a call, of which the first is the name of what is called.
+    /// The arguments of a call, the first of which is the name of the called macro.
     Call(Sequence<Shared<u8>>),
 }

@@ -1,4 +1,4 @@
-//! Why a makefile isn't read to its end.
+//! Why the reading of a makefile stops.
 ghost use Rattle.std.specs.Prelude.{◌≡◌};
 ghost use Rattle.kt_eval.specs.inner.Views.{rule_stop};
 ghost use Rattle.kt_eval.specs.declared.stop.Stop.TheVariants.{Memory};
@@ -10,11 +10,11 @@ use std::alloc::{AllocError, AllocFailed};
 /// Why nothing more is read or expanded.
 #[derive(Debug, Drop)]
 pub enum Stop {
-    /// The makefile is at fault.
+    /// The makefile has a fault.
     Fault(Fault),
-    /// The file of this name couldn't be read.
+    /// The file with this name couldn't be read.
     Device(String),
-    /// Memory was refused.
+    /// Out of memory.
     Memory,
 }
 

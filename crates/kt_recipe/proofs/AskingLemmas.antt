@@ -57,7 +57,7 @@ all_after node part known = flat_map (λ mark. map (λ macro. (mark.0 ∷ macro.
 abbrev has_mark : List (ℕ × Subject) → ℕ → Bool
 has_mark known mark = list_any (λ one. one.0 == mark) known
 
--- whether no mark stands twice
+-- whether no mark is repeated
 abbrev differ : List (ℕ × Subject) → Bool
 differ [] = true
 differ (one ∷ known) = not (has_mark known one.0) && differ known
@@ -112,7 +112,7 @@ found_there node part (one ∷ known) mark rest is =
     (ap (has_mark known) (sym (eqb-true one.0 mark same)) ∙ apart (has_mark known one.0) (differ known) is))
     (found_there node part known mark rest (apart_rest (has_mark known one.0) (differ known) is))
 
--- ---- what stands after a mark
+-- ---- what comes after a mark
 
 abbrev told : Node → ℕ → Subject × Form → Text
 told node part asked = text_of asked.1 (names_in node part asked.0)
@@ -166,7 +166,7 @@ with_more : (node : Node) (part letter other : ℕ) (more : Text) (found : Optio
 with_more node part letter other more None = refl
 with_more node part letter other more (Some subject) = more_after node part subject letter other more (has_parts subject)
 
--- what is found among the automatic macros is what is asked for
+-- what is found among the automatic macros is that of the name
 pub found_by_name : (node : Node) (part : ℕ) (name : Text) → look (automatic_in node part) name ≡ macro_in node part name
 unfolding automatic_in macro_in asked_by subject_of
 found_by_name node part [] = refl

@@ -1,4 +1,4 @@
--- What is left of the pieces, lines and parts of a command begins with the next.
+-- The rest of the pieces, lines and parts of a command begins with the next.
 use Rattle.std.proofs.Common.{◌≡◌, ℕ, suc, ◌+◌, ◌-◌, ◌<◌, Bool, List, ◌∷◌, length, get_or, drop, map, Option, Bor, sym, ap, ◌∙◌, arith}
 use Rattle.std.specs.List.{range_with_len}
 use Rattle.std.proofs.lemmas.List.{drop_more}

@@ -29,13 +29,13 @@ unfolding put_pieces pieces_of
 put_one at marked text command said whole =
     rw (uncut text (not_true (list_any (λ byte. byte == 10) text) whole)) (sym (then_done (put_piece at marked text command said)))
 
--- what says the one says the other
+-- what holds for one step holds for another that does the same
 says_alike : {A B : Type 0} (see : A → B) (one other : StepOver (List Text) B) (result : Result A Stop) (old new : List Text) → one old ≡ other old
     → Says see one result old new → Says see other result old new
 says_alike see one other result old new is h =
     record { gives = rw (sym is) h.gives; appends = h.appends; cut = rw (sym is) h.cut; asks_nothing = h.asks_nothing }
 
--- a line that is one piece is put as that piece is
+-- a line that is one piece is appended as that piece is
 pub says_one : {A : Type 0} (see : A → Option Text) (at : Setting) (marked : Bool) (text : Text) (command : Option Text) (result : Result A Stop)
     (old new : List Text) → not (list_any (λ byte. byte == 10) text) ≡ true → Says see (put_piece at marked text command) result old new
     → Says see (put_pieces at marked (pieces_of text) command) result old new

@@ -1,4 +1,4 @@
--- A shell whose values stand for themselves is expanded to these values.
+-- A shell whose values expand to themselves is expanded to these values.
 use Rattle.std.proofs.Common.{◌≡◌, ℕ, zero, suc, Bool, true, false, not, ◌==◌, ◌&&◌, ⊎_elim, List, [], ◌++◌, Option, Some, None, refl, sym, ap, ◌∙◌, arith, true≢false}
 use Rattle.std.proofs.lemmas.Bool.{cases_Bool, eqb-true}
 use Rattle.std.specs.Prelude.{codes, is_some, option_map, unwrap_or}

@@ -24,7 +24,7 @@ use Rattle.kt_recipe.specs.Rows.{at_m, line, sample, rooted, simple, doubled, to
 use Rattle.kt_recipe.proofs.PlainLemmas.{listing}
 use Rattle.kt_recipe.proofs.TermLemmas.{terms_are, splitting, shell_terms}
 
--- `unfolding expanding` opens what a text is expanded to, and `making` how a command comes about
+-- `unfolding expanding` opens what a text expands to, and `making` how a command is made
 unfoldable expanding : Unit {0}
 unfolding listing splitting is_separator is_blank words_of find seen innermost lookup text_function other_function function_of is_refused_function text_result arguments_from arguments_of asked_of asked_by naming_of value_of each_argument apply_foreach each_word apply_eval apply_error apply_info apply body_of value_named referred term_of each_term expanded above none_left evaluator expansion
 expanding = tt

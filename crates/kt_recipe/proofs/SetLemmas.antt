@@ -1,4 +1,4 @@
--- Names that are put into a set and looked up there, as they are lent.
+-- Names that are added to a set and looked up there, as they are borrowed.
 use Rattle.std.proofs.Common.{◌≡◌, Bool, true, false, ◌||◌, if◌then◌else◌, List, [], ◌∷◌, ◌++◌, map, Bor, refl, ap, ◌∙◌}
 use Rattle.std.specs.Prelude.{nat_eq}
 use Rattle.std.specs.List.{list_any}
@@ -20,7 +20,7 @@ either : (b : Bool) (keys : List (Bor Text)) (name : Bor Text)
 either true keys name = refl
 either false keys name = map-append (λ (key : Bor Text). key.now) keys (name ∷ [])
 
--- a name that is inserted goes last, if it isn't there
+-- a name that is inserted is added at the end, unless it is there
 pub name_inserted : (keys : List (Bor Text)) (name : Bor Text)
     → map (λ (key : Bor Text). key.now) (insert_key (λ (x y : Bor Text). pointwise nat_eq x.now y.now) keys name)
     ≡ with_name (map (λ (key : Bor Text). key.now) keys) name.now

@@ -1,4 +1,4 @@
--- Messages only grow while a command comes about, and a step that is stopped stops all that begins with it.
+-- Messages are only added while a command is made, and a step that is stopped stops all that begins with it.
 use Rattle.std.proofs.Common.{◌≡◌, ℕ, Bool, true, false, List, [], ◌∷◌, Option, Some, Ok, Err, ◌||◌, if◌then◌else◌, unwrap_or, slice_get, ap, subst}
 use Rattle.kt_text.specs.Words.{Text, is_nonempty}
 use Rattle.kt_rules.specs.declared.entry.RecipeLine.{RecipeLine}
@@ -43,7 +43,7 @@ cut_then (stops.Fault fault) heard o next more h = tt
 cut_then (stops.Device name) heard o next more h = then_front heard o next more h
 cut_then stops.Memory heard o next more h = then_front heard o next more h
 
--- a step that is stopped stops the whole, of which so much was done before it
+-- a step that is stopped stops the whole, after this much was done before it
 pub stops_all : {A B C D : Type 0} (see : A → C) (other : B → D) (stop : Stop) (start now new : List Text) (first : StepOver (List Text) C)
     (next : C → StepOver (List Text) D) (whole : StepOver (List Text) D)
     → ((x : C) → Keeps (next x)) → IsPrefix start now → then_do (first now) next ≡ whole start
@@ -55,16 +55,16 @@ stops_all {D} see other stop start now new first next whole more before is h = r
   asks_nothing = h.asks_nothing;
 }
 
--- nothing was said before memory was refused
+-- no message was added before memory ran out
 pub out_of_memory : {A B : Type 0} (see : A → B) (step : StepOver (List Text) B) (said : List Text) → Keeps step → Says see step (Err stops.Memory) said said
 out_of_memory see step said keeps = record { gives = tt; appends = front_same said; cut = keeps said; asks_nothing = tt }
 
--- a step that says nothing
+-- a step without a message
 pub says_nothing : {A B : Type 0} (see : A → B) (step : StepOver (List Text) B) (x : A) (said : List Text) → step said ≡ Gave said (see x)
     → Says see step (Ok x) said said
 says_nothing see step x said is = record { gives = is; appends = front_same said; cut = tt; asks_nothing = tt }
 
--- ---- messages only grow
+-- ---- messages are only added
 
 leaving_front : (said : List Text) (o : Outcome World Text) → IsPrefix said (left_of o).said → IsPrefix said (left_of (leaving (λ w. w.said) o))
 leaving_front said (Gave w x) h = h

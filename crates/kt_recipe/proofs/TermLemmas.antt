@@ -1,5 +1,5 @@
--- The terms of a text by functions that look only where they must: `if` has both its sides computed, so that what searches for a
--- closing mark takes three times as long for each byte more.
+-- The terms of a text by functions that look only where they must: both sides of an `if` are computed, so that a search
+-- for a closing mark takes three times as long for each byte more.
 use Rattle.std.proofs.Common.{◌≡◌, ℕ, zero, suc, ◌+◌, ◌-◌, Bool, true, false, ◌==◌, if◌then◌else◌, List, [], ◌∷◌, Option, Some, None, refl, ap, ◌∙◌}
 use Rattle.std.specs.Prelude.{codes}
 use Rattle.kt_text.specs.Words.{Text}

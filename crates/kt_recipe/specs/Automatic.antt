@@ -12,16 +12,14 @@ use Rattle.kt_recipe.specs.declared.subjects.Subject.{Subject}
 use Rattle.kt_recipe.specs.declared.subjects.Subject.TheVariants.{Target, First, Each, Every, OrderOnly, Stem, Member}
 use Rattle.kt_recipe.specs.Forms.{text_of}
 
--- the marks `@ < ^ + | * %` and the question mark, and what each asks for; no file is looked at, so all prerequisites
--- count as newer
--- (kati's own)
+-- the marks `@ < ^ + | * %` and the question mark, with the subject of each; files aren't looked at, so all
+-- prerequisites count as newer (kati's own)
 abbrev pub marks : List (ℕ × Subject)
 marks =
     (64, Target) ∷ (60, First) ∷ (94, Each) ∷ (63, Each) ∷ (43, Every) ∷ (124, OrderOnly) ∷ (42, Stem)
     ∷ (37, Member) ∷ []
 
--- whether a `D` or `F` may stand after the mark; after `|` none may [Automatic Variables], nor after `%` (kati's
--- own)
+-- whether a `D` or `F` may come after the mark; after `|` none may [Automatic Variables], nor after `%` (kati's own)
 abbrev pub has_parts : Subject → Bool
 has_parts Target = true
 has_parts First = true
@@ -31,13 +29,13 @@ has_parts OrderOnly = false
 has_parts Stem = true
 has_parts Member = false
 
--- what may stand after a mark, and the form that it asks for
+-- what may come after a mark, and the form that it asks for
 abbrev pub endings : Bool → List (Text × Form)
 endings true = ([], Whole) ∷ (codes "D", Directory) ∷ (codes "F", File) ∷ []
 endings false = ([], Whole) ∷ []
 
--- the names that a rule tells of a target; an empty stem is no name, and a name that is needed otherwise is not
--- order-only [Types of Prerequisites]
+-- the names of a subject in a rule of a target; an empty stem is no name, and a name that is also a normal prerequisite
+-- isn't order-only [Types of Prerequisites]
 unfoldable pub names_of : Text → Text → Needs → Subject → List Text
 names_of target stem needs Target = target ∷ []
 names_of target stem needs First = take 1 needs.prerequisites
@@ -48,8 +46,8 @@ names_of target stem needs OrderOnly =
 names_of target stem needs Stem = filter is_nonempty (stem ∷ [])
 names_of target stem needs Member = []
 
--- those that a part of a node tells, which has the lists of its own rule alone [Double-Colon Rules]; nothing is told
--- of a part that the node doesn't have
+-- the prerequisites of a part of a node, which has those of its own rule alone [Double-Colon Rules]; a part that the
+-- node doesn't have has none
 abbrev pub needs_in : Node → ℕ → Needs
 needs_in node part =
     record {
@@ -60,12 +58,12 @@ needs_in node part =
 abbrev pub names_in : Node → ℕ → Subject → List Text
 names_in node part subject = names_of node.name (part_stem (slice_get node.parts part)) (needs_in node part) subject
 
--- the macros of a mark, by what stands after it
+-- the macros of a mark, with what may come after it
 abbrev pub of_mark : Node → ℕ → Subject → Store
 of_mark node part subject =
     map (λ ending. (ending.0, text_of ending.1 (names_in node part subject))) (endings (has_parts subject))
 
--- the automatic macros in the recipe of a part of a node: their names, and what they stand for
+-- the automatic macros in the recipe of a part of a node: their names and values
 unfoldable pub automatic_in : Node → ℕ → Store
 automatic_in node part =
     flat_map (λ mark. map (λ macro. (mark.0 ∷ macro.0, macro.1)) (of_mark node part mark.1)) marks

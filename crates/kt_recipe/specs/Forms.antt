@@ -7,14 +7,14 @@ use Rattle.kt_text.specs.Functions.{name_place, name_part}
 use Rattle.kt_recipe.specs.declared.forms.Form.{Form}
 use Rattle.kt_recipe.specs.declared.forms.Form.TheVariants.{Whole, Directory, File}
 
--- the part of a name before its last slash; `.` without a slash, `/` where nothing else stands before it (kati's own)
+-- the part of a name before its last slash; `.` without a slash, `/` if nothing is before the slash (kati's own)
 abbrev pub directory_of : Text → Text
 directory_of name =
     if name_place name == 0 then 46 ∷ []
     else (if name_place name == 1 then 47 ∷ [] else take (name_place name - 1) name)
 
--- the names of a list in a form, joined by spaces; names are no words, so a space in one stays, and a part that is
--- empty is left out (kati's own)
+-- the names of a list in a form, joined by spaces; names aren't split at spaces, and an empty part is left out (kati's
+-- own)
 unfoldable pub text_of : Form → List Text → Text
 text_of Whole names = join_with_byte 32 names
 text_of Directory names = list_text (map directory_of names)

@@ -4,22 +4,22 @@ use Rattle.std.specs.Prelude.{ℕ, Bool, ◌==◌, ◌||◌, List, take, drop}
 use Rattle.std.specs.List.{list_any, prefix_len, slice_split}
 use Rattle.kt_text.specs.Words.{Text, is_blank}
 
--- a byte of the run that may stand before a command: a blank, `@`, `-` or `+` ["Recipe Echoing"; "Errors in Recipes";
+-- a byte of the run that may come before a command: a blank, `@`, `-` or `+` ["Recipe Echoing"; "Errors in Recipes";
 -- "How the MAKE Variable Works"]
 unfoldable pub is_prefix : ℕ → Bool
 is_prefix byte = is_blank byte || (byte == 64 || (byte == 45 || byte == 43))
 
--- that run, and what stands after it
+-- that run, and the text after it
 abbrev pub run_of : Text → Text
 run_of text = take (prefix_len is_prefix text) text
 
 abbrev pub after_run : Text → Text
 after_run text = drop (prefix_len is_prefix text) text
 
--- whether a failure of the command is passed over: a `-` stands in its run ["Errors in Recipes"]
+-- whether a failure of the command is ignored: there is a `-` in its run ["Errors in Recipes"]
 unfoldable pub is_marked : Text → Bool
 is_marked text = list_any (λ byte. byte == 45) (run_of text)
 
--- the pieces of a line that is expanded: what its newlines cut it into ["Defining Canned Recipes"]
+-- the pieces of an expanded line, cut at its newlines ["Defining Canned Recipes"]
 unfoldable pub pieces_of : Text → List Text
 pieces_of text = slice_split (λ byte. byte == 10) text

@@ -2,8 +2,8 @@
 use Rattle.std.specs.Prelude.{ℕ, ◌==◌, [], ◌∷◌, ◌++◌, flat_map, Option, Some, None, option_map, if◌then◌else◌}
 use Rattle.kt_text.specs.Words.{Text}
 
--- a byte between single quotes: a single quote can't stand there, so it ends them, stands after a backslash, and
--- begins new ones
+-- a byte between single quotes: a single quote can't be between them, so it ends them, is after a backslash, and begins
+-- new ones
 abbrev pub quoted_byte : ℕ → Text
 quoted_byte byte = if byte == 39 then 39 ∷ 92 ∷ 39 ∷ 39 ∷ [] else byte ∷ []
 
@@ -11,16 +11,16 @@ quoted_byte byte = if byte == 39 then 39 ∷ 92 ∷ 39 ∷ 39 ∷ [] else byte �
 unfoldable pub quoted : Text → Text
 quoted text = 39 ∷ (flat_map quoted_byte text ++ (39 ∷ []))
 
--- where a byte of a word stands: outside quotes, directly after a backslash there, or between single quotes
+-- where a byte of a word is: outside quotes, directly after a backslash there, or between single quotes
 pub data Standing : Type 0 where
   outside : Standing
   escaped : Standing
   inside : Standing
 
--- what a shell reads a word as that is written with quotes alone: between single quotes each byte stands for itself
--- ["Single-Quotes"], and so does one after a backslash, but for a newline, which goes with it ["Escape Character
--- (Backslash)"]. A word with anything else outside quotes has no reading here, nor has one whose quotes are open at
--- its end.
+-- how a shell reads a word that is written with quotes only: between single quotes each byte is itself
+-- ["Single-Quotes"], and so is a byte after a backslash, except a newline, which is removed with the backslash ["Escape
+-- Character (Backslash)"]. A word with anything else outside quotes can't be read here, nor can one whose quotes are
+-- open at its end.
 unfoldable pub read_quotes : Standing → Text → Option Text
 read_quotes outside [] = Some []
 read_quotes outside (byte ∷ text) =
@@ -32,6 +32,6 @@ read_quotes inside [] = None
 read_quotes inside (byte ∷ text) =
     if byte == 39 then read_quotes outside text else option_map (λ word. byte ∷ word) (read_quotes inside text)
 
--- the word that a text written with quotes alone spells
+-- the word that a text with quotes only is read as
 abbrev pub word_of_quotes : Text → Option Text
 word_of_quotes text = read_quotes outside text

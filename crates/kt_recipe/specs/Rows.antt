@@ -24,7 +24,7 @@ abbrev pub part : List RecipeLine → Text → List Text → List Text → Part
 part lines stem prerequisites order_only =
     record { recipe = Some lines; stem = stem; needs = record { prerequisites = prerequisites; order_only = order_only } }
 
--- a target with needs of all kinds
+-- a target with prerequisites of all kinds
 abbrev pub sample : Node
 sample = record {
   name = codes "t";
@@ -33,11 +33,11 @@ sample = record {
   made_with = None;
 }
 
--- one without needs, in the root
+-- one without prerequisites, in the root
 abbrev pub rooted : Node
 rooted = record { name = codes "//x"; kind = Explicit; parts = part [] [] [] [] ∷ []; made_with = None }
 
--- the target `t` with a recipe and without needs
+-- the target `t` with a recipe and without prerequisites
 abbrev pub simple : List RecipeLine → Node
 simple lines = record { name = codes "t"; kind = Explicit; parts = part lines [] [] [] ∷ []; made_with = None }
 
@@ -50,14 +50,14 @@ doubled = record {
   made_with = None;
 }
 
--- what a name stands for in the first part of a node
+-- the value of a name in the first part of a node
 abbrev pub told : Node → Text → Option Text
 told node name = look (automatic_in node 0) name
 
 abbrev pub deferred : Text → Text → Text × Macro
 deferred name value = (name, set_by_makefile Deferred value)
 
--- what a makefile begins with, before these
+-- the macros that a makefile begins with, before others
 abbrev pub with_shell : Table → Table
 with_shell more = deferred (codes "SHELL") (codes "/bin/sh") ∷ deferred (codes ".SHELLFLAGS") (codes "-c") ∷ more
 

@@ -19,9 +19,9 @@ use Rattle.kt_recipe.specs.Quoting.{quoted}
 
 -- ---- a command and its pieces
 
--- a piece as an argument of the shell ["Choosing the Shell"]; where a failure is passed over the list that does so
--- stands in braces, so that it is one command to those round it (POSIX.1-2024 Shell Command Language, "Grouping
--- Commands", "OR Lists")
+-- a piece as an argument of the shell ["Choosing the Shell"]; if its failure is ignored, the list that does so is in
+-- braces, so that it is one command for its surroundings (POSIX.1-2024 Shell Command Language, "Grouping Commands", "OR
+-- Lists")
 abbrev pub shell_call : Text → Text → Text
 shell_call shell piece = shell ++ (32 ∷ quoted piece)
 
@@ -29,13 +29,13 @@ unfoldable pub wrapped : Bool → Text → Text → Text
 wrapped true shell piece = codes "{ " ++ (shell_call shell piece ++ codes " || :; }")
 wrapped false shell piece = shell_call shell piece
 
--- one more after the command so far, run where all before it succeeded (POSIX.1-2024 Shell Command Language, "AND
+-- one more call after the command so far, run if all before it succeeded (POSIX.1-2024 Shell Command Language, "AND
 -- Lists")
 abbrev pub joined : Option Text → Text → Text
 joined None call = call
 joined (Some command) call = command ++ (codes " && " ++ call)
 
--- ---- how a command comes about: each step takes the command so far, if it has a piece, and gives it with more
+-- ---- how a command is made: each step takes the command so far, if it has a piece, and returns it with more
 
 -- what a line of a recipe is expanded with: the macros, the automatic ones, its place, and a limit of levels
 pub record Setting : Type 0 where
@@ -51,7 +51,7 @@ expansion at text = expanded_pure at.table at.automatic at.place at.limit text
 abbrev pub shell_text : Text
 shell_text = codes "$(SHELL) $(.SHELLFLAGS)"
 
--- a piece, once its run is taken; the shell is expanded anew for it. An empty piece is none, and expands no shell
+-- a piece, after its run is removed; the shell is expanded for each piece. An empty piece is none, and expands no shell
 unfoldable pub put_piece : Setting → Bool → Text → Option Text → StepOver (List Text) (Option Text)
 put_piece at marked piece command =
     if is_nonempty (after_run piece)
@@ -66,7 +66,7 @@ put_pieces at marked (piece ∷ pieces) command = do
   longer ← put_piece at marked piece command
   put_pieces at marked pieces longer
 
--- a line: its run is taken before it is expanded as a whole, and a `-` there marks all its pieces
+-- a line: its run is removed before it is expanded as a whole, and a `-` in the run marks all its pieces
 unfoldable pub put_line : Setting → Text → Option Text → StepOver (List Text) (Option Text)
 put_line at line command = do
   text ← expansion at (after_run line)

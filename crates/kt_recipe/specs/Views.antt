@@ -1,4 +1,4 @@
--- What the code's own types and answers say (kati's own).
+-- The code's own types and results as those of the definitions (kati's own).
 use Rattle.std.specs.Prelude.{[], ◌∷◌, ◌++◌, Option, Some, None, codes}
 use Rattle.kt_text.specs.Words.{Text}
 use Rattle.kt_rules.specs.declared.place.Place.{Place}
@@ -6,12 +6,12 @@ use Rattle.kt_recipe.specs.declared.shell.Shell.{Shell}
 use Rattle.kt_recipe.specs.Automatic.{automatic_in}
 use Rattle.kt_recipe.specs.Shell.{Setting, setting_of}
 
--- a command as it is held: an empty text is none
+-- a command of the code: an empty text is none
 abbrev pub command_in : Text → Option Text
 command_in [] = None
 command_in (byte ∷ text) = Some (byte ∷ text)
 
--- ready for one more piece
+-- a command to which one more piece can be appended
 abbrev pub with_joint : Text → Text
 with_joint [] = []
 with_joint (byte ∷ text) = (byte ∷ text) ++ codes " && "

@@ -1,3 +1,3 @@
--- What only contracts of private functions and proofs cite: nothing here has to be read to know what is promised.
+-- What only contracts of private functions and proofs cite: none of this is needed to read the public contracts.
 pub mod Asking
 pub mod Plain

@@ -19,11 +19,11 @@ use std::alloc::{AllocError, Global};
 use std::borrow::CowSlice;
 use std::marker::Model;
 
-// So many names are a few.
+// Up to this many names are compared with one another.
 const FEW: usize = 8;
 
-/// The automatic macros in the recipe of a node's part, each computed when it is asked for (GNU make
-/// manual, "Automatic Variables").
+/// The automatic macros in the recipe of a node's part, each computed when it is looked up (GNU make manual, "Automatic
+/// Variables").
 #[derive(Drop)]
 pub struct PartMacros<'n, 'g> {
     alloc: Global,
@@ -56,7 +56,7 @@ impl<'n, 'g> Automatic for PartMacros<'n, 'g> {
     }
 }
 
-// What a name stands for in a part of a node, if it is that of an automatic macro.
+// The value of the automatic macro with this name in a part of a node, if there is one.
 #[tactic(auto, unfolding(crate::specs::inner::Asking::macro_in))]
 fn macro_in<'g>(
     alloc: Global,
@@ -72,7 +72,7 @@ fn macro_in<'g>(
     }
 }
 
-// What a part of a node tells, in a form.
+// The names of a subject in a part of a node, as text in a form.
 fn told<'g>(
     alloc: Global,
     node: &Node<'g>,
@@ -91,7 +91,7 @@ fn told<'g>(
     }
 }
 
-// The name that a part of a node tells, where it tells one and this is known without a look at others.
+// The name of a subject that has only one name, which is then borrowed.
 #[tactic(auto, unfolding(crate::specs::Automatic::names_of))]
 fn only_name<'g>(node: &Node<'g>, part: usize, subject: Subject) -> Option<&'g [u8]>
     ensures { IfSome result (λ name. names_in node.now part subject ≡ name.now ∷ []) }
@@ -103,7 +103,7 @@ fn only_name<'g>(node: &Node<'g>, part: usize, subject: Subject) -> Option<&'g [
     }
 }
 
-// The names that a part of a node tells.
+// The names of a subject in a part of a node.
 #[tactic(auto, unfolding(crate::specs::Automatic::names_of))]
 fn names_in<'g>(
     alloc: Global,
@@ -152,7 +152,7 @@ fn some(alloc: Global, name: &[u8]) -> Result<Vec<&[u8]>, AllocError>
     }
 }
 
-// The order-only prerequisites, each once and without the others.
+// The order-only prerequisites, each once and without the other prerequisites.
 fn order_only<'g>(alloc: Global, node: &Node<'g>, part: usize) -> Result<Vec<&'g [u8]>, AllocError>
     ensures { IfOk result (λ names. map (λ name. name.now) names.items
         ≡ filter (λ name. not (is_among (without_repeats (part_needed (slice_get node.now.parts part))) name))
@@ -225,7 +225,7 @@ fn listed<'g>(alloc: Global, set: IndexSet<&'g [u8]>) -> Result<Vec<&'g [u8]>, A
     set.into_iter().collect(alloc)
 }
 
-// Those that aren't in a set.
+// The names that aren't in a set.
 fn without<'g>(
     alloc: Global,
     names: &[&'g [u8]],

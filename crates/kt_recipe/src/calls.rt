@@ -6,12 +6,11 @@ ghost use Rattle.kt_recipe.specs.Views.{command_in, with_joint};
 use crate::quoting::put_quoted;
 use std::alloc::AllocError;
 
-// What stands round a shell and a piece takes at most a given number of bytes: ` && { `, a space,
-// two quotes, ` || :; }`.
+// The maximum number of bytes around a shell and a piece: ` && { `, a space, two quotes, ` || :; }`.
 const ROOM: usize = 17;
 
-/// Appends a call of the shell for a piece; where it is marked, its failure is passed over (GNU make
-/// manual, "Errors in Recipes").
+/// Appends a call of the shell for a piece. If the piece is marked, its failure is ignored (GNU make manual, "Errors in
+/// Recipes").
 #[tactic(auto, using(crate::proofs::CallLemmas::call_joined))]
 pub(crate) fn put_call(
     command: &mut Vec<u8>,
@@ -27,7 +26,7 @@ pub(crate) fn put_call(
     put_wrapped(command, marked, shell, piece)
 }
 
-// What stands between two pieces.
+// Appends the text between two pieces, unless the command is empty.
 fn put_joint(command: &mut Vec<u8>) -> Result<(), AllocError>
     ensures { OnOk result (command.new.items ≡ with_joint command.old.items) }
 {

@@ -9,8 +9,8 @@ use kt_rules::Place;
 use std::alloc::{AllocError, Global};
 use std::marker::Model;
 
-/// Makes the commands of a makefile's nodes. Where the two values of its shell stand for themselves,
-/// as they mostly do, the shell is expanded here, once for all pieces.
+/// Makes the commands of a makefile's nodes. If both values of its shell expand to themselves, as they mostly do, the
+/// shell is expanded here, once for all pieces.
 #[derive(Drop)]
 pub struct Commands<'m> {
     alloc: Global,
@@ -36,7 +36,7 @@ impl<'m> Commands<'m> {
     ghost use Rattle.kt_eval.specs.expanding.Pure.{expanded_pure};
     ghost use Rattle.kt_recipe.specs.inner.Plain.{plain_shell};
 
-    /// By these macros, and this limit of levels.
+    /// Commands with these macros and this limit of levels.
     pub fn new(alloc: Global, macros: &'m Macros, limit: u64) -> Result<Commands<'m>, AllocError>
         ensures { IfOk result (λ commands. commands ≡ record { table = macros.now; limit = limit }) }
     {
@@ -53,7 +53,7 @@ impl<'m> Commands<'m> {
         self.alloc
     }
 
-    // The shell of all pieces, where its values stand for themselves.
+    // The shell of all pieces, if its values expand to themselves.
     pub(crate) fn plain_shell(&self) -> Option<&[u8]>
         ensures { option_map (λ text. text.now) result ≡ plain_shell self.now.table self.now.limit }
     {
@@ -63,7 +63,7 @@ impl<'m> Commands<'m> {
         }
     }
 
-    // A text of a recipe, expanded.
+    // Expands a text of a recipe.
     pub(crate) fn expand<A: Automatic>(
         &self,
         text: &[u8],

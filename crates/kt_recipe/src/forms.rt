@@ -8,13 +8,13 @@ ghost use Rattle.kt_recipe.specs.Forms.{directory_of, text_of};
 use memchr::memrchr;
 use std::alloc::{AllocError, Global};
 
-/// What of each name an automatic macro tells (GNU make manual, "Automatic Variables").
+/// Which part of each name an automatic macro lists (GNU make manual, "Automatic Variables").
 #[derive(Clone, Copy)]
 pub(crate) enum Form {
     Whole,
-    /// With a `D` after its mark: what stands before the last slash.
+    /// With a `D` after the mark: the part before the last slash.
     Directory,
-    /// With an `F`: what stands after it.
+    /// With an `F` after the mark: the part after the last slash.
     File,
 }
 
@@ -30,7 +30,7 @@ pub(crate) fn text(alloc: Global, form: Form, names: &[&[u8]]) -> Result<Vec<u8>
     }
 }
 
-/// One name in this form, lent.
+/// One name in this form, borrowed.
 #[tactic(auto, using(crate::proofs::FormLemmas::list_of_one), unfolding(crate::specs::Forms::text_of))]
 pub(crate) fn alone(form: Form, name: &[u8]) -> &[u8]
     ensures { result.now ≡ text_of form (name.now ∷ []) }
@@ -79,7 +79,7 @@ fn files(alloc: Global, names: &[&[u8]]) -> Result<Vec<u8>, AllocError>
     Ok(text)
 }
 
-// Adds the word, after a space where it isn't the first. An empty one adds nothing.
+// Adds a word, after a space unless it is the first. An empty word adds nothing.
 fn add_word(list: &mut Vec<u8>, word: &[u8]) -> Result<(), AllocError>
     ensures { OnOk result (list.new.items ≡ put_word list.old.items word.now) }
 {

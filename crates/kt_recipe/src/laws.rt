@@ -1,4 +1,4 @@
-//! Laws of the definitions. These functions do nothing: their contracts are what counts.
+//! Laws of the definitions. These functions do nothing: only their contracts matter.
 ghost use Rattle.std.specs.Prelude.{◌≡◌, Some};
 ghost use Rattle.std.specs.List.{join_with_byte};
 ghost use Rattle.kt_text.specs.Words.{Text};

@@ -5,15 +5,15 @@ ghost use Rattle.kt_recipe.specs.Lines.{after_run, is_marked, is_prefix, pieces_
 
 use std::alloc::{AllocError, Global};
 
-/// What stands after the blanks, `@`, `-` and `+` that a text begins with (GNU make manual, "Recipe
-/// Echoing", "Errors in Recipes").
+/// The text after the blanks, `@`, `-` and `+` that a text begins with (GNU make manual, "Recipe Echoing", "Errors in
+/// Recipes").
 pub(crate) fn after_run(text: &[u8]) -> &[u8]
     ensures { result.now ≡ after_run text.now }
 {
     &text[run_len(text)..]
 }
 
-/// Whether a failure is passed over: a `-` stands among them (GNU make manual, "Errors in Recipes").
+/// Whether a failure is ignored: there is a `-` among them (GNU make manual, "Errors in Recipes").
 #[tactic(auto, unfolding(crate::specs::Lines::is_marked))]
 pub(crate) fn is_marked(text: &[u8]) -> bool
     ensures { result ≡ is_marked text.now }
@@ -41,7 +41,7 @@ fn is_prefix(byte: u8) -> bool
     matches!(byte, b' ' | b'\t' | b'@' | b'-' | b'+')
 }
 
-/// Whether a line is one piece: no newline is in it.
+/// Whether a line is one piece: it has no newline.
 pub(crate) fn is_one_piece(text: &[u8]) -> bool
     ensures { result ≡ not (list_any (λ byte. byte == 10) text.now) }
 {
@@ -54,7 +54,7 @@ fn has_newline(text: &[u8]) -> bool
     text.iter().any(|byte| *byte == b'\n')
 }
 
-/// The pieces that a line's newlines cut it into (GNU make manual, "Defining Canned Recipes").
+/// The pieces of a line, cut at its newlines (GNU make manual, "Defining Canned Recipes").
 #[tactic(auto, unfolding(crate::specs::Lines::pieces_of))]
 pub(crate) fn pieces(alloc: Global, text: &[u8]) -> Result<Vec<&[u8]>, AllocError>
     ensures { IfOk result (λ pieces. map (λ piece. piece.now) pieces.items ≡ pieces_of text.now) }

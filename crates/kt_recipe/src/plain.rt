@@ -1,4 +1,4 @@
-//! A shell that stands for itself.
+//! A shell whose values expand to themselves.
 ghost use Rattle.std.specs.Prelude.{◌≡◌, ◌++◌, ◌==◌, IfOk, codes, option_map};
 ghost use Rattle.std.specs.List.{list_any};
 ghost use Rattle.kt_eval.specs.macros.Macros.{find};
@@ -7,8 +7,8 @@ ghost use Rattle.kt_recipe.specs.inner.Plain.{is_plain, plain_shell, plain_value
 use kt_eval::{Flavour, Macros};
 use std::alloc::{AllocError, Global};
 
-/// What `$(SHELL) $(.SHELLFLAGS)` is expanded to where both values stand for themselves, as they mostly do: then
-/// nothing has to be expanded for a piece.
+/// The expansion of `$(SHELL) $(.SHELLFLAGS)`, if both values expand to themselves, as they mostly do: then nothing has
+/// to be expanded for a piece.
 #[tactic(auto, unfolding(crate::specs::inner::Plain::plain_shell))]
 pub(crate) fn plain_shell(
     alloc: Global,
@@ -26,7 +26,7 @@ pub(crate) fn plain_shell(
     }
 }
 
-// The value of a macro, if nothing in it is expanded.
+// The value of a macro, if it expands to itself.
 #[tactic(auto, unfolding(crate::specs::inner::Plain::plain_value))]
 fn plain_value<'a>(macros: &'a Macros, name: &[u8], limit: u64) -> Option<&'a [u8]>
     ensures { option_map (λ value. value.now) result ≡ plain_value limit (find name.now macros.now) }
@@ -40,7 +40,7 @@ fn plain_value<'a>(macros: &'a Macros, name: &[u8], limit: u64) -> Option<&'a [u
     }
 }
 
-// Whether a value is what it is expanded to.
+// Whether a value expands to itself: it is immediate, or it has no dollar and a level is left.
 fn is_plain(flavour: Flavour, value: &[u8], limit: u64) -> bool
     ensures { result ≡ is_plain limit flavour value.now }
 {
@@ -56,7 +56,7 @@ fn has_dollar(text: &[u8]) -> bool
     text.iter().any(|byte| *byte == b'$')
 }
 
-// Two texts and a space between them.
+// Two texts with a space between them.
 fn spaced(alloc: Global, first: &[u8], second: &[u8]) -> Result<Vec<u8>, AllocError>
     ensures { IfOk result (λ text. text.items ≡ (first.now ++ codes " ") ++ second.now) }
 {

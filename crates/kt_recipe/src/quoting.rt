@@ -17,7 +17,7 @@ pub(crate) fn put_quoted(command: &mut Vec<u8>, text: &[u8]) -> Result<(), Alloc
     Ok(())
 }
 
-// Appends a text, each single quote in it after a backslash outside quotes.
+// Appends a text that is between quotes. Each single quote in it ends them, is after a backslash, and begins new ones.
 #[tactic(auto, using(crate::proofs::QuotingLemmas::no_quote))]
 fn put_between_quotes(command: &mut Vec<u8>, text: &[u8]) -> Result<(), AllocError>
     ensures { OnOk result (command.new.items ≡ command.old.items ++ flat_map quoted_byte text.now) }
@@ -31,7 +31,7 @@ fn put_between_quotes(command: &mut Vec<u8>, text: &[u8]) -> Result<(), AllocErr
     command.extend_from_slice(rest)
 }
 
-// What stands after a byte.
+// The text after a byte.
 fn after(text: &[u8], at: usize) -> &[u8]
     requires { at < length text.now }
     ensures { result.now ≡ drop (at + 1) text.now }

@@ -22,10 +22,10 @@ use std::alloc::Global;
 use std::borrow::CowSlice;
 
 impl<'m> Commands<'m> {
-    /// The command of a node: the pieces of its recipes, each for a shell of its own, joined by `&&`
-    /// (GNU make manual, "Recipe Execution"). None where no recipe has a piece.
+    /// The command of a node: the pieces of its recipes, each for a shell of its own, joined by `&&` (GNU make manual,
+    /// "Recipe Execution"). `None` if no recipe has a piece.
     ///
-    /// Messages are appended in order; where memory is refused, a prefix of them.
+    /// Messages are appended in order; if memory runs out, a prefix of them is.
     pub fn command(
         &self,
         node: &Node,
@@ -40,8 +40,8 @@ impl<'m> Commands<'m> {
         Ok(some_text(command))
     }
 
-    /// The same, in place of what a text held, which is empty where no recipe has a piece. So one text can serve for
-    /// the commands of many nodes, one after the other.
+    /// The same, but it replaces the contents of a text, which is empty afterwards if no recipe has a piece. So one
+    /// text can serve for the commands of many nodes, one after another.
     #[tactic(auto, unfolding(crate::specs::Shell::shell_of))]
     pub fn write(
         &self,
@@ -58,7 +58,7 @@ impl<'m> Commands<'m> {
     }
 }
 
-/// The command of a node by these macros and this limit of levels, as `Commands` makes it.
+/// The command of a node with these macros and this limit of levels, as `Commands` makes it.
 pub fn command(
     alloc: Global,
     macros: &Macros,
@@ -166,7 +166,7 @@ impl<'a, 'm, 'g> Shell<'a, 'm, 'g> {
         self.put_text(&line.place, marked, text.as_slice(), command, messages)
     }
 
-    // Appends the commands of a line that is expanded.
+    // Appends the commands of an expanded line.
     fn put_text(
         &self,
         place: &Place,
@@ -206,7 +206,7 @@ impl<'a, 'm, 'g> Shell<'a, 'm, 'g> {
         Ok(())
     }
 
-    // Appends the command of a piece, if it isn't empty; the shell is expanded anew for it.
+    // Appends the command of a piece, unless it is empty. The shell is expanded for each piece.
     #[tactic(auto, unfolding(crate::specs::Shell::put_piece))]
     fn put_piece(
         &self,
@@ -229,7 +229,7 @@ impl<'a, 'm, 'g> Shell<'a, 'm, 'g> {
         Ok(())
     }
 
-    // The shell that a piece is for; it is expanded only where one of its values has to be.
+    // The shell for a piece. It is expanded only if one of its values has to be.
     #[tactic(auto, using(crate::proofs::PlainLemmas::shell_is))]
     fn shell(
         &self,

@@ -5,14 +5,14 @@ ghost use Rattle.kt_recipe.specs.Automatic.{has_parts};
 
 use crate::forms::Form;
 
-/// What of a rule an automatic macro tells (GNU make manual, "Automatic Variables").
+/// Which names an automatic macro lists (GNU make manual, "Automatic Variables").
 #[derive(Clone, Copy)]
 pub(crate) enum Subject {
     /// `$@`
     Target,
     /// `$<`
     First,
-    /// `$^`, and `$?` too: no file is looked at, so all prerequisites count as newer.
+    /// `$^`, and also `$?`: files aren't looked at, so all prerequisites count as newer.
     Each,
     /// `$+`
     Every,
@@ -20,11 +20,11 @@ pub(crate) enum Subject {
     OrderOnly,
     /// `$*`
     Stem,
-    /// `$%`, which is always empty: no target is a member of an archive.
+    /// `$%`, which is always empty: no target is an archive member.
     Member,
 }
 
-/// What a name asks for, if it is that of an automatic macro.
+/// The subject and form of the automatic macro with this name, if there is one.
 #[tactic(auto, unfolding(crate::specs::inner::Asking::asked_by))]
 pub(crate) fn asked_by(name: &[u8]) -> Option<(Subject, Form)>
     ensures { result ≡ asked_by name.now }
@@ -36,7 +36,7 @@ pub(crate) fn asked_by(name: &[u8]) -> Option<(Subject, Form)>
     }
 }
 
-// What a letter after the mark asks for.
+// The subject and form of a mark with a letter after it.
 fn parted(subject: Subject, letter: u8) -> Option<(Subject, Form)>
     ensures { result ≡ parted subject letter }
 {

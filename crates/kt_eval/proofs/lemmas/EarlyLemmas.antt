@@ -1,4 +1,4 @@
--- Messages and names so far, where something is refused: they are a prefix of those of the step that it stands in.
+-- Messages and names so far, if something fails: they are a prefix of those of the whole step.
 use Rattle.std.proofs.Common.{◌≡◌, ℕ, suc, ◌+◌, ◌<◌, ◌==◌, ◌||◌, Bool, true, cond, false, List, [], ◌∷◌, ◌++◌, length, map, drop, get_or, drop-cons, Some, codes, refl, sym, ap, subst, ◌∙◌, arith, Bor}
 use Rattle.std.specs.List.{slice_get}
 use Rattle.kt_text.specs.Words.{Text, words_of, stripped}
@@ -72,7 +72,7 @@ module _ (reads : Bool) (store : Store) (levels : ℕ) where
       (λ name u. early_then u ((evaluator reads store levels).expand list u) _
       (λ words t. each_word_front reads store levels (stripped name) body [] [] (words_of words) t) (expand_front reads store levels list u)) h
 
-  -- the body of a loop, for the first of the words that are left
+  -- the body of a loop, for the first of the words that remain
   pub word_fails : (stop : Stop) (w v : World) (name body out separator bound taken word : Text) (words rest : List Text)
       → words ≡ word ∷ rest → bound ≡ name → taken ≡ word
       → Early stop v ((evaluator reads store levels).expand body (bind (Loop bound taken) w))
@@ -92,7 +92,7 @@ module _ (reads : Bool) (store : Store) (levels : ℕ) where
       fails_then stop v (expanded (evaluator reads store levels) compared.first w) _
       (λ x u. early_then u (expanded (evaluator reads store levels) compared.second u) _ (λ y t. stands t) (expanded_front reads store levels compared.second u)) h
 
-  -- the arguments of a call, of which the first is the name
+  -- the arguments of a call, the first of which is the name
   pub call_fails : (stop : Stop) (w v : World) (name : Text) (first texts : List Text) → is_function_name name ≡ false → first ≡ name ∷ []
       → Early stop v (each_argument (evaluator reads store levels) first texts w) → Early stop v (call_by_name (evaluator reads store levels) name texts w)
   unfolding call_by_name
@@ -210,7 +210,7 @@ module _ (reads : Bool) (store : Store) (levels : ℕ) (sheet : Sheet) where
         → Early stop v (branch_holds (evaluator reads store levels) sheet at condition w) → Early stop v whole
     branch_fails t lt found h = fails_in t.others t.tried t.rest lt found h
 
--- a file that can't be read, of those of which the first that is there is read
+-- a file that can't be read, among those of which the first that exists is read
 pub file_fails : (reads : Bool) (store : Store) (levels : ℕ) (stop : Stop) (w v : World) (name : Text) (names : List Text)
     → Early stop v (read_bytes store name w) → Early stop v (read_first store (evaluator reads store levels) (name ∷ names) w)
 unfolding read_first

@@ -1,4 +1,4 @@
--- What a text holds of the line of a fault where the appending of it was cut off.
+-- What a text has of a fault line if appending it failed halfway.
 use Rattle.std.proofs.Common.{◌≡◌, ◌++◌, ◌∙◌, ℕ, Bool, true, false, [], Result, Ok, Err, OnErr, refl}
 use Rattle.std.specs.Prelude.{codes, decimal, is_ok, nat_lt, if◌then◌else◌}
 use Rattle.kt_text.specs.Begun.{HasBegun}
@@ -8,7 +8,7 @@ use Rattle.kt_eval.specs.declared.fault.Fault.{Fault}
 use Rattle.kt_eval.specs.Faults.{fault_line, two_digits}
 use Rattle.kt_eval.specs.State.{message_place}
 
--- the line from its number on, from the brace before that, from its words and from what stands before them
+-- the line from its number on, from the bracket before that, from its message and from the mark before that
 abbrev pub from_number : Fault → Text
 from_number fault = two_digits fault.number ++ codes "]"
 
@@ -21,7 +21,7 @@ from_words fault = fault.words ++ from_brace fault
 abbrev pub from_mark : Fault → Text
 from_mark fault = codes ": *** " ++ from_words fault
 
--- what stands, and a prefix of what comes after it
+-- the parts of the line that were appended, and a prefix of the next one
 module _ (fault : Fault) (old : Text) where
   pub placing : (new : Text) → HasBegun (message_place fault.place) old new → HasBegun (fault_line fault) old new
   placing new cut = begun_front (message_place fault.place) (from_mark fault) old new cut
@@ -46,7 +46,7 @@ module _ (fault : Fault) (old : Text) where
   numbered a b c d e new one two three four five cut =
       braced a b c d new one two three four (begun_after (two_digits fault.number) (codes "]") d e new five cut)
 
--- what stands before the digits of a number
+-- the text before the digits of a number
 abbrev pub zero_before : ℕ → Text
 zero_before number = if nat_lt number 10 then codes "0" else []
 
@@ -54,7 +54,7 @@ with_zero : (less : Bool) (digits : Text) → (if less then codes "0" else []) +
 with_zero true digits = refl
 with_zero false digits = refl
 
--- a number of which what stands before its digits was put
+-- a number, after the text before its digits was appended
 pub number_cut : {T E : Type 0} (r : Result T E) (number : ℕ) (old middle digits new : Text) → middle ≡ old ++ zero_before number
     → new ≡ (if is_ok r then middle ++ digits else middle) → OnErr r (HasBegun (two_digits number) old new)
 number_cut (Ok x) number old middle digits new grown is = tt

@@ -1,5 +1,5 @@
--- What is read or expanded with a given number of levels left, beside the same with one more: no message and no name
--- asked for is taken back, and the two are the same, unless the first is too deep.
+-- What is read or expanded with a given number of levels left, beside the same with one more: messages and names asked
+-- for are only added to, and the two are the same, unless the first is too deep.
 use Rattle.std.proofs.Common.{◌≡◌, ◌≤◌, ◌+◌, ◌==◌, ◌||◌, Bool, true, false, cond, List, [], ◌∷◌, ◌++◌, length, Option, Some, None, codes, ◌⊎◌, inl, inr, refl, ap, subst, ◌∙◌, arith, length-append}
 use Rattle.std.specs.List.{list_any}
 use Rattle.std.proofs.lemmas.List.{take-append-le}
@@ -39,7 +39,7 @@ front_next xs ys zs p q = (omega (arith, p.0, q.0), λ count le. let further : c
 pub front_more : {A : Type 0} (xs ys : List A) → IsPrefix xs (xs ++ ys)
 front_more {A} xs ys = (let e : length (xs ++ ys) ≡ length xs + length ys = length-append xs ys in omega (arith, e), λ count le. take-append-le count xs ys le)
 
--- nothing was said and nothing asked
+-- no message and no name asked for
 pub still : (w : World) → Grows w w
 still w = (front_same w.said, front_same w.asked)
 

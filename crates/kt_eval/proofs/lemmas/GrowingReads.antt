@@ -1,5 +1,5 @@
--- Reading with a given number of levels left, beside the same with one more, as GrowingLemmas has it of expanding; and
--- one more level.
+-- Reading with a given number of levels left, beside the same with one more, like the lemmas of GrowingLemmas on
+-- expanding; and one more level.
 use Rattle.std.proofs.Common.{◌≡◌, ℕ, zero, suc, ◌+◌, Bool, true, false, cond, nat_lt, List, [], ◌∷◌, length, Option, Some, None, Result, Ok, Err, option_map, inl, inr, refl, sym}
 use Rattle.std.specs.Str.{is_utf8}
 use Rattle.kt_text.specs.Words.{Text, words_of}
@@ -298,7 +298,7 @@ module _ (e e' : Evaluator) (h : Related e e') where
           (λ chosen v. related_cond chosen _ _ _ _ v (read_items_related items v) (read_branches_related others v))
       read_branches_related (late place items others) w = plain_step w _ (still w)
 
-    -- what follows the test of a conditional, and that of a further branch
+    -- what comes after the test of a conditional, and after that of a further branch
     pub after_first_related : (chosen : Bool) (first : Items) (others : Branches) (next : Items) (w : World)
         → Relates w (then_do (cond chosen (read_items e sheet first) (read_branches e sheet others) w) (λ _ v. then_do (late_else sheet others v) (λ _. read_items e sheet next)))
         (then_do (cond chosen (read_items e' sheet first) (read_branches e' sheet others) w) (λ _ v. then_do (late_else sheet others v) (λ _. read_items e' sheet next)))

@@ -1,5 +1,5 @@
--- What was said and asked for before a step is a prefix of that at its end, for each step that something may fail before. The
--- second and third of each are the two parts of the first, as tactics take them.
+-- Messages and names asked for before a step are a prefix of those at its end, for each step before which something may
+-- fail. The second and third of each are the two parts of the first, in the form that tactics take.
 use Rattle.std.proofs.Common.{◌≡◌, ℕ, zero, suc, ◌≤◌, Bool, true, List, [], ◌∷◌, ◌++◌, refl, arith, length, take, Option}
 use Rattle.kt_text.specs.Words.{Text}
 use Rattle.kt_syntax.specs.declared.form.Directive.{Directive}

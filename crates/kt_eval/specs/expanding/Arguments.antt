@@ -6,16 +6,16 @@ use Rattle.kt_syntax.specs.declared.term.Mark.{Mark}
 use Rattle.kt_syntax.specs.Terms.{count_of, IsBalanced}
 use Rattle.kt_eval.specs.expanding.Calls.{opener, closer, arguments_of}
 
--- each mark that opens in the text is closed in it: no back of it has more opening than closing marks (kati's own: only
--- marks of the reference's own kind count)
+-- each mark that opens in the text is closed in it: no end part of it has more opening than closing marks (kati's own:
+-- only marks of the reference's own kind count)
 abbrev pub IsClosed : Mark → Text → Type 0
 IsClosed mark text = (n : ℕ) → count_of (opener mark) (drop n text) ≤ count_of (closer mark) (drop n text)
 
--- each comma of the text stands inside marks that are open there
+-- each comma of the text is inside marks that are open there
 abbrev pub HoldsNoCut : Mark → Text → Type 0
 HoldsNoCut mark text = (front back : Text) → text ≡ front ++ 44 ∷ back → ¬ IsClosed mark front
 
--- a given number of commas may cut, where there is a limit
+-- a number of commas is within the limit, if there is one
 abbrev pub IsUpTo : Option ℕ → ℕ → Type 0
 IsUpTo None count = Unit {0}
 IsUpTo (Some limit) count = count ≤ limit

@@ -12,7 +12,7 @@ use Rattle.kt_eval.specs.declared.expanding.function.Function.TheVariants as fun
 use Rattle.kt_eval.specs.declared.expanding.text_functions.TextFunction.{TextFunction}
 use Rattle.kt_eval.specs.expanding.TextFunctions.{arity, text_function}
 
--- the functions that expand by themselves, bind, read or tell
+-- the functions that expand by themselves, bind names, read text or report
 unfoldable pub other_function : Text → Option Function
 other_function name =
     if bytes_eq name (codes "if") then Some function.If
@@ -26,12 +26,12 @@ other_function name =
     else (if bytes_eq name (codes "warning") then Some function.Warning
     else (if bytes_eq name (codes "info") then Some function.Info else None)))))))))
 
--- the first of two that is there
+-- the first of two, if it is there, or else the second
 abbrev pub text_or : Option TextFunction → Option Function → Option Function
 text_or None other = other
 text_or (Some first) other = Some (function.Text first)
 
--- the function of a name
+-- the function with this name
 unfoldable pub function_of : Text → Option Function
 function_of name = text_or (text_function name) (other_function name)
 
@@ -43,8 +43,8 @@ is_refused_function name =
     || (bytes_eq name (codes "file") || (bytes_eq name (codes "guile") || (bytes_eq name (codes "let")
     || bytes_eq name (codes "intcmp")))))))))
 
--- the arguments of a function are cut at a given number of commas at most, or at all; what comes after is the last
--- one's
+-- the maximum number of commas at which the arguments of a function are cut, if there is a limit; the text after them
+-- is part of the last argument
 abbrev pub commas : Function → Option ℕ
 commas (function.Text text_function) = Some (arity text_function - 1)
 commas function.If = Some 2
@@ -79,7 +79,7 @@ may_cut (Some (suc more)) = true
 abbrev pub cuts : ℕ → ℕ → Option ℕ → Bool
 cuts byte depth left = byte == 44 && (depth == 0 && may_cut left)
 
--- and how many may after it
+-- how many commas may cut after one did
 abbrev pub one_less : Option ℕ → Option ℕ
 one_less None = None
 one_less (Some more) = Some (more - 1)
@@ -88,8 +88,8 @@ one_less (Some more) = Some (more - 1)
 abbrev pub nested : Mark → ℕ → ℕ → ℕ
 nested mark depth byte = if byte == opener mark then depth + 1 else (if byte == closer mark then depth - 1 else depth)
 
--- the arguments, cut byte by byte at commas outside nested marks of the reference's own kind: what comes before the
--- text is given, how many marks are nested there, and how many commas may cut
+-- the arguments, cut byte by byte at commas outside nested marks of the reference's own kind: given are the text so
+-- far, how many marks are nested there, and how many commas may cut
 unfoldable pub arguments_from : Mark → Option ℕ → ℕ → Text → Text → List Text
 arguments_from mark left depth argument [] = argument ∷ []
 arguments_from mark left depth argument (byte ∷ text) =
@@ -105,7 +105,7 @@ pub data Asked : Type 0 where
   refuses : (name : Text) → Asked
   refers : (body : Text) → Asked
 
--- the body of a reference by its first word and what stands after its separators
+-- what the body of a reference asks for, from its first word and the text after the separators
 abbrev pub asked_after : Mark → Text → Text → Text → Option Function → Asked
 asked_after mark body name rest (Some function) = calls function (arguments_of mark (commas function) rest)
 asked_after mark body name rest None = if is_refused_function name then refuses name else refers body
@@ -117,11 +117,11 @@ asked_of mark body =
     if place == length body then refers body
     else asked_after mark body (take place body) (stripped_start (drop place body)) (function_of (take place body))
 
--- the name of a reference by one byte; a continuation counts as a blank (kati's own)
+-- the name in a reference of one byte; a continuation counts as a blank (kati's own)
 abbrev pub byte_name : Text → Text
 byte_name body = if length body == 1 then body else codes " "
 
--- what a reference with a mark asks for: one by a single byte is no call
+-- what a reference with a mark asks for: a reference of one byte is no call
 unfoldable pub asked_by : Mark → Text → Asked
 asked_by Byte body = refers (byte_name body)
 asked_by Parentheses body = asked_of Parentheses body
@@ -142,7 +142,7 @@ is_colon byte = byte == 58
 abbrev pub is_equals : ℕ → Bool
 is_equals byte = byte == 61
 
--- a pattern and a replacement without percent sign are those of the words' ends
+-- a pattern and a replacement without a percent sign are for the ends of words
 abbrev pub substituting_ends : Text → Text → Text → Naming
 substituting_ends name pattern replacement =
     if has_percent pattern then substituting name pattern replacement

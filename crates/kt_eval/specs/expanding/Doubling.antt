@@ -1,4 +1,4 @@
--- What a text with each dollar doubled is expanded to (POSIX.1-2024 make, "Macros": `:::=`).
+-- What a text with each dollar doubled expands to (POSIX.1-2024 make, "Macros": `:::=`).
 use Rattle.std.specs.Prelude.{◌≡◌, ℕ, suc, Bool, Some}
 use Rattle.kt_text.specs.Words.{Text}
 use Rattle.kt_eval.specs.declared.macros.Flavour.TheVariants.{Deferred}
@@ -9,8 +9,8 @@ use Rattle.kt_eval.specs.Outcome.{Gave}
 use Rattle.kt_eval.specs.expanding.Expansion.{value_of, expanded}
 use Rattle.kt_eval.specs.expanding.Levels.{evaluator}
 
--- the doubled text is expanded to the text, whatever is defined, and nothing else happens: there is no message and no
--- fault, and no macro changes. So the macro that `:::=` sets gives the text where a level is left to expand its value
+-- the doubled text expands to the text, whatever is defined, and nothing else happens: there is no message and no
+-- fault, and no macro changes. So the value of the macro that `:::=` sets expands to the text if a level is left for it
 pub record DoublingLaw : Type 0 where
   pub expands : (reads : Bool) (store : Store) (levels : ℕ) (text : Text) (w : World)
       → expanded (evaluator reads store levels) (doubled text) w ≡ Gave w text

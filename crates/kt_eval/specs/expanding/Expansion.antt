@@ -1,5 +1,5 @@
--- What a text is expanded to, level by level (POSIX.1-2024 make, "Macros"; GNU make manual, "Basics of Variable
--- References" and "Functions for Transforming Text"). How levels are counted is kati's own.
+-- What a text expands to, level by level (POSIX.1-2024 make, "Macros"; GNU make manual, "Basics of Variable References"
+-- and "Functions for Transforming Text"). How levels are counted is kati's own.
 use Rattle.std.specs.Prelude.{Bool, ◌==◌, ◌||◌, List, [], ◌∷◌, ◌++◌, length, Option, Some, None, codes, if◌then◌else◌}
 use Rattle.std.specs.List.{list_any}
 use Rattle.kt_text.specs.Words.{Text, words_of, stripped}
@@ -21,14 +21,14 @@ use Rattle.kt_eval.specs.expanding.Calls.{naming_of, is_function_name}
 use Rattle.kt_eval.specs.expanding.TextFunctions.{arity, text_result, text_function_name}
 
 -- what may be done one level deeper: expand a text, read the text of an `eval`, read an included file, which may be
--- absent or not; and whether anything may be read at all
+-- optional; and whether anything may be read at all
 pub record Evaluator : Type 0 where
   pub reads : Bool
   pub expand : Text → Step Text
   pub eval : Text → Step (Unit {0})
   pub include : Bool → Text → Step (Unit {0})
 
--- the fault where no level is left
+-- the fault if no level is left
 abbrev pub too_deep : {A : Type 0} → Step A
 too_deep = stop kinds.NestingTooDeep []
 
@@ -38,29 +38,29 @@ bad_argument name = stop kinds.BadArgument name
 abbrev pub refused_function : {A : Type 0} → Text → Step A
 refused_function name = stop kinds.RefusedFunction name
 
--- a value by its flavour: a deferred one is expanded
+-- a value, which is expanded if its flavour is deferred
 abbrev pub flavoured : Evaluator → Flavour → Text → Step Text
 flavoured e Deferred value = e.expand value
 flavoured e Immediate value = done value
 
--- what a name was found to stand for, as a reference gives it
+-- the expansion of what was found for a name
 unfoldable pub value_of : Evaluator → Option Found → Step Text
 value_of e None = done []
 value_of e (Some found) = flavoured e found.flavour found.value
 
--- each argument in turn, after those before
+-- each argument in turn, added to those before
 unfoldable pub each_argument : Evaluator → List Text → List Text → Step (List Text)
 each_argument e out [] = done out
 each_argument e out (text ∷ texts) = do
   x ← e.expand text
   each_argument e (out ++ x ∷ []) texts
 
--- a text that is there, or else the fault of the function's argument
+-- a text, or else the fault of a bad argument of the function
 abbrev pub accepted : Text → Option Text → Step Text
 accepted name None = bad_argument name
 accepted name (Some text) = done text
 
--- a function of texts acts once its arguments are expanded; too few are refused before
+-- a text function is applied once its arguments are expanded; too few are refused before that
 unfoldable pub apply_text : Evaluator → TextFunction → List Text → Step Text
 apply_text e function texts =
     if length texts == arity function then (do
@@ -85,14 +85,14 @@ apply_or e (text ∷ texts) = do
   x ← e.expand (stripped text)
   if length x == 0 then apply_or e texts else done x
 
--- `and`: the first empty value is given, or else the last [GNU make manual, "Functions for Conditionals"]
+-- `and`: returns the first empty value, or else the last [GNU make manual, "Functions for Conditionals"]
 unfoldable pub apply_and : Evaluator → List Text → Step Text
 apply_and e [] = done []
 apply_and e (text ∷ texts) = do
   x ← e.expand (stripped text)
   if length x == 0 || length texts == 0 then done x else apply_and e texts
 
--- the body for each word in turn, after what came before and a separator
+-- the body for each word in turn, appended to the text so far after a separator
 unfoldable pub each_word : Evaluator → Text → Text → Text → Text → List Text → Step Text
 each_word e name body out separator [] = done out
 each_word e name body out separator (word ∷ words) = do
@@ -108,7 +108,7 @@ apply_foreach e variable list body = do
   words ← e.expand list
   each_word e (stripped name) body [] [] (words_of words)
 
--- the value of the macro that is called, with its name and arguments bound
+-- the value of the called macro, with its name and arguments bound
 unfoldable pub called : Evaluator → Text → List Text → Step Text
 called e name arguments = do
   change (bind (Call arguments))
@@ -116,7 +116,7 @@ called e name arguments = do
   change unbind
   done x
 
--- a call of this name, which no function may have; the other arguments are expanded first
+-- a call of a macro with this name, which no function may have; the other arguments are expanded first
 unfoldable pub call_by_name : Evaluator → Text → List Text → Step Text
 call_by_name e name texts = if is_function_name name then refused_function name else (do
   arguments ← each_argument e (name ∷ []) texts
@@ -162,7 +162,7 @@ apply_info e text = do
   change (say x)
   done []
 
--- one case for each function that isn't of texts alone
+-- one case for each function that isn't a text function
 abbrev pub apply_other : Evaluator → Function → List Text → Step Text
 apply_other e function.If (condition ∷ chosen ∷ []) = apply_if e condition chosen None
 apply_other e function.If (condition ∷ chosen ∷ other ∷ []) = apply_if e condition chosen (Some other)
@@ -187,11 +187,11 @@ apply_other e (function.Text text_function) arguments = apply_text e text_functi
 unfoldable pub apply : Evaluator → Function → List Text → Step Text
 apply e function arguments = apply_other e function arguments
 
--- a body that holds a dollar is expanded, one level deeper
+-- a body with a dollar is expanded, one level deeper
 unfoldable pub body_of : Evaluator → Text → Step Text
 body_of e body = if list_any (λ byte. byte == 36) body then e.expand body else done body
 
--- the value that a name stands for, its words replaced where the reference says so
+-- the value of a name, its words replaced if the reference says so
 unfoldable pub value_named : Evaluator → Naming → Step Text
 value_named e (plainly name) w = value_of e (lookup name w) w
 value_named e (substituting name pattern replacement) w =
@@ -199,7 +199,7 @@ value_named e (substituting name pattern replacement) w =
       value ← value_of e (lookup name w)
       accepted (codes "patsubst") (patsubst_of pattern replacement value)) w
 
--- what a reference gives
+-- the expansion of a reference
 unfoldable pub referred : Evaluator → Asked → Step Text
 referred e (calls function arguments) = apply e function arguments
 referred e (refuses name) = refused_function name
@@ -207,20 +207,20 @@ referred e (refers body) = do
   x ← body_of e body
   value_named e (naming_of x)
 
--- what a term gives
+-- the expansion of a term
 unfoldable pub term_of : Evaluator → Token → Step Text
 term_of e (literal bytes) = done bytes
 term_of e dollar = done (codes "$")
 term_of e (reference mark body) = referred e (asked_by mark body)
 term_of e unclosed = stop kinds.UnterminatedReference []
 
--- each term in turn, after what came before
+-- each term in turn, appended to the text so far
 unfoldable pub each_term : Evaluator → Text → List Token → Step Text
 each_term e out [] = done out
 each_term e out (piece ∷ pieces) = do
   x ← term_of e piece
   each_term e (out ++ x) pieces
 
--- a text at the level where it stands
+-- a text at the level of its caller
 unfoldable pub expanded : Evaluator → Text → Step Text
 expanded e text = each_term e [] (terms_of text)

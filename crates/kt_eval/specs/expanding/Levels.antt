@@ -13,12 +13,11 @@ above store e = record {
   include = λ optional name. included store e optional name;
 }
 
--- where no level is left nothing is expanded or read
+-- if no level is left, nothing is expanded or read
 unfoldable pub none_left : Bool → Evaluator
 none_left reads = record { reads = reads; expand = λ _. too_deep; eval = λ _. too_deep; include = λ _ _. too_deep }
 
--- what may be done with a given number of levels left, over files of which these bytes are known; lines may be read or
--- not
+-- what may be done with a given number of levels left, with files whose bytes are known; lines may be read or not
 unfoldable pub evaluator : Bool → Store → ℕ → Evaluator
 evaluator reads store zero = none_left reads
 evaluator reads store (suc n) = above store (evaluator reads store n)

@@ -1,5 +1,5 @@
--- A text expanded after all reading, as recipes are: what is left of it are its messages (GNU make manual, "How to Use
--- Variables", "Using Variables in Recipes").
+-- A text expanded after all reading, as recipes are: it leaves only messages (GNU make manual, "How to Use Variables",
+-- "Using Variables in Recipes").
 use Rattle.std.specs.Prelude.{ℕ, false, List, [], Option, Result}
 use Rattle.kt_text.specs.Words.{Text}
 use Rattle.kt_rules.specs.declared.place.Place.{Place}
@@ -18,11 +18,11 @@ abbrev pub expanded_pure : Table → Store → Option Place → ℕ → Text →
 expanded_pure table automatic place limit text said =
     leaving (λ w. w.said) (expanded (evaluator false [] limit) text (frozen_world table automatic place said))
 
--- The call does the step, of which messages are left, and asks for no file; what it returned is seen by `see`.
+-- The call does the step, which leaves messages, and asks for no file; its result is seen by `see`.
 pub record Says {A B : Type 0} (see : A → B) (step : StepOver (List Text) B) (result : Result A Stop)
     (old new : List Text) : Type 0 where
   pub gives : Gives see result new (step old)
-  -- messages are appended; where memory was refused, a prefix of those of the step
+  -- messages are appended; if memory ran out, a prefix of those of the step
   pub appends : IsPrefix old new
   pub cut : IfCut result (IsPrefix new (left_of (step old)))
   pub asks_nothing : AsksNothing result

@@ -1,5 +1,5 @@
--- The functions of texts (GNU make manual, "Functions for String Substitution and Analysis" and, from `dir` on,
--- "Functions for File Names").
+-- The text functions (GNU make manual, "Functions for String Substitution and Analysis" and, from `dir` on, "Functions
+-- for File Names").
 use Rattle.std.specs.Prelude.{ℕ, Bool, List, [], ◌∷◌, Option, Some, find, unwrap_or, codes, bytes_eq}
 use Rattle.std.specs.List.{slice_get}
 use Rattle.kt_text.specs.Words.{Text}
@@ -14,13 +14,13 @@ use Rattle.kt_eval.specs.declared.expanding.text_functions.TextFunction.TheVaria
 use Rattle.kt_eval.specs.declared.expanding.text_functions.TextFunction.TheVariants.{Basename, Addsuffix, Addprefix}
 use Rattle.kt_eval.specs.declared.expanding.text_functions.TextFunction.TheVariants.{Join}
 
--- all of them
+-- all text functions
 abbrev pub text_functions : List TextFunction
 text_functions =
     Subst ∷ Patsubst ∷ Strip ∷ Findstring ∷ Filter ∷ FilterOut ∷ Sort ∷ Word ∷ Wordlist ∷ Words ∷ Firstword
     ∷ Lastword ∷ Dir ∷ Notdir ∷ Suffix ∷ Basename ∷ Addsuffix ∷ Addprefix ∷ Join ∷ []
 
--- the table: the name of each, and how many arguments it has
+-- the name of each, and the number of its arguments
 abbrev pub row_of : TextFunction → Text × ℕ
 row_of Subst = (codes "subst", 3)
 row_of Patsubst = (codes "patsubst", 3)
@@ -51,11 +51,11 @@ arity function = (row_of function).1
 abbrev pub has_name : Text → TextFunction → Bool
 has_name name function = bytes_eq name (text_function_name function)
 
--- the function of a name
+-- the function with this name
 unfoldable pub text_function : Text → Option TextFunction
 text_function name = find (has_name name) text_functions
 
--- what each makes of its arguments, if they are ones that it takes; of three, as many count as it has
+-- the result of each, if it accepts its arguments; of the three, as many count as it has
 abbrev pub applied : TextFunction → Text → Text → Text → Option Text
 applied Subst from to text = Some (subst_of from to text)
 applied Patsubst pattern replacement text = patsubst_of pattern replacement text
@@ -81,6 +81,6 @@ applied Join first second third = Some (join_of first second)
 abbrev pub argument : List Text → ℕ → Text
 argument arguments place = unwrap_or (slice_get arguments place) []
 
--- what a function makes of as many arguments as it has
+-- the result of a function for as many arguments as it has
 unfoldable pub text_result : TextFunction → List Text → Option Text
 text_result function arguments = applied function (argument arguments 0) (argument arguments 1) (argument arguments 2)

@@ -8,7 +8,7 @@ use Rattle.kt_eval.specs.Outcome.{◌>>=◌, ◌>>◌, done}
 use Rattle.kt_eval.specs.Step.{Step, stop}
 use Rattle.kt_eval.specs.expanding.Expansion.{Evaluator, expanded}
 
--- a name that is a pattern of the shell, which isn't taken (kati's own)
+-- a name that is a shell pattern, which is refused (kati's own)
 unfoldable pub is_pattern : Text → Bool
 is_pattern [] = false
 is_pattern (first ∷ name) = first == 126 || list_any (λ byte. byte == 42 || (byte == 63 || byte == 91)) (first ∷ name)

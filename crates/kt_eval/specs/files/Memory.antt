@@ -1,9 +1,10 @@
--- Files over memory.
+-- Files in memory.
 use Rattle.std.specs.Prelude.{ℕ, List, ◌∷◌, [], ◌++◌, ◌==◌, Bool, Some, if◌then◌else◌}
 use Rattle.kt_list.specs.Counters.{one_more}
 use Rattle.kt_eval.specs.files.Files.{FilesSeen, Store}
 
--- the bytes of the file of each name, what was asked for, which read fails, how many there were, and how many failed
+-- the bytes of the file with each name, the names asked for, which read fails, how many reads there were, and how many
+-- failed
 pub record Memory : Type 0 where
   pub store : Store
   pub asked : List (List ℕ)
@@ -11,7 +12,7 @@ pub record Memory : Type 0 where
   pub reads : ℕ
   pub failures : ℕ
 
--- what is seen of them as of any files
+-- what is seen of them, as of any files
 abbrev pub seen_of : Memory → FilesSeen
 seen_of m = record { known = Some m.store; names = m.asked; failed = m.failures }
 

@@ -1,4 +1,4 @@
--- What a term gives without a level of its own: a literal, and the value of a plainly named macro that stands for
+-- The text of a term that needs no further level: a literal, and the value of a plainly named macro that expands to
 -- itself (kati's own).
 use Rattle.std.specs.Prelude.{ℕ, Bool, true, not, ◌&&◌, ◌==◌, [], ◌++◌, length, Option, Some, None, codes}
 use Rattle.std.specs.Prelude.{if◌then◌else◌}
@@ -17,7 +17,7 @@ use Rattle.kt_eval.specs.Outcome.{◌>>=◌, done}
 use Rattle.kt_eval.specs.Step.{Step}
 use Rattle.kt_eval.specs.expanding.Expansion.{Evaluator, term_of}
 
--- whether a value is what it is expanded to: it isn't expanded again, or a level is left and it refers to nothing
+-- whether a value expands to itself: it isn't expanded again, or a level is left and it has no dollar
 abbrev pub is_plain : ℕ → Flavour → Text → Bool
 is_plain below Immediate value = true
 is_plain below Deferred value = not (below == 0) && not (list_any (λ byte. byte == 36) value)
@@ -28,7 +28,7 @@ put_if plain value = if plain then value else []
 abbrev pub left_unless : Bool → Text → Option Text
 left_unless plain value = if plain then None else Some value
 
--- what a name was found to stand for, if that is what it is expanded to, and else what is left to expand
+-- what was found for a name, if it expands to itself, and then what remains to be expanded
 unfoldable pub put_of : ℕ → Option Found → Text
 put_of below None = []
 put_of below (Some found) = put_if (is_plain below found.flavour found.value) found.value
@@ -37,7 +37,7 @@ unfoldable pub still_deferred : ℕ → Option Found → Option Text
 still_deferred below None = None
 still_deferred below (Some found) = left_unless (is_plain below found.flavour found.value) found.value
 
--- whether a body is a name as it stands: neither a dollar, nor a colon, nor a separator is in it
+-- whether a body is just a name: it has no dollar, colon or separator
 unfoldable pub is_name_byte : ℕ → Bool
 is_name_byte byte = not (byte == 36) && (not (byte == 58) && not (is_separator byte))
 
@@ -50,7 +50,7 @@ abbrev pub value_left : Option Text → Left
 value_left None = Nothing
 value_left (Some value) = Value value
 
--- what a term gives so, and what is left of it
+-- the text of a term that needs no further level, and what remains of the term
 unfoldable pub put_by : ℕ → Token → World → Text
 put_by below (literal bytes) w = bytes
 put_by below dollar w = codes "$"
@@ -64,7 +64,7 @@ left_by below (reference mark body) w =
     if names_plainly mark body then value_left (still_deferred below (lookup body w)) else Whole
 left_by below unclosed w = Whole
 
--- a text, and after it what a term gives
+-- a text with the expansion of a term after it
 unfoldable pub appended : Evaluator → Text → Token → Step Text
 appended e out piece = do
   x ← term_of e piece

@@ -1,4 +1,4 @@
--- What the code's own types say, without where it lies in memory.
+-- The code's own types as those of the definitions, without their places in memory.
 use Rattle.std.specs.Prelude.{[], ◌++◌, Option, None, Some, map, codes}
 use Rattle.kt_text.specs.Words.{Text}
 use Rattle.kt_rules.specs.declared.fault.RuleFault.{RuleFault}
@@ -19,7 +19,7 @@ use Rattle.kt_eval.specs.declared.expanding.calls.Asked.TheVariants as asked
 use Rattle.kt_eval.specs.declared.expanding.calls.Naming.{Naming as NamingType}
 use Rattle.kt_eval.specs.declared.expanding.calls.Naming.TheVariants as naming
 
--- what stands before the text of an assignment: an old value and a space, if there is one
+-- the text before that of an assignment: an old value and a space, if there is an old value
 abbrev pub front_view : Option Text → Text
 front_view None = []
 front_view (Some old) = old ++ codes " "
@@ -39,7 +39,7 @@ raw_view line = record { number = line.number; tab = line.tab; text = line.text.
 abbrev pub compared_view : ComparedType → Compared
 compared_view compared = record { first = compared.first.now; second = compared.second.now }
 
--- what a rule is refused for
+-- why a rule is refused
 abbrev pub rule_stop : RuleFault → Stop
 rule_stop (Refused number place words) = stops.Fault (fault_at (Some place) number words)
 rule_stop Memory = stops.Memory

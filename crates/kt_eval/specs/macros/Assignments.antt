@@ -29,7 +29,7 @@ assign e name text escapes = do
   x ← expanded e text
   change (set_macro name (set_by_makefile Deferred (doubled x)))
 
--- a form that isn't taken, by its word (kati's own)
+-- a form that is refused, by its word (kati's own)
 abbrev pub refused_form : {A : Type 0} → Text → Step A
 refused_form form = stop kinds.RefusedForm form
 
@@ -37,7 +37,7 @@ refused_form form = stop kinds.RefusedForm form
 abbrev pub is_bad_name : Text → Bool
 is_bad_name name = length name == 0 || list_any is_separator name
 
--- an assignment to an expanded name; what it does is found before its text is expanded
+-- an assignment to an expanded name; what it does is decided before its text is expanded
 unfoldable pub assign_named : Evaluator → Operator → Text → Text → Step (Unit {0})
 assign_named e operator text name =
     if is_bad_name name then stop kinds.BadMacroName []
@@ -54,7 +54,7 @@ assign_line e name operator text = do
 unfoldable pub body_text : List Text → Text
 body_text lines = join_with_byte 10 (map condensed_of lines)
 
--- a define by what stands after its word: a name with an operator, or a name alone, which is deferred
+-- a define, from the text after its word: a name with an operator, or a name alone, which is deferred
 unfoldable pub define : Evaluator → Text → Kind → Text → Step (Unit {0})
 define e rest (assignment name operator text) body = assign_line e (plain_of name) operator body
 define e rest other body = assign_line e (trimmed (plain_of rest)) operator.Deferred body

@@ -11,16 +11,16 @@ use Rattle.kt_eval.specs.declared.macros.Origin.{Origin}
 use Rattle.kt_eval.specs.declared.macros.Origin.TheVariants.{Makefile, CommandLine}
 use Rattle.kt_eval.specs.declared.macros.Macro.{Macro}
 
--- names and what they stand for, in the order in which they were first set; each name stands once
+-- names with their macros, in the order in which they were first set; each name is there once
 abbrev pub Table : Type 0
 Table = List (Text × Macro)
 
--- what a name stands for
+-- the macro with a name
 unfoldable pub find : Text → Table → Option Macro
 find name [] = None
 find name (entry ∷ table) = if bytes_eq name entry.0 then Some entry.1 else find name table
 
--- a name that is there keeps its place, and a new one goes last
+-- a name that is there keeps its place, and a new one is added at the end
 unfoldable pub put : Text → Macro → Table → Table
 put name value [] = (name, value) ∷ []
 put name value (entry ∷ table) = if bytes_eq name entry.0 then (entry.0, value) ∷ table
@@ -34,14 +34,14 @@ set_by_makefile flavour value = record { flavour = flavour; origin = Makefile; v
 pub data Assigning : Type 0 where
   -- nothing: the macro stays as it is
   keeps : Assigning
-  -- the text as it stands becomes the deferred value, after what is given
+  -- the text as written becomes the deferred value, after the given text
   defers : (front : Text) → Assigning
-  -- the text is expanded, and becomes the immediate value, after what is given
+  -- the text is expanded, and becomes the immediate value, after the given text
   expands : (front : Text) → Assigning
-  -- the text is expanded, and with each dollar doubled becomes the deferred value
+  -- the text is expanded, each dollar is doubled, and the result becomes the deferred value
   escapes : Assigning
 
--- more text goes after the old value and one space, and is expanded at once where the old value was
+-- the text is appended to the old value after a space, and is expanded at once if the old value was
 abbrev pub appending : Flavour → Text → Assigning
 appending Deferred old = defers (old ++ codes " ")
 appending Immediate old = expands (old ++ codes " ")
@@ -64,16 +64,16 @@ reassigning operator.Conditional old = keeps
 reassigning operator.Append old = appending old.flavour old.value
 reassigning operator.Shell old = keeps
 
--- a macro of the command line is passed over (kati's own: its text isn't expanded)
+-- a macro of the command line isn't changed (kati's own: the text isn't expanded)
 abbrev pub assigning_over : Operator → Macro → Origin → Assigning
 assigning_over operator old CommandLine = keeps
 assigning_over operator old Makefile = reassigning operator old
 
--- what an assignment does, by its operator and the old entry
+-- what an assignment does, from its operator and the old macro
 unfoldable pub assigning : Operator → Option Macro → Assigning
 assigning operator None = assigning_new operator
 assigning operator (Some old) = assigning_over operator old old.origin
 
--- a text with each dollar doubled, which is expanded to the text
+-- a text with each dollar doubled, which expands to the text
 unfoldable pub doubled : Text → Text
 doubled text = flat_map (λ byte. if byte == 36 then 36 ∷ 36 ∷ [] else byte ∷ []) text

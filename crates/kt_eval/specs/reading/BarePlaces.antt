@@ -5,7 +5,7 @@ use Rattle.kt_text.specs.Words.{Text}
 use Rattle.kt_syntax.specs.Terms.{IsBalanced}
 use Rattle.kt_eval.specs.reading.Conditions.{bare_place}
 
--- the byte stands there, and each parenthesis before it is closed before it
+-- the byte is at the place, and each parenthesis before it is closed before it
 pub record IsBare (wanted : ℕ) (text : Text) (place : ℕ) : Type 0 where
   pub within : place < length text
   pub is : slice_index text place ≡ wanted
@@ -16,7 +16,7 @@ pub record IsFirstBare (wanted : ℕ) (text : Text) (place : ℕ) : Type 0 where
   pub is : IsBare wanted text place
   pub first : (k : ℕ) → k < place → ¬ IsBare wanted text k
 
--- the place that is computed, or none where there is none
+-- `bare_place` finds the first such place, or none if there is none
 abbrev pub BarePlaceLaw : Type 0
 BarePlaceLaw =
     (wanted : ℕ) (text : Text)

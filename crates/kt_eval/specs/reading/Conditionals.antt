@@ -16,7 +16,7 @@ use Rattle.kt_eval.specs.expanding.Expansion.{Evaluator, expanded}
 abbrev pub bad_conditional : {A : Type 0} → Step A
 bad_conditional = stop kinds.BadConditional []
 
--- whether the one macro that is named has a value, as it stands
+-- whether the one macro that is named has an unexpanded value that isn't empty
 unfoldable pub is_set : List Text → Step Bool
 is_set (name ∷ []) w = Gave w (is_nonempty (raw_value (lookup name w)))
 is_set names w = bad_conditional w
@@ -26,7 +26,7 @@ is_defined e text = do
   x ← expanded e text
   is_set (words_of x)
 
--- whether two texts are the same, once they are expanded
+-- whether two texts are the same after they are expanded
 unfoldable pub are_equal : Evaluator → Option Compared → Step Bool
 are_equal e None = bad_conditional
 are_equal e (Some compared) = do
@@ -34,7 +34,7 @@ are_equal e (Some compared) = do
   y ← expanded e compared.second
   done (bytes_eq x y)
 
--- whether a condition holds, by its word and the text after that
+-- whether a condition holds, from its word and the text after it
 unfoldable pub holds : Evaluator → Directive → Text → Step Bool
 holds e word.Ifdef text = is_defined e text
 holds e word.Ifndef text = do
@@ -46,14 +46,14 @@ holds e word.Ifneq text = do
   done (not same)
 holds e other text = bad_conditional
 
--- a text's first word, and what follows the blanks after it
+-- a text's first word, and the text after the blanks after it
 abbrev pub word_before_blank : Text → Text
 word_before_blank text = take (prefix_len (λ byte. not (is_blank byte)) text) text
 
 abbrev pub text_after_word : Text → Text
 text_after_word text = trimmed_start (drop (prefix_len (λ byte. not (is_blank byte)) text) text)
 
--- whether the condition of a text that begins with its word holds
+-- whether a condition holds, from its classified word and the text after it
 abbrev pub worded_holds : Evaluator → Kind → Text → Step Bool
 worded_holds e (directive word rest) text = holds e word text
 worded_holds e other text = bad_conditional
@@ -61,13 +61,13 @@ worded_holds e other text = bad_conditional
 unfoldable pub text_holds : Evaluator → Text → Step Bool
 text_holds e text = worded_holds e (kind_of (word_before_blank text) false) (text_after_word text)
 
--- whether an `else` is taken: without a condition after it, it always is
+-- whether an `else` is taken: without a condition it always is
 unfoldable pub else_holds : Evaluator → Bool → Text → Step Bool
 else_holds e false rest = done true
 else_holds e true rest = text_holds e (plain_of rest)
 
--- whether the branch of a line is taken: of the first line of a conditional, and of a further one with a condition or
--- without
+-- whether the branch of a line is taken: of the first line of a conditional, and of a further one with or without a
+-- condition
 unfoldable pub line_holds : Evaluator → Bool → Kind → Step Bool
 line_holds e condition (directive word.Else rest) = else_holds e condition rest
 line_holds e condition (directive word rest) = holds e word (plain_of rest)

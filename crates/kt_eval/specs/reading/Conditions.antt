@@ -1,5 +1,5 @@
--- The conditions of `ifeq` and `ifneq` (GNU make manual, "Syntax of Conditionals"), found in the text as it stands in
--- the file, byte by byte (kati's own).
+-- The conditions of `ifeq` and `ifneq` (GNU make manual, "Syntax of Conditionals"), found in the unexpanded text, byte
+-- by byte (kati's own).
 use Rattle.std.specs.Prelude.{ℕ, ◌+◌, ◌-◌, ◌==◌, ◌&&◌, ◌||◌, [], ◌∷◌, take, drop, Option, Some, None, option_map}
 use Rattle.std.specs.Prelude.{position, if◌then◌else◌}
 use Rattle.std.specs.Option.{option_and_then}
@@ -10,7 +10,8 @@ pub record Compared : Type 0 where
   pub first : Text
   pub second : Text
 
--- the first place of a byte outside parentheses that are opened in the text; one that closes more ends the search
+-- the first place of a byte outside parentheses that open in the text; a closing one without its opening one ends the
+-- search
 unfoldable pub bare_place : ℕ → ℕ → ℕ → Text → Option ℕ
 bare_place wanted depth place [] = None
 bare_place wanted depth place (byte ∷ text) =
@@ -28,16 +29,16 @@ abbrev pub second_in : Text → Text → Option Compared
 second_in first rest =
     option_map (λ end. record { first = trimmed first; second = trimmed (take end rest) }) (bare_place 41 0 0 rest)
 
--- two texts in parentheses, after the opening one
+-- two texts in parentheses, given the text after the opening one
 unfoldable pub in_parentheses : Text → Option Compared
 in_parentheses text = option_and_then (λ comma. second_in (take comma text) (drop (comma + 1) text))
     (bare_place 44 0 0 text)
 
--- the text up to the next equal quote, and what follows that
+-- the text up to the next quote of the same kind, and the text after it
 abbrev pub quoted_by : ℕ → Text → Option (Text × Text)
 quoted_by quote text = option_map (λ end. (take end text, drop (end + 1) text)) (position (λ byte. byte == quote) text)
 
--- a text in quotes of either kind, and what follows it
+-- a text in quotes of either kind, and the text after it
 unfoldable pub quoted : Text → Option (Text × Text)
 quoted [] = None
 quoted (byte ∷ text) = if byte == 34 || byte == 39 then quoted_by byte text else None
@@ -48,7 +49,7 @@ in_quotes text =
     option_and_then (λ first. option_map
     (λ second. record { first = first.0; second = second.0 }) (quoted (trimmed_start first.1))) (quoted text)
 
--- the two texts of a condition; what follows them is ignored
+-- the two texts of a condition; text after them is ignored
 unfoldable pub compared_of : Text → Option Compared
 compared_of [] = None
 compared_of (byte ∷ text) = if byte == 40 then in_parentheses text else in_quotes (byte ∷ text)

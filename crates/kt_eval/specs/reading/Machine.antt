@@ -1,5 +1,5 @@
--- What is left of reading makefiles, and what a machine holds between two readings (kati's own; GNU make manual,
--- "What Name to Give Your Makefile").
+-- The result of reading makefiles, and what a machine holds between two readings (kati's own; GNU make manual, "What
+-- Name to Give Your Makefile").
 use Rattle.std.specs.Prelude.{◌≡◌, ℕ, string_bytes, true, List, [], Option, Some, None, codes, Result, Ok, Err}
 use Rattle.kt_text.specs.Words.{Text}
 use Rattle.kt_rules.specs.Entry.{Rule}
@@ -25,7 +25,7 @@ pub record Held : Type 0 where
   pub said : List Text
   pub refusal : Option Stop
 
--- a deferred macro, where it isn't set
+-- a deferred macro, unless it is set
 abbrev pub default_by : Text → Text → Table → Option Macro → Table
 default_by name value table None = put name (set_by_makefile Deferred value) table
 default_by name value table (Some entry) = table
@@ -79,18 +79,18 @@ first_world before trace = record {
   rule = None;
 }
 
--- the first of these files that is there is read, and gives what is known then
+-- reads the first of these files that exists, and returns what is known then
 abbrev pub first_read : Store → Evaluator → List Text → Step Read
 first_read store e names = do
   read_first store e names
   λ w. Gave w (read_of w.table w.book)
 
--- the reading of the first of these files that is there, with these macros and rules before it
+-- the reading of the first of these files that exists, with these macros and rules before it
 abbrev pub reading : Store → List Text → ℕ → Read → StepOver Trace Read
 reading store names limit before trace =
     leaving trace_of (first_read store (evaluator true store limit) names (first_world before trace))
 
--- the same by what a machine holds
+-- the same, from what a machine holds
 abbrev pub read_by : Held → Read
 read_by held = read_of held.table held.book
 
@@ -105,7 +105,7 @@ IsDeviceOf name (stops.Fault fault) = ⊥
 IsDeviceOf name (stops.Device other) = string_bytes other ≡ name
 IsDeviceOf name stops.Memory = ⊥
 
--- the refusal once more, or being out of memory where its copy is refused
+-- a copy of the refusal, or out of memory if it can't be copied
 abbrev pub IsCopy : Stop → Stop → Type 0
 IsCopy stops.Memory stop = Unit {0}
 IsCopy (stops.Fault fault) stop = stop ≡ stops.Fault fault

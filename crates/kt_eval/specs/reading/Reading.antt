@@ -30,7 +30,7 @@ use Rattle.kt_eval.specs.reading.Conditionals.{line_holds}
 use Rattle.kt_eval.specs.files.Including.{include_line}
 use Rattle.kt_eval.specs.reading.Rules.{close_rule, rule_line, recipe_line}
 
--- a logical line as it stands in the file
+-- a logical line as written
 pub record Raw : Type 0 where
   pub number : ℕ
   pub tab : Bool
@@ -43,7 +43,7 @@ raw_line text l = record { number = l.number; tab = l.tab; text = line_text text
 unfoldable pub line_at : List Raw → ℕ → Raw
 line_at lines place = unwrap_or (slice_get lines place) (record { number = 0; tab = false; text = [] })
 
--- a text that is read: where it is from, its lines, and their blocks
+-- a text that is read: its source, its lines, and their blocks
 pub record Sheet : Type 0 where
   pub source : Source
   pub lines : List Raw
@@ -56,7 +56,7 @@ sheet_of source text = record {
   blocks = blocks_of (heads_of text (logical_lines_of text));
 }
 
--- at a line of a file; the lines of an `eval` are all at the place where it stands (kati's own)
+-- the world at a line of a file; all lines of an `eval` are at the place of the `eval` (kati's own)
 unfoldable pub at_number : Source → ℕ → World → World
 at_number Held number w = w
 at_number (File name) number w = move_to (Some (record { file = name; line = number })) w
@@ -69,7 +69,7 @@ read_include e optional rest = do
   close_rule
   include_line e optional (plain_of rest)
 
--- a line that is no block, by its kind; an assignment, an include and a rule line close the rule that is open
+-- a line outside blocks, by its kind; an assignment, an include and a rule line close the open rule
 unfoldable pub read_kind : Evaluator → Text → Kind → Step (Unit {0})
 read_kind e text blank = done tt
 read_kind e text (assignment name operator value) = do
@@ -89,7 +89,7 @@ read_bare_tab e blank = done tt
 read_bare_tab e (assignment name operator value) = assign_line e (plain_of name) operator (plain_of value)
 read_bare_tab e other = stop kinds.RecipeBeforeTarget []
 
--- a line that begins with a tab is one of the open rule's recipe, if there is one
+-- a line that begins with a tab belongs to the recipe of the open rule, if there is one
 abbrev pub read_tab_in : Evaluator → Text → Option Rule → Step (Unit {0})
 read_tab_in e text None = read_bare_tab e (line_kind text true)
 read_tab_in e text (Some started) = recipe_line started text
@@ -100,7 +100,7 @@ read_tab e text w = read_tab_in e text w.rule (set_rule None w)
 unfoldable pub read_line : Evaluator → Raw → Step (Unit {0})
 read_line e raw w = if raw.tab then read_tab e raw.text w else read_kind e raw.text (line_kind raw.text false) w
 
--- the lines from one place up to another as the value of a define
+-- the lines from one place up to another, as the value of a define
 abbrev pub body_at : Sheet → ℕ → ℕ → Text
 body_at sheet start end = body_text (map (λ raw. raw.text) (slice_range sheet.lines start end))
 
@@ -118,7 +118,7 @@ read_stray stray.LateElse = stop kinds.StrayElse []
 read_stray stray.Endif = stop kinds.StrayEndif []
 read_stray stray.Endef = stop kinds.StrayEndef []
 
--- the first late `else` of branches, met after the branch that was read
+-- the first late `else` of branches, which is met after the branch that was read
 unfoldable pub late_else : Sheet → Branches → Step (Unit {0})
 late_else sheet no_branch = done tt
 late_else sheet (branch place condition items others) = late_else sheet others
@@ -132,7 +132,7 @@ branch_holds e sheet place condition = do
   change (at_line sheet place)
   line_holds e condition (line_kind (line_at sheet.lines place).text false)
 
--- items one after another; of a conditional the first branch that is taken is read
+-- items one after another; of a conditional, the first branch that is taken is read
 unfoldable mutual
   pub read_items : Evaluator → Sheet → Items → Step (Unit {0})
   read_items e sheet none = done tt
@@ -161,7 +161,7 @@ unfoldable mutual
     if chosen then read_items e sheet items else read_branches e sheet others
   read_branches e sheet (late place items others) = done tt
 
--- the end that is missing, at the line that opens its block
+-- the missing end of a block, at the line that opens the block
 unfoldable pub read_end : Source → Option Missing → Step (Unit {0})
 read_end source None = done tt
 read_end source (Some (missing.Endif number)) = do
@@ -171,7 +171,7 @@ read_end source (Some (missing.Endef number)) = do
   change (at_number source number)
   stop kinds.MissingEndef []
 
--- the tree of a text's lines; at its end the open rule is closed, and then the missing end is met
+-- the tree of a text's lines; at its end the open rule is closed, and then a missing end is reported
 unfoldable pub read_sheet : Evaluator → Sheet → Step (Unit {0})
 read_sheet e sheet = do
   read_items e sheet (tree_of sheet.blocks.steps)
@@ -188,7 +188,7 @@ read_without_nul e source text (Some number) = do
 unfoldable pub read_text : Evaluator → Source → Text → Step (Unit {0})
 read_text e source text = read_without_nul e source text (nul_line text)
 
--- the text of an `eval` has rules of its own: the one that is open round it stays so
+-- the text of an `eval` has an open rule of its own; the outer one stays open
 unfoldable pub read_held : Evaluator → Text → Step (Unit {0})
 read_held e text w =
     (do
@@ -196,16 +196,16 @@ read_held e text w =
       read_text e Held text
       change (set_rule w.rule)) w
 
--- the most bytes that a makefile may have (kati's own)
+-- the maximum size of a makefile in bytes (kati's own)
 abbrev pub largest_file : ℕ
 largest_file = 16777216
 
--- a file that is there, if it isn't too large
+-- a file that exists, unless it is too large
 unfoldable pub read_file : Evaluator → Text → Text → Step (Unit {0})
 read_file e name text =
     if nat_lt largest_file (length text) then stop kinds.FileTooLarge name else read_text e (File name) text
 
--- an included file; the place is then that of the include again
+-- an included file; afterwards the place is that of the include again
 abbrev pub read_included : Evaluator → Bool → Text → Option Text → Step (Unit {0})
 read_included e true name None w = Gave w tt
 read_included e false name None w = stop kinds.NoFile name w
@@ -214,7 +214,7 @@ read_included e optional name (Some text) w =
       read_file e name text
       change (move_to w.place)) w
 
--- the bytes of a file, if it is there; each look at a name is asked for
+-- the bytes of a file, if it exists; each read asks for the name
 unfoldable pub read_bytes : Store → Text → Step (Option Text)
 read_bytes store name w = Gave (ask name w) (look store name)
 
@@ -223,12 +223,12 @@ included store e optional name = do
   found ← read_bytes store name
   read_included e optional name found
 
--- a file that is there is read, or else what follows is done
+-- a file that exists is read, or else the next step is done
 abbrev pub read_or : Evaluator → Text → Option Text → Step (Unit {0}) → Step (Unit {0})
 read_or e name None others = others
 read_or e name (Some text) others = read_file e name text
 
--- the first of these files that is there
+-- the first of these files that exists
 unfoldable pub read_first : Store → Evaluator → List Text → Step (Unit {0})
 read_first store e [] = stop kinds.NoMakefile []
 read_first store e (name ∷ names) = do

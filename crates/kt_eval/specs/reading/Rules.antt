@@ -1,4 +1,4 @@
--- How rules are opened, go on and are closed (POSIX.1-2024 make, "Target Rules"; GNU make manual, "Rule Syntax" and
+-- How rules are opened, continued and closed (POSIX.1-2024 make, "Target Rules"; GNU make manual, "Rule Syntax" and
 -- "Recipe Syntax"). When a rule is closed is kati's own.
 use Rattle.std.specs.Prelude.{List, [], ◌∷◌, ◌++◌, drop, Option, Some, None, option_map, Result, Ok, Err}
 use Rattle.kt_text.specs.Words.{Text}
@@ -20,11 +20,11 @@ abbrev pub rule_place : Option Place → Place
 rule_place None = record { file = []; line = 0 }
 rule_place (Some place) = place
 
--- the fault of a rule as one of the makefile
+-- the fault of a rule as a fault of the makefile
 abbrev pub stop_rule : {A : Type 0} → Fault → Step A
 stop_rule fault w = Stopped w (fault_at (Some fault.place) fault.number fault.words)
 
--- a rule enters the book, with its messages, or is at fault beside the rules before it
+-- a rule is added to the book, with its warnings, or is refused because of the rules before it
 abbrev pub entered : Rule → Result (List Text) Fault → Step (Unit {0})
 entered rule (Ok messages) w = Gave (record w { book = w.book ++ rule ∷ []; said = w.said ++ messages }) tt
 entered rule (Err fault) w = stop_rule fault w
@@ -47,11 +47,11 @@ abbrev pub opened : Result Rule Fault → Step (Unit {0})
 opened (Ok rule) = change (set_rule (Some rule))
 opened (Err fault) = stop_rule fault
 
--- the rule of an expanded head, with the recipe that its line has itself
+-- the rule of an expanded head, with the recipe on its line
 unfoldable pub open_rule : Option Text → Text → Step (Unit {0})
 open_rule recipe head w = opened (rule_of head recipe (rule_place w.place)) w
 
--- a rule line by its parts
+-- a rule line, from its parts
 unfoldable pub rule_of_parts : Evaluator → Option RuleTexts → Step (Unit {0})
 rule_of_parts e None = stop kinds.TargetSpecificMacro []
 rule_of_parts e (Some parts) = do
@@ -61,7 +61,7 @@ rule_of_parts e (Some parts) = do
 unfoldable pub rule_line : Evaluator → Text → Step (Unit {0})
 rule_line e line = rule_of_parts e (line_parts line)
 
--- one more line of the open rule's recipe; the tab before it is no part of it
+-- one more line of the open rule's recipe, without the tab before it
 unfoldable pub recipe_line : Rule → Text → Step (Unit {0})
 recipe_line rule text w =
     Gave (set_rule (Some (with_line rule (record { text = recipe_of (drop 1 text); place = rule_place w.place }))) w) tt

@@ -24,7 +24,8 @@ use kt_rules::FaultKind;
 use kt_text::{stripped, words};
 
 impl<'a, M: Scope, F: Files> Evaluation<'a, M, F> {
-    // A function by its name. Its clauses are the parts of `Does`: arms without a name close only by themselves.
+    // Applies a function. The contract lists the parts of `Does`: no lemma can name the arms, so the search closes them
+    // alone.
     #[cycle(evaluate)]
     #[tactic(auto, using(crate::proofs::Steps::apply_goes), unfolding(crate::specs::expanding::Expansion::apply))]
     pub(crate) fn apply(
@@ -81,7 +82,7 @@ impl<'a, M: Scope, F: Files> Evaluation<'a, M, F> {
         }
     }
 
-    // A function of texts; too few arguments are refused before one is expanded.
+    // A text function. Too few arguments are refused before any of them is expanded.
     #[cycle(evaluate)]
     #[tactic(auto, using(crate::proofs::Steps::accepted_goes), unfolding(crate::specs::expanding::Expansion::apply_text))]
     pub(crate) fn apply_text(
@@ -101,7 +102,7 @@ impl<'a, M: Scope, F: Files> Evaluation<'a, M, F> {
         self.accept(function.name(), outcome)
     }
 
-    // Expands each argument in turn, after what is given.
+    // Expands each argument in turn, and adds it to those given.
     #[cycle(evaluate)]
     #[tactic(auto, using(crate::proofs::Steps::each_argument_goes), unfolding(crate::specs::expanding::Expansion::each_argument))]
     pub(crate) fn each_argument(
@@ -197,7 +198,7 @@ impl<'a, M: Scope, F: Files> Evaluation<'a, M, F> {
         self.each_word(below, &name, &list, body)
     }
 
-    // The body for each word in turn.
+    // Expands the body for each word in turn.
     #[cycle(evaluate)]
     #[tactic(auto, using(crate::proofs::Steps::each_word_goes), unfolding(crate::specs::expanding::Expansion::each_word))]
     pub(crate) fn each_word(
@@ -258,7 +259,7 @@ impl<'a, M: Scope, F: Files> Evaluation<'a, M, F> {
         self.call(below, name, arguments)
     }
 
-    // The value of a macro with its name and arguments bound.
+    // The expanded value of a macro, with its name and arguments bound.
     #[cycle(evaluate)]
     #[tactic(auto, using(crate::proofs::Steps::call_steps), unfolding(crate::specs::expanding::Expansion::called))]
     pub(crate) fn call(

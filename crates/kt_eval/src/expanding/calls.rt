@@ -25,14 +25,14 @@ pub(crate) enum Asked<'a> {
     Refers(&'a [u8]),
 }
 
-/// A name alone, or one with a pattern and a replacement for its words.
+/// A name alone, or one with a pattern and a replacement for the words of its value.
 #[derive(Drop)]
 pub(crate) enum Naming<'a> {
     Plainly(&'a [u8]),
     Substituting(&'a [u8], Vec<u8>, Vec<u8>),
 }
 
-// What a reference asks for, by its mark and its body.
+// What a reference asks for, from its mark and its body.
 #[tactic(auto, unfolding(crate::specs::expanding::Calls::asked_by))]
 pub(crate) fn asked_by(alloc: Global, mark: Mark, body: &[u8]) -> Result<Asked<'_>, AllocError>
     ensures { IfOk result (λ asked. asked_view asked ≡ asked_by mark body.now) }
@@ -43,7 +43,7 @@ pub(crate) fn asked_by(alloc: Global, mark: Mark, body: &[u8]) -> Result<Asked<'
     }
 }
 
-// The name of a reference by one byte.
+// The name in a reference of one byte.
 fn byte_name(body: &[u8]) -> &[u8]
     ensures { result.now ≡ byte_name body.now }
 {
@@ -70,8 +70,8 @@ fn asked_of(alloc: Global, mark: Mark, body: &[u8]) -> Result<Asked<'_>, AllocEr
     }
 }
 
-/// Whether a reference asks for the value of a macro by a name that stands in its body as it is. One with a colon may
-/// ask for more, and counts as one that does.
+/// Whether the body of a reference is just the name of a macro, without a reference in it. A body with a colon may be a
+/// substitution reference, and isn't taken for a name.
 #[tactic(auto, unfolding(crate::specs::inner::Plain::names_plainly))]
 pub(crate) fn names_plainly(mark: Mark, body: &[u8]) -> bool
     ensures { result ≡ names_plainly mark body.now }
@@ -96,7 +96,7 @@ fn is_name_byte(byte: u8) -> bool
     byte != b'$' && byte != b':' && !is_separator(byte)
 }
 
-// How many bytes stand before the first separator.
+// The number of bytes before the first separator.
 fn word_end(text: &[u8]) -> usize
     ensures value { result ≡ position_or_len is_separator text.now }
     ensures bound { result ≤ length text.now }
@@ -140,7 +140,7 @@ fn push<'a>(arguments: &mut Vec<&'a [u8]>, argument: &'a [u8]) -> Result<(), All
     Ok(())
 }
 
-// Whether a byte cuts: a comma that isn't nested, if one more may.
+// Whether a byte cuts: a comma that isn't nested, if one more may cut.
 fn cuts(byte: u8, depth: usize, left: Option<usize>) -> bool
     ensures { result ≡ cuts byte depth left }
 {
@@ -194,7 +194,7 @@ fn closer(mark: Mark) -> u8
     }
 }
 
-// What an expanded body names.
+// The name in an expanded body, with a pattern and a replacement if it has them.
 #[tactic(auto, unfolding(crate::specs::expanding::Calls::naming_of))]
 pub(crate) fn name_in(alloc: Global, body: &[u8]) -> Result<Naming<'_>, AllocError>
     ensures { IfOk result (λ named. naming_view named ≡ naming_of body.now) }
@@ -219,7 +219,7 @@ pub(crate) fn name_in(alloc: Global, body: &[u8]) -> Result<Naming<'_>, AllocErr
     ))
 }
 
-// What stands before the first such byte, and after it.
+// The text before the first such byte, and the text after it.
 fn cut_at(wanted: u8, text: &[u8]) -> Option<(&[u8], &[u8])>
     ensures { MatchOption result (list_any (λ byte. byte == wanted) text.now ≡ false)
         (λ cut. (list_any (λ byte. byte == wanted) text.now ≡ true)
@@ -238,7 +238,7 @@ fn after_percent(alloc: Global, text: &[u8]) -> Result<Vec<u8>, AllocError>
     Ok(whole)
 }
 
-// The function of a name.
+// The function with this name.
 #[tactic(auto, unfolding(crate::specs::expanding::Calls::function_of))]
 fn function_of(name: &[u8]) -> Option<Function>
     ensures { result ≡ function_of name.now }
@@ -307,7 +307,7 @@ fn is_name(name: &[u8], other: &[u8]) -> bool
     name == other
 }
 
-// At how many commas its arguments are cut at most, if there is a number.
+// The maximum number of commas at which the arguments are cut, if there is a limit.
 fn commas(function: Function) -> Option<usize>
     ensures { result ≡ commas function }
 {

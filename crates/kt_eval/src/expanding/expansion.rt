@@ -1,4 +1,4 @@
-//! Texts expanded, each level of nesting by the one below it.
+//! Expands texts, each level of nesting with one level less.
 ghost use Rattle.std.specs.Prelude.{◌==◌};
 ghost use Rattle.std.specs.Cow.{cow_slice_items};
 ghost use Rattle.kt_syntax.specs.Terms.{token_of};
@@ -22,7 +22,7 @@ use kt_text::functions::patsubst;
 use std::borrow::CowSlice;
 
 impl<'a, M: Scope, F: Files> Evaluation<'a, M, F> {
-    // Expands a text one level deeper than what asks for it.
+    // Expands a text one level deeper than its caller.
     #[cycle(evaluate)]
     #[tactic(auto, using(crate::proofs::LevelLemmas::evaluator_above), unfolding(crate::proofs::LevelLemmas::opened))]
     pub(crate) fn expand(&mut self, levels: u64, text: &[u8]) -> Result<Vec<u8>, Stop>
@@ -34,7 +34,7 @@ impl<'a, M: Scope, F: Files> Evaluation<'a, M, F> {
         self.expand_here(levels - 1, text)
     }
 
-    // Expands a text at the level where it stands; one that refers to nothing stays as it is.
+    // Expands a text at the level of its caller. A text without a dollar is borrowed as it is.
     #[cycle(evaluate)]
     #[tactic(auto, using(crate::proofs::lemmas::expanding::LiteralLemmas::stays))]
     pub(crate) fn expand_text<'t>(
@@ -63,7 +63,7 @@ impl<'a, M: Scope, F: Files> Evaluation<'a, M, F> {
         Ok(out)
     }
 
-    // Appends what a term gives; what takes no level of its own makes no text of its own.
+    // Appends the expansion of a term. If it needs no further level, no text is allocated for it.
     #[cycle(evaluate)]
     #[tactic(auto, using(crate::proofs::Steps::appended_goes), unfolding(crate::specs::inner::Plain::appended))]
     pub(crate) fn put_term(

@@ -8,7 +8,7 @@ ghost use Rattle.kt_eval.specs.State.{argument, innermost, is_digits, is_padded,
 use crate::state::Frame;
 use kt_list::Shared;
 
-// What the innermost binding says of a name that says something.
+// The value of a name in the innermost binding that has one.
 #[tactic(auto, unfolding(crate::specs::State::innermost))]
 pub(crate) fn innermost<'f>(frames: &'f [Frame], name: &[u8]) -> Option<&'f [u8]>
     ensures { option_map (λ value. value.now) result ≡ innermost name.now None frames.now }
@@ -23,7 +23,7 @@ pub(crate) fn innermost<'f>(frames: &'f [Frame], name: &[u8]) -> Option<&'f [u8]
     None
 }
 
-// What a binding says of a name.
+// The value of a name in a binding.
 #[tactic(auto, unfolding(crate::specs::State::seen))]
 fn seen<'f>(frame: &'f Frame, name: &[u8]) -> Option<&'f [u8]>
     ensures { option_map (λ value. value.now) result ≡ seen name.now frame.now }
@@ -56,7 +56,7 @@ fn all_digits(text: &[u8]) -> bool
     text.iter().all(|byte| byte.is_ascii_digit())
 }
 
-// Whether a zero stands before further digits: no argument has such a name.
+// Whether a number has a leading zero: no argument has such a name.
 fn is_padded(name: &[u8]) -> bool
     ensures { result ≡ is_padded name.now }
 {
@@ -66,7 +66,7 @@ fn is_padded(name: &[u8]) -> bool
     }
 }
 
-// The argument of a number, or the empty text beyond the last.
+// The argument with this number, or an empty text after the last.
 fn argument<'f>(arguments: &'f [Shared<u8>], name: &[u8]) -> &'f [u8]
     requires { list_all is_ascii_digit name.now ≡ true }
     ensures { result.now ≡ argument name.now arguments.now }
@@ -80,7 +80,7 @@ fn argument<'f>(arguments: &'f [Shared<u8>], name: &[u8]) -> &'f [u8]
     }
 }
 
-// The number that digits are, or the cap if they are more.
+// The value of decimal digits, or the cap if the value is greater.
 fn capped_value(digits: &[u8], cap: usize) -> usize
     requires { list_all is_ascii_digit digits.now ≡ true }
     ensures { result ≡ min (digits_value 10 digits.now) cap }
@@ -92,7 +92,7 @@ fn capped_value(digits: &[u8], cap: usize) -> usize
     value
 }
 
-// Ten times a value and a digit, or the cap if that is more.
+// Ten times a value plus a digit, or the cap if that is greater.
 fn capped_sum(value: usize, digit: usize, cap: usize) -> usize
     requires { digit < 10 }
     ensures { result ≡ min (value * 10 + digit) cap }

@@ -1,4 +1,4 @@
-//! Texts expanded after all reading, as recipes are.
+//! Expands texts after all reading, such as recipes.
 ghost use Rattle.std.specs.Prelude.{◌≡◌, ◌++◌, ◌∷◌, [], OnErr, OnOk, map, string_bytes};
 ghost use Rattle.kt_eval.specs.expanding.Pure.{Says, expanded_pure};
 
@@ -13,11 +13,11 @@ use kt_rules::Place;
 use std::alloc::{AllocError, Global};
 
 impl Macros {
-    /// The text with its references expanded, for a recipe: no macro is set, so `eval` is refused.
+    /// Expands the references in a text of a recipe: no macro is set, so `eval` is refused.
     ///
-    /// The text stands at level 0. Without a place, as for the goal that a macro names, messages
-    /// begin with the program's name. GNU make manual, "How to Use Variables", "Using Variables in
-    /// Recipes". Messages are appended in order; where memory is refused, a prefix of them.
+    /// The text is at level 0. Without a place, as for the goal that a macro names, messages begin with the program's
+    /// name. GNU make manual, "How to Use Variables", "Using Variables in Recipes". Messages are appended in order; if
+    /// memory runs out, a prefix of them is.
     pub fn expand_pure<A: Automatic>(
         &self,
         text: &[u8],
@@ -63,7 +63,7 @@ impl Macros {
     }
 }
 
-// The files of a recipe: no name stands for any.
+// The files of a recipe: there are none.
 #[derive(Drop)]
 struct NoFiles {
     alloc: Global,

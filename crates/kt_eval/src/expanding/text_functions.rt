@@ -1,4 +1,4 @@
-//! The functions of texts: their names, their numbers of arguments, and what each makes of its arguments.
+//! The text functions: their names, numbers of arguments, and results.
 ghost use Rattle.std.specs.Prelude.{◌≡◌, ◌≤◌, find};
 ghost use Rattle.kt_text.specs.Functions.{Answers};
 ghost use Rattle.kt_eval.specs.expanding.TextFunctions.{argument, arity, has_name, row_of, text_function};
@@ -8,7 +8,7 @@ use kt_list::Shared;
 use kt_text::{TextFault, functions};
 use std::alloc::Global;
 
-/// A function of texts alone: it acts once its arguments are expanded.
+/// A function whose result depends only on its expanded arguments.
 #[derive(Clone, Copy, Debug, PartialEq, Eq)]
 pub enum TextFunction {
     Subst,
@@ -32,7 +32,7 @@ pub enum TextFunction {
     Join,
 }
 
-/// All of them, by which a name is looked up.
+/// All text functions, to look up a name.
 const TEXT_FUNCTIONS: [TextFunction; 19] = [
     TextFunction::Subst,
     TextFunction::Patsubst,
@@ -56,7 +56,7 @@ const TEXT_FUNCTIONS: [TextFunction; 19] = [
 ];
 
 impl TextFunction {
-    // The function of a name.
+    // The function with this name.
     #[tactic(auto, unfolding(crate::specs::expanding::TextFunctions::text_function))]
     pub(crate) fn named(name: &[u8]) -> Option<TextFunction>
         ensures { result ≡ text_function name.now }
@@ -70,14 +70,13 @@ impl TextFunction {
         name == self.name()
     }
 
-    // Its name.
     pub(crate) fn name(self) -> &'static [u8]
         ensures { result.now ≡ text_function_name self }
     {
         self.row().0
     }
 
-    // How many arguments it has.
+    // The number of its arguments.
     pub(crate) fn arity(self) -> usize
         ensures value { result ≡ arity self }
         ensures some { 1 ≤ result }
@@ -85,7 +84,7 @@ impl TextFunction {
         self.row().1
     }
 
-    // The table of text functions: the name of each, and how many arguments it has.
+    // The name of each text function, and the number of its arguments.
     fn row(self) -> (&'static [u8], usize)
         ensures value { (result.0.now, result.1) ≡ row_of self }
         ensures some { 1 ≤ result.1 }
@@ -114,7 +113,7 @@ impl TextFunction {
     }
 }
 
-// The first of these functions that has the name.
+// The first of these functions with the name.
 fn named_among(functions: &[TextFunction], name: &[u8]) -> Option<TextFunction>
     ensures { result ≡ find (has_name name.now) functions.now }
 {
@@ -126,7 +125,7 @@ fn named_among(functions: &[TextFunction], name: &[u8]) -> Option<TextFunction>
     None
 }
 
-// What a function of texts makes of its arguments; those that are missing are empty.
+// The result of a text function. Missing arguments are empty.
 #[tactic(auto, unfolding(crate::specs::expanding::TextFunctions::text_result))]
 pub(crate) fn text_result(
     alloc: Global,

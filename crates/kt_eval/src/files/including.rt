@@ -20,10 +20,10 @@ use kt_rules::FaultKind;
 use kt_text::words;
 use std::str::from_utf8;
 
-/// The most bytes that a makefile, an include or a list of files may have.
+/// The maximum size of a makefile, an include or a list of files, in bytes.
 pub const LARGEST_FILE: usize = 16_777_216;
 
-// Whether the name is a pattern of the shell.
+// Whether the name is a shell pattern.
 #[tactic(auto, unfolding(crate::specs::files::Including::is_pattern))]
 fn is_pattern(name: &[u8]) -> bool
     ensures { result ≡ is_pattern name.now }
@@ -108,7 +108,7 @@ impl<'a, M: Scope, F: Files> Evaluation<'a, M, F> {
         self.include(below, optional, text)
     }
 
-    // Reads a file one level deeper than what asks for it.
+    // Reads a file one level deeper than its caller.
     #[cycle(evaluate)]
     #[tactic(auto, using(crate::proofs::LevelLemmas::evaluator_above), unfolding(crate::proofs::LevelLemmas::opened))]
     pub(crate) fn include(&mut self, levels: u64, optional: bool, name: &str) -> Result<(), Stop>
@@ -132,7 +132,7 @@ impl<'a, M: Scope, F: Files> Evaluation<'a, M, F> {
         self.read_included(below, optional, name, found)
     }
 
-    // The place is then that of the include again.
+    // Afterwards the place is that of the include again.
     #[cycle(evaluate)]
     #[tactic(auto, using(crate::proofs::Steps::read_included_steps))]
     pub(crate) fn read_included(
@@ -175,7 +175,7 @@ impl<'a, M: Scope, F: Files> Evaluation<'a, M, F> {
         self.read_text(below, &Source::File(file), text)
     }
 
-    // Reads the first of these files that is there.
+    // Reads the first of these files that exists.
     #[tactic(auto, using(crate::proofs::Steps::read_first_goes), unfolding(crate::specs::reading::Reading::read_first))]
     pub(crate) fn read_first(&mut self, limit: u64, names: &[&str]) -> Result<(), Stop>
         requires { M.writable ≡ true }

@@ -1,4 +1,4 @@
-//! Files over memory, for tests.
+//! Files in memory, for tests.
 ghost use Rattle.std.specs.Prelude.{◌≡◌, Some, map, option_map, string_bytes, IfOk};
 ghost use Rattle.kt_eval.specs.files.Files.{look};
 
@@ -6,7 +6,7 @@ use crate::files::{FileFault, Files};
 use std::alloc::{AllocError, Global};
 use std::marker::Model;
 
-/// Files over memory, of which one read may fail.
+/// Files in memory, of which one read may fail.
 #[derive(Drop)]
 pub struct MemFiles {
     alloc: Global,
@@ -36,7 +36,7 @@ impl MemFiles {
     ghost use Rattle.std.specs.Prelude.{◌≡◌, [], map, string_bytes};
     ghost use Rattle.kt_eval.specs.files.Memory.{Memory};
 
-    /// The bytes of the file of each name; of two pairs of one name the first counts. The nth read, counted from 1,
+    /// The bytes of the file with each name; of two pairs with one name the first counts. The nth read, counted from 1,
     /// fails; with 0 none does.
     pub fn new(alloc: Global, pairs: Vec<(String, Vec<u8>)>, nth: u64) -> MemFiles
         ensures { result ≡ record {

@@ -1,4 +1,4 @@
-//! What an assignment does, by its operator and what stands there.
+//! What an assignment does, from its operator and the old macro.
 ghost use Rattle.std.specs.Prelude.{◌≡◌, IfOk, option_map};
 ghost use Rattle.kt_eval.specs.macros.Macros.{appending, assigning, reassigning, assigning_new, doubled};
 ghost use Rattle.kt_eval.specs.inner.Views.{assigning_view};
@@ -13,15 +13,15 @@ use std::alloc::{AllocError, Global};
 pub(crate) enum Assigning {
     /// The macro stays as it is.
     Keeps,
-    /// The text as it stands becomes the deferred value, after this one and a space if there is one.
+    /// The text as written becomes the deferred value, after this old value and a space if there is one.
     Defers(Option<Shared<u8>>),
-    /// The expanded text becomes the immediate value, after this one and a space if there is one.
+    /// The expanded text becomes the immediate value, after this old value and a space if there is one.
     Expands(Option<Shared<u8>>),
     /// The expanded text with each dollar doubled becomes the deferred value.
     Escapes,
 }
 
-// What an assignment does to a macro; one of the command line is passed over.
+// What an assignment does to a macro. It doesn't change one of the command line.
 #[tactic(auto, unfolding(crate::specs::macros::Macros::assigning))]
 pub(crate) fn assignment_of(
     operator: Operator,
@@ -62,7 +62,7 @@ fn reassigning(operator: Operator, old: &Macro) -> Result<Assigning, AllocError>
     }
 }
 
-// More text goes after the old value and a space. The value is held once more, not copied.
+// Appends to the old value, after a space. The old value is shared, not copied.
 fn appending(old: &Macro) -> Result<Assigning, AllocError>
     ensures { IfOk result (λ found. assigning_view found ≡ appending old.now.flavour old.now.value) }
 {

@@ -105,7 +105,7 @@ impl<'a, M: Scope, F: Files> Evaluation<'a, M, F> {
         self.assign_named(below, operator, text, name)
     }
 
-    // What follows the operator of a define is ignored.
+    // Text after the operator of a define is ignored.
     #[cycle(evaluate)]
     #[tactic(auto, using(crate::proofs::Steps::assign_line_goes), unfolding(crate::specs::macros::Assignments::define))]
     pub(crate) fn define(

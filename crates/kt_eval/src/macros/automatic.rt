@@ -6,12 +6,12 @@ ghost use Rattle.kt_eval.specs.files.Files.{Store, look};
 use std::alloc::AllocError;
 use std::borrow::CowSlice;
 
-/// The automatic macros of a recipe, each of which is computed when it is asked for.
+/// The automatic macros of a recipe, each of which is computed when it is looked up.
 pub trait Automatic {
-    /// Their names, and what they stand for.
+    /// Their names and values.
     ghost values: { Self → Store };
 
-    /// What this name stands for, if it is an automatic macro; what is there already is lent.
+    /// The value of this name, if it is an automatic macro. A value that exists already is borrowed.
     fn value(&self, name: &[u8]) -> Result<Option<CowSlice<'_, u8>>, AllocError>
         ensures { IfOk result (λ found. option_map cow_slice_items found ≡ look (values self.now) name.now) };
 }

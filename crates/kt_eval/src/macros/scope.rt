@@ -1,4 +1,4 @@
-//! Where names are looked up that nothing binds, and where rules go.
+//! Where names without a binding are looked up, and where rules are added.
 ghost use Rattle.std.specs.Prelude.{◌≡◌, ◌++◌, ◌∷◌, [], Bool, List, codes, false, option_map, IfOk, IfSome};
 ghost use Rattle.std.specs.Prelude.{MatchOption, OnErr, OnOk};
 ghost use Rattle.kt_rules.specs.Book.{added, refusal_of};
@@ -17,12 +17,12 @@ use kt_list::Shared;
 use kt_rules::{Book, Entry, RuleFault, Warnings};
 use std::alloc::AllocError;
 
-/// Macros, automatic ones before them, and rules.
+/// Macros, with automatic ones before them, and rules.
 pub(crate) trait Scope {
     /// The macros that were set.
     ghost table: { Self → Table };
 
-    /// The automatic macros, which hide them.
+    /// The automatic macros, which hide the others.
     ghost automatic: { Self → Store };
 
     /// The rules that were closed.
@@ -37,8 +37,7 @@ pub(crate) trait Scope {
     fn find(&self, name: &[u8]) -> Result<Option<Found>, AllocError>
         ensures { IfOk result (λ found. found ≡ unbound name.now (automatic self.now) (table self.now)) };
 
-    // Appends what a name stands for, as far as it is what it is expanded to with a given number of
-    // levels below; what isn't is given.
+    // Appends the value of a name if it needs no expansion with `below` levels left, and otherwise returns it.
     fn put_value(
         &self,
         name: &[u8],
@@ -53,14 +52,14 @@ pub(crate) trait Scope {
     fn get(&self, name: &[u8]) -> Option<&Macro>
         ensures { option_map (λ entry. entry.now) result ≡ find name.now (table self.now) };
 
-    // Sets a macro, if any may be set.
+    // Sets a macro, if macros may be set.
     fn put(&mut self, name: Vec<u8>, value: Macro) -> Option<Result<(), AllocError>>
         ensures set { MatchOption result (writable ≡ false)
             (λ done. OnOk done (table self.new ≡ put name.items value (table self.old))) }
         ensures kept_automatic { automatic self.new ≡ automatic self.old }
         ensures kept_book { book self.new ≡ book self.old };
 
-    // Sets a macro to a text after `front` and a space, if any may be set.
+    // Sets a macro to `front`, a space and a text, if macros may be set.
     fn append(
         &mut self,
         name: Vec<u8>,
@@ -73,7 +72,7 @@ pub(crate) trait Scope {
         ensures kept_automatic { automatic self.new ≡ automatic self.old }
         ensures kept_book { book self.new ≡ book self.old };
 
-    // Adds a rule, if any may be made.
+    // Adds a rule, if rules may be made.
     fn add(&mut self, rule: Entry) -> Option<Result<Warnings, RuleFault>>
         ensures answers { MatchOption result (writable ≡ false)
             (λ result. Answers result (added (book self.old) rule (refusal_of (book self.old) rule))) }

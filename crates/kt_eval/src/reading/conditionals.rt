@@ -28,7 +28,7 @@ impl<'a, M: Scope, F: Files> Evaluation<'a, M, F> {
         Err(Stop::Fault(self.fault(FaultKind::BadConditional, b"")?))
     }
 
-    // Whether the one macro that is named has a value, as it stands.
+    // Whether the macro with this name has an unexpanded value that isn't empty. It must be exactly one name.
     #[tactic(auto, unfolding(crate::specs::reading::Conditionals::is_set))]
     fn is_set(&self, names: &[u8]) -> Result<bool, Stop>
         ensures gives { Gives (λ b. b) result self.now.world (is_set (words_of names.now) self.now.world) }

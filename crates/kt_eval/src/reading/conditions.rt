@@ -16,7 +16,7 @@ pub(crate) struct Compared<'a> {
     pub second: &'a [u8],
 }
 
-// The two texts, in parentheses or in quotes; what follows them is ignored.
+// The two texts, in parentheses or in quotes. Text after them is ignored.
 #[tactic(auto, unfolding(crate::specs::reading::Conditions::compared_of))]
 pub(crate) fn compared_texts(text: &[u8]) -> Option<Compared<'_>>
     ensures { option_map compared_view result ≡ compared_of text.now }
@@ -78,7 +78,7 @@ fn in_quotes(text: &[u8]) -> Option<Compared<'_>>
     Some(Compared { first, second })
 }
 
-// A text in quotes, and what follows it.
+// A text in quotes, and the text after it.
 #[tactic(auto, unfolding(crate::specs::reading::Conditions::quoted))]
 fn quoted(text: &[u8]) -> Option<(&[u8], &[u8])>
     ensures { option_map (λ cut. (cut.0.now, cut.1.now)) result ≡ quoted text.now }
@@ -123,14 +123,14 @@ fn word_length(text: &[u8]) -> usize
     text.iter().take_while(|byte| !is_blank(**byte)).count()
 }
 
-// The first word of a text that begins with it.
+// The text before the first blank.
 pub(crate) fn word_before_blank(text: &[u8]) -> &[u8]
     ensures { result.now ≡ word_before_blank text.now }
 {
     &text[..word_length(text)]
 }
 
-// What follows the blanks after that.
+// The text after the first word and the blanks after it.
 pub(crate) fn text_after_word(text: &[u8]) -> &[u8]
     ensures { result.now ≡ text_after_word text.now }
 {

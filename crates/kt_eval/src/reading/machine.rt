@@ -1,4 +1,4 @@
-//! Makefiles read to their end.
+//! Reads makefiles to their end.
 
 ghost use Rattle.std.specs.Prelude.{◌≡◌, ◌≤◌, IfErr, IfOk, IfSome, None, OnOk, Some, map, true};
 ghost use Rattle.kt_eval.specs.Prefixes.{IsPrefix};
@@ -20,7 +20,7 @@ use std::alloc::{AllocError, Global};
 use std::marker::Model;
 use std::mem;
 
-/// What makefiles say.
+/// The result of reading makefiles.
 #[derive(Drop)]
 pub struct Reading {
     pub macros: Macros,
@@ -55,7 +55,7 @@ impl Model for Machine {
 }
 
 impl Machine {
-    /// Nothing is read yet. `SHELL`, `.SHELLFLAGS` and `MAKE` are set where they aren't.
+    /// A machine that has read nothing yet. Sets `SHELL`, `.SHELLFLAGS` and `MAKE`, unless they are set.
     pub fn new(alloc: Global, macros: Macros, limit: u64) -> Result<Machine, AllocError>
         ensures { IfOk result (λ machine. machine ≡ nothing_read limit macros) }
     {
@@ -73,12 +73,12 @@ impl Machine {
         })
     }
 
-    /// Reads the first of these files that is there.
+    /// Reads the first of these files that exists.
     ///
-    /// After a refusal each further call repeats it, or is out of memory where its copy is refused,
-    /// and asks for no file. Messages are appended in order; where memory is refused or a device
-    /// fails, a prefix of them, and a prefix of the names is asked for. A failed device is reported
-    /// by the name asked for last; nothing else is returned where one failed.
+    /// After a refusal each further call returns it again, or out of memory if it can't be copied, and asks for no
+    /// file. Messages are appended in order. If memory runs out or a device fails, only a prefix of them is, and only a
+    /// prefix of the names is asked for. A failed device is reported with the name asked for last; after such a failure
+    /// nothing else is returned.
     pub fn read_file<F: Files>(&mut self, files: &mut F, names: &[&str]) -> Result<(), Stop>
         ensures reads { self.old.refusal ≡ None → IfSome (F.seen files.old).known (λ store. Gives
             (λ _. read_by self.new) result (traced_by self.new (F.seen files.new).names)
@@ -108,7 +108,7 @@ impl Machine {
         result
     }
 
-    // Reads once. An empty book stands in for the one that is read into.
+    // Reads once. Meanwhile an empty book is in place of the machine's own.
     fn read<F: Files>(&mut self, files: &mut F, names: &[&str]) -> Result<(), Stop>
         ensures reads { IfSome (F.seen files.old).known (λ store. Gives (λ _. read_by self.new)
             result (traced_by self.new (F.seen files.new).names)
@@ -159,8 +159,8 @@ impl Machine {
     }
 }
 
-// Reads the first of these files that is there, from its first line to its end. The evaluation is made and ends here,
-// in a function without branches, so that the files are the caller's again.
+// Reads the first of these files that exists, from its first line to its end. The evaluation begins and ends here, in a
+// function without branches, so that the caller has the files again.
 fn read_once<F: Files>(
     alloc: Global,
     limit: u64,
@@ -206,7 +206,7 @@ fn read_once<F: Files>(
     (macros, messages, result)
 }
 
-// Sets a deferred macro that isn't there.
+// Sets a deferred macro, unless it is set.
 #[tactic(auto, unfolding(crate::specs::reading::Machine::with_default))]
 fn set_default(
     alloc: Global,
@@ -230,7 +230,7 @@ fn set_default(
     )
 }
 
-// The refusal once more, or being out of memory where its copy is refused.
+// A copy of the refusal, or out of memory if it can't be copied.
 fn copy_or_memory(alloc: Global, stop: &Stop) -> Stop
     ensures { IsCopy result stop.now }
 {

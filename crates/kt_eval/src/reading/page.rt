@@ -1,4 +1,4 @@
-//! A text that is read, with its lines and their blocks.
+//! A text that is read, with its lines and blocks.
 ghost use Rattle.std.specs.Prelude.{◌≡◌, ◌+◌, ◌<◌, ◌≤◌, ℕ, Bool, length, map, IfOk, IfSome, None, Some};
 ghost use Rattle.std.specs.List.{slice_get, slice_range};
 ghost use Rattle.kt_syntax.specs.Reading.{IsAhead, ReadsOn, left_at};
@@ -21,11 +21,11 @@ use std::marker::Model;
 pub(crate) enum Source {
     /// A file, by its name as it was asked for.
     File(Shared<u8>),
-    /// An `eval`.
+    /// The text of an `eval`.
     Held,
 }
 
-/// A logical line as it stands in its text.
+/// A logical line as written.
 #[derive(Clone, Copy)]
 pub(crate) struct RawLine<'a> {
     pub number: u64,
@@ -87,7 +87,7 @@ impl<'a> Page<'a> {
         self.source
     }
 
-    // The place of the first line, at which the whole tree is left.
+    // The place of the first line, where the whole tree remains to be read.
     pub(crate) fn first(&self) -> usize
         ensures whole { left_at self.now.blocks.steps result ≡ tree_of self.now.blocks.steps }
         ensures within { result ≤ length self.now.blocks.steps }
@@ -97,7 +97,7 @@ impl<'a> Page<'a> {
         0
     }
 
-    // The step of a line, counted from 0; none after the last one.
+    // The step of a line, counted from 0, or `None` after the last line.
     #[tactic(auto, using(crate::proofs::RootLemmas::none_left_past, std::proofs::lemmas::Option::slice_get_within))]
     pub(crate) fn step(&self, place: usize) -> Option<Step>
         ensures value { result ≡ slice_get self.now.blocks.steps place }
@@ -109,8 +109,8 @@ impl<'a> Page<'a> {
         self.blocks.get(place)
     }
 
-    // The branch that begins at a place, before that where reading goes on after all branches:
-    // whether it has a condition, and where the next one begins.
+    // The branch that begins at a place, if the place is before `after`, where reading continues after all branches:
+    // whether the branch has a condition, and where the next one begins.
     pub(crate) fn branch(&self, place: usize, after: usize) -> Option<(bool, usize)>
         ensures before { IfSome result (λ found. place < after) }
         ensures some { IfSome result (λ found. (more : ℕ)
@@ -137,7 +137,7 @@ impl<'a> Page<'a> {
         }
     }
 
-    // The place after that of a line.
+    // The place after a line.
     pub(crate) fn past(&self, place: usize) -> usize
         requires { place < length self.now.blocks.steps }
         ensures { result ≡ place + 1 }
@@ -167,7 +167,7 @@ impl<'a> Page<'a> {
         }
     }
 
-    // The lines from one place up to another as the value of a define.
+    // The lines from one place up to another, as the value of a define.
     #[tactic(auto, using(crate::proofs::BodyLemmas::body_lines), unfolding(crate::specs::macros::Assignments::body_text))]
     pub(crate) fn body(
         &self,
@@ -211,7 +211,7 @@ fn line_text<'a>(text: &'a [u8], line: &Line) -> &'a [u8]
     }
 }
 
-// Lines joined by newlines, each without its continuations.
+// Lines joined with newlines, each without its continuations.
 #[tactic(auto, using(crate::proofs::BodyLemmas::whole_body), unfolding(crate::proofs::BodyLemmas::left_of_body))]
 fn body_text(alloc: Global, text: &[u8], lines: &[Mark]) -> Result<Vec<u8>, AllocError>
     ensures { IfOk result (λ body. body.items ≡ body_text (map (line_text text.now) lines.now)) }

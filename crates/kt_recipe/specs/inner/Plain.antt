@@ -1,4 +1,4 @@
--- A shell whose values stand for themselves.
+-- A shell whose values expand to themselves.
 use Rattle.std.specs.Prelude.{ℕ, Bool, true, not, ◌&&◌, ◌==◌, ◌++◌, codes, Option, Some, None, if◌then◌else◌}
 use Rattle.std.specs.List.{list_any}
 use Rattle.kt_text.specs.Words.{Text}
@@ -7,7 +7,7 @@ use Rattle.kt_eval.specs.declared.macros.Flavour.TheVariants.{Deferred, Immediat
 use Rattle.kt_eval.specs.declared.macros.Macro.{Macro}
 use Rattle.kt_eval.specs.macros.Macros.{Table, find}
 
--- whether a value is what it is expanded to: it isn't expanded again, or a level is left and it refers to nothing
+-- whether a value expands to itself: it isn't expanded again, or a level is left and it has no dollar
 abbrev pub is_plain : ℕ → Flavour → Text → Bool
 is_plain limit Immediate value = true
 is_plain limit Deferred value = not (limit == 0) && not (list_any (λ byte. byte == 36) value)

@@ -1,4 +1,4 @@
--- A term's text is appended, with what needs no level of its own before the rest of it, and then the other terms.
+-- A term's text is appended, with what needs no further level before the rest of it, and then the other terms.
 use Rattle.std.proofs.Common.{◌≡◌, ℕ, Bool, List, [], ◌∷◌, ◌++◌, refl, sym, ap, ◌∙◌, append-nil}
 use Rattle.kt_text.specs.Words.{Text}
 use Rattle.kt_syntax.specs.Terms.{Token}
@@ -26,11 +26,11 @@ module _ (reads : Bool) (store : Store) (below : ℕ) where
   unfolding appended
   put_gives out new piece w left put = rw (term_put reads store below piece w left) (ap (λ t. Gave w t) (sym put))
 
-  -- what was appended of a term that isn't put is nothing
+  -- nothing was appended of a term that isn't put
   unput : (out now put : Text) → now ≡ out ++ put → put ≡ [] → now ≡ out
   unput out now put is nothing = is ∙ ap (λ t. out ++ t) nothing ∙ append-nil out
 
-  -- ---- a value that is left
+  -- ---- a value that remains
 
   pub value_fails : (stop : Stop) (out text : Text) (piece : Token) (w v : World) → Value text ≡ left_by below piece w
       → Early stop v ((evaluator reads store below).expand text w) → Early stop v (appended (evaluator reads store below) out piece w)
@@ -51,7 +51,7 @@ module _ (reads : Bool) (store : Store) (below : ℕ) where
   unfolding appended
   value_front out x text piece w v left gives = rw ((term_left reads store below piece text w left).0 ∙ gives) (stands v)
 
-  -- ---- a term of which all is left
+  -- ---- a term that remains as a whole
 
   pub whole_fails : (stop : Stop) (out : Text) (piece : Token) (w v : World)
       → Early stop v (term_of (evaluator reads store below) piece w) → Early stop v (appended (evaluator reads store below) out piece w)

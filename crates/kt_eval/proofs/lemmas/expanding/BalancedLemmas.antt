@@ -28,13 +28,13 @@ comma_closes Byte = refl
 comma_closes Parentheses = refl
 comma_closes Braces = refl
 
--- a front of a first part is one of the whole
+-- a prefix of a first part is one of the whole
 front_within : (n : ℕ) (xs ys : Text) → (m : ℕ) × (take m (xs ++ ys) ≡ take n xs)
 front_within zero xs ys = (0, refl)
 front_within (suc n) [] ys = (0, refl)
 front_within (suc n) (x ∷ xs) ys = let at = front_within n xs ys in (suc at.0, ap (λ (l : Text). x ∷ l) at.1)
 
--- and a front of the rest with all before it
+-- and a prefix of the rest, with all before it
 front_after : (n : ℕ) (xs rest : Text) → (m : ℕ) × (take m (xs ++ 44 ∷ rest) ≡ xs ++ 44 ∷ take n rest)
 front_after n [] rest = (suc n, refl)
 front_after n (x ∷ xs) rest = let at = front_after n xs rest in (suc at.0, ap (λ (l : Text). x ∷ l) at.1)

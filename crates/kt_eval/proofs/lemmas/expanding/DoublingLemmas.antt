@@ -12,7 +12,7 @@ use Rattle.kt_eval.specs.Outcome.{Outcome, Gave}
 use Rattle.kt_eval.specs.expanding.Expansion.{Evaluator, value_of, term_of, each_term, expanded}
 use Rattle.kt_eval.specs.expanding.Levels.{above, evaluator}
 
--- the expansion of what follows a given number of bytes, of which the expansion is known
+-- the expansion of what comes after a given number of bytes, whose expansion is known
 pub after : Evaluator → World → Text → ℕ → Text → Outcome World Text
 after e w out skip text = each_term e out (terms_after dropped skip text) w
 
@@ -36,7 +36,7 @@ after-dollars : (e : Evaluator) (w : World) (out text : Text)
 unfolding after each_term terms_after first_term after_dollar term_of
 after-dollars e w out text = refl
 
--- a run without dollar stands for itself
+-- a run without a dollar expands to itself
 after-run : (e : Evaluator) (w : World) (out : Text) (byte : ℕ) (text : Text) → (byte == 36) ≡ false
     → after e w out 0 (byte ∷ text) ≡ after e w (out ++ byte ∷ take (run text) text) (run text) text
 unfolding after each_term terms_after first_term term_of
@@ -51,12 +51,12 @@ after-nil : (e : Evaluator) (w : World) (out : Text) → after e w out 0 [] ≡ 
 unfolding after each_term terms_after
 after-nil e w out = refl
 
--- a text with its dollars doubled, in a run of which the bytes in front are there already
+-- a text with its dollars doubled, in a run whose first bytes are there already
 abbrev Runs : Evaluator → World → Text → Text → Type 0
 Runs e w out text = after e w (out ++ take (run (doubled text)) (doubled text)) (run (doubled text)) (doubled text)
     ≡ Gave w (out ++ text)
 
--- and at its begin
+-- and at its start
 abbrev Starts : Evaluator → World → Text → Text → Type 0
 Starts e w out text = after e w out 0 (doubled text) ≡ Gave w (out ++ text)
 
@@ -119,7 +119,7 @@ pub doubled-expanded : (e : Evaluator) (w : World) (text : Text) → expanded e 
 unfolding expanded terms_of after
 doubled-expanded e w text = (doubles e w text).starts []
 
--- the macro that is left stands for the text
+-- the macro that is set expands to the text
 pub doubled-found : (reads : Bool) (store : Store) (levels : ℕ) (text : Text) (w : World)
     → value_of (evaluator reads store (suc levels)) (Some (found_of (set_by_makefile Deferred (doubled text)))) w
     ≡ Gave w text

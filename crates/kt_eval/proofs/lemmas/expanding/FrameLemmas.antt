@@ -12,7 +12,7 @@ unfolding innermost
 inner_first name found [] frame = refl
 inner_first name found (other ∷ frames) frame = inner_first name (newer found (seen name other)) frames frame
 
--- the innermost of them says something
+-- the innermost of them has a value
 pub innermost_says : (name : Text) (left outer : List Frame) (frame : Frame) (value : Text) (whole : Option Text) → left ≡ outer ++ frame ∷ []
     → Some value ≡ seen name frame → innermost name None left ≡ whole → Some value ≡ whole
 innermost_says name left outer frame value whole cut says is =
@@ -22,14 +22,14 @@ none_of : (said : Option Text) → ((value : Text) → said ≡ Some value → �
 none_of None none = refl
 none_of (Some value) none = absurd (none value refl)
 
--- it says nothing, so the others are asked
+-- it has none, so the others are searched
 pub innermost_silent : (name : Text) (left outer : List Frame) (frame : Frame) (said whole : Option Text) → left ≡ outer ++ frame ∷ []
     → said ≡ seen name frame → ((value : Text) → said ≡ Some value → ⊥) → innermost name None left ≡ whole
     → innermost name None outer ≡ whole
 innermost_silent name left outer frame said whole cut says none is =
     ap (newer (innermost name None outer)) (none_of said none ∙ says) ∙ sym (inner_first name None outer frame) ∙ sym (ap (innermost name None) cut) ∙ is
 
--- what lends no text says none
+-- what borrows no text has no value
 pub none_seen : (found : Option (Bor Text)) → ((value : Bor Text) → found ≡ Some value → ⊥)
     → (value : Text) → option_map (λ (lent : Bor Text). lent.now) found ≡ Some value → ⊥
 none_seen None none value is = true≢false (sym (ap is_some is))

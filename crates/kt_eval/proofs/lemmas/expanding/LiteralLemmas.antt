@@ -1,4 +1,4 @@
--- A text that refers to nothing is expanded to itself.
+-- A text without a dollar expands to itself.
 use Rattle.std.proofs.Common.{◌≡◌, Bool, true, false, ◌==◌, ◌||◌, [], ◌∷◌, refl, sym, append-nil, true≢false}
 use Rattle.std.specs.List.{list_any}
 use Rattle.kt_text.specs.Words.{Text}

@@ -1,4 +1,4 @@
--- What a term gives without a level of its own is what it gives.
+-- What a term gives without a further level is its expansion.
 use Rattle.std.proofs.Common.{◌≡◌, ℕ, zero, suc, ◌+◌, Bool, true, false, not, ◌==◌, ◌&&◌, [], ◌∷◌, length, Option, Some, None, if◌then◌else◌, unwrap_or, refl, sym, ap, ◌∙◌, arith, true≢false}
 use Rattle.std.proofs.lemmas.Bool.{and_parts, eq-eqb}
 use Rattle.std.specs.Prelude.{is_some}
@@ -50,7 +50,7 @@ module _ (reads : Bool) (store : Store) (below : ℕ) where
   put_when flavour value w true is none = plain_is reads store below flavour value w is
   put_when flavour value w false is none = absurd (no_text value none)
 
-  -- what stands for itself is given as it is
+  -- a value that expands to itself is appended as it is
   pub value_put : (found : Option Found) (w : World) → None ≡ still_deferred below found
       → value_of (evaluator reads store below) found w ≡ Gave w (put_of below found)
   unfolding value_of put_of still_deferred
@@ -63,7 +63,7 @@ module _ (reads : Bool) (store : Store) (below : ℕ) where
   left_when flavour value text w false is some =
       (deferred_is (evaluator reads store below) below flavour value w is ∙ ap (λ o. (evaluator reads store below).expand (unwrap_or o []) w) (sym some), refl)
 
-  -- what is left is expanded, and nothing of it is put
+  -- a value that remains is expanded, and nothing of it was appended
   pub value_expanded : (found : Option Found) (text : Text) (w : World) → Some text ≡ still_deferred below found
       → (value_of (evaluator reads store below) found w ≡ (evaluator reads store below).expand text w) × (put_of below found ≡ [])
   unfolding value_of put_of still_deferred
@@ -160,7 +160,7 @@ module _ (reads : Bool) (store : Store) (below : ℕ) where
       ∙ value_put reads store below (lookup body w) w (none_left (still_deferred below (lookup body w)) left)
   named_put mark body w false is left = absurd (true≢false (ap is_nothing left))
 
-  -- where nothing is left, what was put is what the term gives
+  -- if nothing remains, what was appended is the term's expansion
   pub term_put : (piece : Token) (w : World) → Nothing ≡ left_by below piece w
       → term_of (evaluator reads store below) piece w ≡ Gave w (put_by below piece w)
   unfolding term_of left_by put_by
@@ -178,7 +178,7 @@ module _ (reads : Bool) (store : Store) (below : ℕ) where
       (plainly_is (evaluator reads store below) mark body w is ∙ found.0, found.1)
   named_left mark body text w false is left = absurd (true≢false (ap is_value left))
 
-  -- where a value is left, the term gives what that is expanded to, and nothing was put
+  -- if a value remains, its expansion is the term's, and nothing was appended
   pub term_left : (piece : Token) (text : Text) (w : World) → Value text ≡ left_by below piece w
       → (term_of (evaluator reads store below) piece w ≡ (evaluator reads store below).expand text w) × (put_by below piece w ≡ [])
   unfolding term_of left_by put_by
@@ -187,7 +187,7 @@ module _ (reads : Bool) (store : Store) (below : ℕ) where
   term_left (reference mark body) text w is = named_left mark body text w (names_plainly mark body) refl is
   term_left unclosed text w is = absurd (true≢false (ap is_value is))
 
--- where all of it is left, nothing was put
+-- if the whole term remains, nothing was appended
 named_whole : (below : ℕ) (body : Text) (w : World) (b : Bool) → Whole ≡ (if b then value_left (still_deferred below (lookup body w)) else Whole)
     → (if b then put_of below (lookup body w) else []) ≡ []
 named_whole below body w true left = absurd (not_whole (still_deferred below (lookup body w)) left)

@@ -19,7 +19,7 @@ in_the_end : (w : World) (outcome : Outcome World Text) → GoesOn w (left_of ou
 in_the_end w (Gave v x) h = (h.0 told, h.1 told)
 in_the_end w (Stopped v x) h = (h.0 told, h.1 told)
 
--- what an expansion gives is how it ends
+-- the result of an expansion is how it ends
 gives_so : (result : Result (Vec ℕ Global) Stop) (w : World) (outcome : Outcome World Text) → Gives (λ v. v.items) result w outcome
     → Gives (λ v. v.items) result w.said (leaving (λ w. w.said) outcome)
 gives_so (Ok x) w outcome h = rw h refl
@@ -41,11 +41,11 @@ none_failed (Err (stops.Fault fault)) asked b = tt
 none_failed (Err (stops.Device name)) asked b = absurd (omega (arith, b.0))
 none_failed (Err stops.Memory) asked b = tt
 
--- a prefix by other names
+-- a prefix with other names
 pub front_by : (old new old' new' : List Text) → old ≡ old' → new ≡ new' → IsPrefix old new → IsPrefix old' new'
 front_by old new old' new' e f h = rw (sym e, sym f) h
 
--- what is said of an expansion, by what is held at its end
+-- what is said of an expansion, from the state at its end
 pub says_when : (limit : ℕ) (text : Text) (table : Table) (automatic : Store) (place : Option Place) (before : List Text) (frames : List Frame)
     (result : Result (Vec ℕ Global) Stop) (w : World) (failed : ℕ) (before' said' : List Text)
     → frames ≡ [] → before ≡ before' → w.said ≡ said' → failed ≡ 0 → BlamesBy result 0 failed w.asked

@@ -1,4 +1,4 @@
--- The arguments of a call, each without what stands before it.
+-- The arguments of a call, each without the text before it.
 use Rattle.std.proofs.Common.{◌≡◌, ◌==◌, ◌&&◌, ◌≤◌, ◌+◌, ◌-◌, ℕ, zero, suc, true, false, List, [], ◌∷◌, ◌++◌, Option, Some, None, length, take, drop, get_or, refl, sym, ap, subst, ◌∙◌, append_assoc, append-nil, ⊎_elim, arith, if◌then◌else◌}
 use Rattle.std.proofs.lemmas.Bool.{cases_Bool, eqb-true, eq-eqb, and_from, and_parts, false_from_ne_true, true≢false, false≢true}
 use Rattle.std.specs.List.{All, join_with_byte, onto_first}
@@ -11,7 +11,7 @@ use Rattle.kt_syntax.proofs.Closing.{count_yes, count_no, count_nil}
 use Rattle.kt_eval.specs.expanding.Calls.{opener, closer, may_cut, cuts, one_less, nested, arguments_from, arguments_of}
 use Rattle.kt_eval.specs.expanding.Arguments.{IsClosed, HoldsNoCut, IsUpTo, AreArguments}
 
--- the arguments of a text in which so many marks are open
+-- the arguments of a text in which this many marks are open
 unfoldable pub split : Mark → Option ℕ → ℕ → Text → List Text
 split mark left depth [] = [] ∷ []
 split mark left depth (byte ∷ text) =
@@ -109,7 +109,7 @@ no_closer Byte byte h = ap (λ (b : ℕ). b == 41) (eqb-true byte 40 h)
 no_closer Parentheses byte h = ap (λ (b : ℕ). b == 41) (eqb-true byte 40 h)
 no_closer Braces byte h = ap (λ (b : ℕ). b == 125) (eqb-true byte 123 h)
 
--- what one byte more in front changes of the counts and of the depth
+-- what one more byte at the start changes in the counts and the depth
 data Moves (mark : Mark) (depth byte : ℕ) (text : Text) : Type 0 where
   opens : (nested mark depth byte ≡ depth + 1)
       → (count_of (opener mark) (byte ∷ text) ≡ 1 + count_of (opener mark) text)
@@ -149,7 +149,7 @@ cons_closed : (mark : Mark) (byte : ℕ) (text : Text)
 cons_closed mark byte text h closed zero = h
 cons_closed mark byte text h closed (suc n) = closed n
 
--- one byte more in front
+-- one more byte at the start
 closes_cons : (mark : Mark) (depth byte : ℕ) (text : Text) → ClosesAll mark (nested mark depth byte) text
     → count_of (opener mark) (byte ∷ text) + depth ≤ count_of (closer mark) (byte ∷ text)
     → ClosesAll mark depth (byte ∷ text)
@@ -204,7 +204,7 @@ closes_to mark depth [] k =
 closes_to mark depth (byte ∷ text) k =
     closes_to mark (nested mark depth byte) text (closes_less mark depth byte text (moves mark depth byte text) k)
 
--- a text is closed where no mark is open at its end
+-- a text is closed if no mark is open at its end
 pub closed_from : (mark : Mark) (text : Text) → open_after mark 0 text ≡ 0 → IsClosed mark text
 closed_from mark text e = (closes_from mark 0 text e).backs
 
@@ -220,7 +220,7 @@ all_head P first others all = all 0 first (omega arith)
 pub all_tail : (P : Text → Type 0) (first : Text) (others : List Text) → All P (first ∷ others) → All P others
 all_tail P first others all k d within = all (suc k) d (omega (arith, within))
 
--- no byte of a text, before which so many marks are open, cuts
+-- no byte of a text cuts, before which this many marks are open
 abbrev Uncut : Mark → ℕ → Text → Type 0
 Uncut mark depth text = (front back : Text) → text ≡ front ++ 44 ∷ back → open_after mark depth front ≡ 0 → ⊥
 
@@ -303,7 +303,7 @@ one_more_used None count more up = tt
 one_more_used (Some zero) count more up = absurd (false≢true more)
 one_more_used (Some (suc most)) count more up = omega (arith, up)
 
--- arguments of which there is a first
+-- arguments with a first one
 record Shape (mark : Mark) (limit : Option ℕ) (text first : Text) (others : List Text) : Type 0 where
   joined : join_with_byte 44 (first ∷ others) ≡ text
   few : IsUpTo limit (length others)
@@ -370,7 +370,7 @@ arguments_only mark limit text (first ∷ others) are =
 
 -- ---- and there is one
 
--- the arguments of a text before which so many marks are open
+-- the arguments of a text before which this many marks are open
 Parts : Mark → Option ℕ → ℕ → Text → Text → List Text → Type 0
 Parts mark limit depth text first [] = (first ≡ text) × (may_cut limit ≡ true → Uncut mark depth first)
 Parts mark limit depth text first (next ∷ others) =

@@ -1,4 +1,4 @@
--- The words of the map and those of the table.
+-- The map of the code and the table of the definitions.
 use Rattle.std.proofs.Common.{◌≡◌, ℕ, Bool, true, false, true≢false, cond, bytes_eq, List, [], ◌∷◌, map, Option, Some, None, option_map, is_some, Bor, refl, sym, ap}
 use Rattle.std.specs.Prelude.{Vec, option_copied}
 use Rattle.std.specs.declared.alloc.Global.{Global}
@@ -10,11 +10,11 @@ use Rattle.kt_eval.specs.macros.Macros.{find, put}
 abbrev Pair : Type 0
 Pair = Vec ℕ Global × Macro
 
--- an entry as the table has it
+-- an entry as one of the table
 abbrev pub entry_of : Pair → List ℕ × Macro
 entry_of entry = (entry.0.items, entry.1)
 
--- what a reference shows is what is copied from after it
+-- what a reference shows is a copy of what it refers to
 pub seen : (r : Option (Bor Macro)) → option_map (λ m. m.now) r ≡ option_copied r
 seen None = refl
 seen (Some m) = refl
@@ -45,7 +45,7 @@ set_cond : (b : Bool) (e : Pair) (es left : List Pair) (v old : Macro) (found : 
 set_cond true e es left v old found right rest at = refl
 set_cond false e es left v old found right rest at = ap (λ l. entry_of e ∷ l) (rest at)
 
--- and so does a write over the value of a name that is there
+-- and so does overwriting the value of a name that is there
 pub set_entries : (name : List ℕ) (es : List Pair) (v old : Macro) → lookup (λ k. bytes_eq name k.items) es ≡ Some old
     → map entry_of (set_value (λ k. bytes_eq name k.items) es v) ≡ put name v (map entry_of es)
 unfolding put

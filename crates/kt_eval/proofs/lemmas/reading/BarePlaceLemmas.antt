@@ -8,13 +8,13 @@ use Rattle.kt_syntax.proofs.Closing.{Closes, after-close, after-open, after-othe
 use Rattle.kt_eval.specs.reading.Conditions.{bare_place}
 use Rattle.kt_eval.specs.reading.BarePlaces.{BarePlaceLaw, IsBare, IsFirstBare}
 
--- the byte stands there, and with a given number open before the text each is closed before it
+-- the byte is at the place, and with a given number open before the text each is closed before it
 record IsBareIn (wanted depth : ℕ) (text : Text) (place : ℕ) : Type 0 where
   within : place < length text
   is : slice_index text place ≡ wanted
   closes : Closes 40 41 depth (take place text)
 
--- what the search gives for a text that begins at a place
+-- the result of the search for a text that begins at a place
 abbrev Search : ℕ → ℕ → ℕ → Text → Option ℕ → Type 0
 Search wanted depth at text found =
     MatchOption found ((k : ℕ) → ¬ IsBareIn wanted depth text k)
@@ -33,7 +33,7 @@ module _ (wanted depth deeper byte : ℕ) (text : Text) (out : (t : Text) → Cl
   none_at_all not_here later zero bare = not_here bare
   none_at_all not_here later (suc k) bare = later k (tail k bare)
 
--- one byte that isn't it
+-- one byte that isn't the one
 onward : (wanted depth deeper at byte : ℕ) (text : Text) → ¬ IsBareIn wanted depth (byte ∷ text) 0 → ((t : Text) → Closes 40 41 depth (byte ∷ t) → Closes 40 41 deeper t)
     → ((t : Text) → Closes 40 41 deeper t → Closes 40 41 depth (byte ∷ t)) → (found : Option ℕ) → Search wanted deeper (at + 1) text found
     → Search wanted depth at (byte ∷ text) found
@@ -52,7 +52,7 @@ onward wanted depth deeper at byte text not_here out back (Some place) later = (
     further : (a p size : ℕ) → p ≡ (a + 1) + size → p ≡ a + suc size
     further a p size e = omega arith
 
--- the empty front closes what is open only where nothing is
+-- the empty part at the start closes what is open only if nothing is
 nothing_open : (depth : ℕ) → Closes 40 41 depth [] → depth ≡ 0
 nothing_open depth c = let a = count_nil 40 in let b = count_nil 41 in let e = c.even in omega arith
 
@@ -104,7 +104,7 @@ above_zero : (n : ℕ) → (n == 0) ≡ false → 0 < n
 above_zero zero h = absurd (false≢true (sym h))
 above_zero (suc n) h = omega arith
 
--- one that closes what isn't open
+-- a closing one without its opening one
 no_more : (wanted depth byte : ℕ) (text : Text) → (depth == 0 && byte == wanted) ≡ false → (byte == 40) ≡ false → (byte == 41) ≡ true → depth ≡ 0
     → (k : ℕ) → ¬ IsBareIn wanted depth (byte ∷ text) k
 no_more wanted depth byte text h g f z zero bare = not_this wanted depth byte text h bare

@@ -19,11 +19,11 @@ use Rattle.kt_eval.proofs.lemmas.StepLemmas.{read_first_front}
 both_fronts : (v w : World) → GoesOn v w → ComesBefore (trace_of v) (trace_of w)
 both_fronts v w g = ((g.0 told, g.1 told), (g.0 asked_for, g.1 asked_for))
 
--- the end of a reading, by that of its lines
+-- the end of a reading, from that of its lines
 abbrev pub ended : Outcome World (Unit {0}) → Outcome Trace Read
 ended outcome = leaving trace_of (then_do outcome (λ _ w. Gave w (read_of w.table w.book)))
 
--- what a reading gives is how it ends
+-- the result of a reading is how it ends
 ends_so : (result : Result (Unit {0}) Stop) (w : World) (outcome : Outcome World (Unit {0})) → Gives (λ u. u) result w outcome
     → Gives (λ _. read_of w.table w.book) result (trace_of w) (ended outcome)
 ends_so (Ok x) w outcome h = rw h refl
@@ -45,7 +45,7 @@ cut_so (Err stops.Memory) w outcome h = in_the_end w outcome h
 module _ (names : List Text) (limit : ℕ) (before : Read) (trace : Trace) (frames : List Frame) (result : Result (Unit {0}) Stop)
     (w : World) (table : Table) (book : List Rule) (said asked : List Text) (empty : frames ≡ []) (t : w.table ≡ table) (b : w.book ≡ book)
     (s : w.said ≡ said) (a : w.asked ≡ asked) where
-  -- a reading by what is held at its end, where the bytes of the named files are known
+  -- a reading, from the state at its end, if the bytes of the named files are known
   pub reads_when : (known : Option Store)
       → (AreKnown known → Gives (λ u. u) result w (read_first (store_of known) (evaluator true (store_of known) limit) names (record (first_world before trace) { frames = frames })))
       → IfSome known (λ store. Gives (λ _. read_of table book) result (traced said asked) (reading store names limit before trace))

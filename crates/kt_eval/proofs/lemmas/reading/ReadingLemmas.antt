@@ -39,7 +39,7 @@ module _ (e : Evaluator) (sheet : Sheet) where
       then_more (cond chosen (read_items e sheet first) (read_branches e sheet branches) w1) _ _ _ (λ _ w2.
       then_more (late_else sheet branches w2) _ _ _ (λ _ w3. read_append next others w3)))
 
-  -- what follows the branch that was read
+  -- what comes after the branch that was read
   read_after : (branches : Branches) (next : Items) (w : World)
       → read_items e sheet (after_branches branches next) w ≡ then_do (late_else sheet branches w) (λ _. read_items e sheet next)
   unfolding read_items late_else
@@ -51,7 +51,7 @@ module _ (e : Evaluator) (sheet : Sheet) where
   abbrev left : List Found → ℕ → Step (Unit {0})
   left steps place = read_items e sheet (left_at steps place)
 
-  -- some branches are left to be tried, from a place on
+  -- some branches remain to be tried, from a place on
   pub record Tries (steps : List Found) (at after : ℕ) (w : World) (whole : Outcome World (Unit {0})) : Type 0 where
     pub others : Branches
     pub tried : AreTried steps others at after

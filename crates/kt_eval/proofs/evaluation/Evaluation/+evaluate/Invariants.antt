@@ -1,5 +1,5 @@
--- The order of the cycle: each function ranks above those that it calls at the same level. The loops: what is left to do
--- from here is what was to be done from the start.
+-- The order of the cycle: each function ranks above those that it calls at the same level. The loops: what remains to
+-- be done from here is what was to be done from the start.
 use Rattle.std.proofs.Common.{◌≡◌, ◌<◌, ◌≤◌, ◌+◌, ◌-◌, ◌*◌, [], length, map, drop}
 use Rattle.kt_text.specs.Words.{words_of}
 use Rattle.kt_syntax.specs.Terms.{terms_of}
