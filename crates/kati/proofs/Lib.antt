@@ -14,6 +14,8 @@ pub mod ReadBackLemmas
 pub mod TellLemmas
 pub mod AskedLemmas
 pub mod ExactLemmas
+pub mod NeededLemmas
+pub mod WritableLemmas
 pub mod SoundLemmas
 pub mod OnceLemmas
 pub mod SingleLemmas

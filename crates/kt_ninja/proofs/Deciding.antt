@@ -113,7 +113,7 @@ all_fine n (s ∷ ss) e =
     both_true (fine s) (list_all fine ss) (fine_from_none n s (or_first (obstacle_of_statement n s) _ e))
     (all_fine (n + 1) ss (or_second (obstacle_of_statement n s) _ e))
 
-no_obstacle : (n : ℕ) (ss : List Statement) → list_all fine ss ≡ true → obstacle_of_statements n ss ≡ None
+pub no_obstacle : (n : ℕ) (ss : List Statement) → list_all fine ss ≡ true → obstacle_of_statements n ss ≡ None
 no_obstacle n [] e = refl
 no_obstacle n (s ∷ ss) e =
     or_none (obstacle_of_statement n s) _ (none_from_fine n s (first_true (fine s) (list_all fine ss) e))

@@ -48,7 +48,8 @@ fn all_name_bytes(bytes: &[u8]) -> bool
     bytes.iter().all(|byte| is_written_name_byte(*byte))
 }
 
-fn all_command_bytes(bytes: &[u8]) -> bool
+/// Whether commands can have each of the bytes: none is a CR, LF or NUL.
+pub fn commands_can_have(bytes: &[u8]) -> bool
     ensures { result ≡ list_all is_command_byte bytes.now }
 {
     bytes.iter().all(|byte| is_written_command_byte(*byte))
@@ -60,7 +61,8 @@ fn has_no_bytes(bytes: &[u8]) -> bool
     matches!(bytes, [])
 }
 
-fn is_written_name(name: &[u8]) -> bool
+/// Whether a name can be written: it has a byte, and no bar, CR, LF or NUL.
+pub fn name_can_be_written(name: &[u8]) -> bool
     ensures { result ≡ is_name name.now }
 {
     !has_no_bytes(name) && all_name_bytes(name)
@@ -70,7 +72,7 @@ fn is_written_command(command: Option<&[u8]>) -> bool
     ensures { result ≡ is_made (made_by (option_map (λ text. text.now) command.entry)) }
 {
     match command {
-        Some(command) => !has_no_bytes(command) && all_command_bytes(command),
+        Some(command) => !has_no_bytes(command) && commands_can_have(command),
         None => true,
     }
 }
@@ -81,7 +83,7 @@ fn first_bad_name<V: PlanView>(view: &V, list: Listed) -> Option<&[u8]>
 {
     for place in 0..view.name_count(list) {
         let name = view.name(list, place);
-        if !is_written_name(name) {
+        if !name_can_be_written(name) {
             return Some(name);
         }
     }
