@@ -9,12 +9,13 @@ use Rattle.kt_ninja.specs.View.{made_at, made_by, names_at}
 use Rattle.kt_ninja.specs.Written.{SinkSeen}
 
 module _ {S : Type 0} (seen : S → SinkSeen) (old new : Block S) (found : Option Statement) (s : Statement) (is : found ≡ Some s) where
-  pub names_put : (names : Statement → List (List ℕ)) → Puts seen old new (names_text (names_at names found)) → Puts seen old new (names_text (names s))
-  names_put names h = subst (λ (o : Option Statement). Puts seen old new (names_text (names_at names o))) is h
+  pub names_put : (names : Statement → List (List ℕ)) (list : List (List ℕ)) → list ≡ names_at names found → Puts seen old new (names_text list)
+      → Puts seen old new (names_text (names s))
+  names_put names list same h = subst (λ (l : List (List ℕ)). Puts seen old new (names_text l)) (same ∙ ap (names_at names) is) h
 
-  pub marked_put : (mark : List ℕ) (names : Statement → List (List ℕ)) → Puts seen old new (marked_text mark (names_at names found))
-      → Puts seen old new (marked_text mark (names s))
-  marked_put mark names h = subst (λ (o : Option Statement). Puts seen old new (marked_text mark (names_at names o))) is h
+  pub marked_put : (mark : List ℕ) (names : Statement → List (List ℕ)) (list : List (List ℕ)) → list ≡ names_at names found
+      → Puts seen old new (marked_text mark list) → Puts seen old new (marked_text mark (names s))
+  marked_put mark names list same h = subst (λ (l : List (List ℕ)). Puts seen old new (marked_text mark l)) (same ∙ ap (names_at names) is) h
 
   pub rule_name_put : (number : ℕ) (command : Option (List ℕ)) → made_by command ≡ made_at found → Puts seen old new (rule_name_text number (made_by command))
       → Puts seen old new (rule_name_text number s.made)

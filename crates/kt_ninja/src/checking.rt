@@ -10,7 +10,7 @@ ghost use Rattle.kt_ninja.specs.Writable.{is_made, is_name, is_name_byte, not_ma
 ghost use Rattle.kt_ninja.specs.Writable.{obstacle_of_statements};
 
 use crate::plan::Plan;
-use crate::view::{Listed, PlanView};
+use crate::view::{Listed, NamesView, PlanView};
 use thiserror::Error;
 
 /// What keeps a plan from being written. Numbers are those of the plan's statements, from 0.
@@ -77,12 +77,12 @@ fn is_written_command(command: Option<&[u8]>) -> bool
     }
 }
 
-/// The first name of a list that can't be written.
-fn first_bad_name<V: PlanView>(view: &V, list: Listed) -> Option<&[u8]>
-    ensures { option_map (λ name. name.now) result ≡ find (λ n. not (is_name n)) (names_listed (V.plan view.now) list) }
+/// The first of the names that can't be written.
+fn first_bad<'a, N: NamesView<'a>>(names: &N) -> Option<&'a [u8]>
+    ensures { option_map (λ name. name.now) result ≡ find (λ n. not (is_name n)) (N.names names.now) }
 {
-    for place in 0..view.name_count(list) {
-        let name = view.name(list, place);
+    for place in 0..names.len() {
+        let name = names.name(place);
         if !name_can_be_written(name) {
             return Some(name);
         }
@@ -90,11 +90,24 @@ fn first_bad_name<V: PlanView>(view: &V, list: Listed) -> Option<&[u8]>
     None
 }
 
-fn first_without_output<V: PlanView>(view: &V) -> Option<usize>
+/// The first name of a list that can't be written.
+fn first_bad_name<'a, V: PlanView<'a>>(view: &'a V, list: Listed) -> Option<&'a [u8]>
+    ensures { option_map (λ name. name.now) result ≡ find (λ n. not (is_name n)) (names_listed (V.plan view.now) list) }
+{
+    first_bad(&view.names(list))
+}
+
+fn has_no_output<'a, V: PlanView<'a>>(view: &'a V, statement: usize) -> bool
+    ensures { result ≡ is_empty (names_listed (V.plan view.now) (Outputs statement)) }
+{
+    view.names(Listed::Outputs(statement)).len() == 0
+}
+
+fn first_without_output<'a, V: PlanView<'a>>(view: &'a V) -> Option<usize>
     ensures { result ≡ position_from (λ s. is_empty s.outs) 0 (V.plan view.now).statements }
 {
     for statement in 0..view.statement_count() {
-        if view.name_count(Listed::Outputs(statement)) == 0 {
+        if has_no_output(view, statement) {
             return Some(statement);
         }
     }
@@ -102,12 +115,12 @@ fn first_without_output<V: PlanView>(view: &V) -> Option<usize>
 }
 
 /// Whether the name is among so many of a list.
-fn holds<V: PlanView>(view: &V, list: Listed, count: usize, name: &[u8]) -> bool
-    requires { count ≤ length (names_listed (V.plan view.now) list) }
-    ensures { result ≡ is_among (take count (names_listed (V.plan view.now) list)) name.now }
+fn holds<'a, N: NamesView<'a>>(names: &N, count: usize, name: &[u8]) -> bool
+    requires { count ≤ length (N.names names.now) }
+    ensures { result ≡ is_among (take count (N.names names.now)) name.now }
 {
     for place in 0..count {
-        if name == view.name(list, place) {
+        if name == names.name(place) {
             return true;
         }
     }
@@ -115,15 +128,15 @@ fn holds<V: PlanView>(view: &V, list: Listed, count: usize, name: &[u8]) -> bool
 }
 
 /// Whether the name is an output of a statement.
-fn is_made_at<V: PlanView>(view: &V, statement: usize, name: &[u8]) -> bool
+fn is_made_at<'a, V: PlanView<'a>>(view: &'a V, statement: usize, name: &[u8]) -> bool
     ensures { result ≡ is_among (names_listed (V.plan view.now) (Outputs statement)) name.now }
 {
-    let outs = Listed::Outputs(statement);
-    holds(view, outs, view.name_count(outs), name)
+    let outs = view.names(Listed::Outputs(statement));
+    holds(&outs, outs.len(), name)
 }
 
 /// Whether one of so many statements makes the name.
-fn is_made_by<V: PlanView>(view: &V, count: usize, name: &[u8]) -> bool
+fn is_made_by<'a, V: PlanView<'a>>(view: &'a V, count: usize, name: &[u8]) -> bool
     requires { count ≤ length (V.plan view.now).statements }
     ensures { result ≡ list_any (λ s. is_among s.outs name.now) (take count (V.plan view.now).statements) }
 {
@@ -135,7 +148,7 @@ fn is_made_by<V: PlanView>(view: &V, count: usize, name: &[u8]) -> bool
     false
 }
 
-fn is_output<V: PlanView>(view: &V, count: usize, name: &[u8]) -> bool
+fn is_output<'a, V: PlanView<'a>>(view: &'a V, count: usize, name: &[u8]) -> bool
     requires { count ≤ length (V.plan view.now).statements }
     ensures { result ≡ is_among (outputs (take count (V.plan view.now).statements)) name.now }
 {
@@ -144,7 +157,7 @@ fn is_output<V: PlanView>(view: &V, count: usize, name: &[u8]) -> bool
 
 /// The first name of the statement that can't be written.
 #[tactic(auto, using(crate::proofs::Troubles::find_in_found))]
-fn bad_name_of<V: PlanView>(view: &V, statement: usize) -> Option<&[u8]>
+fn bad_name_of<'a, V: PlanView<'a>>(view: &'a V, statement: usize) -> Option<&'a [u8]>
     ensures { option_map (λ name. name.now) result
         ≡ find (λ n. not (is_name n)) (names_at names_of (slice_get (V.plan view.now).statements statement)) }
 {
@@ -160,7 +173,10 @@ fn bad_name_of<V: PlanView>(view: &V, statement: usize) -> Option<&[u8]>
     first_bad_name(view, Listed::OrderOnly(statement))
 }
 
-fn statement_can_be_written<V: PlanView>(view: &V, statement: usize) -> Result<(), Unwritable<'_>>
+fn statement_can_be_written<'a, V: PlanView<'a>>(
+    view: &'a V,
+    statement: usize,
+) -> Result<(), Unwritable<'a>>
     ensures { obstacle_in result ≡ obstacle_at statement (slice_get (V.plan view.now).statements statement) }
 {
     if let Some(name) = bad_name_of(view, statement) {
@@ -176,14 +192,14 @@ fn statement_can_be_written<V: PlanView>(view: &V, statement: usize) -> Result<(
 /// Whether each name and each command of the plan can be written, and else the first that can't, statement by
 /// statement, names first: `BadName` or `BadCommand`. Looks at each byte at most once, at no other part of the plan,
 /// and takes no memory.
-pub fn texts_can_be_written<V: PlanView>(view: &V) -> Result<(), Unwritable<'_>>
+pub fn texts_can_be_written<'a, V: PlanView<'a>>(view: &'a V) -> Result<(), Unwritable<'a>>
     ensures obstacle { obstacle_in result ≡ obstacle_of_statements 0 (V.plan view.now).statements }
     ensures writable { IsOk result ↔ HasWritableTexts (V.plan view.now) }
 {
     first_bad_text(view)
 }
 
-fn first_bad_text<V: PlanView>(view: &V) -> Result<(), Unwritable<'_>>
+fn first_bad_text<'a, V: PlanView<'a>>(view: &'a V) -> Result<(), Unwritable<'a>>
     ensures { obstacle_in result ≡ obstacle_of_statements 0 (V.plan view.now).statements }
 {
     for statement in 0..view.statement_count() {
@@ -194,34 +210,52 @@ fn first_bad_text<V: PlanView>(view: &V) -> Result<(), Unwritable<'_>>
     Ok(())
 }
 
-/// Whether the name is an output of an earlier statement, or among so many of the statement's own.
-fn is_repeated<V: PlanView>(view: &V, statement: usize, count: usize, name: &[u8]) -> bool
+/// Whether the name is an output of one of so many statements, or among so many of a list.
+fn is_repeated<'a, V: PlanView<'a>>(
+    view: &'a V,
+    statement: usize,
+    outs: &V::Names,
+    count: usize,
+    name: &[u8],
+) -> bool
     requires statement { statement ≤ length (V.plan view.now).statements }
-    requires count { count ≤ length (names_listed (V.plan view.now) (Outputs statement)) }
+    requires count { count ≤ length (V.Names.names outs.now) }
     ensures { result ≡ (is_among (outputs (take statement (V.plan view.now).statements)) name.now
-        || is_among (take count (names_listed (V.plan view.now) (Outputs statement))) name.now) }
+        || is_among (take count (V.Names.names outs.now)) name.now) }
 {
-    is_output(view, statement, name) || holds(view, Listed::Outputs(statement), count, name)
+    is_output(view, statement, name) || holds(outs, count, name)
 }
 
-/// The first output of a statement that stands among those of the earlier ones, or before it in its own.
-fn repeated_in<V: PlanView>(view: &V, statement: usize) -> Option<&[u8]>
+/// The first of the names that is an output of one of so many statements, or stands before it among them.
+fn repeated_among<'a, V: PlanView<'a>>(
+    view: &'a V,
+    statement: usize,
+    outs: &V::Names,
+) -> Option<&'a [u8]>
     requires { statement ≤ length (V.plan view.now).statements }
     ensures { option_map (λ name. name.now) result
-        ≡ repeated_after (outputs (take statement (V.plan view.now).statements))
-        (names_listed (V.plan view.now) (Outputs statement)) }
+        ≡ repeated_after (outputs (take statement (V.plan view.now).statements)) (V.Names.names outs.now) }
 {
-    let outs = Listed::Outputs(statement);
-    for place in 0..view.name_count(outs) {
-        let out = view.name(outs, place);
-        if is_repeated(view, statement, place, out) {
+    for place in 0..outs.len() {
+        let out = outs.name(place);
+        if is_repeated(view, statement, outs, place, out) {
             return Some(out);
         }
     }
     None
 }
 
-fn first_repeated<V: PlanView>(view: &V) -> Option<&[u8]>
+/// The first output of a statement that stands among those of the earlier ones, or before it in its own.
+fn repeated_in<'a, V: PlanView<'a>>(view: &'a V, statement: usize) -> Option<&'a [u8]>
+    requires { statement ≤ length (V.plan view.now).statements }
+    ensures { option_map (λ name. name.now) result
+        ≡ repeated_after (outputs (take statement (V.plan view.now).statements))
+        (names_listed (V.plan view.now) (Outputs statement)) }
+{
+    repeated_among(view, statement, &view.names(Listed::Outputs(statement)))
+}
+
+fn first_repeated<'a, V: PlanView<'a>>(view: &'a V) -> Option<&'a [u8]>
     ensures { option_map (λ name. name.now) result ≡ repeated_after [] (outputs (V.plan view.now).statements) }
 {
     for statement in 0..view.statement_count() {
@@ -232,13 +266,14 @@ fn first_repeated<V: PlanView>(view: &V) -> Option<&[u8]>
     None
 }
 
-fn first_not_made<V: PlanView>(view: &V) -> Option<&[u8]>
+/// The first of the names that is no output.
+fn not_made_among<'a, V: PlanView<'a>>(view: &'a V, names: &V::Names) -> Option<&'a [u8]>
     ensures { option_map (λ name. name.now) result
-        ≡ not_made (outputs (V.plan view.now).statements) (V.plan view.now).defaults }
+        ≡ not_made (outputs (V.plan view.now).statements) (V.Names.names names.now) }
 {
     let statements = view.statement_count();
-    for place in 0..view.name_count(Listed::Defaults) {
-        let name = view.name(Listed::Defaults, place);
+    for place in 0..names.len() {
+        let name = names.name(place);
         if !is_output(view, statements, name) {
             return Some(name);
         }
@@ -246,7 +281,14 @@ fn first_not_made<V: PlanView>(view: &V) -> Option<&[u8]>
     None
 }
 
-fn first_obstacle_in<V: PlanView>(view: &V) -> Result<(), Unwritable<'_>>
+fn first_not_made<'a, V: PlanView<'a>>(view: &'a V) -> Option<&'a [u8]>
+    ensures { option_map (λ name. name.now) result
+        ≡ not_made (outputs (V.plan view.now).statements) (V.plan view.now).defaults }
+{
+    not_made_among(view, &view.names(Listed::Defaults))
+}
+
+fn first_obstacle_in<'a, V: PlanView<'a>>(view: &'a V) -> Result<(), Unwritable<'a>>
     ensures { obstacle_in result ≡ first_obstacle (V.plan view.now) }
 {
     if let Some(number) = first_without_output(view) {
@@ -267,7 +309,7 @@ fn first_obstacle_in<V: PlanView>(view: &V) -> Result<(), Unwritable<'_>>
 /// a default target that is no output.
 ///
 /// Takes no memory, and so compares outputs pair by pair: its time grows with the square of their number.
-pub fn writable_view<V: PlanView>(view: &V) -> Result<(), Unwritable<'_>>
+pub fn writable_view<'a, V: PlanView<'a>>(view: &'a V) -> Result<(), Unwritable<'a>>
     ensures obstacle { obstacle_in result ≡ first_obstacle (V.plan view.now) }
     ensures writable { IsOk result ↔ IsWritable (V.plan view.now) }
 {

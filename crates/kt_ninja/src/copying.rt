@@ -4,23 +4,26 @@ ghost use Rattle.kt_ninja.specs.declared.view.Listed.TheVariants.{Implicit, Inpu
 ghost use Rattle.kt_ninja.specs.View.{made_at, names_listed};
 
 use crate::plan::{Made, Name, Plan, Statement};
-use crate::view::{Listed, PlanView};
+use crate::view::{Listed, NamesView, PlanView};
 use kt_list::Sequence;
 use std::alloc::{AllocError, Global};
 
 /// The plan that a view shows, with texts of its own.
-pub fn copied_plan<V: PlanView>(alloc: Global, view: &V) -> Result<Plan, AllocError>
+pub fn copied_plan<'a, V: PlanView<'a>>(alloc: Global, view: &'a V) -> Result<Plan, AllocError>
     ensures { IfOk result (λ plan. plan ≡ V.plan view.now) }
 {
     let statements = copied_statements(alloc, view)?;
-    let defaults = copied_names(alloc, view, Listed::Defaults)?;
+    let defaults = copied_list(alloc, view, Listed::Defaults)?;
     Ok(Plan {
         statements: Sequence::from(statements),
         defaults,
     })
 }
 
-fn copied_statements<V: PlanView>(alloc: Global, view: &V) -> Result<Vec<Statement>, AllocError>
+fn copied_statements<'a, V: PlanView<'a>>(
+    alloc: Global,
+    view: &'a V,
+) -> Result<Vec<Statement>, AllocError>
     ensures { IfOk result (λ statements. statements.items ≡ (V.plan view.now).statements) }
 {
     let count = view.statement_count();
@@ -31,9 +34,9 @@ fn copied_statements<V: PlanView>(alloc: Global, view: &V) -> Result<Vec<Stateme
     Ok(statements)
 }
 
-fn copied_statement<V: PlanView>(
+fn copied_statement<'a, V: PlanView<'a>>(
     alloc: Global,
-    view: &V,
+    view: &'a V,
     place: usize,
 ) -> Result<Statement, AllocError>
     ensures { IfOk result (λ statement. statement ≡ record {
@@ -44,11 +47,11 @@ fn copied_statement<V: PlanView>(
       order_only = names_listed (V.plan view.now) (OrderOnly place);
     }) }
 {
-    let outs = copied_names(alloc, view, Listed::Outputs(place))?;
+    let outs = copied_list(alloc, view, Listed::Outputs(place))?;
     let made = copied_made(alloc, view, place)?;
-    let inputs = copied_names(alloc, view, Listed::Inputs(place))?;
-    let implicit = copied_names(alloc, view, Listed::Implicit(place))?;
-    let order_only = copied_names(alloc, view, Listed::OrderOnly(place))?;
+    let inputs = copied_list(alloc, view, Listed::Inputs(place))?;
+    let implicit = copied_list(alloc, view, Listed::Implicit(place))?;
+    let order_only = copied_list(alloc, view, Listed::OrderOnly(place))?;
     Ok(Statement {
         outs,
         made,
@@ -58,7 +61,11 @@ fn copied_statement<V: PlanView>(
     })
 }
 
-fn copied_made<V: PlanView>(alloc: Global, view: &V, place: usize) -> Result<Made, AllocError>
+fn copied_made<'a, V: PlanView<'a>>(
+    alloc: Global,
+    view: &'a V,
+    place: usize,
+) -> Result<Made, AllocError>
     ensures { IfOk result (λ made. made ≡ made_at (slice_get (V.plan view.now).statements place)) }
 {
     match view.command(place) {
@@ -67,18 +74,27 @@ fn copied_made<V: PlanView>(alloc: Global, view: &V, place: usize) -> Result<Mad
     }
 }
 
-#[tactic(auto, using(crate::proofs::Places::take_at))]
-fn copied_names<V: PlanView>(
+fn copied_list<'a, V: PlanView<'a>>(
     alloc: Global,
-    view: &V,
+    view: &'a V,
     list: Listed,
 ) -> Result<Sequence<Name>, AllocError>
     ensures { IfOk result (λ names. names ≡ names_listed (V.plan view.now) list) }
 {
-    let count = view.name_count(list);
-    let mut names = Vec::with_capacity(alloc, count)?;
+    copied_names(alloc, &view.names(list))
+}
+
+#[tactic(auto, using(crate::proofs::Places::take_at))]
+fn copied_names<'a, N: NamesView<'a>>(
+    alloc: Global,
+    names: &N,
+) -> Result<Sequence<Name>, AllocError>
+    ensures { IfOk result (λ copies. copies ≡ N.names names.now) }
+{
+    let count = names.len();
+    let mut copies = Vec::with_capacity(alloc, count)?;
     for place in 0..count {
-        names.push(Name::copied(alloc, view.name(list, place))?)?;
+        copies.push(Name::copied(alloc, names.name(place))?)?;
     }
-    Ok(Sequence::from(names))
+    Ok(Sequence::from(copies))
 }

@@ -35,4 +35,4 @@ pub use plan::{Made, Name, Plan, Statement};
 pub use read_fault::ReadFault;
 pub use sink::{Sink, SinkFault, WriteFault, put};
 pub use text::{write_plan, write_view};
-pub use view::{Listed, PlanView};
+pub use view::{Listed, NamesView, PlanView};

@@ -5,7 +5,7 @@ ghost use Rattle.kt_ninja.specs.Blocks.{Prints, Puts};
 ghost use Rattle.kt_ninja.specs.Text.{build_text, command_text, defaults_text, lead_text, marked_text, names_text};
 ghost use Rattle.kt_ninja.specs.Text.{number_text, plan_text, rule_count, rule_name_text, rule_text, statement_text};
 ghost use Rattle.kt_ninja.specs.Text.{statements_text};
-ghost use Rattle.kt_ninja.specs.View.{made_by, names_listed};
+ghost use Rattle.kt_ninja.specs.View.{made_by};
 ghost use Rattle.kt_ninja.specs.Writable.{IsWritable};
 ghost use Rattle.kt_ninja.specs.Written.{GrowsByFront, Takes};
 ghost use Rattle.kt_ninja.specs.declared.plan.Statement.{Statement as StatementSeen};
@@ -14,7 +14,7 @@ use crate::block::Block;
 use crate::escapes::Escapes;
 use crate::plan::Plan;
 use crate::sink::{Sink, WriteFault};
-use crate::view::{Listed, PlanView};
+use crate::view::{Listed, NamesView, PlanView};
 use arrayvec::ArrayVec;
 use itoa::Buffer;
 
@@ -30,22 +30,22 @@ fn rules_of(command: Option<&[u8]>) -> usize
 }
 
 impl<'a, W: Sink> Block<'a, W> {
-    fn put_names<V: PlanView>(&mut self, view: &V, list: Listed)
-        ensures { Puts W.seen self.old self.new (names_text (names_listed (V.plan view.now) list)) }
+    fn put_names<'n, N: NamesView<'n>>(&mut self, names: &N)
+        ensures { Puts W.seen self.old self.new (names_text (N.names names.now)) }
     {
-        for place in 0..view.name_count(list) {
+        for place in 0..names.len() {
             self.put(b" ");
-            self.put_escaped(view.name(list, place), Escapes::InName);
+            self.put_escaped(names.name(place), Escapes::InName);
         }
     }
 
-    fn put_marked<V: PlanView>(&mut self, mark: &[u8], view: &V, list: Listed)
-        ensures { Puts W.seen self.old self.new (marked_text mark.now (names_listed (V.plan view.now) list)) }
+    fn put_marked<'n, N: NamesView<'n>>(&mut self, mark: &[u8], names: &N)
+        ensures { Puts W.seen self.old self.new (marked_text mark.now (N.names names.now)) }
     {
-        let count = view.name_count(list);
+        let count = names.len();
         if count > 0 {
             self.put(mark);
-            self.put_names(view, list);
+            self.put_names(names);
         }
     }
 
@@ -98,21 +98,21 @@ impl<'a, W: Sink> Block<'a, W> {
         }
     }
 
-    fn put_build<V: PlanView>(&mut self, number: usize, view: &V, statement: usize)
+    fn put_build<'v, V: PlanView<'v>>(&mut self, number: usize, view: &'v V, statement: usize)
         ensures { (s : StatementSeen) → slice_get (V.plan view.now).statements statement ≡ Some s
             → Puts W.seen self.old self.new (build_text number s) }
     {
         self.put(b"build");
-        self.put_names(view, Listed::Outputs(statement));
+        self.put_names(&view.names(Listed::Outputs(statement)));
         self.put(b": ");
         self.put_rule_name(number, view.command(statement));
-        self.put_names(view, Listed::Inputs(statement));
-        self.put_marked(b" |", view, Listed::Implicit(statement));
-        self.put_marked(b" ||", view, Listed::OrderOnly(statement));
+        self.put_names(&view.names(Listed::Inputs(statement)));
+        self.put_marked(b" |", &view.names(Listed::Implicit(statement)));
+        self.put_marked(b" ||", &view.names(Listed::OrderOnly(statement)));
         self.put(b"\n");
     }
 
-    fn put_statement<V: PlanView>(&mut self, number: usize, view: &V, statement: usize)
+    fn put_statement<'v, V: PlanView<'v>>(&mut self, number: usize, view: &'v V, statement: usize)
         ensures { (s : StatementSeen) → slice_get (V.plan view.now).statements statement ≡ Some s
             → Puts W.seen self.old self.new (statement_text number s) }
     {
@@ -120,7 +120,7 @@ impl<'a, W: Sink> Block<'a, W> {
         self.put_build(number, view, statement);
     }
 
-    fn put_statements<V: PlanView>(&mut self, view: &V)
+    fn put_statements<'v, V: PlanView<'v>>(&mut self, view: &'v V)
         ensures { Puts W.seen self.old self.new (statements_text 0 (V.plan view.now).statements) }
     {
         let mut number = 0;
@@ -130,18 +130,19 @@ impl<'a, W: Sink> Block<'a, W> {
         }
     }
 
-    fn put_defaults<V: PlanView>(&mut self, view: &V)
+    fn put_defaults<'v, V: PlanView<'v>>(&mut self, view: &'v V)
         ensures { Puts W.seen self.old self.new (defaults_text (V.plan view.now).defaults) }
     {
-        let count = view.name_count(Listed::Defaults);
+        let defaults = view.names(Listed::Defaults);
+        let count = defaults.len();
         if count > 0 {
             self.put(b"default");
-            self.put_names(view, Listed::Defaults);
+            self.put_names(&defaults);
             self.put(b"\n");
         }
     }
 
-    fn put_plan<V: PlanView>(&mut self, view: &V)
+    fn put_plan<'v, V: PlanView<'v>>(&mut self, view: &'v V)
         ensures { Puts W.seen self.old self.new (plan_text (V.plan view.now)) }
     {
         self.put(b"# kati\n");
@@ -151,7 +152,7 @@ impl<'a, W: Sink> Block<'a, W> {
 }
 
 /// Prints the plan, and returns whether a write failed.
-fn print<V: PlanView, W: Sink>(view: &V, sink: &mut W) -> bool
+fn print<'v, V: PlanView<'v>, W: Sink>(view: &'v V, sink: &mut W) -> bool
     ensures { Prints W.seen sink.old sink.new result (plan_text (V.plan view.now)) }
 {
     let mut block = Block {
@@ -175,7 +176,7 @@ fn print<V: PlanView, W: Sink>(view: &V, sink: &mut W) -> bool
 /// order, through a block of 4,096 bytes that the sink gets when it is full and at the end. Takes no memory.
 ///
 /// After a fault the sink has taken a prefix of the text.
-pub fn write_view<V: PlanView, W: Sink>(view: &V, sink: &mut W) -> Result<(), WriteFault>
+pub fn write_view<'v, V: PlanView<'v>, W: Sink>(view: &'v V, sink: &mut W) -> Result<(), WriteFault>
     requires { IsWritable (V.plan view.now) }
     ensures ok { OnOk result (Takes (W.seen sink.old) (W.seen sink.new) (plan_text (V.plan view.now))) }
     ensures fault { OnErr result (GrowsByFront (W.seen sink.old) (W.seen sink.new) (plan_text (V.plan view.now))) }

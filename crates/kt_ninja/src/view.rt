@@ -1,5 +1,5 @@
 //! Plans by places, wherever they are held.
-ghost use Rattle.std.specs.Prelude.{◌≡◌, ◌<◌, Some, length, option_map, slice_get};
+ghost use Rattle.std.specs.Prelude.{◌≡◌, ◌<◌, List, Some, ℕ, length, option_map, slice_get};
 ghost use Rattle.kt_ninja.specs.View.{made_at, made_by, names_at, names_listed};
 ghost use Rattle.kt_ninja.specs.declared.plan.Plan.{Plan as PlanSeen};
 
@@ -15,28 +15,41 @@ pub enum Listed {
     Defaults,
 }
 
+/// A list of names, by places.
+pub trait NamesView<'a>: Drop {
+    /// The names, in order.
+    ghost names: { Self → List (List ℕ) };
+
+    /// How many names there are.
+    fn len(&self) -> usize
+        ensures { result ≡ length (names self.now) };
+
+    /// The name at a place.
+    fn name(&self, place: usize) -> &'a [u8]
+        requires { place < length (names self.now) }
+        ensures { slice_get (names self.now) place ≡ Some result.now };
+}
+
 /// A plan as it is printed: by places, so that none need be built.
-pub trait PlanView {
+pub trait PlanView<'a> {
+    /// What it hands out its lists of names as.
+    type Names: NamesView<'a>;
+
     /// The plan that it shows.
     ghost plan: { Self → PlanSeen };
 
     /// How many statements there are.
-    fn statement_count(&self) -> usize
+    fn statement_count(&'a self) -> usize
         ensures { result ≡ length (plan self.now).statements };
 
     /// The command of a statement, if it is there and has one.
-    fn command(&self, statement: usize) -> Option<&[u8]>
+    fn command(&'a self, statement: usize) -> Option<&'a [u8]>
         ensures { made_by (option_map (λ command. command.now) result)
             ≡ made_at (slice_get (plan self.now).statements statement) };
 
-    /// How many names a list has.
-    fn name_count(&self, list: Listed) -> usize
-        ensures { result ≡ length (names_listed (plan self.now) list) };
-
-    /// A name of a list.
-    fn name(&self, list: Listed, place: usize) -> &[u8]
-        requires { place < length (names_listed (plan self.now) list) }
-        ensures { slice_get (names_listed (plan self.now) list) place ≡ Some result.now };
+    /// The names of a list.
+    fn names(&'a self, list: Listed) -> Self::Names
+        ensures { Self.Names.names result ≡ names_listed (plan self.now) list };
 }
 
 fn outs_in(statement: Option<&Statement>) -> &[Name]
@@ -105,25 +118,35 @@ fn command_in(statement: Option<&Statement>) -> Option<&[u8]>
     }
 }
 
-impl PlanView for Plan {
+impl<'a> NamesView<'a> for &'a [Name] {
+    ghost names = { λ names. names.now };
+
+    fn len(&self) -> usize {
+        (*self).len()
+    }
+
+    fn name(&self, place: usize) -> &'a [u8] {
+        self[place].as_slice()
+    }
+}
+
+impl<'a> PlanView<'a> for Plan {
+    type Names = &'a [Name];
+
     ghost use Rattle.std.specs.Prelude.{◌≡◌, ◌<◌, Some, length, option_map, slice_get};
     ghost use Rattle.kt_ninja.specs.View.{made_at, made_by, names_listed};
 
     ghost plan = { λ plan. plan };
 
-    fn statement_count(&self) -> usize {
+    fn statement_count(&'a self) -> usize {
         self.statements.as_slice().len()
     }
 
-    fn command(&self, statement: usize) -> Option<&[u8]> {
+    fn command(&'a self, statement: usize) -> Option<&'a [u8]> {
         command_in(self.statements.as_slice().get(statement))
     }
 
-    fn name_count(&self, list: Listed) -> usize {
-        names_in(self, list).len()
-    }
-
-    fn name(&self, list: Listed, place: usize) -> &[u8] {
-        names_in(self, list)[place].as_slice()
+    fn names(&'a self, list: Listed) -> &'a [Name] {
+        names_in(self, list)
     }
 }

@@ -1,5 +1,8 @@
 //! Plans that can't be written, and what keeps them from it first.
-use kt_ninja::{Unwritable, texts_can_be_written, writable, writable_view};
+use kt_ninja::{
+    Unwritable, commands_can_have, name_can_be_written, texts_can_be_written, writable,
+    writable_view,
+};
 use kt_ninja_doubles::plan_of;
 
 /// Plans, and what their trouble is.
@@ -79,5 +82,24 @@ fn texts_are_told_alone(rt: HostRuntime) {
     for (text, trouble) in TEXTS {
         let plan = plan_of(rt.alloc(), text);
         assert_eq!(rt; texts_can_be_written(&plan).err(), trouble, "{text:?}");
+    }
+}
+
+/// Bytes, whether a name can be written that has just these, and whether commands can have them.
+const BYTES: [(&[u8], bool, bool); 7] = [
+    (b"", false, true),
+    (b"a b:$#", true, true),
+    (b"a|b", false, true),
+    (b"a\r", false, false),
+    (b"\nb", false, false),
+    (b"a\0b", false, false),
+    (b"\x80\xff\t", true, true),
+];
+
+#[test]
+fn names_and_commands_are_told_by_their_bytes(rt: HostRuntime) {
+    for (bytes, is_name, is_command) in BYTES {
+        assert_eq!(rt; name_can_be_written(bytes), is_name, "{bytes:?}");
+        assert_eq!(rt; commands_can_have(bytes), is_command, "{bytes:?}");
     }
 }

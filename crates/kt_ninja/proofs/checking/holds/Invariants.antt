@@ -1,12 +1,11 @@
 use Rattle.std.proofs.Common.{◌≤◌, take}
 use Rattle.std.specs.Prelude.{nat_eq}
 use Rattle.std.specs.Cmp.Lexicographic.{pointwise}
-use Rattle.kt_ninja.specs.View.{names_listed}
 use Rattle.kt_ninja.proofs.Places.{Asks}
 use Rattle.kt_ninja.proofs.checking.holds.Given as goal
 
 abbrev pub invariant-loop-place : goal.invariant-loop-place
 invariant-loop-place g l = record {
   within : l.place ≤ l.count;
-  asks : Asks (pointwise nat_eq l.name) (take l.count (names_listed (g.V.PlanView.plan l.view) l.list)) l.place;
+  asks : Asks (pointwise nat_eq l.name) (take l.count (g.N.NamesView.names l.names)) l.place;
 }

@@ -10,10 +10,10 @@ returns g c = λ s is.
     let seen = g.W.Sink.seen in
     let found = slice_get (g.V.PlanView.plan c.args.view.now).statements c.args.statement in
     puts_then (codes "build") _ c.put.ensures
-    (puts_then _ _ (names_put seen _ _ found s is (λ t. t.outs) c.put_names.ensures)
+    (puts_then _ _ (names_put seen _ _ found s is (λ t. t.outs) _ c.names.ensures c.put_names.ensures)
     (puts_then (codes ": ") _ c.put-2.ensures
     (puts_then _ _ (rule_name_put seen _ _ found s is c.args.number (option_map (λ (text : Bor (List ℕ)). text.now) c.command.result) c.command.ensures c.put_rule_name.ensures)
-    (puts_then _ _ (names_put seen _ _ found s is (λ t. t.inputs) c.put_names-2.ensures)
-    (puts_then _ _ (marked_put seen _ _ found s is (codes " |") (λ t. t.implicit) c.put_marked.ensures)
-    (puts_then _ _ (marked_put seen _ _ found s is (codes " ||") (λ t. t.order_only) c.put_marked-2.ensures)
+    (puts_then _ _ (names_put seen _ _ found s is (λ t. t.inputs) _ c.names-2.ensures c.put_names-2.ensures)
+    (puts_then _ _ (marked_put seen _ _ found s is (codes " |") (λ t. t.implicit) _ c.names-3.ensures c.put_marked.ensures)
+    (puts_then _ _ (marked_put seen _ _ found s is (codes " ||") (λ t. t.order_only) _ c.names-4.ensures c.put_marked-2.ensures)
     (puts_then (codes "\n") _ c.put-3.ensures (puts_none _))))))))

@@ -1,7 +1,6 @@
 use Rattle.std.proofs.Common.{◌+◌, ◌++◌, codes, drop, ap, rules}
 use Rattle.std.proofs.lemmas.List.{drop_all}
 use Rattle.kt_ninja.specs.Text.{names_text, name_text}
-use Rattle.kt_ninja.specs.View.{names_listed}
 use Rattle.kt_ninja.proofs.Places.{drop_at}
 use Rattle.kt_ninja.proofs.Putting.{puts_then, up_to_more, up_to_end, up_to_start}
 use Rattle.kt_ninja.proofs.block.Block.put_names.Goals as goal
@@ -15,7 +14,7 @@ loop-place-init g c = record {
 pub loop-place-preserved : goal.loop-place-preserved
 loop-place-preserved g c =
     let i = c.loop-place.place in
-    let names = names_listed (g.V.PlanView.plan c.args.view.now) c.args.list in
+    let names = g.N.NamesView.names c.args.names.now in
     record {
       within = search rules;
       puts = up_to_more _ (codes " " ++ name_text c.name.result.now) (names_text (drop (i + 1) names))
@@ -25,5 +24,5 @@ loop-place-preserved g c =
 
 pub returns : goal.returns
 returns g c =
-    let names = names_listed (g.V.PlanView.plan c.args.view.now) c.args.list in
+    let names = g.N.NamesView.names c.args.names.now in
     up_to_end _ (ap names_text (drop_all c.loop-place.place names (search rules))) c.loop-place.invariant.puts

@@ -4,7 +4,7 @@ use Rattle.kt_list.specs.Names.{is_among}
 use Rattle.kt_ninja.specs.Plan.{outputs}
 use Rattle.kt_ninja.specs.declared.plan.Statement.{Statement}
 use Rattle.kt_ninja.proofs.Places.{found_here, found_later}
-use Rattle.kt_ninja.proofs.checking.first_not_made.Goals as goal
+use Rattle.kt_ninja.proofs.checking.not_made_among.Goals as goal
 
 pub returns-then-not-is_output : goal.returns-then-not-is_output
 returns-then-not-is_output g c =
@@ -14,7 +14,7 @@ returns-then-not-is_output g c =
     let told : c.is_output.result ≡ false = search rules in
     let out : is_among (outputs plan.statements) name ≡ false =
     sym (ap (λ (ss : List Statement). is_among (outputs ss) name) all) ∙ sym c.is_output.ensures ∙ told in
-    found_here (λ n. not (is_among (outputs plan.statements) n)) plan.defaults c.loop-place.place name
+    found_here (λ n. not (is_among (outputs plan.statements) n)) (g.V.Names.NamesView.names c.args.names.now) c.loop-place.place name
     c.name-name.ensures (ap not out) c.loop-place.invariant.looks
 
 pub loop-place-preserved : goal.loop-place-preserved
@@ -27,6 +27,6 @@ loop-place-preserved g c =
     sym (ap (λ (ss : List Statement). is_among (outputs ss) name) all) ∙ sym c.is_output.ensures ∙ told in
     record {
       within = search rules;
-      looks = found_later (λ n. not (is_among (outputs plan.statements) n)) plan.defaults c.loop-place.place name
+      looks = found_later (λ n. not (is_among (outputs plan.statements) n)) (g.V.Names.NamesView.names c.args.names.now) c.loop-place.place name
           c.name-name.ensures (ap not out) c.loop-place.invariant.looks;
     }
