@@ -273,6 +273,10 @@ pub writable_exactly : (plan : Plan) (r : Result (Unit {0}) Unwritable) → obst
 writable_exactly plan r is =
     (λ ok. writable_from_none plan (sym is ∙ (ok_exactly r).0 ok), λ w. (ok_exactly r).1 (is ∙ none_from_writable plan w))
 
+-- there is no obstacle where all texts can be written
+pub texts_unobstructed : (plan : Plan) → HasWritableTexts plan → obstacle_of_statements 0 plan.statements ≡ None
+texts_unobstructed plan texts = no_obstacle 0 plan.statements texts
+
 pub texts_exactly : (plan : Plan) (r : Result (Unit {0}) Unwritable) → obstacle_in r ≡ obstacle_of_statements 0 plan.statements
     → IsOk r ↔ HasWritableTexts plan
 texts_exactly plan r is =

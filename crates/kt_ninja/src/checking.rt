@@ -48,7 +48,8 @@ fn all_name_bytes(bytes: &[u8]) -> bool
     bytes.iter().all(|byte| is_written_name_byte(*byte))
 }
 
-fn all_command_bytes(bytes: &[u8]) -> bool
+/// Whether a command can hold these bytes: there is no CR, LF or NUL.
+pub fn command_can_hold(bytes: &[u8]) -> bool
     ensures { result ≡ list_all is_command_byte bytes.now }
 {
     bytes.iter().all(|byte| is_written_command_byte(*byte))
@@ -60,7 +61,8 @@ fn has_no_bytes(bytes: &[u8]) -> bool
     matches!(bytes, [])
 }
 
-fn is_written_name(name: &[u8]) -> bool
+/// Whether a name can be written: it isn't empty, and there is no bar, CR, LF or NUL.
+pub fn name_can_be_written(name: &[u8]) -> bool
     ensures { result ≡ is_name name.now }
 {
     !has_no_bytes(name) && all_name_bytes(name)
@@ -70,7 +72,7 @@ fn is_written_command(command: Option<&[u8]>) -> bool
     ensures { result ≡ is_made (made_by (option_map (λ text. text.now) command.entry)) }
 {
     match command {
-        Some(command) => !has_no_bytes(command) && all_command_bytes(command),
+        Some(command) => !has_no_bytes(command) && command_can_hold(command),
         None => true,
     }
 }
@@ -81,7 +83,7 @@ fn first_bad<'a, N: NamesView<'a>>(names: &N) -> Option<&'a [u8]>
 {
     for place in 0..names.len() {
         let name = names.name(place);
-        if !is_written_name(name) {
+        if !name_can_be_written(name) {
             return Some(name);
         }
     }

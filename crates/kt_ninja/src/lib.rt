@@ -24,7 +24,10 @@ mod table;
 mod text;
 mod view;
 
-pub use checking::{Unwritable, texts_can_be_written, writable, writable_view};
+pub use checking::{
+    Unwritable, command_can_hold, name_can_be_written, texts_can_be_written, writable,
+    writable_view,
+};
 pub use copying::copied_plan;
 pub use memory::MemSink;
 pub use ninja_read::read_plan;
