@@ -18,7 +18,7 @@ use Rattle.kt_ninja.specs.declared.plan.Plan.{Plan}
 use Rattle.kt_ninja.specs.declared.plan.Statement.{Statement}
 use Rattle.kt_ninja.specs.Plan.{names_of}
 use Rattle.kt_ninja.specs.Writable.{HasWritableTexts, is_command_byte, is_made, is_name}
-use Rattle.kt_ninja.proofs.Deciding.{no_obstacle}
+use Rattle.kt_ninja.proofs.Deciding.{texts_unobstructed}
 use Rattle.kati.specs.declared.sketch.Mark.{Mark}
 use Rattle.kati.specs.Exact.{IsOfGroup}
 use Rattle.kati.specs.Planning.{always_build, always_built, has_implicit, made_by, outs_of, plan_groups, plan_of, statement_of, text_fault, unwritable_in, with_always_built}
@@ -148,4 +148,4 @@ module _ (read : Read) (limit : ℕ) (known goals : List Text) (nodes : List Nod
 -- nothing is reported of texts that can be written
 pub none_unwritable : (plan : Plan) → HasWritableTexts plan → unwritable_in plan.statements ≡ None
 unfolding unwritable_in
-none_unwritable plan fine = ap (option_and_then (text_fault plan.statements)) (no_obstacle 0 plan.statements fine)
+none_unwritable plan fine = ap (option_and_then (text_fault plan.statements)) (texts_unobstructed plan fine)

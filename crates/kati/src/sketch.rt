@@ -6,7 +6,7 @@ ghost use Rattle.kt_ninja.specs.Writable.{is_made};
 ghost use Rattle.kati.specs.Planning.{made_by};
 ghost use Rattle.kati.specs.inner.Drawn.{drawing_view, drawn_view, joined_view};
 
-use kt_ninja::commands_can_have;
+use kt_ninja::command_can_hold;
 use kt_rules::Name;
 use std::alloc::{AllocError, Global};
 use std::boxed::Box;
@@ -86,7 +86,7 @@ impl Sketch {
     pub(crate) fn can_be_written(&self) -> bool
         ensures { result ≡ true → list_all (λ one. is_made (made_by one.command)) self.now ≡ true }
     {
-        commands_can_have(self.text.as_slice())
+        command_can_hold(self.text.as_slice())
     }
 
     /// Adds a group at the end.

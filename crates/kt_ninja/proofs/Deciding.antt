@@ -113,7 +113,7 @@ all_fine n (s ∷ ss) e =
     both_true (fine s) (list_all fine ss) (fine_from_none n s (or_first (obstacle_of_statement n s) _ e))
     (all_fine (n + 1) ss (or_second (obstacle_of_statement n s) _ e))
 
-pub no_obstacle : (n : ℕ) (ss : List Statement) → list_all fine ss ≡ true → obstacle_of_statements n ss ≡ None
+no_obstacle : (n : ℕ) (ss : List Statement) → list_all fine ss ≡ true → obstacle_of_statements n ss ≡ None
 no_obstacle n [] e = refl
 no_obstacle n (s ∷ ss) e =
     or_none (obstacle_of_statement n s) _ (none_from_fine n s (first_true (fine s) (list_all fine ss) e))
@@ -272,6 +272,10 @@ ok_exactly (Err e) = (λ ok. absurd (cc ok), λ none. absurd (cc none))
 pub writable_exactly : (plan : Plan) (r : Result (Unit {0}) Unwritable) → obstacle_in r ≡ first_obstacle plan → IsOk r ↔ IsWritable plan
 writable_exactly plan r is =
     (λ ok. writable_from_none plan (sym is ∙ (ok_exactly r).0 ok), λ w. (ok_exactly r).1 (is ∙ none_from_writable plan w))
+
+-- there is no obstacle where all texts can be written
+pub texts_unobstructed : (plan : Plan) → HasWritableTexts plan → obstacle_of_statements 0 plan.statements ≡ None
+texts_unobstructed plan texts = no_obstacle 0 plan.statements texts
 
 pub texts_exactly : (plan : Plan) (r : Result (Unit {0}) Unwritable) → obstacle_in r ≡ obstacle_of_statements 0 plan.statements
     → IsOk r ↔ HasWritableTexts plan

@@ -48,8 +48,8 @@ fn all_name_bytes(bytes: &[u8]) -> bool
     bytes.iter().all(|byte| is_written_name_byte(*byte))
 }
 
-/// Whether commands can have each of the bytes: none is a CR, LF or NUL.
-pub fn commands_can_have(bytes: &[u8]) -> bool
+/// Whether a command can hold these bytes: there is no CR, LF or NUL.
+pub fn command_can_hold(bytes: &[u8]) -> bool
     ensures { result ≡ list_all is_command_byte bytes.now }
 {
     bytes.iter().all(|byte| is_written_command_byte(*byte))
@@ -61,7 +61,7 @@ fn has_no_bytes(bytes: &[u8]) -> bool
     matches!(bytes, [])
 }
 
-/// Whether a name can be written: it has a byte, and no bar, CR, LF or NUL.
+/// Whether a name can be written: it isn't empty, and there is no bar, CR, LF or NUL.
 pub fn name_can_be_written(name: &[u8]) -> bool
     ensures { result ≡ is_name name.now }
 {
@@ -72,7 +72,7 @@ fn is_written_command(command: Option<&[u8]>) -> bool
     ensures { result ≡ is_made (made_by (option_map (λ text. text.now) command.entry)) }
 {
     match command {
-        Some(command) => !has_no_bytes(command) && commands_can_have(command),
+        Some(command) => !has_no_bytes(command) && command_can_hold(command),
         None => true,
     }
 }

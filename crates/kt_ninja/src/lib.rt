@@ -25,7 +25,7 @@ mod text;
 mod view;
 
 pub use checking::{
-    Unwritable, commands_can_have, name_can_be_written, texts_can_be_written, writable,
+    Unwritable, command_can_hold, name_can_be_written, texts_can_be_written, writable,
     writable_view,
 };
 pub use copying::copied_plan;

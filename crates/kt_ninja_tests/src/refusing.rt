@@ -1,6 +1,6 @@
 //! Plans that can't be written, and what keeps them from it first.
 use kt_ninja::{
-    Unwritable, commands_can_have, name_can_be_written, texts_can_be_written, writable,
+    Unwritable, command_can_hold, name_can_be_written, texts_can_be_written, writable,
     writable_view,
 };
 use kt_ninja_doubles::plan_of;
@@ -100,6 +100,6 @@ const BYTES: [(&[u8], bool, bool); 7] = [
 fn names_and_commands_are_told_by_their_bytes(rt: HostRuntime) {
     for (bytes, is_name, is_command) in BYTES {
         assert_eq!(rt; name_can_be_written(bytes), is_name, "{bytes:?}");
-        assert_eq!(rt; commands_can_have(bytes), is_command, "{bytes:?}");
+        assert_eq!(rt; command_can_hold(bytes), is_command, "{bytes:?}");
     }
 }
