@@ -14,6 +14,7 @@ pub mod laws;
 mod line;
 mod listed;
 mod name;
+mod narrow;
 mod needs;
 mod place;
 mod reading;

@@ -15,9 +15,9 @@ use kt_list::Names;
 #[derive(Clone, Copy)]
 pub struct BookRule<'a> {
     pub(crate) names: &'a Names,
-    pub(crate) targets: &'a [usize],
-    pub(crate) prerequisites: &'a [usize],
-    pub(crate) order_only: &'a [usize],
+    pub(crate) targets: &'a [u32],
+    pub(crate) prerequisites: &'a [u32],
+    pub(crate) order_only: &'a [u32],
     pub(crate) held: &'a HeldRule,
 }
 

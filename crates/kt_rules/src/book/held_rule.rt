@@ -16,8 +16,8 @@ pub(crate) struct HeldRule {
 /// The places of a rule's numbers in a list.
 #[derive(Clone, Copy)]
 pub(crate) struct Span {
-    pub(crate) targets: usize,
-    pub(crate) prerequisites: usize,
-    pub(crate) order_only: usize,
-    pub(crate) end: usize,
+    pub(crate) targets: u32,
+    pub(crate) prerequisites: u32,
+    pub(crate) order_only: u32,
+    pub(crate) end: u32,
 }

@@ -128,7 +128,7 @@ fn note_targets(spots: &mut Spots, rule: BookRule<'_>, place: usize) -> Result<(
             entry: place,
             target: position,
         };
-        note_target(spots, rule, *number, spot)?;
+        note_target(spots, rule, *number as usize, spot)?;
     }
     Ok(())
 }

@@ -11,6 +11,7 @@ ghost use Rattle.kt_rules.specs.Targets.{entry_view};
 use super::book_rule::BookRule;
 use super::held_rule::{HeldRule, Span};
 use crate::entry::{Entry, Name, Needs};
+use crate::narrow::narrow;
 use kt_list::Names;
 use std::alloc::{AllocError, Global};
 use std::marker::Model;
@@ -20,7 +21,7 @@ use std::marker::Model;
 pub(crate) struct Rules {
     names: Names,
     // The numbers of the names of all rules, one rule after another.
-    numbers: Vec<usize>,
+    numbers: Vec<u32>,
     slots: Vec<Option<HeldRule>>,
 }
 
@@ -148,7 +149,7 @@ impl Rules {
 }
 
 // A held rule with its parts of the numbers.
-fn rule_of<'a>(names: &'a Names, numbers: &'a [usize], held: &'a HeldRule) -> BookRule<'a>
+fn rule_of<'a>(names: &'a Names, numbers: &'a [u32], held: &'a HeldRule) -> BookRule<'a>
     requires { IsSpan (length numbers.now) held.now.span }
     ensures told { entry_view result ≡ rule_held names.now numbers.now held.now }
     ensures names { result.names.now ≡ names.now }
@@ -162,17 +163,18 @@ fn rule_of<'a>(names: &'a Names, numbers: &'a [usize], held: &'a HeldRule) -> Bo
     let span = held.span;
     BookRule {
         names,
-        targets: &numbers[span.targets..span.prerequisites],
-        prerequisites: &numbers[span.prerequisites..span.order_only],
-        order_only: &numbers[span.order_only..span.end],
+        targets: &numbers[span.targets as usize..span.prerequisites as usize],
+        prerequisites: &numbers[span.prerequisites as usize..span.order_only as usize],
+        order_only: &numbers[span.order_only as usize..span.end as usize],
         held,
     }
 }
 
-// Adds the numbers of a rule's names, and returns their places. If memory runs out, some may be added.
+// Adds the numbers of a rule's names, and returns their places. If memory runs out, some may be added. A number or a
+// place beyond 4,294,967,295 is refused as if memory were.
 fn note_all(
     names: &mut Names,
-    numbers: &mut Vec<usize>,
+    numbers: &mut Vec<u32>,
     targets: &[Name],
     needs: &Needs,
 ) -> Result<Span, AllocError>
@@ -185,16 +187,29 @@ fn note_all(
     note_names(names, numbers, needs.prerequisites.as_slice())?;
     let order_only = numbers.len();
     note_names(names, numbers, needs.order_only.as_slice())?;
+    span_of(start, prerequisites, order_only, numbers.len())
+}
+
+// The places of a rule's numbers.
+fn span_of(
+    targets: usize,
+    prerequisites: usize,
+    order_only: usize,
+    end: usize,
+) -> Result<Span, AllocError>
+    ensures { IfOk result (λ span. (span.targets ≡ targets) × (span.prerequisites ≡ prerequisites)
+        × (span.order_only ≡ order_only) × (span.end ≡ end)) }
+{
     Ok(Span {
-        targets: start,
-        prerequisites,
-        order_only,
-        end: numbers.len(),
+        targets: narrow(targets)?,
+        prerequisites: narrow(prerequisites)?,
+        order_only: narrow(order_only)?,
+        end: narrow(end)?,
     })
 }
 
 // Adds the numbers of names. If memory runs out, some may be added.
-fn note_names(names: &mut Names, numbers: &mut Vec<usize>, list: &[Name]) -> Result<(), AllocError>
+fn note_names(names: &mut Names, numbers: &mut Vec<u32>, list: &[Name]) -> Result<(), AllocError>
     ensures noted { OnOk result (GotNumbers names.new numbers.old.items numbers.new.items list.now) }
     ensures grown { Grew names.old numbers.old.items names.new numbers.new.items }
 {
@@ -204,11 +219,11 @@ fn note_names(names: &mut Names, numbers: &mut Vec<usize>, list: &[Name]) -> Res
     Ok(())
 }
 
-fn note_name(names: &mut Names, numbers: &mut Vec<usize>, name: &[u8]) -> Result<(), AllocError>
+fn note_name(names: &mut Names, numbers: &mut Vec<u32>, name: &[u8]) -> Result<(), AllocError>
     ensures noted { OnOk result (GotNumbers names.new numbers.old.items numbers.new.items (name.now ∷ [])) }
     ensures grown { Grew names.old numbers.old.items names.new numbers.new.items }
 {
     let number = names.number(name)?;
-    numbers.push(number)?;
+    numbers.push(narrow(number)?)?;
     Ok(())
 }
