@@ -18,6 +18,7 @@ pub struct BookRule<'a> {
     pub(crate) targets: &'a [u32],
     pub(crate) prerequisites: &'a [u32],
     pub(crate) order_only: &'a [u32],
+    pub(crate) recipe: Option<&'a [RecipeLine]>,
     pub(crate) held: &'a HeldRule,
 }
 
@@ -63,10 +64,7 @@ impl<'a> BookRule<'a> {
     pub fn recipe(self) -> Option<&'a [RecipeLine]>
         ensures { option_map (λ lines. lines.now) result ≡ (entry_view self.entry).recipe }
     {
-        match &self.held.recipe {
-            Some(lines) => Some(lines.as_slice()),
-            None => None,
-        }
+        self.recipe
     }
 
     /// The place of the rule line.

@@ -1,5 +1,5 @@
 //! Rules as a book holds them.
-use crate::entry::{Kind, Name, RecipeLine};
+use crate::entry::{Kind, Name};
 use crate::place::Place;
 
 /// A rule line whose names are held as numbers in a list: the targets first, then the prerequisites, then the
@@ -9,7 +9,7 @@ pub(crate) struct HeldRule {
     pub(crate) kind: Kind,
     pub(crate) span: Span,
     pub(crate) pattern: Option<Name>,
-    pub(crate) recipe: Option<Vec<RecipeLine>>,
+    pub(crate) recipe: Option<LineSpan>,
     pub(crate) place: Place,
 }
 
@@ -19,5 +19,12 @@ pub(crate) struct Span {
     pub(crate) targets: u32,
     pub(crate) prerequisites: u32,
     pub(crate) order_only: u32,
+    pub(crate) end: u32,
+}
+
+/// The places of a recipe's lines in a list. An empty recipe has them, too.
+#[derive(Clone, Copy)]
+pub(crate) struct LineSpan {
+    pub(crate) start: u32,
     pub(crate) end: u32,
 }

@@ -3,14 +3,15 @@ ghost use Rattle.std.specs.Prelude.{◌≡◌, ◌++◌, ◌∷◌, [], ◌<◌,
 ghost use Rattle.std.specs.Prelude.{IfSome, IsTrue, OnErr, OnOk, Some, None};
 ghost use Rattle.std.specs.List.{Contains};
 ghost use Rattle.kt_list.specs.Names.{place_of};
-ghost use Rattle.kt_rules.specs.inner.Held.{AreBelow, GotNames, GotNumbers, Grew, IsNoted, IsSpan, rule_held};
+ghost use Rattle.kt_rules.specs.inner.Held.{AreBelow, GotLines, GotNames, GotNumbers, Grew, IsHeldAt, IsNoted, IsSpan};
+ghost use Rattle.kt_rules.specs.inner.Held.{IsWithin, recipe_at, rule_held};
 ghost use Rattle.kt_rules.specs.Known.{names_in};
 ghost use Rattle.kt_rules.specs.Slots.{rules_in, slot_rule};
 ghost use Rattle.kt_rules.specs.Targets.{entry_view};
 
 use super::book_rule::BookRule;
-use super::held_rule::{HeldRule, Span};
-use crate::entry::{Entry, Name, Needs};
+use super::held_rule::{HeldRule, LineSpan, Span};
+use crate::entry::{Entry, Name, Needs, RecipeLine};
 use crate::narrow::narrow;
 use kt_list::Names;
 use std::alloc::{AllocError, Global};
@@ -22,6 +23,8 @@ pub(crate) struct Rules {
     names: Names,
     // The numbers of the names of all rules, one rule after another.
     numbers: Vec<u32>,
+    // The lines of all recipes, one recipe after another.
+    lines: Vec<RecipeLine>,
     slots: Vec<Option<HeldRule>>,
 }
 
@@ -34,9 +37,9 @@ impl Model for Rules {
     ghost Value = { List Text × List (Option Rule) };
 
     ghost view = { λ rules.
-        (rules.names, slots_held rules.names rules.numbers.items rules.slots.items) };
+        (rules.names, slots_held rules.names rules.numbers.items rules.lines.items rules.slots.items) };
 
-    ghost invariant = { λ rules. AreHeld rules.names rules.numbers.items rules.slots.items };
+    ghost invariant = { λ rules. AreHeld rules.names rules.numbers.items rules.lines.items rules.slots.items };
 }
 
 impl Rules {
@@ -47,6 +50,7 @@ impl Rules {
         Rules {
             names: Names::new(alloc),
             numbers: Vec::new(alloc),
+            lines: Vec::new(alloc),
             slots: Vec::new(alloc),
         }
     }
@@ -102,12 +106,17 @@ impl Rules {
     {
         let slot = self.slots.get(place)?;
         match slot {
-            Some(held) => Some(rule_of(&self.names, self.numbers.as_slice(), held)),
+            Some(held) => Some(rule_of(
+                &self.names,
+                self.numbers.as_slice(),
+                self.lines.as_slice(),
+                held,
+            )),
             None => None,
         }
     }
 
-    /// Adds a rule in a new slot. If memory runs out, some of its names may be added.
+    /// Adds a rule in a new slot. If memory runs out, some of its names and the lines of its recipe may be added.
     pub(crate) fn push(&mut self, entry: Entry) -> Result<(), AllocError>
         ensures pushed { OnOk result (self.new.1 ≡ self.old.1 ++ Some entry ∷ []) }
         ensures refused { OnErr result (self.new.1 ≡ self.old.1) }
@@ -122,6 +131,7 @@ impl Rules {
             recipe,
             place,
         } = entry;
+        let recipe = hold_recipe(&mut self.lines, recipe)?;
         let span = note_all(
             &mut self.names,
             &mut self.numbers,
@@ -148,10 +158,16 @@ impl Rules {
     }
 }
 
-// A held rule with its parts of the numbers.
-fn rule_of<'a>(names: &'a Names, numbers: &'a [u32], held: &'a HeldRule) -> BookRule<'a>
-    requires { IsSpan (length numbers.now) held.now.span }
-    ensures told { entry_view result ≡ rule_held names.now numbers.now held.now }
+// A held rule with its parts of the numbers and of the lines.
+fn rule_of<'a>(
+    names: &'a Names,
+    numbers: &'a [u32],
+    lines: &'a [RecipeLine],
+    held: &'a HeldRule,
+) -> BookRule<'a>
+    requires span { IsSpan (length numbers.now) held.now.span }
+    requires lines { IsWithin (length lines.now) held.now.recipe }
+    ensures told { entry_view result ≡ rule_held names.now numbers.now lines.now held.now }
     ensures names { result.names.now ≡ names.now }
     ensures targets { result.targets.now
         ≡ slice_range numbers.now held.now.span.targets held.now.span.prerequisites }
@@ -166,8 +182,56 @@ fn rule_of<'a>(names: &'a Names, numbers: &'a [u32], held: &'a HeldRule) -> Book
         targets: &numbers[span.targets as usize..span.prerequisites as usize],
         prerequisites: &numbers[span.prerequisites as usize..span.order_only as usize],
         order_only: &numbers[span.order_only as usize..span.end as usize],
+        recipe: recipe_at(lines, held.recipe),
         held,
     }
+}
+
+// The lines of a held recipe.
+fn recipe_at(lines: &[RecipeLine], held: Option<LineSpan>) -> Option<&[RecipeLine]>
+    requires { IsWithin (length lines.now) held }
+    ensures { option_map (λ recipe. recipe.now) result ≡ recipe_at lines.now held }
+{
+    match held {
+        Some(span) => Some(&lines[span.start as usize..span.end as usize]),
+        None => None,
+    }
+}
+
+// Moves the lines of a recipe to the end of a list, and returns their places. If memory runs out, they may be there.
+fn hold_recipe(
+    lines: &mut Vec<RecipeLine>,
+    recipe: Option<Vec<RecipeLine>>,
+) -> Result<Option<LineSpan>, AllocError>
+    ensures within { IfOk result (λ held. IsWithin (length lines.new.items) held) }
+    ensures held { IfOk result (λ held. recipe_at lines.new.items held ≡ option_map (λ own. own.items) recipe) }
+    ensures grown { GotLines lines.old.items lines.new.items }
+{
+    match recipe {
+        Some(mut own) => Ok(Some(hold_lines(lines, &mut own)?)),
+        None => Ok(None),
+    }
+}
+
+fn hold_lines(
+    lines: &mut Vec<RecipeLine>,
+    own: &mut Vec<RecipeLine>,
+) -> Result<LineSpan, AllocError>
+    ensures held { IfOk result (λ span. IsHeldAt lines.new.items own.old.items span) }
+    ensures grown { GotLines lines.old.items lines.new.items }
+{
+    let start = lines.len();
+    lines.append(own)?;
+    line_span(start, lines.len())
+}
+
+fn line_span(start: usize, end: usize) -> Result<LineSpan, AllocError>
+    ensures { IfOk result (λ span. (span.start ≡ start) × (span.end ≡ end)) }
+{
+    Ok(LineSpan {
+        start: narrow(start)?,
+        end: narrow(end)?,
+    })
 }
 
 // Adds the numbers of a rule's names, and returns their places. If memory runs out, some may be added. A number or a
