@@ -20,6 +20,7 @@ mod place;
 mod reading;
 mod refusal;
 mod refused;
+mod static_pattern;
 mod target;
 mod written;
 

@@ -1,6 +1,7 @@
 //! Rules as a book holds them.
-use crate::entry::{Kind, Name};
+use crate::entry::Kind;
 use crate::place::Place;
+use crate::static_pattern::StaticPattern;
 
 /// A rule line whose names are held as numbers in a list: the targets first, then the prerequisites, then the
 /// order-only prerequisites.
@@ -8,7 +9,7 @@ use crate::place::Place;
 pub(crate) struct HeldRule {
     pub(crate) kind: Kind,
     pub(crate) span: Span,
-    pub(crate) pattern: Option<Name>,
+    pub(crate) pattern: StaticPattern,
     pub(crate) recipe: Option<LineSpan>,
     pub(crate) place: Place,
 }
