@@ -5,12 +5,14 @@ use Rattle.std.proofs.lemmas.List.Prefix.{front_rest}
 use Rattle.std.proofs.lemmas.Option.{slice_get_within}
 use Rattle.kt_text.specs.Words.{Text}
 use Rattle.kt_rules.specs.declared.book.held_rule.HeldRule.{HeldRule}
+use Rattle.kt_rules.specs.declared.book.held_rule.LineSpan.{LineSpan}
 use Rattle.kt_rules.specs.declared.book.held_rule.Span.{Span}
 use Rattle.kt_rules.specs.declared.entry.Needs.{Needs}
+use Rattle.kt_rules.specs.declared.entry.RecipeLine.{RecipeLine}
 use Rattle.kt_rules.specs.Entry.{Rule, rule_by}
 use Rattle.kt_rules.specs.Names.{is_among, with_name}
 use Rattle.kt_rules.specs.Targets.{names_at}
-use Rattle.kt_rules.specs.inner.Held.{AreBelow, AreHeld, GotNames, GotNumbers, Grew, IsNoted, IsSpan, rule_held, slots_held}
+use Rattle.kt_rules.specs.inner.Held.{AreBelow, AreHeld, GotLines, GotNames, GotNumbers, Grew, IsHeldAt, IsNoted, IsSpan, IsWithin, recipe_at, needs_at, rule_held, slots_held, targets_at}
 
 -- ---- numbers below a count
 
@@ -53,7 +55,7 @@ names_more names more (number ∷ numbers) h =
     ∙ ap (λ xs. get_or names number [] ∷ xs) (names_more names more numbers h.1)
 
 -- a part of the numbers stays when more numbers are added
-pub part_more : (numbers more : List ℕ) (start end : ℕ) → start ≤ end → end ≤ length numbers → slice_range (numbers ++ more) start end ≡ slice_range numbers start end
+pub part_more : {A : Type 0} (numbers more : List A) (start end : ℕ) → start ≤ end → end ≤ length numbers → slice_range (numbers ++ more) start end ≡ slice_range numbers start end
 part_more numbers more start end rises within =
     let left : length (drop start numbers) ≡ length numbers - start = length-drop start numbers in
     ap (take (end - start)) (drop-append-le start numbers more (omega arith))
@@ -66,63 +68,99 @@ names_part names more numbers others start end rises within below =
     ∙ names_more names more (slice_range numbers start end) (below_part (length names) numbers start end below)
 
 -- a rule stays when names and numbers are added
-pub rule_more : (names more : List Text) (numbers others : List ℕ) (held : HeldRule) → IsSpan (length numbers) held.span → AreBelow (length names) numbers
-    → rule_held (names ++ more) (numbers ++ others) held ≡ rule_held names numbers held
-rule_more names more numbers others held span below =
+pub rule_more : (names more : List Text) (numbers others : List ℕ) (lines : List RecipeLine) (held : HeldRule) → IsSpan (length numbers) held.span → AreBelow (length names) numbers
+    → rule_held (names ++ more) (numbers ++ others) lines held ≡ rule_held names numbers lines held
+rule_more names more numbers others lines held span below =
     let targets = names_part names more numbers others held.span.targets held.span.prerequisites span.targets (omega (arith, span.prerequisites, span.order_only, span.end)) below in
     let first = names_part names more numbers others held.span.prerequisites held.span.order_only span.prerequisites (omega (arith, span.order_only, span.end)) below in
     let second = names_part names more numbers others held.span.order_only held.span.end span.order_only span.end below in
-    λ j. rule_by held.kind (targets j) held.pattern (record { prerequisites = first j; order_only = second j }) (option_map (λ lines. lines.items) held.recipe) held.place
+    λ j. rule_by held.kind (targets j) held.pattern (record { prerequisites = first j; order_only = second j }) (recipe_at lines held.recipe) held.place
 
 -- all rules stay when names and numbers are added
-pub slots_more : (names more : List Text) (numbers others : List ℕ) (slots : List (Option HeldRule)) → AreBelow (length names) numbers
+pub slots_more : (names more : List Text) (numbers others : List ℕ) (lines : List RecipeLine) (slots : List (Option HeldRule)) → AreBelow (length names) numbers
     → ((place : ℕ) (held : HeldRule) → slice_get slots place ≡ Some (Some held) → IsSpan (length numbers) held.span)
-    → slots_held (names ++ more) (numbers ++ others) slots ≡ slots_held names numbers slots
-slots_more names more numbers others [] below spans = refl
-slots_more names more numbers others (None ∷ slots) below spans =
-    ap (λ xs. None ∷ xs) (slots_more names more numbers others slots below (λ place held at. spans (suc place) held at))
-slots_more names more numbers others (Some held ∷ slots) below spans =
-    ap (λ rule. Some rule ∷ slots_held (names ++ more) (numbers ++ others) slots) (rule_more names more numbers others held (spans 0 held refl) below)
-    ∙ ap (λ xs. Some (rule_held names numbers held) ∷ xs) (slots_more names more numbers others slots below (λ place one at. spans (suc place) one at))
+    → slots_held (names ++ more) (numbers ++ others) lines slots ≡ slots_held names numbers lines slots
+slots_more names more numbers others lines [] below spans = refl
+slots_more names more numbers others lines (None ∷ slots) below spans =
+    ap (λ xs. None ∷ xs) (slots_more names more numbers others lines slots below (λ place held at. spans (suc place) held at))
+slots_more names more numbers others lines (Some held ∷ slots) below spans =
+    ap (λ rule. Some rule ∷ slots_held (names ++ more) (numbers ++ others) lines slots) (rule_more names more numbers others lines held (spans 0 held refl) below)
+    ∙ ap (λ xs. Some (rule_held names numbers lines held) ∷ xs) (slots_more names more numbers others lines slots below (λ place one at. spans (suc place) one at))
+
+-- the lines of a recipe stay when lines are added
+recipe_more : (lines more : List RecipeLine) (held : Option LineSpan) → IsWithin (length lines) held → recipe_at (lines ++ more) held ≡ recipe_at lines held
+recipe_more lines more None within = refl
+recipe_more lines more (Some span) within = ap Some (part_more lines more span.start span.end within.0 within.1)
+
+-- all rules stay when lines are added
+lines_more : (names : List Text) (numbers : List ℕ) (lines more : List RecipeLine) (slots : List (Option HeldRule))
+    → ((place : ℕ) (held : HeldRule) → slice_get slots place ≡ Some (Some held) → IsWithin (length lines) held.recipe)
+    → slots_held names numbers (lines ++ more) slots ≡ slots_held names numbers lines slots
+lines_more names numbers lines more [] within = refl
+lines_more names numbers lines more (None ∷ slots) within =
+    ap (λ xs. None ∷ xs) (lines_more names numbers lines more slots (λ place held at. within (suc place) held at))
+lines_more names numbers lines more (Some held ∷ slots) within =
+    ap (λ recipe. Some (rule_by held.kind (targets_at names numbers held.span) held.pattern (needs_at names numbers held.span) recipe held.place)
+    ∷ slots_held names numbers (lines ++ more) slots) (recipe_more lines more held.recipe (within 0 held refl))
+    ∙ ap (λ xs. Some (rule_held names numbers lines held) ∷ xs) (lines_more names numbers lines more slots (λ place one at. within (suc place) one at))
+
+within_more : (count more : ℕ) (held : Option LineSpan) → count ≤ more → IsWithin count held → IsWithin more held
+within_more count more None h is = tt
+within_more count more (Some span) h is = (is.0, omega (arith, is.1))
 
 span_more : (count more : ℕ) (span : Span) → count ≤ more → IsSpan count span → IsSpan more span
 span_more count more span h is = record { targets = is.targets; prerequisites = is.prerequisites; order_only = is.order_only; end = omega (arith, is.end) }
 
 -- the last of several rules
-span_last : (count : ℕ) (slots : List (Option HeldRule)) (rule : HeldRule)
-    → ((place : ℕ) (one : HeldRule) → slice_get slots place ≡ Some (Some one) → IsSpan count one.span) → IsSpan count rule.span
-    → (place : ℕ) (one : HeldRule) → slice_get (slots ++ Some rule ∷ []) place ≡ Some (Some one) → IsSpan count one.span
-span_last count [] rule spans last zero one at =
+last_held : (P : HeldRule → Type 0) (slots : List (Option HeldRule)) (rule : HeldRule)
+    → ((place : ℕ) (one : HeldRule) → slice_get slots place ≡ Some (Some one) → P one) → P rule
+    → (place : ℕ) (one : HeldRule) → slice_get (slots ++ Some rule ∷ []) place ≡ Some (Some one) → P one
+last_held P [] rule all last zero one at =
     let both : Some (Some rule) ≡ Some (Some one) = at in
     let same : rule ≡ one = cc in
-    subst (λ (r : HeldRule). IsSpan count r.span) same last
-span_last count [] rule spans last (suc place) one at = absurd (let both : None ≡ Some (Some one) = at in cc)
-span_last count (slot ∷ slots) rule spans last zero one at = spans 0 one at
-span_last count (slot ∷ slots) rule spans last (suc place) one at =
-    span_last count slots rule (λ other it is. spans (suc other) it is) last place one at
+    subst P same last
+last_held P [] rule all last (suc place) one at = absurd (let both : None ≡ Some (Some one) = at in cc)
+last_held P (slot ∷ slots) rule all last zero one at = all 0 one at
+last_held P (slot ∷ slots) rule all last (suc place) one at = last_held P slots rule (λ other it is. all (suc other) it is) last place one at
 
 -- a slot that was emptied holds no rule
-span_kept : (count : ℕ) (slots : List (Option HeldRule)) (empty : ℕ)
-    → ((place : ℕ) (one : HeldRule) → slice_get slots place ≡ Some (Some one) → IsSpan count one.span)
-    → (place : ℕ) (one : HeldRule) → slice_get (set slots empty None) place ≡ Some (Some one) → IsSpan count one.span
-span_kept count [] empty spans place one at = spans place one at
-span_kept count (slot ∷ slots) zero spans zero one at = absurd (let both : Some None ≡ Some (Some one) = at in cc)
-span_kept count (slot ∷ slots) zero spans (suc place) one at = spans (suc place) one at
-span_kept count (slot ∷ slots) (suc empty) spans zero one at = spans 0 one at
-span_kept count (slot ∷ slots) (suc empty) spans (suc place) one at =
-    span_kept count slots empty (λ other it is. spans (suc other) it is) place one at
+kept_held : (P : HeldRule → Type 0) (slots : List (Option HeldRule)) (empty : ℕ)
+    → ((place : ℕ) (one : HeldRule) → slice_get slots place ≡ Some (Some one) → P one)
+    → (place : ℕ) (one : HeldRule) → slice_get (set slots empty None) place ≡ Some (Some one) → P one
+kept_held P [] empty all place one at = all place one at
+kept_held P (slot ∷ slots) zero all zero one at = absurd (let both : Some None ≡ Some (Some one) = at in cc)
+kept_held P (slot ∷ slots) zero all (suc place) one at = all (suc place) one at
+kept_held P (slot ∷ slots) (suc empty) all zero one at = all 0 one at
+kept_held P (slot ∷ slots) (suc empty) all (suc place) one at = kept_held P slots empty (λ other it is. all (suc other) it is) place one at
 
-pub emptied_held : (names : List Text) (numbers : List ℕ) (slots items : List (Option HeldRule)) (place : ℕ) → AreHeld names numbers slots → items ≡ set slots place None
-    → AreHeld names numbers items
-emptied_held names numbers slots items place held is = subst (AreHeld names numbers) (sym is) (record {
+pub emptied_held : (names : List Text) (numbers : List ℕ) (lines : List RecipeLine) (slots items : List (Option HeldRule)) (place : ℕ)
+    → AreHeld names numbers lines slots → items ≡ set slots place None → AreHeld names numbers lines items
+emptied_held names numbers lines slots items place held is = subst (AreHeld names numbers lines) (sym is) (record {
   below = held.below;
-  spans = span_kept (length numbers) slots place held.spans;
+  spans = kept_held (λ (one : HeldRule). IsSpan (length numbers) one.span) slots place held.spans;
+  recipes = kept_held (λ (one : HeldRule). IsWithin (length lines) one.recipe) slots place held.recipes;
 })
 
-pub emptied_slots : (names : List Text) (numbers : List ℕ) (slots items : List (Option HeldRule)) (place : ℕ) → items ≡ set slots place None
-    → slots_held names numbers items ≡ set (slots_held names numbers slots) place None
-emptied_slots names numbers slots items place is =
-    ap (slots_held names numbers) is ∙ map-set (option_map (rule_held names numbers)) slots place None
+pub emptied_slots : (names : List Text) (numbers : List ℕ) (lines : List RecipeLine) (slots items : List (Option HeldRule)) (place : ℕ)
+    → items ≡ set slots place None → slots_held names numbers lines items ≡ set (slots_held names numbers lines slots) place None
+emptied_slots names numbers lines slots items place is =
+    ap (slots_held names numbers lines) is ∙ map-set (option_map (rule_held names numbers lines)) slots place None
+
+-- what is held stays held when lines are added at the end
+module _ (names : List Text) (numbers : List ℕ) (lines new_lines : List RecipeLine) (slots : List (Option HeldRule)) (got : GotLines lines new_lines)
+    (held : AreHeld names numbers lines slots) where
+  pub lined_slots : slots_held names numbers new_lines slots ≡ slots_held names numbers lines slots
+  lined_slots = ap (λ ls. slots_held names numbers ls slots) got.1 ∙ lines_more names numbers lines got.0 slots held.recipes
+
+  pub lined_held : AreHeld names numbers new_lines slots
+  lined_held =
+      let e : length new_lines ≡ length (lines ++ got.0) = ap length got.1 in
+      let longer : length lines ≤ length new_lines = omega (arith, e, length-append lines got.0) in
+      record {
+        below = held.below;
+        spans = held.spans;
+        recipes = λ place one at. within_more (length lines) (length new_lines) one.recipe longer (held.recipes place one at);
+      }
 
 -- there are no fewer numbers
 numbers_longer : (names new_names : List Text) (numbers new_numbers : List ℕ) → Grew names numbers new_names new_numbers → length numbers ≤ length new_numbers
@@ -131,40 +169,43 @@ numbers_longer names new_names numbers new_numbers grew =
     omega (arith, e, length-append numbers grew.numbers_grew.0)
 
 -- what is held stays held when names and numbers are added at the end
-module _ (names new_names : List Text) (numbers new_numbers : List ℕ) (slots : List (Option HeldRule)) (grew : Grew names numbers new_names new_numbers)
-    (held : AreHeld names numbers slots) where
+module _ (names new_names : List Text) (numbers new_numbers : List ℕ) (lines : List RecipeLine) (slots : List (Option HeldRule))
+    (grew : Grew names numbers new_names new_numbers) (held : AreHeld names numbers lines slots) where
   longer : length names ≤ length new_names
   longer = let e : length new_names ≡ length (names ++ grew.names_grew.0) = ap length grew.names_grew.1 in omega (arith, e, length-append names grew.names_grew.0)
 
-  pub grown_slots : slots_held new_names new_numbers slots ≡ slots_held names numbers slots
+  pub grown_slots : slots_held new_names new_numbers lines slots ≡ slots_held names numbers lines slots
   grown_slots =
-      ap (λ ns. slots_held ns new_numbers slots) grew.names_grew.1
-      ∙ ap (λ ns. slots_held (names ++ grew.names_grew.0) ns slots) grew.numbers_grew.1
-      ∙ slots_more names grew.names_grew.0 numbers grew.numbers_grew.0 slots held.below held.spans
+      ap (λ ns. slots_held ns new_numbers lines slots) grew.names_grew.1
+      ∙ ap (λ ns. slots_held (names ++ grew.names_grew.0) ns lines slots) grew.numbers_grew.1
+      ∙ slots_more names grew.names_grew.0 numbers grew.numbers_grew.0 lines slots held.below held.spans
 
-  pub grown_held : AreHeld new_names new_numbers slots
+  pub grown_held : AreHeld new_names new_numbers lines slots
   grown_held = record {
     below = subst (AreBelow (length new_names)) (sym grew.numbers_grew.1)
         (below_append (length new_names) numbers grew.numbers_grew.0 (below_more (length names) (length new_names) numbers longer held.below) grew.numbers_grew.2);
     spans = λ place one at. span_more (length numbers) (length new_numbers) one.span (numbers_longer names new_names numbers new_numbers grew) (held.spans place one at);
+    recipes = held.recipes;
   }
 
   -- one more rule is held
   pub pushed_held : (rule : HeldRule) (items : List (Option HeldRule)) → items ≡ slots ++ Some rule ∷ [] → IsSpan (length new_numbers) rule.span
-      → AreHeld new_names new_numbers items
-  pushed_held rule items is span = subst (AreHeld new_names new_numbers) (sym is) (record {
+      → IsWithin (length lines) rule.recipe → AreHeld new_names new_numbers lines items
+  pushed_held rule items is span within = subst (AreHeld new_names new_numbers lines) (sym is) (record {
     below = grown_held.below;
-    spans = span_last (length new_numbers) slots rule grown_held.spans span;
+    spans = last_held (λ (one : HeldRule). IsSpan (length new_numbers) one.span) slots rule grown_held.spans span;
+    recipes = last_held (λ (one : HeldRule). IsWithin (length lines) one.recipe) slots rule held.recipes within;
   })
 
   -- and it is in its slot
-  pub pushed_slots : (rule : HeldRule) (entry : Rule) (items : List (Option HeldRule)) → items ≡ slots ++ Some rule ∷ [] → rule_held new_names new_numbers rule ≡ entry
-      → slots_held new_names new_numbers items ≡ slots_held names numbers slots ++ Some entry ∷ []
+  pub pushed_slots : (rule : HeldRule) (entry : Rule) (items : List (Option HeldRule)) → items ≡ slots ++ Some rule ∷ []
+      → rule_held new_names new_numbers lines rule ≡ entry
+      → slots_held new_names new_numbers lines items ≡ slots_held names numbers lines slots ++ Some entry ∷ []
   pushed_slots rule entry items is same =
-      ap (slots_held new_names new_numbers) is
-      ∙ map-append (option_map (rule_held new_names new_numbers)) slots (Some rule ∷ [])
-      ∙ ap (λ xs. xs ++ Some (rule_held new_names new_numbers rule) ∷ []) grown_slots
-      ∙ ap (λ one. slots_held names numbers slots ++ Some one ∷ []) same
+      ap (slots_held new_names new_numbers lines) is
+      ∙ map-append (option_map (rule_held new_names new_numbers lines)) slots (Some rule ∷ [])
+      ∙ ap (λ xs. xs ++ Some (rule_held new_names new_numbers lines rule) ∷ []) grown_slots
+      ∙ ap (λ one. slots_held names numbers lines slots ++ Some one ∷ []) same
 
 -- ---- numbers of one name after another
 
@@ -251,7 +292,7 @@ noted_one names mid new numbers between last all left rest name is grew noted st
 
 -- ---- the numbers of a rule
 
-part_at : (front mid back whole : List ℕ) (start end : ℕ) → whole ≡ (front ++ mid) ++ back → start ≡ length front → end ≡ length (front ++ mid)
+part_at : {A : Type 0} (front mid back whole : List A) (start end : ℕ) → whole ≡ (front ++ mid) ++ back → start ≡ length front → end ≡ length (front ++ mid)
     → slice_range whole start end ≡ mid
 part_at front mid back whole start end is from to =
     let long : length (front ++ mid) ≡ length front + length mid = length-append front mid in
@@ -304,8 +345,20 @@ module _ (n0 n1 n2 n3 : List Text) (l0 l1 l2 l3 : List ℕ) (one : Grew n0 l0 n1
         needs_noted = λ j. record { prerequisites = first j; order_only = second j };
       }
 
--- the rule of the numbers that were noted
-pub noted_rule : (names : List Text) (numbers : List ℕ) (targets : List Text) (needs : Needs) (rule : HeldRule) → IsNoted names numbers targets needs rule.span
-    → rule_held names numbers rule ≡ rule_by rule.kind targets rule.pattern needs (option_map (λ lines. lines.items) rule.recipe) rule.place
-noted_rule names numbers targets needs rule noted =
-    λ j. rule_by rule.kind (noted.targets_noted j) rule.pattern (noted.needs_noted j) (option_map (λ lines. lines.items) rule.recipe) rule.place
+-- the rule of the numbers that were noted, and of the lines that were added
+pub noted_rule : (names : List Text) (numbers : List ℕ) (lines : List RecipeLine) (targets : List Text) (needs : Needs) (recipe : Option (List RecipeLine)) (rule : HeldRule)
+    → IsNoted names numbers targets needs rule.span → recipe_at lines rule.recipe ≡ recipe
+    → rule_held names numbers lines rule ≡ rule_by rule.kind targets rule.pattern needs recipe rule.place
+noted_rule names numbers lines targets needs recipe rule noted same =
+    λ j. rule_by rule.kind (noted.targets_noted j) rule.pattern (noted.needs_noted j) (same j) rule.place
+
+-- lines that were added are at their places
+pub lines_held : (old own new : List RecipeLine) (span : LineSpan) (start end : ℕ) → new ≡ old ++ own → start ≡ length old → end ≡ length new
+    → (span.start ≡ start) × (span.end ≡ end) → IsHeldAt new own span
+lines_held old own new span start end is from to at =
+    let many : length new ≡ length old + length own = ap length is ∙ length-append old own in
+    let last : end ≡ length (old ++ own) = to ∙ ap length is in
+    record {
+      within = (omega (arith, at.0, at.1, from, to, many), omega (arith, at.1, to));
+      held = part_at old own [] new span.start span.end (is ∙ sym (append-nil (old ++ own))) (at.0 ∙ from) (at.1 ∙ last);
+    }

@@ -5,6 +5,7 @@ use Rattle.std.proofs.lemmas.List.Elements.{All-nil, All-cons, All-append, Conta
 use Rattle.kt_text.specs.Words.{Text}
 use Rattle.kt_rules.specs.declared.book.held_rule.HeldRule.{HeldRule}
 use Rattle.kt_rules.specs.declared.entry.Needs.{Needs}
+use Rattle.kt_rules.specs.declared.entry.RecipeLine.{RecipeLine}
 use Rattle.kt_rules.specs.Entry.{shared_needs, target_of}
 use Rattle.kt_rules.specs.Known.{names_in}
 use Rattle.kt_rules.specs.Slots.{rules_in}
@@ -31,8 +32,9 @@ shared_among names None needs first second = All-append (Contains names) needs.p
 shared_among names (Some pattern) needs first second = All-nil (Contains names)
 
 -- the names of a rule
-rule_among : (names : List Text) (numbers : List ℕ) (held : HeldRule) → AreBelow (length names) numbers → All (Contains names) (names_in (rule_held names numbers held))
-rule_among names numbers held below =
+rule_among : (names : List Text) (numbers : List ℕ) (lines : List RecipeLine) (held : HeldRule) → AreBelow (length names) numbers
+    → All (Contains names) (names_in (rule_held names numbers lines held))
+rule_among names numbers lines held below =
     let span = held.span in
     let needs = needs_at names numbers span in
     let part = λ (start end : ℕ). numbered_among names _ (below_part (length names) numbers start end below) in
@@ -41,10 +43,10 @@ rule_among names numbers held below =
     (shared_among names held.pattern needs (part span.prerequisites span.order_only) (part span.order_only span.end))
 
 -- those of all rules
-pub all_among : (names : List Text) (numbers : List ℕ) (slots : List (Option HeldRule)) → AreBelow (length names) numbers
-    → All (Contains names) (flat_map names_in (rules_in (slots_held names numbers slots)))
-all_among names numbers [] below = All-nil (Contains names)
-all_among names numbers (None ∷ slots) below = all_among names numbers slots below
-all_among names numbers (Some held ∷ slots) below =
-    All-append (Contains names) (names_in (rule_held names numbers held)) (flat_map names_in (rules_in (slots_held names numbers slots)))
-    (rule_among names numbers held below) (all_among names numbers slots below)
+pub all_among : (names : List Text) (numbers : List ℕ) (lines : List RecipeLine) (slots : List (Option HeldRule)) → AreBelow (length names) numbers
+    → All (Contains names) (flat_map names_in (rules_in (slots_held names numbers lines slots)))
+all_among names numbers lines [] below = All-nil (Contains names)
+all_among names numbers lines (None ∷ slots) below = all_among names numbers lines slots below
+all_among names numbers lines (Some held ∷ slots) below =
+    All-append (Contains names) (names_in (rule_held names numbers lines held)) (flat_map names_in (rules_in (slots_held names numbers lines slots)))
+    (rule_among names numbers lines held below) (all_among names numbers lines slots below)

@@ -78,4 +78,4 @@ line_needs rule = record {
 abbrev pub entry_view : BookRule → Rule
 entry_view rule =
     rule_by rule.held.now.kind (names_at rule.names.now rule.targets.now) rule.held.now.pattern (line_needs rule)
-    (option_map (λ lines. lines.items) rule.held.now.recipe) rule.held.now.place
+    (option_map (λ lines. lines.now) rule.recipe) rule.held.now.place

@@ -6,6 +6,7 @@ ghost use Rattle.kt_rules.specs.Targets.{needs_view, target_view, targets_view};
 use crate::listed::{Listed, ListedNeeds};
 use crate::needs::{NeedsView, shared_needs};
 use crate::place::Place;
+use crate::static_pattern::StaticPattern;
 use crate::target::{TargetView, Targets};
 use kt_list::{Sequence, Text};
 use std::alloc::{AllocError, Global};
@@ -81,7 +82,7 @@ pub struct Entry {
     pub(crate) kind: Kind,
     pub(crate) targets: Sequence<Name>,
     /// The target pattern of a static pattern rule.
-    pub(crate) pattern: Option<Name>,
+    pub(crate) pattern: StaticPattern,
     /// In a static pattern rule, before the stem is put in.
     pub(crate) needs: Needs,
     pub(crate) recipe: Option<Vec<RecipeLine>>,

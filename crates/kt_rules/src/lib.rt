@@ -14,11 +14,13 @@ pub mod laws;
 mod line;
 mod listed;
 mod name;
+mod narrow;
 mod needs;
 mod place;
 mod reading;
 mod refusal;
 mod refused;
+mod static_pattern;
 mod target;
 mod written;
 

@@ -18,7 +18,7 @@ pub(crate) enum Listed<'a> {
 #[derive(Clone, Copy)]
 pub(crate) struct Numbered<'a> {
     pub(crate) names: &'a Names,
-    pub(crate) numbers: &'a [usize],
+    pub(crate) numbers: &'a [u32],
 }
 
 /// A name of a list.
@@ -96,8 +96,8 @@ fn first_numbered<'a>(list: Numbered<'a>) -> Option<(ListedName<'a>, Listed<'a>)
         (λ cut. names_at list.entry.names.now list.entry.numbers.now ≡ cut.0.name.now ∷ listed_view cut.1) }
 {
     let (number, numbers) = list.numbers.split_first()?;
-    let name = name_at(list.names, *number);
-    let number = Some(*number);
+    let name = name_at(list.names, *number as usize);
+    let number = Some(*number as usize);
     let names = list.names;
     Some((
         ListedName { name, number },
@@ -111,7 +111,7 @@ impl<'a> Numbered<'a> {
             ≡ slice_get (names_at self.entry.names.now self.entry.numbers.now) place }
     {
         let number = self.numbers.get(place)?;
-        Some(name_at(self.names, *number))
+        Some(name_at(self.names, *number as usize))
     }
 }
 

@@ -10,6 +10,7 @@ use crate::fault::RuleFault;
 use crate::head::{Separator, cut_head};
 use crate::line::Line;
 use crate::place::Place;
+use crate::static_pattern::StaticPattern;
 use kt_list::Sequence;
 use kt_text::words;
 use std::alloc::{AllocError, Global};
@@ -73,6 +74,7 @@ fn entry(
         pattern,
         needs,
     } = line;
+    let pattern = StaticPattern::of(alloc, pattern)?;
     Ok(Entry {
         alloc,
         kind,

@@ -1,12 +1,14 @@
 -- Rules as the program holds them, storing each name once (kati's own).
 use Rattle.std.specs.Prelude.{◌≡◌, ℕ, ◌<◌, ◌≤◌, List, [], ◌∷◌, ◌++◌, length, map, slice_get, slice_range, get_or}
-use Rattle.std.specs.Prelude.{Option, Some, option_map}
+use Rattle.std.specs.Prelude.{Option, Some, None, option_map}
 use Rattle.kt_text.specs.Words.{Text}
 use Rattle.kt_rules.specs.declared.book.book_rule.BookRule.{BookRule}
 use Rattle.kt_rules.specs.declared.book.held_rule.HeldRule.{HeldRule}
+use Rattle.kt_rules.specs.declared.book.held_rule.LineSpan.{LineSpan}
 use Rattle.kt_rules.specs.declared.book.held_rule.Span.{Span}
 use Rattle.kt_rules.specs.declared.book.spot.Spot.{Spot}
 use Rattle.kt_rules.specs.declared.entry.Needs.{Needs}
+use Rattle.kt_rules.specs.declared.entry.RecipeLine.{RecipeLine}
 use Rattle.kt_rules.specs.declared.entry.Target.{Target}
 use Rattle.kt_rules.specs.Entry.{Rule, rule_by, target_of}
 use Rattle.kt_rules.specs.Slots.{IsKept}
@@ -28,15 +30,19 @@ needs_at names numbers span = record {
   order_only = names_at names (slice_range numbers span.order_only span.end);
 }
 
+-- the lines of a recipe at their places, if there is a recipe
+abbrev pub recipe_at : List RecipeLine → Option LineSpan → Option (List RecipeLine)
+recipe_at lines held = option_map (λ span. slice_range lines span.start span.end) held
+
 -- a rule whose names are held as numbers
-abbrev pub rule_held : List Text → List ℕ → HeldRule → Rule
-rule_held names numbers held =
+abbrev pub rule_held : List Text → List ℕ → List RecipeLine → HeldRule → Rule
+rule_held names numbers lines held =
     rule_by held.kind (targets_at names numbers held.span) held.pattern (needs_at names numbers held.span)
-    (option_map (λ lines. lines.items) held.recipe) held.place
+    (recipe_at lines held.recipe) held.place
 
 -- the rules in slots
-abbrev pub slots_held : List Text → List ℕ → List (Option HeldRule) → List (Option Rule)
-slots_held names numbers slots = map (option_map (rule_held names numbers)) slots
+abbrev pub slots_held : List Text → List ℕ → List RecipeLine → List (Option HeldRule) → List (Option Rule)
+slots_held names numbers lines slots = map (option_map (rule_held names numbers lines)) slots
 
 -- a span is within this many numbers
 pub record IsSpan (count : ℕ) (span : Span) : Type 0 where
@@ -45,16 +51,33 @@ pub record IsSpan (count : ℕ) (span : Span) : Type 0 where
   pub order_only : span.order_only ≤ span.end
   pub end : span.end ≤ count
 
--- all numbers are those of names, and each rule has its numbers
-pub record AreHeld (names : List Text) (numbers : List ℕ) (slots : List (Option HeldRule)) : Type 0 where
+-- the places of a recipe are within this many lines
+abbrev pub IsWithin : ℕ → Option LineSpan → Type 0
+IsWithin count None = Unit {0}
+IsWithin count (Some span) = (span.start ≤ span.end) × (span.end ≤ count)
+
+-- all numbers are those of names, and each rule has its numbers and lines
+pub record AreHeld (names : List Text) (numbers : List ℕ) (lines : List RecipeLine)
+    (slots : List (Option HeldRule)) : Type 0 where
   pub below : AreBelow (length names) numbers
   pub spans : (place : ℕ) (held : HeldRule) → slice_get slots place ≡ Some (Some held)
       → IsSpan (length numbers) held.span
+  pub recipes : (place : ℕ) (held : HeldRule) → slice_get slots place ≡ Some (Some held)
+      → IsWithin (length lines) held.recipe
 
 -- the target of a rule whose name has this number
 abbrev pub numbered_target : BookRule → ℕ → Target
 numbered_target rule number =
     target_of rule.held.now.pattern (line_needs rule) (get_or rule.names.now number [])
+
+-- lines may have been added at the end
+abbrev pub GotLines : List RecipeLine → List RecipeLine → Type 0
+GotLines old new = (more : List RecipeLine) × (new ≡ old ++ more)
+
+-- these lines are at their places
+pub record IsHeldAt (lines own : List RecipeLine) (span : LineSpan) : Type 0 where
+  pub within : IsWithin (length lines) (Some span)
+  pub held : slice_range lines span.start span.end ≡ own
 
 -- names may have been added at the end
 abbrev pub GotNames : List Text → List Text → Type 0

@@ -4,11 +4,11 @@ use Rattle.kt_rules.specs.declared.book.few.Form.{Form}
 use Rattle.kt_rules.specs.declared.book.few.Form.TheVariants.{None, One, Several}
 use Rattle.kt_rules.specs.declared.book.spot.Spot.{Spot}
 
--- no spot, one, or those of a vector
+-- no spot, one, or those of a boxed vector
 abbrev pub few_of : Form → List Spot
 few_of None = []
 few_of (One spot) = spot ∷ []
-few_of (Several spots) = spots.items
+few_of (Several spots) = spots.value.items
 
 -- the list at a number
 abbrev pub list_at : List (List Spot) → ℕ → List Spot

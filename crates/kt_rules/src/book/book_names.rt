@@ -227,7 +227,7 @@ impl Marks {
         }
     }
 
-    fn mark_numbers(&mut self, names: &Names, numbers: &[usize])
+    fn mark_numbers(&mut self, names: &Names, numbers: &[u32])
         requires count { length self.old.numbers.items ≡ length names.now }
         requires below { AreBelow (length names.now) numbers.now }
         ensures marked { (name : Text) → is_marked names.now self.new name
@@ -237,7 +237,7 @@ impl Marks {
         // The contract of `as_slice` makes known that the names differ.
         let _names = names.as_slice();
         for number in numbers {
-            self.numbers[*number] = true;
+            self.numbers[*number as usize] = true;
         }
     }
 }

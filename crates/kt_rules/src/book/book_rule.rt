@@ -15,9 +15,10 @@ use kt_list::Names;
 #[derive(Clone, Copy)]
 pub struct BookRule<'a> {
     pub(crate) names: &'a Names,
-    pub(crate) targets: &'a [usize],
-    pub(crate) prerequisites: &'a [usize],
-    pub(crate) order_only: &'a [usize],
+    pub(crate) targets: &'a [u32],
+    pub(crate) prerequisites: &'a [u32],
+    pub(crate) order_only: &'a [u32],
+    pub(crate) recipe: Option<&'a [RecipeLine]>,
     pub(crate) held: &'a HeldRule,
 }
 
@@ -63,10 +64,7 @@ impl<'a> BookRule<'a> {
     pub fn recipe(self) -> Option<&'a [RecipeLine]>
         ensures { option_map (λ lines. lines.now) result ≡ (entry_view self.entry).recipe }
     {
-        match &self.held.recipe {
-            Some(lines) => Some(lines.as_slice()),
-            None => None,
-        }
+        self.recipe
     }
 
     /// The place of the rule line.

@@ -4,10 +4,11 @@ ghost use Rattle.kt_rules.specs.inner.Lists.{few_of};
 
 use super::spot::Spot;
 use std::alloc::{AllocError, Global};
+use std::boxed::Box;
 use std::marker::Model;
 use std::slice::from_ref;
 
-/// A list of spots. A single spot takes no memory of its own.
+/// A list of spots. A single spot takes no memory of its own, and any list two words.
 #[derive(Drop)]
 pub(crate) struct Few {
     form: Form,
@@ -17,7 +18,7 @@ pub(crate) struct Few {
 enum Form {
     None,
     One(Spot),
-    Several(Vec<Spot>),
+    Several(Box<Vec<Spot>>),
 }
 
 impl Model for Few {
@@ -46,7 +47,7 @@ impl Few {
         match &self.form {
             Form::None => &[],
             Form::One(spot) => from_ref(spot),
-            Form::Several(spots) => spots.as_slice(),
+            Form::Several(spots) => spots.as_ref().as_slice(),
         }
     }
 
@@ -67,17 +68,17 @@ impl Few {
     }
 }
 
-fn hold(form: &mut Form, spots: Vec<Spot>)
-    ensures { few_of form.new ≡ spots.items }
+fn hold(form: &mut Form, spots: Box<Vec<Spot>>)
+    ensures { few_of form.new ≡ spots.value.items }
 {
     *form = Form::Several(spots);
 }
 
-fn pair(alloc: Global, first: Spot, second: Spot) -> Result<Vec<Spot>, AllocError>
-    ensures { IfOk result (λ both. both.items ≡ first ∷ second ∷ []) }
+fn pair(alloc: Global, first: Spot, second: Spot) -> Result<Box<Vec<Spot>>, AllocError>
+    ensures { IfOk result (λ both. both.value.items ≡ first ∷ second ∷ []) }
 {
     let mut both = Vec::with_capacity(alloc, 2)?;
     both.push(first)?;
     both.push(second)?;
-    Ok(both)
+    Ok(Box::new(alloc, both)?)
 }

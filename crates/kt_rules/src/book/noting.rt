@@ -124,11 +124,8 @@ fn note_targets(spots: &mut Spots, rule: BookRule<'_>, place: usize) -> Result<(
         → length spots.new.recipes ≤ length rule.entry.names.now }
 {
     for (position, number) in rule.targets.iter().enumerate() {
-        let spot = Spot {
-            entry: place,
-            target: position,
-        };
-        note_target(spots, rule, *number, spot)?;
+        let spot = Spot::at(place, position)?;
+        note_target(spots, rule, *number as usize, spot)?;
     }
     Ok(())
 }

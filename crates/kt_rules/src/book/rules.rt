@@ -1,16 +1,18 @@
 //! The rules of a book, which stores each name once.
 ghost use Rattle.std.specs.Prelude.{◌≡◌, ◌++◌, ◌∷◌, [], ◌<◌, All, flat_map, length, option_map, set, slice_range, IfOk};
-ghost use Rattle.std.specs.Prelude.{IfSome, OnErr, OnOk, Some, None};
+ghost use Rattle.std.specs.Prelude.{IfSome, IsTrue, OnErr, OnOk, Some, None};
 ghost use Rattle.std.specs.List.{Contains};
 ghost use Rattle.kt_list.specs.Names.{place_of};
-ghost use Rattle.kt_rules.specs.inner.Held.{AreBelow, GotNames, GotNumbers, Grew, IsNoted, IsSpan, rule_held};
+ghost use Rattle.kt_rules.specs.inner.Held.{AreBelow, GotLines, GotNames, GotNumbers, Grew, IsHeldAt, IsNoted, IsSpan};
+ghost use Rattle.kt_rules.specs.inner.Held.{IsWithin, recipe_at, rule_held};
 ghost use Rattle.kt_rules.specs.Known.{names_in};
 ghost use Rattle.kt_rules.specs.Slots.{rules_in, slot_rule};
 ghost use Rattle.kt_rules.specs.Targets.{entry_view};
 
 use super::book_rule::BookRule;
-use super::held_rule::{HeldRule, Span};
-use crate::entry::{Entry, Name, Needs};
+use super::held_rule::{HeldRule, LineSpan, Span};
+use crate::entry::{Entry, Name, Needs, RecipeLine};
+use crate::narrow::narrow;
 use kt_list::Names;
 use std::alloc::{AllocError, Global};
 use std::marker::Model;
@@ -20,7 +22,9 @@ use std::marker::Model;
 pub(crate) struct Rules {
     names: Names,
     // The numbers of the names of all rules, one rule after another.
-    numbers: Vec<usize>,
+    numbers: Vec<u32>,
+    // The lines of all recipes, one recipe after another.
+    lines: Vec<RecipeLine>,
     slots: Vec<Option<HeldRule>>,
 }
 
@@ -33,9 +37,9 @@ impl Model for Rules {
     ghost Value = { List Text × List (Option Rule) };
 
     ghost view = { λ rules.
-        (rules.names, slots_held rules.names rules.numbers.items rules.slots.items) };
+        (rules.names, slots_held rules.names rules.numbers.items rules.lines.items rules.slots.items) };
 
-    ghost invariant = { λ rules. AreHeld rules.names rules.numbers.items rules.slots.items };
+    ghost invariant = { λ rules. AreHeld rules.names rules.numbers.items rules.lines.items rules.slots.items };
 }
 
 impl Rules {
@@ -46,6 +50,7 @@ impl Rules {
         Rules {
             names: Names::new(alloc),
             numbers: Vec::new(alloc),
+            lines: Vec::new(alloc),
             slots: Vec::new(alloc),
         }
     }
@@ -79,6 +84,18 @@ impl Rules {
         self.names.number_of(name)
     }
 
+    /// Whether a name has this number, told without hashing.
+    pub(crate) fn has_number(&self, name: &[u8], number: usize) -> bool
+        ensures { IsTrue result → place_of self.now.0 name.now ≡ Some number }
+    {
+        // The contract of `as_slice` makes known that the names differ.
+        let _names = self.names.as_slice();
+        match self.names.get(number) {
+            Some(held) => held == name,
+            None => false,
+        }
+    }
+
     /// The rule in a slot.
     pub(crate) fn get(&self, place: usize) -> Option<BookRule<'_>>
         ensures told { option_map entry_view result ≡ slot_rule self.now.1 place }
@@ -89,12 +106,17 @@ impl Rules {
     {
         let slot = self.slots.get(place)?;
         match slot {
-            Some(held) => Some(rule_of(&self.names, self.numbers.as_slice(), held)),
+            Some(held) => Some(rule_of(
+                &self.names,
+                self.numbers.as_slice(),
+                self.lines.as_slice(),
+                held,
+            )),
             None => None,
         }
     }
 
-    /// Adds a rule in a new slot. If memory runs out, some of its names may be added.
+    /// Adds a rule in a new slot. If memory runs out, some of its names and the lines of its recipe may be added.
     pub(crate) fn push(&mut self, entry: Entry) -> Result<(), AllocError>
         ensures pushed { OnOk result (self.new.1 ≡ self.old.1 ++ Some entry ∷ []) }
         ensures refused { OnErr result (self.new.1 ≡ self.old.1) }
@@ -109,6 +131,7 @@ impl Rules {
             recipe,
             place,
         } = entry;
+        let recipe = hold_recipe(&mut self.lines, recipe)?;
         let span = note_all(
             &mut self.names,
             &mut self.numbers,
@@ -135,10 +158,16 @@ impl Rules {
     }
 }
 
-// A held rule with its parts of the numbers.
-fn rule_of<'a>(names: &'a Names, numbers: &'a [usize], held: &'a HeldRule) -> BookRule<'a>
-    requires { IsSpan (length numbers.now) held.now.span }
-    ensures told { entry_view result ≡ rule_held names.now numbers.now held.now }
+// A held rule with its parts of the numbers and of the lines.
+fn rule_of<'a>(
+    names: &'a Names,
+    numbers: &'a [u32],
+    lines: &'a [RecipeLine],
+    held: &'a HeldRule,
+) -> BookRule<'a>
+    requires span { IsSpan (length numbers.now) held.now.span }
+    requires lines { IsWithin (length lines.now) held.now.recipe }
+    ensures told { entry_view result ≡ rule_held names.now numbers.now lines.now held.now }
     ensures names { result.names.now ≡ names.now }
     ensures targets { result.targets.now
         ≡ slice_range numbers.now held.now.span.targets held.now.span.prerequisites }
@@ -150,17 +179,66 @@ fn rule_of<'a>(names: &'a Names, numbers: &'a [usize], held: &'a HeldRule) -> Bo
     let span = held.span;
     BookRule {
         names,
-        targets: &numbers[span.targets..span.prerequisites],
-        prerequisites: &numbers[span.prerequisites..span.order_only],
-        order_only: &numbers[span.order_only..span.end],
+        targets: &numbers[span.targets as usize..span.prerequisites as usize],
+        prerequisites: &numbers[span.prerequisites as usize..span.order_only as usize],
+        order_only: &numbers[span.order_only as usize..span.end as usize],
+        recipe: recipe_at(lines, held.recipe),
         held,
     }
 }
 
-// Adds the numbers of a rule's names, and returns their places. If memory runs out, some may be added.
+// The lines of a held recipe.
+fn recipe_at(lines: &[RecipeLine], held: Option<LineSpan>) -> Option<&[RecipeLine]>
+    requires { IsWithin (length lines.now) held }
+    ensures { option_map (λ recipe. recipe.now) result ≡ recipe_at lines.now held }
+{
+    match held {
+        Some(span) => Some(&lines[span.start as usize..span.end as usize]),
+        None => None,
+    }
+}
+
+// Moves the lines of a recipe to the end of a list, and returns their places. If memory runs out, they may be there.
+fn hold_recipe(
+    lines: &mut Vec<RecipeLine>,
+    recipe: Option<Vec<RecipeLine>>,
+) -> Result<Option<LineSpan>, AllocError>
+    ensures within { IfOk result (λ held. IsWithin (length lines.new.items) held) }
+    ensures held { IfOk result (λ held. recipe_at lines.new.items held ≡ option_map (λ own. own.items) recipe) }
+    ensures grown { GotLines lines.old.items lines.new.items }
+{
+    match recipe {
+        Some(mut own) => Ok(Some(hold_lines(lines, &mut own)?)),
+        None => Ok(None),
+    }
+}
+
+fn hold_lines(
+    lines: &mut Vec<RecipeLine>,
+    own: &mut Vec<RecipeLine>,
+) -> Result<LineSpan, AllocError>
+    ensures held { IfOk result (λ span. IsHeldAt lines.new.items own.old.items span) }
+    ensures grown { GotLines lines.old.items lines.new.items }
+{
+    let start = lines.len();
+    lines.append(own)?;
+    line_span(start, lines.len())
+}
+
+fn line_span(start: usize, end: usize) -> Result<LineSpan, AllocError>
+    ensures { IfOk result (λ span. (span.start ≡ start) × (span.end ≡ end)) }
+{
+    Ok(LineSpan {
+        start: narrow(start)?,
+        end: narrow(end)?,
+    })
+}
+
+// Adds the numbers of a rule's names, and returns their places. If memory runs out, some may be added. A number or a
+// place beyond 4,294,967,295 is refused as if memory were.
 fn note_all(
     names: &mut Names,
-    numbers: &mut Vec<usize>,
+    numbers: &mut Vec<u32>,
     targets: &[Name],
     needs: &Needs,
 ) -> Result<Span, AllocError>
@@ -173,16 +251,29 @@ fn note_all(
     note_names(names, numbers, needs.prerequisites.as_slice())?;
     let order_only = numbers.len();
     note_names(names, numbers, needs.order_only.as_slice())?;
+    span_of(start, prerequisites, order_only, numbers.len())
+}
+
+// The places of a rule's numbers.
+fn span_of(
+    targets: usize,
+    prerequisites: usize,
+    order_only: usize,
+    end: usize,
+) -> Result<Span, AllocError>
+    ensures { IfOk result (λ span. (span.targets ≡ targets) × (span.prerequisites ≡ prerequisites)
+        × (span.order_only ≡ order_only) × (span.end ≡ end)) }
+{
     Ok(Span {
-        targets: start,
-        prerequisites,
-        order_only,
-        end: numbers.len(),
+        targets: narrow(targets)?,
+        prerequisites: narrow(prerequisites)?,
+        order_only: narrow(order_only)?,
+        end: narrow(end)?,
     })
 }
 
 // Adds the numbers of names. If memory runs out, some may be added.
-fn note_names(names: &mut Names, numbers: &mut Vec<usize>, list: &[Name]) -> Result<(), AllocError>
+fn note_names(names: &mut Names, numbers: &mut Vec<u32>, list: &[Name]) -> Result<(), AllocError>
     ensures noted { OnOk result (GotNumbers names.new numbers.old.items numbers.new.items list.now) }
     ensures grown { Grew names.old numbers.old.items names.new numbers.new.items }
 {
@@ -192,11 +283,11 @@ fn note_names(names: &mut Names, numbers: &mut Vec<usize>, list: &[Name]) -> Res
     Ok(())
 }
 
-fn note_name(names: &mut Names, numbers: &mut Vec<usize>, name: &[u8]) -> Result<(), AllocError>
+fn note_name(names: &mut Names, numbers: &mut Vec<u32>, name: &[u8]) -> Result<(), AllocError>
     ensures noted { OnOk result (GotNumbers names.new numbers.old.items numbers.new.items (name.now ∷ [])) }
     ensures grown { Grew names.old numbers.old.items names.new numbers.new.items }
 {
     let number = names.number(name)?;
-    numbers.push(number)?;
+    numbers.push(narrow(number)?)?;
     Ok(())
 }

@@ -93,8 +93,8 @@ pub(crate) fn is_explicit(suffixes: &Suffixes, rule: TargetRule) -> bool
 pub(crate) fn rule_at(rules: &Rules, spot: Spot) -> Option<TargetRule<'_>>
     ensures { option_map rule_view result ≡ spot_rule rules.now.1 spot }
 {
-    let entry = rules.get(spot.entry)?;
-    target_at(entry, spot.target)
+    let entry = rules.get(spot.entry as usize)?;
+    target_at(entry, spot.target as usize)
 }
 
 // Whether one of the rules at the spots has the form of a suffix rule.

@@ -1,5 +1,7 @@
-use Rattle.std.proofs.Common.{◌≡◌, ◌∷◌, ◌+◌, ◌<◌, ℕ, zero, suc, List, [], true, is_some, length, drop, get_or, refl, arith}
+use Rattle.std.proofs.Common.{◌≡◌, ◌∷◌, ◌+◌, ◌<◌, ℕ, zero, suc, List, [], true, is_some, length, drop, get_or, refl, arith, subst}
+use Rattle.kt_rules.specs.declared.book.spot.Spot.{Spot}
 use Rattle.kt_rules.specs.Entry.{target_of}
+use Rattle.kt_rules.specs.Slots.{GrewIn}
 use Rattle.kt_rules.specs.Targets.{entry_view, line_needs}
 use Rattle.kt_rules.specs.inner.Held.{numbered_target}
 use Rattle.kt_rules.proofs.HeldLemmas.{below_at}
@@ -32,16 +34,20 @@ note_target-requires c = below_at (length c.args.rule.names.now) c.args.rule.tar
 pub returns-in_err-note_target-clause-targets_refused : goal.returns-in_err-note_target-clause-targets_refused
 returns-in_err-note_target-clause-targets_refused c =
     let names = c.args.rule.names.now in
-    on_err c.from_residual.result
+    on_err c.from_residual-in_err-note_target.result
     (grew_both c.args.place (names, c.args.spots.now.targets) (names, c.loop-position.spots.targets) (names, c.note_target.new.spots.targets)
-    c.loop-position.invariant.targets_grown c.in_err-note_target.ensures.targets_refused)
+    c.loop-position.invariant.targets_grown
+    (subst (λ (spot : Spot). GrewIn spot.entry (names, c.loop-position.spots.targets) (names, c.note_target.new.spots.targets)) c.in_ok-spot.ensures
+    c.in_err-note_target.ensures.targets_refused))
 
 pub returns-in_err-note_target-clause-recipes_refused : goal.returns-in_err-note_target-clause-recipes_refused
 returns-in_err-note_target-clause-recipes_refused c =
     let names = c.args.rule.names.now in
-    on_err c.from_residual.result
+    on_err c.from_residual-in_err-note_target.result
     (grew_both c.args.place (names, c.args.spots.now.recipes) (names, c.loop-position.spots.recipes) (names, c.note_target.new.spots.recipes)
-    c.loop-position.invariant.recipes_grown c.in_err-note_target.ensures.recipes_refused)
+    c.loop-position.invariant.recipes_grown
+    (subst (λ (spot : Spot). GrewIn spot.entry (names, c.loop-position.spots.recipes) (names, c.note_target.new.spots.recipes)) c.in_ok-spot.ensures
+    c.in_err-note_target.ensures.recipes_refused))
 
 pub loop-position-preserved : goal.loop-position-preserved
 loop-position-preserved c =
@@ -51,6 +57,8 @@ loop-position-preserved c =
     let number = get_or c.args.rule.targets.now i 0 in
     let target = numbered_target c.args.rule number in
     let made = c.in_ok-note_target.ensures in
+    let targets_noted = rw c.in_ok-spot.ensures at made.targets_noted in
+    let recipes_noted = rw c.in_ok-spot.ensures at made.recipes_noted in
     let kept = c.loop-position.invariant in
     let first : drop i rule.targets ≡ target ∷ drop (i + 1) rule.targets
     = target_left (target_of c.args.rule.held.now.pattern (line_needs c.args.rule)) (λ (n : ℕ). get_or names n []) c.args.rule.targets.now i number
@@ -58,16 +66,16 @@ loop-position-preserved c =
     record {
       targets = noted_step true rule c.args.place i (i + 1) target (drop i rule.targets) (drop (i + 1) rule.targets)
           (names, c.args.spots.now.targets) (names, c.loop-position.spots.targets) (names, c.note_target.new.spots.targets)
-          first refl made.targets_noted kept.targets;
+          first refl targets_noted kept.targets;
       recipes = noted_step (is_some rule.recipe) rule c.args.place i (i + 1) target (drop i rule.targets) (drop (i + 1) rule.targets)
           (names, c.args.spots.now.recipes) (names, c.loop-position.spots.recipes) (names, c.note_target.new.spots.recipes)
-          first refl made.recipes_noted kept.recipes;
+          first refl recipes_noted kept.recipes;
       targets_grown = grew_both c.args.place (names, c.args.spots.now.targets) (names, c.loop-position.spots.targets) (names, c.note_target.new.spots.targets)
           kept.targets_grown
-          (grew_target true rule c.args.place i target (names, c.loop-position.spots.targets) (names, c.note_target.new.spots.targets) made.targets_noted);
+          (grew_target true rule c.args.place i target (names, c.loop-position.spots.targets) (names, c.note_target.new.spots.targets) targets_noted);
       recipes_grown = grew_both c.args.place (names, c.args.spots.now.recipes) (names, c.loop-position.spots.recipes) (names, c.note_target.new.spots.recipes)
           kept.recipes_grown
-          (grew_target (is_some rule.recipe) rule c.args.place i target (names, c.loop-position.spots.recipes) (names, c.note_target.new.spots.recipes) made.recipes_noted);
+          (grew_target (is_some rule.recipe) rule c.args.place i target (names, c.loop-position.spots.recipes) (names, c.note_target.new.spots.recipes) recipes_noted);
       targets_within = λ within. made.targets_within (kept.targets_within within);
       recipes_within = λ within. made.recipes_within (kept.recipes_within within);
     }

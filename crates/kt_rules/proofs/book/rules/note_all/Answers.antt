@@ -1,4 +1,6 @@
-use Rattle.std.proofs.Common.{rules}
+use Rattle.std.proofs.Common.{rules, ◌≡◌, ◌∙◌}
+use Rattle.std.proofs.lemmas.Result.{IfOk-weaker}
+use Rattle.kt_rules.specs.inner.Held.{IsNoted}
 use Rattle.kt_rules.proofs.HeldLemmas.{all_grew, all_noted, grew_twice}
 use Rattle.kt_rules.proofs.book.rules.note_all.Goals as goal
 
@@ -23,12 +25,15 @@ returns-clause-noted c =
     let two = c.note_names-2.new in
     let three = c.note_names-3.new in
     let needs = c.args.needs.now in
-    all_noted c.args.names.now one.names two.names three.names c.args.numbers.now.items one.numbers.items two.numbers.items three.numbers.items
+    IfOk-weaker c.span_of.result
+    (λ span. (span.targets ≡ c.len-start.result) × (span.prerequisites ≡ c.len-prerequisites.result) × (span.order_only ≡ c.len-order_only.result) × (span.end ≡ c.len.result))
+    (IsNoted three.names three.numbers.items c.args.targets.now needs)
+    (λ span at. all_noted c.args.names.now one.names two.names three.names c.args.numbers.now.items one.numbers.items two.numbers.items three.numbers.items
     c.in_ok-note_names.ensures.grown c.in_ok-note_names-2.ensures.grown c.in_ok-note_names-3.ensures.grown
-    c.args.targets.now needs
-    (record { targets = c.len-start.result; prerequisites = c.len-prerequisites.result; order_only = c.len-order_only.result; end = c.len.result })
+    c.args.targets.now needs span
     c.in_ok-note_names.ensures.noted (rw c.as_slice.ensures at c.in_ok-note_names-2.ensures.noted) (rw c.as_slice-2.ensures at c.in_ok-note_names-3.ensures.noted)
-    (search rules) (search rules) (search rules) (search rules)
+    (at.0 ∙ search rules) (at.1 ∙ search rules) (at.2 ∙ search rules) (at.3 ∙ search rules))
+    c.span_of.ensures
 
 pub returns-clause-grown : goal.returns-clause-grown
 returns-clause-grown c =

@@ -7,10 +7,10 @@ use Rattle.kt_rules.proofs.book.rules.Rules.empty.Goals as goal
 pub invariant_of-self : goal.invariant_of-self
 invariant_of-self c =
     let held = c.self.inside in
-    emptied_held held.names held.numbers.items held.slots.items (set held.slots.items c.args.place None) c.args.place c.self.invariant refl
+    emptied_held held.names held.numbers.items held.lines.items held.slots.items (set held.slots.items c.args.place None) c.args.place c.self.invariant refl
 
 pub returns-clause-emptied : goal.returns-clause-emptied
 returns-clause-emptied c =
     let held = c.self.inside in
-    emptied_slots held.names held.numbers.items held.slots.items (set held.slots.items c.args.place None) c.args.place refl
+    emptied_slots held.names held.numbers.items held.lines.items held.slots.items (set held.slots.items c.args.place None) c.args.place refl
     ∙ ap (λ (both : List Text × List (Option Rule)). set both.1 c.args.place None) c.self.view_is
