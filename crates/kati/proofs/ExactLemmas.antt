@@ -78,7 +78,7 @@ group_later read limit first groups statement of = record {
   is = of.is;
 }
 
-pub groups_told : (read : Read) (limit : ℕ) (groups : List (List Node)) (before : List Statement) (said : List Text) (heard : List Text)
+groups_told : (read : Read) (limit : ℕ) (groups : List (List Node)) (before : List Statement) (said : List Text) (heard : List Text)
     (statements : List Statement) → plan_groups read.book read.table limit groups before said ≡ Gave heard statements
     → (statement : Statement) → Contains statements statement → Contains before statement ⊎ IsOfGroup read limit groups statement
 unfolding plan_groups

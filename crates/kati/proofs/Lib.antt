@@ -14,8 +14,6 @@ pub mod ReadBackLemmas
 pub mod TellLemmas
 pub mod AskedLemmas
 pub mod ExactLemmas
-pub mod NeededLemmas
-pub mod WritableLemmas
 pub mod SoundLemmas
 pub mod OnceLemmas
 pub mod SingleLemmas

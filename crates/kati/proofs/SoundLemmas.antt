@@ -1,32 +1,97 @@
 -- No plan that a run means has a cycle, two outputs of one file or a reserved name.
-use Rattle.std.proofs.Common.{◌≡◌, ◌≢◌, ◌⊎◌, ℕ, Bool, true, false, List, [], ◌∷◌, ◌++◌, Option, Result, Ok, Err, refl, sym, ap, ◌∙◌, subst, ⊎_elim, inl, inr}
+use Rattle.std.proofs.Common.{◌≡◌, ◌≢◌, ◌⊎◌, ℕ, Bool, true, false, not, List, [], ◌∷◌, ◌++◌, flat_map, Option, Result, Ok, Err, refl, sym, ap, ◌∙◌, subst, ⊎_elim, inl, inr}
 use Rattle.std.specs.Prelude.{IfOk}
 use Rattle.std.specs.List.{Contains}
 use Rattle.std.specs.Str.{bytes_eq}
 use Rattle.std.proofs.lemmas.Bool.{true≢false}
+use Rattle.std.proofs.lemmas.List.Elements.{Contains-append_cases, Contains-append_left, Contains-append_right}
 use Rattle.std.proofs.lemmas.Slice.Eq.{bytes_eq-Decides}
 use Rattle.kt_text.specs.Words.{Text}
+use Rattle.kt_rules.specs.Entry.{Rule}
+use Rattle.kt_rules.specs.Names.{is_among, without_repeats}
 use Rattle.kt_eval.specs.declared.stop.Stop.{Stop}
 use Rattle.kt_eval.specs.reading.Machine.{Read, Trace}
 use Rattle.kt_eval.specs.Outcome.{Ends}
 use Rattle.kt_graph.specs.nodes.Groups.{groups_of}
-use Rattle.kt_graph.specs.nodes.Node.{Node, all_inputs}
+use Rattle.kt_graph.specs.nodes.Node.{Node, all_inputs, inputs_of, order_only_of}
 use Rattle.kt_graph.specs.faults.Paths.{always_name, canon_of, is_reserved}
 use Rattle.kt_graph.specs.Reach.{HasEdge, IsInGroup, IsMade, IsReached, Leads}
-use Rattle.kt_graph.proofs.lemmas.MemberLemmas.{Contains-from_map, Contains-none}
+use Rattle.kt_graph.proofs.lemmas.nodes.MadeLemmas.{input_reached}
+use Rattle.kt_graph.proofs.lemmas.MemberLemmas.{Contains-cases, Contains-from_map, Contains-map, Contains-none}
+use Rattle.kt_graph.proofs.lemmas.faults.TroubleLemmas.{from_filter}
+use Rattle.kt_graph.proofs.lemmas.search.UnknownLemmas.{from_without_repeats}
 use Rattle.kt_ninja.specs.Plan.{outputs}
 use Rattle.kt_ninja.specs.declared.plan.Plan.{Plan}
 use Rattle.kt_ninja.specs.declared.plan.Statement.{Statement}
 use Rattle.kt_ninja.specs.Writable.{IsWritable}
 use Rattle.kati.specs.Exact.{IsAlwaysBuilt, IsOfGroup, TellsGraph}
 use Rattle.kati.specs.Meaning.{Wanted}
-use Rattle.kati.specs.Planning.{always_build, always_built, outs_of, statement_of}
+use Rattle.kati.specs.Planning.{always_build, always_built, implicit_of, joined_inputs, joined_order_only, outs_of, statement_of}
 use Rattle.kati.specs.Sound.{IsSoundPlan, IsUnreserved, NeedsInput, NeedsItself, PlansAreSound}
 use Rattle.kati.specs.inner.Views.{GoalsEnd}
 use Rattle.kati.proofs.ExactLemmas.{are_graphs, goals_told, of_group}
 use Rattle.kati.proofs.MeaningLemmas.{meant}
-use Rattle.kati.proofs.NeededLemmas.{IsNeededBy, group_implicit, group_makes, group_names, group_needs, needed_reached}
-use Rattle.kati.proofs.PlanLemmas.{always_reserved, in_nodes, law, name_in, node_is, outs_in, to_flat}
+use Rattle.kati.proofs.PlanLemmas.{always_reserved, from_flat, in_nodes, law, name_in, node_is, outs_in, to_flat}
+
+-- ---- the inputs of a group's statement
+
+-- a name that a member of the group has among its inputs
+pub record IsNeededBy (group : List Node) (input : Text) : Type 0 where
+  pub member : Node
+  pub among : Contains group member
+  pub needs : Contains (all_inputs member) input
+
+joined_needed : (group : List Node) (input : Text) → Contains (joined_inputs group) input → IsNeededBy group input
+joined_needed group input has =
+    let from = from_flat inputs_of group input (from_without_repeats (flat_map inputs_of group) input has) in
+    record { member = from.0; among = from.1; needs = Contains-append_left (inputs_of from.0) (order_only_of from.0) input from.2 }
+
+order_only_needed : (group : List Node) (input : Text) → Contains (joined_order_only group) input → IsNeededBy group input
+order_only_needed group input has =
+    let kept = from_filter (λ name. not (is_among (joined_inputs group) name)) (without_repeats (flat_map order_only_of group)) input has in
+    let from = from_flat order_only_of group input (from_without_repeats (flat_map order_only_of group) input kept.0) in
+    record { member = from.0; among = from.1; needs = Contains-append_right (inputs_of from.0) (order_only_of from.0) input from.2 }
+
+implicit_is : (always : Bool) (input : Text) → Contains (implicit_of always) input → input ≡ always_build
+implicit_is true input has = ⊎_elim
+    (λ (same : always_build ≡ input). sym same)
+    (λ (none : Contains [] input). Contains-none input none)
+    (Contains-cases always_build [] input has)
+implicit_is false input has = Contains-none input has
+
+group_needs : (rules : List Rule) (group : List Node) (command : Option Text) (input : Text)
+    → Contains ((statement_of rules group command).inputs ++ ((statement_of rules group command).implicit ++ (statement_of rules group command).order_only)) input
+    → IsNeededBy group input ⊎ (input ≡ always_build)
+unfolding statement_of
+group_needs rules group command input has = ⊎_elim
+    (λ (needed : Contains (joined_inputs group) input). inl (joined_needed group input needed))
+    (λ (others : Contains ((statement_of rules group command).implicit ++ joined_order_only group) input). ⊎_elim
+    (λ (always : Contains (statement_of rules group command).implicit input). inr (implicit_is _ input always))
+    (λ (later : Contains (joined_order_only group) input). inl (order_only_needed group input later))
+    (Contains-append_cases (statement_of rules group command).implicit (joined_order_only group) input others))
+    (Contains-append_cases (joined_inputs group) ((statement_of rules group command).implicit ++ joined_order_only group) input has)
+
+group_makes : (rules : List Rule) (group : List Node) (command : Option Text) (name : Text)
+    → Contains (statement_of rules group command).outs name → Contains (outs_of group) name
+unfolding statement_of
+group_makes rules group command name has = has
+
+group_names : (rules : List Rule) (group : List Node) (command : Option Text) (name : Text)
+    → Contains ((statement_of rules group command).outs ++ ((statement_of rules group command).inputs ++ (statement_of rules group command).order_only)) name
+    → Contains (outs_of group) name ⊎ IsNeededBy group name
+unfolding statement_of
+group_names rules group command name has = ⊎_elim
+    (λ (made : Contains (outs_of group) name). inl made)
+    (λ (needed : Contains (joined_inputs group ++ joined_order_only group) name). ⊎_elim
+    (λ (input : Contains (joined_inputs group) name). inr (joined_needed group name input))
+    (λ (later : Contains (joined_order_only group) name). inr (order_only_needed group name later))
+    (Contains-append_cases (joined_inputs group) (joined_order_only group) name needed))
+    (Contains-append_cases (outs_of group) (joined_inputs group ++ joined_order_only group) name has)
+
+group_implicit : (rules : List Rule) (group : List Node) (command : Option Text) (name : Text)
+    → Contains (statement_of rules group command).implicit name → name ≡ always_build
+unfolding statement_of
+group_implicit rules group command name has = implicit_is _ name has
 
 module _ (read : Read) (limit : ℕ) (known goals : List Text) (plan : Plan) (tells : TellsGraph read limit known goals plan) where
   -- a made name isn't reserved
@@ -141,6 +206,18 @@ module _ (read : Read) (limit : ℕ) (known goals : List Text) (plan : Plan) (te
       by (inr always) (inl made_other) = absurd (free other made_other (reserved_by other (sym same ∙ ap canon_of always)))
       by (inr always_one) (inr always_other) = always_one ∙ sym always_other
 
+  -- the inputs of a member of a group are reached
+  needed_reached : (group : List Node) → Contains (groups_of tells.nodes) group → (input : Text) → IsNeededBy group input
+      → IsReached read.book known goals input
+  needed_reached group is_group input needed =
+      let made = (law read.book known goals tells.nodes tells.graph.1).made group needed.member is_group needed.among in
+      input_reached read.book known goals needed.member.name input
+      (of_group read.book known goals tells.nodes tells.graph.1 needed.member.name group is_group
+      (Contains-map name_in group needed.member needed.among)).reached
+      (subst (λ (one : Node). Contains (all_inputs one) input)
+      (sym (node_is read.book known goals tells.nodes tells.graph.1 needed.member
+      (in_nodes read.book known goals tells.nodes tells.graph.1 needed.member made))) needed.needs)
+
   not_reserved : (name : Text) → IsReached read.book known goals name → (b : Bool) → is_reserved name ≡ b → b ≡ false
   not_reserved name reached true is = absurd (tells.graph.0.free.free name (record { reached = reached; reserved = is }))
   not_reserved name reached false is = refl
@@ -150,7 +227,7 @@ module _ (read : Read) (limit : ℕ) (known goals : List Text) (plan : Plan) (te
     free = λ name has. ⊎_elim
         (λ (made : Contains (outs_of group) name). not_reserved name (of_group read.book known goals tells.nodes tells.graph.1 name group is_group made).reached
         (is_reserved name) refl)
-        (λ (needed : IsNeededBy group name). not_reserved name (needed_reached read.book known goals tells.nodes tells.graph.1 group is_group name needed) (is_reserved name) refl)
+        (λ (needed : IsNeededBy group name). not_reserved name (needed_reached group is_group name needed) (is_reserved name) refl)
         (group_names read.book group command name has);
     implicit = group_implicit read.book group command;
   }

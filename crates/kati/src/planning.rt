@@ -1,13 +1,11 @@
 //! The plan of a graph.
 ghost use Rattle.std.specs.Prelude.{◌≡◌, ◌<◌, ◌++◌, ◌∷◌, [], List, get_or, length, IfOk, MatchOption, None, Some, false};
-ghost use Rattle.std.specs.Prelude.{true};
-ghost use Rattle.std.specs.List.{list_all};
 ghost use Rattle.kt_text.specs.Words.{Text};
 ghost use Rattle.kt_eval.specs.declared.fault.Fault.{Fault as FaultType};
 ghost use Rattle.kt_graph.specs.faults.Faults.{IsSoundGraph};
 ghost use Rattle.kt_graph.specs.nodes.Groups.{groups_of};
 ghost use Rattle.kt_recipe.specs.Views.{command_in};
-ghost use Rattle.kt_ninja.specs.Writable.{HasWritableTexts, IsWritable, is_name, told_obstacle};
+ghost use Rattle.kt_ninja.specs.Writable.{HasWritableTexts, IsWritable, told_obstacle};
 ghost use Rattle.kt_eval.specs.Outcome.{AsksNothing, Gives, done, then_do};
 ghost use Rattle.kati.specs.Planning.{command_for, least_output, plan_groups, plan_of, planned, text_fault};
 ghost use Rattle.kati.specs.Planning.{unwritable_in, written};
@@ -24,7 +22,7 @@ use crate::words::stop_on;
 use kt_eval::{Makefile, Stop};
 use kt_graph::{Graph, Node};
 use kt_list::Sequence;
-use kt_ninja::{Listed, Plan, PlanView, Unwritable, copied_plan, name_can_be_written, texts_can_be_written};
+use kt_ninja::{Listed, Plan, PlanView, Unwritable, copied_plan, texts_can_be_written};
 use kt_recipe::Commands;
 use kt_rules::{Book, FaultKind, Name};
 use std::alloc::{AllocError, Global};
@@ -39,16 +37,15 @@ pub(crate) fn graph_plan<'g>(
     goals: Vec<Name>,
     messages: &mut Vec<Sequence<u8>>,
 ) -> Result<GraphPlan<'g>, Stop>
-    requires { (known : List Text) × IsSoundGraph makefile.now.book known goals.items graph.now }
     ensures gives { Gives plan_view result messages.new.items
         (planned makefile.now.book makefile.now.macros limit goals.items graph.now messages.old.items) }
     ensures asks_nothing { AsksNothing result }
-    ensures writable { IfOk result (λ plan. IsWritable (plan_view plan)) }
+    ensures writable { (known : List Text) → IsSoundGraph makefile.now.book known goals.items graph.now
+        → IfOk result (λ plan. IsWritable (plan_view plan)) }
 {
     let groups = all_groups(alloc, graph)?;
     let sketch = sketched(alloc, makefile, limit, &groups, messages)?;
-    let is_fine = names_can_be_written(graph) && sketch.can_be_written();
-    written(alloc, plan_of(groups, sketch, goals), is_fine)
+    written(alloc, plan_of(groups, sketch, goals))
 }
 
 /// The same, copied into a `Plan`.
@@ -60,26 +57,14 @@ pub(crate) fn plan(
     goals: Vec<Name>,
     messages: &mut Vec<Sequence<u8>>,
 ) -> Result<Plan, Stop>
-    requires { (known : List Text) × IsSoundGraph makefile.now.book known goals.items graph.now }
     ensures gives { Gives (λ plan. plan) result messages.new.items
         (planned makefile.now.book makefile.now.macros limit goals.items graph.now messages.old.items) }
     ensures asks_nothing { AsksNothing result }
-    ensures writable { IfOk result IsWritable }
+    ensures writable { (known : List Text) → IsSoundGraph makefile.now.book known goals.items graph.now
+        → IfOk result IsWritable }
 {
     let plan = graph_plan(alloc, makefile, limit, graph, goals, messages)?;
     Ok(copied_plan(alloc, &plan)?)
-}
-
-// Whether the name of each node can be written. A plan has no other names, but for `ALWAYS_BUILD`.
-fn names_can_be_written(graph: &Graph) -> bool
-    ensures { result ≡ list_all (λ node. is_name node.name) graph.now }
-{
-    for node in graph.nodes() {
-        if !name_can_be_written(node.name()) {
-            return false;
-        }
-    }
-    true
 }
 
 // The groups, one after another.
@@ -219,33 +204,27 @@ fn plan_of<'g>(groups: NodeGroups<'g>, sketch: Sketch, goals: Vec<Name>) -> Grap
     }
 }
 
-// The plan, unless one of its names or commands can't be written. They are looked through one by one unless all are
-// known to be fine.
+// The plan, unless one of its names or commands can't be written.
 #[tactic(auto, unfolding(crate::specs::Planning::written))]
-fn written<'g>(alloc: Global, plan: GraphPlan<'g>, is_fine: bool) -> Result<GraphPlan<'g>, Stop>
-    requires { is_fine ≡ true → HasWritableTexts (plan_view plan) }
+fn written<'g>(alloc: Global, plan: GraphPlan<'g>) -> Result<GraphPlan<'g>, Stop>
     ensures gives { (said : List Text) → Gives plan_view result said (written (plan_view plan.entry) said) }
     ensures asks_nothing { AsksNothing result }
     ensures same { IfOk result (λ copy. plan_view copy ≡ plan_view plan.entry) }
     ensures texts { IfOk result (λ copy. HasWritableTexts (plan_view copy)) }
 {
-    match text_stop(alloc, &plan, is_fine) {
+    match text_stop(alloc, &plan) {
         None => Ok(plan),
         Some(stop) => Err(stop),
     }
 }
 
 #[tactic(auto, unfolding(crate::specs::Planning::unwritable_in))]
-fn text_stop(alloc: Global, plan: &GraphPlan, is_fine: bool) -> Option<Stop>
-    requires { is_fine ≡ true → HasWritableTexts (plan_view plan.now) }
+fn text_stop(alloc: Global, plan: &GraphPlan) -> Option<Stop>
     ensures { MatchOption result
         ((unwritable_in (plan_view plan.now).statements ≡ None) × HasWritableTexts (plan_view plan.now))
         (λ stop. (fault : FaultType) × (unwritable_in (plan_view plan.now).statements ≡ Some fault)
         × IsFaultOf fault stop) }
 {
-    if is_fine {
-        return None;
-    }
     match texts_can_be_written(plan) {
         Ok(()) => None,
         Err(trouble) => stop_of(alloc, plan, trouble),
