@@ -30,8 +30,8 @@ use crate::nodes::numbering::NameNumbers;
 use crate::nodes::reached_name::ReachedName;
 use crate::nodes::stored::StoredNodes;
 use crate::nodes::stored_node::BuiltNode;
-use crate::search::Search;
 use crate::search::choice::Chosen;
+use crate::search::finding::Finder;
 use indexmap::IndexSet;
 use kt_rules::{Book, Name, NeedsView, TargetRule};
 use std::alloc::{AllocError, Global};
@@ -45,7 +45,7 @@ pub(crate) struct GraphBuilder<'a> {
     book: &'a Book,
     known: &'a Known<'a>,
     // Searches this book with these known names.
-    search: Search<'a>,
+    finder: Finder<'a>,
     pub(crate) numbers: NameNumbers<'a>,
     pub(crate) nodes: StoredNodes<'a>,
     pub(crate) instances: IndexSet<Instance>,
@@ -65,7 +65,7 @@ impl<'a> GraphBuilder<'a> {
             alloc,
             book,
             known,
-            search: Search::new(alloc, book, known)?,
+            finder: Finder::new(alloc, book, known)?,
             numbers: NameNumbers::new(alloc, book.name_table())?,
             nodes: StoredNodes::new(alloc),
             instances: IndexSet::new(alloc),
@@ -246,7 +246,7 @@ impl<'a> GraphBuilder<'a> {
         if self.book.is_phony(name) {
             return Ok(None);
         }
-        match self.search.choose(name)? {
+        match self.finder.choose(name)? {
             Some(chosen) => self.inference(chosen),
             None => Ok(None),
         }
@@ -254,9 +254,9 @@ impl<'a> GraphBuilder<'a> {
 
     // What a chosen rule gives to the name that it makes.
     fn inference(&self, chosen: Chosen) -> Result<Option<Inferred<'a>>, AllocError>
-        ensures { IfOk result (Infers self.now.search.rules chosen) }
+        ensures { IfOk result (Infers self.now.finder.rules chosen) }
     {
-        match self.search.patterns().get(chosen.rule) {
+        match self.finder.patterns().get(chosen.rule) {
             Some(pattern) => Ok(Some(Inferred::of(self.alloc, pattern, chosen)?)),
             None => Ok(None),
         }
