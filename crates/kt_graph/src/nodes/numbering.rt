@@ -16,6 +16,7 @@ ghost use Rattle.kt_graph.specs.nodes.Views.{name_at};
 use crate::nodes::named::NamedPart;
 use crate::nodes::reached::Reached;
 use crate::nodes::reached_name::ReachedName;
+use crate::nodes::stored::narrow;
 use crate::nodes::stored_node::{Numbered, Part};
 use kt_list::Names;
 use kt_rules::{Name, NeededName, NeededNames, NeedsView};
@@ -183,7 +184,7 @@ impl<'a> NameNumbers<'a> {
         })
     }
 
-    fn prerequisites(&mut self, rules: &[NeedsView<'_>]) -> Result<Vec<usize>, AllocError>
+    fn prerequisites(&mut self, rules: &[NeedsView<'_>]) -> Result<Vec<u32>, AllocError>
         ensures say { IfOk result (λ numbers. StandFor self.new (flat_map
             (λ needs. (needs_view needs).prerequisites) rules.now) numbers.items) }
         ensures reached { OnOk result (self.new
@@ -196,7 +197,7 @@ impl<'a> NameNumbers<'a> {
         Ok(numbers)
     }
 
-    fn order_only(&mut self, rules: &[NeedsView<'_>]) -> Result<Vec<usize>, AllocError>
+    fn order_only(&mut self, rules: &[NeedsView<'_>]) -> Result<Vec<u32>, AllocError>
         ensures say { IfOk result (λ numbers. StandFor self.new (flat_map
             (λ needs. (needs_view needs).order_only) rules.now) numbers.items) }
         ensures reached { OnOk result (self.new
@@ -212,7 +213,7 @@ impl<'a> NameNumbers<'a> {
     // Adds the numbers of names at the end.
     fn add_names(
         &mut self,
-        numbers: &mut Vec<usize>,
+        numbers: &mut Vec<u32>,
         names: NeededNames<'_>,
     ) -> Result<(), AllocError>
         ensures say { OnOk result ((earlier : List Text) → StandFor self.old earlier numbers.old.items
@@ -222,7 +223,7 @@ impl<'a> NameNumbers<'a> {
         numbers.reserve(names.len())?;
         for name in names {
             let number = self.needed_number(name)?;
-            numbers.push(number)?;
+            numbers.push(narrow(number)?)?;
         }
         Ok(())
     }
