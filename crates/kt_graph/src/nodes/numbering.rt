@@ -54,11 +54,22 @@ impl<'a> NameNumbers<'a> {
     pub(crate) fn new(alloc: Global, table: &'a Names) -> Result<NameNumbers<'a>, AllocError>
         ensures { IfOk result (λ numbers. numbers ≡ []) }
     {
+        NameNumbers::with_room(alloc, table, table.len())
+    }
+
+    /// No names. So many of a table take no memory of their own later on.
+    pub(crate) fn with_room(
+        alloc: Global,
+        table: &'a Names,
+        room: usize,
+    ) -> Result<NameNumbers<'a>, AllocError>
+        ensures { IfOk result (λ numbers. numbers ≡ []) }
+    {
         Ok(NameNumbers {
             alloc,
             table,
             others: Names::new(alloc),
-            reached: Reached::none(alloc, table.len())?,
+            reached: Reached::none(alloc, room)?,
         })
     }
 
@@ -98,6 +109,22 @@ impl<'a> NameNumbers<'a> {
         self.reached.place(number)
     }
 
+    /// Whether a name was reached. Takes no memory.
+    #[tactic(auto, using(crate::proofs::lemmas::nodes::NumberLemmas::none_among))]
+    pub(crate) fn contains(&self, name: &[u8]) -> bool
+        ensures { result ≡ is_among self.now name.now }
+    {
+        self.len() > 0 && self.number_of(name).is_some()
+    }
+
+    /// Adds a name, unless it is there.
+    pub(crate) fn add(&mut self, name: &[u8]) -> Result<(), AllocError>
+        ensures { OnOk result (self.new ≡ with_name self.old name.now) }
+    {
+        let _ = self.number(name)?;
+        Ok(())
+    }
+
     // The number of a name, which is reached from then on.
     fn number(&mut self, name: &[u8]) -> Result<usize, AllocError>
         ensures numbered { IfOk result (λ number. slice_get self.new number ≡ Some name.now) }
@@ -130,7 +157,7 @@ impl<'a> NameNumbers<'a> {
         ensures { OnOk result (self.new ≡ fold with_name self.old names.now) }
     {
         for name in names {
-            let _ = self.number(name.as_slice())?;
+            self.add(name.as_slice())?;
         }
         Ok(())
     }
