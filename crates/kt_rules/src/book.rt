@@ -44,7 +44,8 @@ use noting::learn;
 pub use pattern::Pattern;
 use refusing::fault_of;
 use rules::Rules;
-use spots::{Spots, spots_of};
+use special::is_among;
+use spots::{Spots, spots_by_number, spots_of};
 use std::alloc::{AllocError, Global};
 use std::marker::Model;
 use suffixes::Suffixes;
@@ -149,6 +150,16 @@ impl Book {
         Explicit::new(rules, spots, skips_bare(&self.suffixes, rules, spots, name))
     }
 
+    /// The same for a name that may have this number in `name_table`: then they are found without hashing. Takes no
+    /// memory.
+    pub fn explicit_at(&self, name: &[u8], number: usize) -> Explicit<'_>
+        ensures { result ≡ explicit_rules self.now name.now }
+    {
+        let rules = &self.rules;
+        let spots = spots_by_number(rules, &self.spots.targets, name, number);
+        Explicit::new(rules, spots, skips_bare(&self.suffixes, rules, spots, name))
+    }
+
     /// All names that stand in the rules, by numbers: a needed name tells its number in this table (`NeededName`).
     ///
     /// Others may stand there, too.
@@ -169,7 +180,7 @@ impl Book {
     pub fn is_phony(&self, name: &[u8]) -> bool
         ensures { result ≡ is_phony self.now name.now }
     {
-        self.phony.contains(name)
+        is_among(&self.phony, name)
     }
 
     /// The suffixes, in order (POSIX.1-2024 make, "Inference Rules"). Takes no memory.

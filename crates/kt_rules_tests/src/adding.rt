@@ -473,25 +473,3 @@ fn stays_as_it_was_where_it_refuses(rt: HostRuntime) -> Result<(), Fail> {
     answers_by(&rt, alloc, &book, false);
     Ok(())
 }
-
-#[test]
-fn tells_numbers(rt: HostRuntime) -> Result<(), Fail> {
-    answers(
-        &rt,
-        rt.alloc(),
-        &[
-            (b"a: b ./a c | d", Question::Numbers(b"a"), b"102|3."),
-            (
-                b"a b: c\nc: b\nb: d a | c",
-                Question::Numbers(b"b"),
-                b"2|.30|2.",
-            ),
-            (
-                b"x.o: %.o: %.c h ./h | ./%.h d",
-                Question::Numbers(b"x.o"),
-                b"-22|-4.",
-            ),
-        ],
-    )?;
-    Ok(())
-}

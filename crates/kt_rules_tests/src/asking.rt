@@ -139,6 +139,8 @@ pub(crate) enum Question<'a> {
     Messages,
     Entries,
     Explicit(&'a [u8]),
+    /// The same for a name with a number that it may have in the book's table.
+    ExplicitAt(&'a [u8], usize),
     /// The numbers of what a name's explicit rules need, in the book's table.
     Numbers(&'a [u8]),
     IsPhony(&'a [u8]),
@@ -155,6 +157,7 @@ pub(crate) fn put_answer_to(alloc: Global, told: &mut Vec<u8>, book: &Book, ques
         Question::Messages => {}
         Question::Entries => put_entries(told, book),
         Question::Explicit(name) => put_explicit(told, book.explicit(name)),
+        Question::ExplicitAt(name, number) => put_explicit(told, book.explicit_at(name, number)),
         Question::Numbers(name) => put_numbers(told, book, name),
         Question::IsPhony(name) => put(told, if book.is_phony(name) { b"yes" } else { b"no" }),
         Question::IsKnown(name) => put_is_known(told, book, name),

@@ -11,6 +11,8 @@ mod fault_kinds;
 #[cfg(test)]
 mod noting;
 #[cfg(test)]
+mod numbers;
+#[cfg(test)]
 mod plain_way;
 #[cfg(test)]
 mod reading;

@@ -1,6 +1,6 @@
 //! The rules of a book, which stores each name once.
 ghost use Rattle.std.specs.Prelude.{◌≡◌, ◌++◌, ◌∷◌, [], ◌<◌, All, flat_map, length, option_map, set, slice_range, IfOk};
-ghost use Rattle.std.specs.Prelude.{IfSome, OnErr, OnOk, Some, None};
+ghost use Rattle.std.specs.Prelude.{IfSome, IsTrue, OnErr, OnOk, Some, None};
 ghost use Rattle.std.specs.List.{Contains};
 ghost use Rattle.kt_list.specs.Names.{place_of};
 ghost use Rattle.kt_rules.specs.inner.Held.{AreBelow, GotNames, GotNumbers, Grew, IsNoted, IsSpan, rule_held};
@@ -77,6 +77,18 @@ impl Rules {
         ensures { result ≡ place_of self.now.0 name.now }
     {
         self.names.number_of(name)
+    }
+
+    /// Whether a name has this number, told without hashing.
+    pub(crate) fn has_number(&self, name: &[u8], number: usize) -> bool
+        ensures { IsTrue result → place_of self.now.0 name.now ≡ Some number }
+    {
+        // The contract of `as_slice` makes known that the names differ.
+        let _names = self.names.as_slice();
+        match self.names.get(number) {
+            Some(held) => held == name,
+            None => false,
+        }
     }
 
     /// The rule in a slot.

@@ -2,17 +2,21 @@
 ghost use Rattle.std.specs.Prelude.{◌≡◌, ◌++◌, ◌∷◌, [], List, IfOk, OnErr, OnOk, bytes_eq, find, fold, option_map};
 ghost use Rattle.kt_text.specs.Words.{Text};
 ghost use Rattle.kt_rules.specs.Book.{phony_of};
-ghost use Rattle.kt_rules.specs.Names.{with_name};
+ghost use Rattle.kt_rules.specs.Names.{is_among, with_name};
 ghost use Rattle.kt_rules.specs.Suffixes.{all_needs, special_needs, start_suffixes, suffixes_after};
 ghost use Rattle.kt_rules.specs.Targets.{entry_view, names_view, needs_view, target_view, targets_view};
 
 use super::book_rule::BookRule;
 use super::suffixes::Suffixes;
+use crate::entry::Name;
 use crate::needs::{NeededNames, NeedsView};
 use crate::target::{TargetView, Targets};
 use kt_list::Names;
 use kt_text::words;
 use std::alloc::{AllocError, Global};
+
+// Up to this many names are compared one by one, which is faster than to hash.
+const FEW: usize = 8;
 
 /// The suffixes before any rule is read.
 #[tactic(auto, unfolding(crate::specs::Suffixes::start_suffixes))]
@@ -24,6 +28,28 @@ pub(crate) fn start_names(alloc: Global) -> Result<Names, AllocError>
         names.add(suffix)?;
     }
     Ok(names)
+}
+
+/// Whether a name is among names, of which there are mostly few.
+pub(crate) fn is_among(names: &Names, name: &[u8]) -> bool
+    ensures { result ≡ is_among names.now name.now }
+{
+    if names.len() > FEW {
+        return names.contains(name);
+    }
+    is_one_of(names.as_slice(), name)
+}
+
+// The same by comparing, the lengths first.
+fn is_one_of(names: &[Name], name: &[u8]) -> bool
+    ensures { result ≡ is_among names.now name.now }
+{
+    for other in names {
+        if name == other.as_slice() {
+            return true;
+        }
+    }
+    false
 }
 
 /// Makes the prerequisites of the entry's `.PHONY` phony.

@@ -54,6 +54,22 @@ impl Spots {
     }
 }
 
+/// The spots of a name that may have this number: then they are found without hashing.
+pub(crate) fn spots_by_number<'a>(
+    rules: &Rules,
+    lists: &'a Lists,
+    name: &[u8],
+    number: usize,
+) -> &'a [Spot]
+    ensures { result.now ≡ spots_at (rules.now.0, lists.now) name.now }
+{
+    if rules.has_number(name, number) {
+        lists.noted(number)
+    } else {
+        spots_of(rules, lists, name)
+    }
+}
+
 /// The spots of a name.
 pub(crate) fn spots_of<'a>(rules: &Rules, lists: &'a Lists, name: &[u8]) -> &'a [Spot]
     ensures { result.now ≡ spots_at (rules.now.0, lists.now) name.now }
