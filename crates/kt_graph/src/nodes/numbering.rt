@@ -266,7 +266,7 @@ fn reached_name<'a>(
     ensures { IfOk result (λ name. reached_text name ≡ name_at (table.now ++ others.now) number) }
 {
     if number < table.len() {
-        Ok(ReachedName::InBook(name_at(table, number)))
+        Ok(ReachedName::InBook(name_at(table, number), number))
     } else {
         let other = name_at(others, number - table.len());
         Ok(ReachedName::Other(Name::copied(alloc, other)?))
