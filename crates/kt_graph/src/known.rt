@@ -3,8 +3,8 @@ ghost use Rattle.std.specs.Prelude.{◌≡◌, fold, IfOk, OnOk};
 ghost use Rattle.kt_rules.specs.Names.{is_among, with_name};
 ghost use Rattle.kt_graph.specs.Known.{known_names, listed_names};
 
+use crate::nodes::numbering::NameNumbers;
 use bstr::ByteSlice;
-use kt_list::Names;
 use kt_rules::{Book, BookNames, without_dots};
 use std::alloc::{AllocError, Global};
 use std::marker::Model;
@@ -16,7 +16,7 @@ use std::marker::Model;
 pub struct Known<'a> {
     book: BookNames<'a>,
     // The names of the list of files.
-    list: Names,
+    list: NameNumbers<'a>,
 }
 
 impl<'a> Model for Known<'a> {
@@ -34,7 +34,10 @@ impl<'a> Known<'a> {
     pub fn of(alloc: Global, book: &'a Book, files: &[u8]) -> Result<Known<'a>, AllocError>
         ensures { IfOk result (λ known. known ≡ known_names book.now files.now) }
     {
-        let mut list = Names::new(alloc);
+        let table = book.name_table();
+        // Without a list, no name of the book is one of its names.
+        let room = if files.is_empty() { 0 } else { table.len() };
+        let mut list = NameNumbers::with_room(alloc, table, room)?;
         add_listed(&mut list, files)?;
         let book = book.names()?;
         Ok(Known { book, list })
@@ -51,7 +54,7 @@ impl<'a> Known<'a> {
 
 // Adds the names of a list, one per line.
 #[tactic(auto, unfolding(crate::specs::Known::listed_names))]
-fn add_listed(names: &mut Names, files: &[u8]) -> Result<(), AllocError>
+fn add_listed(names: &mut NameNumbers<'_>, files: &[u8]) -> Result<(), AllocError>
     ensures { OnOk result (names.new ≡ fold with_name names.old (listed_names files.now)) }
 {
     for name in files.lines() {

@@ -11,7 +11,7 @@ mod grouping;
 mod inferring;
 mod named;
 pub(crate) mod node;
-mod numbering;
+pub(crate) mod numbering;
 mod reached;
 mod reached_name;
 pub(crate) mod stored;

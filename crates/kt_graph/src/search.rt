@@ -13,6 +13,7 @@ mod candidates;
 mod chains;
 pub(crate) mod choice;
 mod ends;
+pub(crate) mod finding;
 mod knowing;
 mod patterns;
 mod question;
@@ -24,7 +25,7 @@ use crate::search::chains::Chains;
 use crate::search::patterns::Patterns;
 use crate::search::tried::Tried;
 pub use choice::{Choice, Chosen};
-use kt_rules::{Book, Pattern};
+use kt_rules::Book;
 pub use question::{Question, Used};
 use std::alloc::{AllocError, Global};
 use std::marker::Model;
@@ -107,12 +108,5 @@ impl<'a> Search<'a> {
         ensures once { IsDistinct asked_eq self.now.asked }
     {
         self.tried.questions()
-    }
-
-    /// The pattern rules of the search.
-    pub(crate) fn patterns(&self) -> &[Pattern<'a>]
-        ensures { result.now ≡ self.now.rules }
-    {
-        self.chains.patterns()
     }
 }

@@ -19,7 +19,7 @@ pub(crate) fn first_circular(
     alloc: Global,
     edges: &Edges<'_>,
     none: &StoredNodes<'_>,
-    order: &[usize],
+    order: &[u32],
 ) -> Result<Option<usize>, AllocError>
     requires within { LeadToVertices edges.now }
     requires none { none.now ≡ [] }
@@ -37,7 +37,7 @@ pub(crate) fn first_circular(
 }
 
 // For each vertex, the number of edges to it from remaining vertices, after each vertex without any was removed.
-fn arrivals_left(alloc: Global, edges: &Edges<'_>) -> Result<Vec<usize>, AllocError>
+fn arrivals_left(alloc: Global, edges: &Edges<'_>) -> Result<Vec<u32>, AllocError>
     ensures { IfOk result (λ counts. LeavesCircular edges.now counts.items) }
 {
     let mut counts = arrivals(alloc, edges)?;
@@ -50,11 +50,11 @@ fn arrivals_left(alloc: Global, edges: &Edges<'_>) -> Result<Vec<usize>, AllocEr
 }
 
 // The number of edges to each vertex, and one more until the vertex has had its turn.
-fn arrivals(alloc: Global, edges: &Edges<'_>) -> Result<Vec<usize>, AllocError>
+fn arrivals(alloc: Global, edges: &Edges<'_>) -> Result<Vec<u32>, AllocError>
     ensures { IfOk result (λ counts. counts.items
         ≡ fold with_arrival (replicate (count_of edges.now) 1) (flat_map (λ row. row) (rows_of edges.now))) }
 {
-    let mut counts = vec![in alloc; 1usize; edges.count()]?;
+    let mut counts = vec![in alloc; 1u32; edges.count()]?;
     for vertex in 0..edges.count() {
         let (next, more) = edges.next(vertex);
         arrive_all(&mut counts, next)?;
@@ -63,17 +63,17 @@ fn arrivals(alloc: Global, edges: &Edges<'_>) -> Result<Vec<usize>, AllocError>
     Ok(counts)
 }
 
-fn arrive_all(counts: &mut Vec<usize>, vertices: &[usize]) -> Result<(), AllocError>
+fn arrive_all(counts: &mut Vec<u32>, vertices: &[u32]) -> Result<(), AllocError>
     ensures { OnOk result (counts.new.items ≡ fold with_arrival counts.old.items vertices.now) }
 {
     for vertex in vertices {
-        arrive(counts, *vertex)?;
+        arrive(counts, *vertex as usize)?;
     }
     Ok(())
 }
 
-// Edges whose count overflows don't fit into memory.
-fn arrive(counts: &mut Vec<usize>, vertex: usize) -> Result<(), AllocError>
+// A count beyond 4,294,967,295 is refused as if memory were.
+fn arrive(counts: &mut Vec<u32>, vertex: usize) -> Result<(), AllocError>
     ensures { OnOk result (counts.new.items ≡ with_arrival counts.old.items vertex) }
 {
     if let Some(count) = counts.get_mut(vertex) {
@@ -88,7 +88,7 @@ fn arrive(counts: &mut Vec<usize>, vertex: usize) -> Result<(), AllocError>
 // Removes the edges of removed vertices until the work list is empty.
 fn leave_after(
     edges: &Edges<'_>,
-    counts: &mut Vec<usize>,
+    counts: &mut Vec<u32>,
     work: &mut Vec<usize>,
 ) -> Result<(), AllocError>
     ensures done { OnOk result (work.new.items ≡ []) }
@@ -104,21 +104,21 @@ fn leave_after(
 }
 
 fn leave_all(
-    counts: &mut Vec<usize>,
-    vertices: &[usize],
+    counts: &mut Vec<u32>,
+    vertices: &[u32],
     work: &mut Vec<usize>,
 ) -> Result<(), AllocError>
     ensures { OnOk result ((counts.new.items, work.new.items)
         ≡ fold without_arrival (counts.old.items, work.old.items) vertices.now) }
 {
     for vertex in vertices {
-        leave(counts, *vertex, work)?;
+        leave(counts, *vertex as usize, work)?;
     }
     Ok(())
 }
 
 // Removes one edge to a vertex. If it was the last one, the vertex is removed, too: it goes to the work list.
-fn leave(counts: &mut Vec<usize>, vertex: usize, work: &mut Vec<usize>) -> Result<(), AllocError>
+fn leave(counts: &mut Vec<u32>, vertex: usize, work: &mut Vec<usize>) -> Result<(), AllocError>
     ensures { OnOk result ((counts.new.items, work.new.items)
         ≡ without_arrival (counts.old.items, work.old.items) vertex) }
 {
@@ -129,7 +129,7 @@ fn leave(counts: &mut Vec<usize>, vertex: usize, work: &mut Vec<usize>) -> Resul
 }
 
 // Counts one edge to a vertex less, and returns whether it was the last one.
-fn is_last(counts: &mut Vec<usize>, vertex: usize) -> bool
+fn is_last(counts: &mut Vec<u32>, vertex: usize) -> bool
     ensures was { result ≡ nat_eq (get_or counts.old.items vertex 0) 1 }
     ensures gone { counts.new.items ≡ set counts.old.items vertex (get_or counts.old.items vertex 0 - 1) }
 {
@@ -143,7 +143,7 @@ fn is_last(counts: &mut Vec<usize>, vertex: usize) -> bool
     }
 }
 
-fn is_none_left(counts: &[usize]) -> bool
+fn is_none_left(counts: &[u32]) -> bool
     ensures { IsTrue result ↔ All (λ count. count ≡ 0) counts.now }
 {
     !counts.iter().any(|count| *count != 0)
@@ -152,8 +152,8 @@ fn is_none_left(counts: &[usize]) -> bool
 // The vertices that remain in both directions.
 fn left_in_both(
     alloc: Global,
-    arrivals: &[usize],
-    departures: &[usize],
+    arrivals: &[u32],
+    departures: &[u32],
 ) -> Result<Vec<bool>, AllocError>
     ensures { IfOk result (λ held. (vertex : ℕ) → IsLeftIn arrivals.now vertex → IsLeftIn departures.now vertex
         → holds_in held.items vertex ≡ true) }
@@ -165,13 +165,13 @@ fn left_in_both(
     Ok(held)
 }
 
-fn are_both_left(arrivals: &[usize], departures: &[usize], vertex: usize) -> bool
+fn are_both_left(arrivals: &[u32], departures: &[u32], vertex: usize) -> bool
     ensures { result ≡ (is_left (get_or arrivals.now vertex 0) && is_left (get_or departures.now vertex 0)) }
 {
     is_left(arrivals, vertex) && is_left(departures, vertex)
 }
 
-fn is_left(counts: &[usize], vertex: usize) -> bool
+fn is_left(counts: &[u32], vertex: usize) -> bool
     ensures { result ≡ is_left (get_or counts.now vertex 0) }
 {
     counts.get(vertex).copied().unwrap_or(0) != 0
@@ -192,14 +192,14 @@ impl Left {
     }
 
     // The first vertex of an order that leads back to itself.
-    fn first_back(&self, edges: &Edges<'_>, order: &[usize]) -> Result<Option<usize>, AllocError>
+    fn first_back(&self, edges: &Edges<'_>, order: &[u32]) -> Result<Option<usize>, AllocError>
         requires { HoldsCircular edges.now self.now.held.items }
         ensures { IfOk result (λ found. MatchOption found (All
             (λ vertex. ¬ LeadsBack edges.now vertex) order.now) (IsFirstBack edges.now order.now)) }
     {
         for vertex in order {
-            if self.is_circular(edges, *vertex)? {
-                return Ok(Some(*vertex));
+            if self.is_circular(edges, *vertex as usize)? {
+                return Ok(Some(*vertex as usize));
             }
         }
         Ok(None)
@@ -253,14 +253,14 @@ fn visit_next(
 
 // Adds to the work list the unvisited ones of some vertices.
 fn visit(
-    vertices: &[usize],
+    vertices: &[u32],
     unvisited: &mut Vec<bool>,
     work: &mut Vec<usize>,
 ) -> Result<(), AllocError>
     ensures { OnOk result (Visits vertices.now unvisited.old.items unvisited.new.items work.old.items work.new.items) }
 {
     for vertex in vertices {
-        take(unvisited, *vertex, work)?;
+        take(unvisited, *vertex as usize, work)?;
     }
     Ok(())
 }

@@ -7,7 +7,7 @@ ghost use Rattle.kt_graph.specs.inner.faults.Edges.{with_edges};
 ghost use Rattle.kt_graph.specs.inner.nodes.Stored.{stored_at};
 
 use crate::faults::rows::{add_all, add_to, bare, row_at};
-use crate::nodes::stored::StoredNodes;
+use crate::nodes::stored::{StoredNodes, narrow};
 use std::alloc::{AllocError, Global};
 use std::slice::from_ref;
 
@@ -20,8 +20,8 @@ pub(crate) struct Edges<'n> {
     alloc: Global,
     nodes: &'n StoredNodes<'n>,
     // The vertices of the makings.
-    makings: Vec<usize>,
-    rows: Vec<Vec<usize>>,
+    makings: Vec<u32>,
+    rows: Vec<Vec<u32>>,
 }
 
 impl<'n> Edges<'n> {
@@ -54,7 +54,7 @@ impl<'n> Edges<'n> {
     }
 
     /// The vertices that a vertex leads to, in two parts.
-    pub(crate) fn next(&self, vertex: usize) -> (&[usize], &[usize])
+    pub(crate) fn next(&self, vertex: usize) -> (&[u32], &[u32])
         ensures { result.0.now ++ result.1.now ≡ next_of self.now vertex }
     {
         if vertex < self.nodes.len() {
@@ -71,9 +71,10 @@ impl<'n> Edges<'n> {
     {
         let mut rows = bare(self.alloc, self.count())?;
         for vertex in 0..self.count() {
+            let to = narrow(vertex)?;
             let (next, more) = self.next(vertex);
-            add_to(&mut rows, vertex, next)?;
-            add_to(&mut rows, vertex, more)?;
+            add_to(&mut rows, to, next)?;
+            add_to(&mut rows, to, more)?;
         }
         Ok(Edges {
             alloc: self.alloc,
@@ -84,7 +85,7 @@ impl<'n> Edges<'n> {
     }
 
     // The vertices that a name leads to, from its node.
-    fn next_by(&self, name: usize) -> (&[usize], &[usize])
+    fn next_by(&self, name: usize) -> (&[u32], &[u32])
         ensures { result.0.now ++ result.1.now ≡ row_of self.now.makings.items (stored_at self.now.nodes.now name) }
     {
         match self.nodes.made_with(name) {
@@ -94,7 +95,7 @@ impl<'n> Edges<'n> {
     }
 }
 
-fn one_at(numbers: &[usize], place: usize) -> &[usize]
+fn one_at(numbers: &[u32], place: usize) -> &[u32]
     ensures { result.now ≡ one_at numbers.now place }
 {
     match numbers.get(place) {
@@ -104,13 +105,13 @@ fn one_at(numbers: &[usize], place: usize) -> &[usize]
 }
 
 // The vertices of a number of makings, which are after those of names.
-fn making_numbers(alloc: Global, names: usize, count: usize) -> Result<Vec<usize>, AllocError>
+fn making_numbers(alloc: Global, names: usize, count: usize) -> Result<Vec<u32>, AllocError>
     ensures { IfOk result (λ numbers. numbers.items ≡ numbers_after names count) }
 {
     let mut numbers = Vec::new(alloc);
     for making in 0..count {
         match names.checked_add(making) {
-            Some(number) => numbers.push(number)?,
+            Some(number) => numbers.push(narrow(number)?)?,
             None => return Err(AllocError),
         }
     }
@@ -122,7 +123,7 @@ fn making_rows(
     alloc: Global,
     nodes: &StoredNodes,
     count: usize,
-) -> Result<Vec<Vec<usize>>, AllocError>
+) -> Result<Vec<Vec<u32>>, AllocError>
     ensures { IfOk result (λ rows. rows_held rows.items ≡ with_edges (bare_rows count) (makings_edges nodes.now)) }
 {
     let mut rows = bare(alloc, count)?;
@@ -132,11 +133,7 @@ fn making_rows(
     Ok(rows)
 }
 
-fn add_node(
-    rows: &mut Vec<Vec<usize>>,
-    nodes: &StoredNodes,
-    number: usize,
-) -> Result<(), AllocError>
+fn add_node(rows: &mut Vec<Vec<u32>>, nodes: &StoredNodes, number: usize) -> Result<(), AllocError>
     ensures { OnOk result (rows_held rows.new.items ≡ with_edges (rows_held rows.old.items)
         (making_edges (stored_at nodes.now number).made_with (needed_numbers (stored_at nodes.now number)))) }
 {

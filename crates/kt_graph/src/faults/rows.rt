@@ -5,7 +5,7 @@ ghost use Rattle.kt_graph.specs.inner.faults.Edges.{bare_rows, edges_from, edges
 use std::alloc::{AllocError, Global};
 
 /// A given number of empty rows.
-pub(crate) fn bare(alloc: Global, count: usize) -> Result<Vec<Vec<usize>>, AllocError>
+pub(crate) fn bare(alloc: Global, count: usize) -> Result<Vec<Vec<u32>>, AllocError>
     ensures { IfOk result (λ rows. rows_held rows.items ≡ bare_rows count) }
 {
     let mut rows = Vec::with_capacity(alloc, count)?;
@@ -17,9 +17,9 @@ pub(crate) fn bare(alloc: Global, count: usize) -> Result<Vec<Vec<usize>>, Alloc
 
 /// Adds edges from one vertex.
 pub(crate) fn add_all(
-    rows: &mut Vec<Vec<usize>>,
+    rows: &mut Vec<Vec<u32>>,
     from: usize,
-    numbers: &[usize],
+    numbers: &[u32],
 ) -> Result<(), AllocError>
     ensures { OnOk result (rows_held rows.new.items
         ≡ with_edges (rows_held rows.old.items) (edges_from from numbers.now)) }
@@ -31,22 +31,18 @@ pub(crate) fn add_all(
 }
 
 /// Adds edges to one vertex.
-pub(crate) fn add_to(
-    rows: &mut Vec<Vec<usize>>,
-    to: usize,
-    froms: &[usize],
-) -> Result<(), AllocError>
+pub(crate) fn add_to(rows: &mut Vec<Vec<u32>>, to: u32, froms: &[u32]) -> Result<(), AllocError>
     ensures { OnOk result (rows_held rows.new.items
         ≡ with_edges (rows_held rows.old.items) (edges_to to froms.now)) }
 {
     for from in froms {
-        add(rows, *from, to)?;
+        add(rows, *from as usize, to)?;
     }
     Ok(())
 }
 
 /// Adds an edge.
-pub(crate) fn add(rows: &mut Vec<Vec<usize>>, from: usize, to: usize) -> Result<(), AllocError>
+pub(crate) fn add(rows: &mut Vec<Vec<u32>>, from: usize, to: u32) -> Result<(), AllocError>
     ensures { OnOk result (rows_held rows.new.items ≡ with_edge (rows_held rows.old.items) (from, to)) }
 {
     if let Some(row) = rows.get_mut(from) {
@@ -56,7 +52,7 @@ pub(crate) fn add(rows: &mut Vec<Vec<usize>>, from: usize, to: usize) -> Result<
 }
 
 /// A row, or an empty one if there is none.
-pub(crate) fn row_at(rows: &[Vec<usize>], place: usize) -> &[usize]
+pub(crate) fn row_at(rows: &[Vec<u32>], place: usize) -> &[u32]
     ensures { result.now ≡ get_or (rows_held rows.now) place [] }
 {
     match rows.get(place) {

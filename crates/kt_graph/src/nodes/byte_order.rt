@@ -4,11 +4,12 @@ ghost use Rattle.kt_graph.specs.inner.faults.Files.{IsByteOrder};
 
 use crate::nodes::node::name_of;
 use crate::nodes::numbering::NameNumbers;
+use crate::nodes::stored::narrow;
 use kt_text::SortKey;
 use std::alloc::{AllocError, Global};
 
 /// The numbers of names, in byte order of the names.
-pub(crate) fn byte_order(alloc: Global, names: &NameNumbers) -> Result<Vec<usize>, AllocError>
+pub(crate) fn byte_order(alloc: Global, names: &NameNumbers) -> Result<Vec<u32>, AllocError>
     ensures { IfOk result (λ order. IsByteOrder names.now order.items) }
 {
     let count = names.len();
@@ -20,12 +21,12 @@ pub(crate) fn byte_order(alloc: Global, names: &NameNumbers) -> Result<Vec<usize
     numbers(alloc, named.as_slice())
 }
 
-fn numbers(alloc: Global, named: &[(SortKey<'_>, usize)]) -> Result<Vec<usize>, AllocError>
+fn numbers(alloc: Global, named: &[(SortKey<'_>, usize)]) -> Result<Vec<u32>, AllocError>
     ensures { IfOk result (λ numbers. numbers.items ≡ map (λ pair. pair.1) named.now) }
 {
     let mut numbers = Vec::with_capacity(alloc, named.len())?;
     for (_, number) in named {
-        numbers.push(*number)?;
+        numbers.push(narrow(*number)?)?;
     }
     Ok(numbers)
 }

@@ -43,7 +43,7 @@ pub struct Graph<'a> {
     nodes: StoredNodes<'a>,
     instances: IndexSet<Instance>,
     // The numbers of all names, in byte order of the names.
-    order: Vec<usize>,
+    order: Vec<u32>,
 }
 
 impl<'a> Model for Graph<'a> {
@@ -232,7 +232,7 @@ pub struct Nodes<'g> {
     names: &'g NameNumbers<'g>,
     instances: &'g [Instance],
     nodes: &'g StoredNodes<'g>,
-    numbers: &'g [usize],
+    numbers: &'g [u32],
 }
 
 impl<'g> Model for Nodes<'g> {
@@ -269,8 +269,8 @@ fn first_node<'g>(
     names: &'g NameNumbers<'g>,
     instances: &'g [Instance],
     nodes: &'g StoredNodes<'g>,
-    numbers: &'g [usize],
-) -> Option<(Node<'g>, &'g [usize])>
+    numbers: &'g [u32],
+) -> Option<(Node<'g>, &'g [u32])>
     requires { AreHeld names.now instances.now nodes.now }
     ensures { MatchOption result (nodes_view names.now instances.now nodes.now numbers.now ≡ [])
         (λ cut. nodes_view names.now instances.now nodes.now numbers.now ≡ cut.0
@@ -279,7 +279,7 @@ fn first_node<'g>(
     let mut left = numbers;
     while let [number, after @ ..] = left {
         left = after;
-        if let Some(node) = node_at(names, instances, nodes, *number) {
+        if let Some(node) = node_at(names, instances, nodes, *number as usize) {
             return Some((node, after));
         }
     }

@@ -30,10 +30,10 @@ use crate::nodes::numbering::NameNumbers;
 use crate::nodes::reached_name::ReachedName;
 use crate::nodes::stored::StoredNodes;
 use crate::nodes::stored_node::BuiltNode;
-use crate::search::Search;
 use crate::search::choice::Chosen;
+use crate::search::finding::Finder;
 use indexmap::IndexSet;
-use kt_rules::{Book, Name, NeedsView, TargetRule};
+use kt_rules::{Book, Explicit, Name, NeedsView, TargetRule};
 use std::alloc::{AllocError, Global};
 
 /// The names reached so far, with their numbers, and the nodes of the first of them.
@@ -45,7 +45,7 @@ pub(crate) struct GraphBuilder<'a> {
     book: &'a Book,
     known: &'a Known<'a>,
     // Searches this book with these known names.
-    search: Search<'a>,
+    finder: Finder<'a>,
     pub(crate) numbers: NameNumbers<'a>,
     pub(crate) nodes: StoredNodes<'a>,
     pub(crate) instances: IndexSet<Instance>,
@@ -65,7 +65,7 @@ impl<'a> GraphBuilder<'a> {
             alloc,
             book,
             known,
-            search: Search::new(alloc, book, known)?,
+            finder: Finder::new(alloc, book, known)?,
             numbers: NameNumbers::new(alloc, book.name_table())?,
             nodes: StoredNodes::new(alloc),
             instances: IndexSet::new(alloc),
@@ -86,7 +86,7 @@ impl<'a> GraphBuilder<'a> {
             → IsBuilt self.old.book.now self.old.known.now goals self.new) }
     {
         while let Some(name) = self.next_name()? {
-            let node = self.build(name.as_slice())?;
+            let node = self.build(&name)?;
             self.nodes.push(node)?;
         }
         Ok(())
@@ -104,15 +104,15 @@ impl<'a> GraphBuilder<'a> {
 
     // The node of a name. The names that it needs become reached.
     #[tactic(auto, unfolding(crate::specs::nodes::Node::node_of))]
-    fn build(&mut self, name: &[u8]) -> Result<BuiltNode<'a>, AllocError>
+    fn build(&mut self, name: &ReachedName<'a>) -> Result<BuiltNode<'a>, AllocError>
         requires { IsOver self.old }
         ensures says { IfOk result (λ node. SaysNode self.new.numbers self.new.instances.keys
-            (node_of self.old.book.now self.old.known.now name.now) (node_held node)) }
+            (node_of self.old.book.now self.old.known.now (reached_text name.now)) (node_held node)) }
         ensures grown { OnOk result (ReachesMore self.old
-            (needed_by (node_of self.old.book.now self.old.known.now name.now)) self.new) }
+            (needed_by (node_of self.old.book.now self.old.known.now (reached_text name.now))) self.new) }
     {
         let rules = self.rules(name)?;
-        self.build_by(name, rules.as_slice())
+        self.build_by(name.as_slice(), rules.as_slice())
     }
 
     // The node of a name that has these explicit rules.
@@ -162,14 +162,24 @@ impl<'a> GraphBuilder<'a> {
     }
 
     // The explicit rules of a name.
-    fn rules(&self, name: &[u8]) -> Result<Vec<TargetRule<'a>>, AllocError>
-        ensures { IfOk result (λ rules. map rule_view rules.items ≡ explicit_rules self.now.book.now name.now) }
+    fn rules(&self, name: &ReachedName<'a>) -> Result<Vec<TargetRule<'a>>, AllocError>
+        ensures { IfOk result (λ rules. map rule_view rules.items ≡ explicit_rules self.now.book.now (reached_text name.now)) }
     {
         let mut rules = Vec::new(self.alloc);
-        for rule in self.book.explicit(name) {
+        for rule in self.explicit(name) {
             rules.push(rule)?;
         }
         Ok(rules)
+    }
+
+    // The same without a copy. A name that stands in the book isn't hashed: its number there tells its rules.
+    fn explicit(&self, name: &ReachedName<'a>) -> Explicit<'a>
+        ensures { result ≡ explicit_rules self.now.book.now (reached_text name.now) }
+    {
+        match name {
+            ReachedName::InBook(name, number) => self.book.explicit_at(name, *number),
+            ReachedName::Other(name) => self.book.explicit(name.as_slice()),
+        }
     }
 
     // The node of a name whose rules have no recipe.
@@ -246,7 +256,7 @@ impl<'a> GraphBuilder<'a> {
         if self.book.is_phony(name) {
             return Ok(None);
         }
-        match self.search.choose(name)? {
+        match self.finder.choose(name)? {
             Some(chosen) => self.inference(chosen),
             None => Ok(None),
         }
@@ -254,9 +264,9 @@ impl<'a> GraphBuilder<'a> {
 
     // What a chosen rule gives to the name that it makes.
     fn inference(&self, chosen: Chosen) -> Result<Option<Inferred<'a>>, AllocError>
-        ensures { IfOk result (Infers self.now.search.rules chosen) }
+        ensures { IfOk result (Infers self.now.finder.rules chosen) }
     {
-        match self.search.patterns().get(chosen.rule) {
+        match self.finder.patterns().get(chosen.rule) {
             Some(pattern) => Ok(Some(Inferred::of(self.alloc, pattern, chosen)?)),
             None => Ok(None),
         }

@@ -25,9 +25,9 @@ pub struct Groups<'g> {
     instances: &'g [Instance],
     nodes: &'g StoredNodes<'g>,
     // The numbers that remain.
-    numbers: &'g [usize],
+    numbers: &'g [u32],
     // The numbers of the nodes of each making.
-    members: Vec<Vec<usize>>,
+    members: Vec<Vec<u32>>,
 }
 
 impl<'g> Model for Groups<'g> {
@@ -54,7 +54,7 @@ impl<'g> Groups<'g> {
         names: &'g NameNumbers<'g>,
         instances: &'g [Instance],
         nodes: &'g StoredNodes<'g>,
-        order: &'g [usize],
+        order: &'g [u32],
     ) -> Result<Groups<'g>, AllocError>
         requires { IsWhole names.now instances.now nodes.now order.now }
         ensures { IfOk result (λ groups. groups
@@ -84,7 +84,7 @@ impl<'g> Groups<'g> {
                     self.instances,
                     self.nodes,
                     self.members.as_slice(),
-                    *number,
+                    *number as usize,
                     group,
                 )?;
                 self.numbers = &numbers[place + 1..];
@@ -99,9 +99,9 @@ impl<'g> Groups<'g> {
 fn members_of(
     alloc: Global,
     nodes: &StoredNodes,
-    numbers: &[usize],
+    numbers: &[u32],
     makings: usize,
-) -> Result<Vec<Vec<usize>>, AllocError>
+) -> Result<Vec<Vec<u32>>, AllocError>
     ensures { IfOk result (λ members. HasMembers nodes.now makings numbers.now (rows_held members.items)) }
 {
     let mut members = bare(alloc, makings)?;
@@ -111,11 +111,11 @@ fn members_of(
     Ok(members)
 }
 
-fn note(nodes: &StoredNodes, number: usize, members: &mut Vec<Vec<usize>>) -> Result<(), AllocError>
+fn note(nodes: &StoredNodes, number: u32, members: &mut Vec<Vec<u32>>) -> Result<(), AllocError>
     ensures { OnOk result (rows_held members.new.items ≡ with_member nodes.now (rows_held members.old.items) number) }
 {
-    if is_made_at(nodes, number) {
-        if let Some(making) = making_at(nodes, number) {
+    if is_made_at(nodes, number as usize) {
+        if let Some(making) = making_at(nodes, number as usize) {
             add(members, making, number)?;
         }
     }
@@ -137,23 +137,23 @@ fn making_at(nodes: &StoredNodes, number: usize) -> Option<usize>
 }
 
 // The place of the first number that is the first of its group, or the end.
-fn leader(nodes: &StoredNodes, members: &[Vec<usize>], numbers: &[usize]) -> usize
+fn leader(nodes: &StoredNodes, members: &[Vec<u32>], numbers: &[u32]) -> usize
     ensures { result ≡ prefix_len (λ number. not (leads_at nodes.now (rows_held members.now) number)) numbers.now }
 {
     numbers
         .iter()
-        .take_while(|number| !leads_at(nodes, members, **number))
+        .take_while(|number| !leads_at(nodes, members, **number as usize))
         .count()
 }
 
 // Whether a number is the first of its group.
-fn leads_at(nodes: &StoredNodes, members: &[Vec<usize>], number: usize) -> bool
+fn leads_at(nodes: &StoredNodes, members: &[Vec<u32>], number: usize) -> bool
     ensures { result ≡ leads_at nodes.now (rows_held members.now) number }
 {
     is_made_at(nodes, number) && leads_by(members, number, making_at(nodes, number))
 }
 
-fn leads_by(members: &[Vec<usize>], number: usize, making: Option<usize>) -> bool
+fn leads_by(members: &[Vec<u32>], number: usize, making: Option<usize>) -> bool
     ensures { result ≡ leads_by (rows_held members.now) number making }
 {
     match making {
@@ -162,11 +162,11 @@ fn leads_by(members: &[Vec<usize>], number: usize, making: Option<usize>) -> boo
     }
 }
 
-fn is_first(numbers: &[usize], number: usize) -> bool
+fn is_first(numbers: &[u32], number: usize) -> bool
     ensures { result ≡ is_first numbers.now number }
 {
     match numbers {
-        [first, ..] => *first == number,
+        [first, ..] => *first as usize == number,
         [] => false,
     }
 }
@@ -176,7 +176,7 @@ fn put_group<'g>(
     names: &'g NameNumbers<'g>,
     instances: &'g [Instance],
     nodes: &'g StoredNodes<'g>,
-    members: &[Vec<usize>],
+    members: &[Vec<u32>],
     number: usize,
     group: &mut Vec<Node<'g>>,
 ) -> Result<(), AllocError>
@@ -194,7 +194,7 @@ fn put_all<'g>(
     names: &'g NameNumbers<'g>,
     instances: &'g [Instance],
     nodes: &'g StoredNodes<'g>,
-    numbers: &[usize],
+    numbers: &[u32],
     group: &mut Vec<Node<'g>>,
 ) -> Result<(), AllocError>
     requires { AreHeld names.now instances.now nodes.now }
@@ -202,7 +202,7 @@ fn put_all<'g>(
         ≡ group.old.items ++ nodes_view names.now instances.now nodes.now numbers.now) }
 {
     for number in numbers {
-        put(names, instances, nodes, *number, group)?;
+        put(names, instances, nodes, *number as usize, group)?;
     }
     Ok(())
 }

@@ -179,7 +179,7 @@ impl<'g> Node<'g> {
 #[derive(Drop)]
 pub struct Inputs<'g> {
     names: &'g NameNumbers<'g>,
-    numbers: &'g [usize],
+    numbers: &'g [u32],
 }
 
 impl<'g> Model for Inputs<'g> {
@@ -195,7 +195,7 @@ impl<'g> Model for Inputs<'g> {
 impl<'g> Inputs<'g> {
     ghost use Rattle.kt_graph.specs.nodes.Views.{names_at};
 
-    fn of(names: &'g NameNumbers<'g>, numbers: &'g [usize]) -> Inputs<'g>
+    fn of(names: &'g NameNumbers<'g>, numbers: &'g [u32]) -> Inputs<'g>
         ensures { result ≡ names_at names.now numbers.now }
     {
         Inputs { names, numbers }
@@ -213,7 +213,7 @@ impl<'g> Inputs<'g> {
         ensures { option_map (λ name. name.now) result ≡ slice_get self.now place }
     {
         match self.numbers.get(place) {
-            Some(number) => Some(name_of(self.names, *number)),
+            Some(number) => Some(name_of(self.names, *number as usize)),
             None => None,
         }
     }
@@ -229,7 +229,7 @@ impl<'g> Iterator for Inputs<'g> {
     fn next(&mut self) -> Option<&'g [u8]> {
         let (number, after) = self.numbers.split_first()?;
         self.numbers = after;
-        Some(name_of(self.names, *number))
+        Some(name_of(self.names, *number as usize))
     }
 }
 

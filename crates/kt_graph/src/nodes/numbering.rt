@@ -16,6 +16,7 @@ ghost use Rattle.kt_graph.specs.nodes.Views.{name_at};
 use crate::nodes::named::NamedPart;
 use crate::nodes::reached::Reached;
 use crate::nodes::reached_name::ReachedName;
+use crate::nodes::stored::narrow;
 use crate::nodes::stored_node::{Numbered, Part};
 use kt_list::Names;
 use kt_rules::{Name, NeededName, NeededNames, NeedsView};
@@ -53,11 +54,22 @@ impl<'a> NameNumbers<'a> {
     pub(crate) fn new(alloc: Global, table: &'a Names) -> Result<NameNumbers<'a>, AllocError>
         ensures { IfOk result (λ numbers. numbers ≡ []) }
     {
+        NameNumbers::with_room(alloc, table, table.len())
+    }
+
+    /// No names. So many of a table take no memory of their own later on.
+    pub(crate) fn with_room(
+        alloc: Global,
+        table: &'a Names,
+        room: usize,
+    ) -> Result<NameNumbers<'a>, AllocError>
+        ensures { IfOk result (λ numbers. numbers ≡ []) }
+    {
         Ok(NameNumbers {
             alloc,
             table,
             others: Names::new(alloc),
-            reached: Reached::none(alloc, table.len())?,
+            reached: Reached::none(alloc, room)?,
         })
     }
 
@@ -97,6 +109,22 @@ impl<'a> NameNumbers<'a> {
         self.reached.place(number)
     }
 
+    /// Whether a name was reached. Takes no memory.
+    #[tactic(auto, using(crate::proofs::lemmas::nodes::NumberLemmas::none_among))]
+    pub(crate) fn contains(&self, name: &[u8]) -> bool
+        ensures { result ≡ is_among self.now name.now }
+    {
+        self.len() > 0 && self.number_of(name).is_some()
+    }
+
+    /// Adds a name, unless it is there.
+    pub(crate) fn add(&mut self, name: &[u8]) -> Result<(), AllocError>
+        ensures { OnOk result (self.new ≡ with_name self.old name.now) }
+    {
+        let _ = self.number(name)?;
+        Ok(())
+    }
+
     // The number of a name, which is reached from then on.
     fn number(&mut self, name: &[u8]) -> Result<usize, AllocError>
         ensures numbered { IfOk result (λ number. slice_get self.new number ≡ Some name.now) }
@@ -129,7 +157,7 @@ impl<'a> NameNumbers<'a> {
         ensures { OnOk result (self.new ≡ fold with_name self.old names.now) }
     {
         for name in names {
-            let _ = self.number(name.as_slice())?;
+            self.add(name.as_slice())?;
         }
         Ok(())
     }
@@ -183,7 +211,7 @@ impl<'a> NameNumbers<'a> {
         })
     }
 
-    fn prerequisites(&mut self, rules: &[NeedsView<'_>]) -> Result<Vec<usize>, AllocError>
+    fn prerequisites(&mut self, rules: &[NeedsView<'_>]) -> Result<Vec<u32>, AllocError>
         ensures say { IfOk result (λ numbers. StandFor self.new (flat_map
             (λ needs. (needs_view needs).prerequisites) rules.now) numbers.items) }
         ensures reached { OnOk result (self.new
@@ -196,7 +224,7 @@ impl<'a> NameNumbers<'a> {
         Ok(numbers)
     }
 
-    fn order_only(&mut self, rules: &[NeedsView<'_>]) -> Result<Vec<usize>, AllocError>
+    fn order_only(&mut self, rules: &[NeedsView<'_>]) -> Result<Vec<u32>, AllocError>
         ensures say { IfOk result (λ numbers. StandFor self.new (flat_map
             (λ needs. (needs_view needs).order_only) rules.now) numbers.items) }
         ensures reached { OnOk result (self.new
@@ -212,7 +240,7 @@ impl<'a> NameNumbers<'a> {
     // Adds the numbers of names at the end.
     fn add_names(
         &mut self,
-        numbers: &mut Vec<usize>,
+        numbers: &mut Vec<u32>,
         names: NeededNames<'_>,
     ) -> Result<(), AllocError>
         ensures say { OnOk result ((earlier : List Text) → StandFor self.old earlier numbers.old.items
@@ -222,7 +250,7 @@ impl<'a> NameNumbers<'a> {
         numbers.reserve(names.len())?;
         for name in names {
             let number = self.needed_number(name)?;
-            numbers.push(number)?;
+            numbers.push(narrow(number)?)?;
         }
         Ok(())
     }
@@ -238,7 +266,7 @@ fn reached_name<'a>(
     ensures { IfOk result (λ name. reached_text name ≡ name_at (table.now ++ others.now) number) }
 {
     if number < table.len() {
-        Ok(ReachedName::InBook(name_at(table, number)))
+        Ok(ReachedName::InBook(name_at(table, number), number))
     } else {
         let other = name_at(others, number - table.len());
         Ok(ReachedName::Other(Name::copied(alloc, other)?))

@@ -7,7 +7,8 @@ use kt_rules::Name;
 /// A name that was reached. One that stands in the book isn't copied.
 #[derive(Drop)]
 pub(crate) enum ReachedName<'a> {
-    InBook(&'a [u8]),
+    /// With its number in the book.
+    InBook(&'a [u8], usize),
     Other(Name),
 }
 
@@ -16,7 +17,7 @@ impl<'a> ReachedName<'a> {
         ensures { result.now ≡ reached_text self.now }
     {
         match self {
-            ReachedName::InBook(name) => name,
+            ReachedName::InBook(name, _) => name,
             ReachedName::Other(name) => name.as_slice(),
         }
     }

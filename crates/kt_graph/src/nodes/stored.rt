@@ -18,7 +18,7 @@ pub(crate) struct StoredNodes<'a> {
     heads: Vec<Head>,
     parts: Vec<HeldPart<'a>>,
     // The prerequisites of parts, and the inputs of nodes if they differ.
-    numbers: Vec<usize>,
+    numbers: Vec<u32>,
 }
 
 /// A node without its lists.
@@ -52,8 +52,8 @@ pub(crate) struct Span {
 pub(crate) struct SeenPart<'g> {
     pub(crate) recipe: Option<&'g [RecipeLine]>,
     pub(crate) stem: &'g [u8],
-    pub(crate) prerequisites: &'g [usize],
-    pub(crate) order_only: &'g [usize],
+    pub(crate) prerequisites: &'g [u32],
+    pub(crate) order_only: &'g [u32],
 }
 
 impl<'a> Model for StoredNodes<'a> {
@@ -140,7 +140,7 @@ impl<'a> StoredNodes<'a> {
     }
 
     /// The prerequisites of all parts of a node, each once.
-    pub(crate) fn inputs(&self, number: usize) -> &[usize]
+    pub(crate) fn inputs(&self, number: usize) -> &[u32]
         ensures { result.now ≡ (stored_at self.now number).inputs }
     {
         match self.heads.get(number) {
@@ -150,7 +150,7 @@ impl<'a> StoredNodes<'a> {
     }
 
     /// The order-only prerequisites of all parts of a node, each once and without the inputs.
-    pub(crate) fn order_only(&self, number: usize) -> &[usize]
+    pub(crate) fn order_only(&self, number: usize) -> &[u32]
         ensures { result.now ≡ (stored_at self.now number).order_only }
     {
         match self.heads.get(number) {
@@ -171,7 +171,7 @@ fn cut<T>(items: &[T], span: Span) -> &[T]
 // Adds the lists of a node at the end of those of the others.
 fn put_node<'a>(
     parts: &mut Vec<HeldPart<'a>>,
-    numbers: &mut Vec<usize>,
+    numbers: &mut Vec<u32>,
     node: BuiltNode<'a>,
 ) -> Result<Head, AllocError>
     requires { All (IsPartWithin (length numbers.old.items)) parts.old.items }
@@ -194,7 +194,7 @@ fn put_node<'a>(
 // Adds parts at the end.
 fn put_parts<'a>(
     held: &mut Vec<HeldPart<'a>>,
-    numbers: &mut Vec<usize>,
+    numbers: &mut Vec<u32>,
     parts: Vec<Part<'a>>,
 ) -> Result<Span, AllocError>
     requires { All (IsPartWithin (length numbers.old.items)) held.old.items }
@@ -211,7 +211,7 @@ fn put_parts<'a>(
 // Adds a part at the end.
 fn put_part<'a>(
     held: &mut Vec<HeldPart<'a>>,
-    numbers: &mut Vec<usize>,
+    numbers: &mut Vec<u32>,
     part: Part<'a>,
 ) -> Result<(), AllocError>
     ensures grew { Grew held.old.items numbers.old.items held.new.items numbers.new.items }
@@ -231,9 +231,9 @@ fn put_part<'a>(
 // Adds inputs at the end, unless they are the prerequisites of the only part, whose places then serve for both.
 fn put_inputs(
     held: &[HeldPart],
-    numbers: &mut Vec<usize>,
+    numbers: &mut Vec<u32>,
     parts: Span,
-    inputs: &[usize],
+    inputs: &[u32],
 ) -> Result<Span, AllocError>
     requires parts { IsWithin (length held.now) parts }
     requires within { All (IsPartWithin (length numbers.old.items)) held.now }
@@ -249,7 +249,7 @@ fn put_inputs(
 }
 
 // Adds numbers at the end.
-fn put(numbers: &mut Vec<usize>, more: &[usize]) -> Result<Span, AllocError>
+fn put(numbers: &mut Vec<u32>, more: &[u32]) -> Result<Span, AllocError>
     ensures grew { HasMore numbers.old.items numbers.new.items }
     ensures span { IfOk result (IsSpanOf numbers.new.items more.now) }
 {

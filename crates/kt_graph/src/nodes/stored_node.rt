@@ -22,9 +22,9 @@ pub(crate) struct BuiltNode<'a> {
     /// The number of the making, if it makes other names, too.
     pub(crate) made_with: Option<usize>,
     /// The prerequisites, each once.
-    pub(crate) inputs: Vec<usize>,
+    pub(crate) inputs: Vec<u32>,
     /// The order-only prerequisites, each once and without the inputs.
-    pub(crate) order_only: Vec<usize>,
+    pub(crate) order_only: Vec<u32>,
 }
 
 /// A recipe with the stem and prerequisites for its automatic macros.
@@ -38,8 +38,8 @@ pub(crate) struct Part<'a> {
 /// Prerequisites, in order and with repeats.
 #[derive(Drop)]
 pub(crate) struct Numbered {
-    pub(crate) prerequisites: Vec<usize>,
-    pub(crate) order_only: Vec<usize>,
+    pub(crate) prerequisites: Vec<u32>,
+    pub(crate) order_only: Vec<u32>,
 }
 
 impl<'a> BuiltNode<'a> {
@@ -68,7 +68,7 @@ impl<'a> BuiltNode<'a> {
 }
 
 // The inputs of parts, and their order-only prerequisites.
-fn needed(alloc: Global, parts: &[Part]) -> Result<(Vec<usize>, Vec<usize>), AllocError>
+fn needed(alloc: Global, parts: &[Part]) -> Result<(Vec<u32>, Vec<u32>), AllocError>
     ensures inputs { IfOk result (λ needed. needed.0.items ≡ inputs_held parts.now) }
     ensures order_only { IfOk result (λ needed. needed.1.items ≡ order_only_held parts.now) }
 {
@@ -84,7 +84,7 @@ fn needed(alloc: Global, parts: &[Part]) -> Result<(Vec<usize>, Vec<usize>), All
 }
 
 // The prerequisites of the only part if none is order-only, as in most nodes.
-fn prerequisites_alone<'p>(parts: &'p [Part]) -> Option<&'p [usize]>
+fn prerequisites_alone<'p>(parts: &'p [Part]) -> Option<&'p [u32]>
     ensures inputs { IfSome result (λ numbers. fold with_number [] numbers.now ≡ inputs_held parts.now) }
     ensures order_only { IfSome result (λ _. order_only_held parts.now ≡ []) }
 {
@@ -98,7 +98,7 @@ fn prerequisites_alone<'p>(parts: &'p [Part]) -> Option<&'p [usize]>
 
 // Numbers, each once. Most have no repeats.
 #[tactic(auto, using(crate::proofs::lemmas::nodes::StoredNodeLemmas::all_stay))]
-fn distinct(alloc: Global, numbers: &[usize]) -> Result<Vec<usize>, AllocError>
+fn distinct(alloc: Global, numbers: &[u32]) -> Result<Vec<u32>, AllocError>
     ensures { IfOk result (λ distinct. distinct.items ≡ fold with_number [] numbers.now) }
 {
     if numbers.len() <= FEW {
@@ -111,7 +111,7 @@ fn distinct(alloc: Global, numbers: &[usize]) -> Result<Vec<usize>, AllocError>
 }
 
 // A few numbers, each once: they are compared with one another, which is cheaper than a set of them.
-fn distinct_few(alloc: Global, numbers: &[usize]) -> Result<Vec<usize>, AllocError>
+fn distinct_few(alloc: Global, numbers: &[u32]) -> Result<Vec<u32>, AllocError>
     ensures { IfOk result (λ distinct. distinct.items ≡ fold with_number [] numbers.now) }
 {
     let mut distinct = Vec::with_capacity(alloc, numbers.len())?;
@@ -121,7 +121,7 @@ fn distinct_few(alloc: Global, numbers: &[usize]) -> Result<Vec<usize>, AllocErr
     Ok(distinct)
 }
 
-fn distinct_by_set(alloc: Global, numbers: &[usize]) -> Result<Vec<usize>, AllocError>
+fn distinct_by_set(alloc: Global, numbers: &[u32]) -> Result<Vec<u32>, AllocError>
     ensures { IfOk result (λ distinct. distinct.items ≡ fold with_number [] numbers.now) }
 {
     let mut set = IndexSet::new(alloc);
@@ -130,7 +130,7 @@ fn distinct_by_set(alloc: Global, numbers: &[usize]) -> Result<Vec<usize>, Alloc
 }
 
 // Whether no number is repeated: when sorted, each is greater than the one before. Sorting is cheaper than a set.
-fn are_distinct(alloc: Global, numbers: &[usize]) -> Result<bool, AllocError>
+fn are_distinct(alloc: Global, numbers: &[u32]) -> Result<bool, AllocError>
     ensures { IfOk result (λ distinct. distinct ≡ true → IsDistinct nat_eq numbers.now) }
 {
     if rise(numbers) {
@@ -143,7 +143,7 @@ fn are_distinct(alloc: Global, numbers: &[usize]) -> Result<bool, AllocError>
 
 // Whether each number is greater than the one before.
 #[tactic(auto, unfolding(crate::specs::inner::nodes::Numbering::rise))]
-fn rise(numbers: &[usize]) -> bool
+fn rise(numbers: &[u32]) -> bool
     ensures { result ≡ rise numbers.now }
 {
     match numbers.split_first() {
@@ -154,7 +154,7 @@ fn rise(numbers: &[usize]) -> bool
 
 // Whether the first number is greater than a given one, and each other number than the one before it.
 #[tactic(auto, unfolding(crate::specs::inner::nodes::Numbering::rise_after))]
-fn rise_after(first: usize, numbers: &[usize]) -> bool
+fn rise_after(first: u32, numbers: &[u32]) -> bool
     ensures { result ≡ rise_after first numbers.now }
 {
     let mut last = first;
@@ -167,7 +167,7 @@ fn rise_after(first: usize, numbers: &[usize]) -> bool
     true
 }
 
-fn add_if_new(numbers: &mut Vec<usize>, number: usize) -> Result<(), AllocError>
+fn add_if_new(numbers: &mut Vec<u32>, number: u32) -> Result<(), AllocError>
     ensures { OnOk result (numbers.new.items ≡ with_number numbers.old.items number) }
 {
     if !numbers.contains(&number) {
@@ -177,7 +177,7 @@ fn add_if_new(numbers: &mut Vec<usize>, number: usize) -> Result<(), AllocError>
 }
 
 // The prerequisites of parts, each once.
-fn inputs(alloc: Global, parts: &[Part]) -> Result<IndexSet<usize>, AllocError>
+fn inputs(alloc: Global, parts: &[Part]) -> Result<IndexSet<u32>, AllocError>
     ensures { IfOk result (λ inputs. inputs.keys ≡ inputs_held parts.now) }
 {
     let mut inputs = IndexSet::new(alloc);
@@ -191,8 +191,8 @@ fn inputs(alloc: Global, parts: &[Part]) -> Result<IndexSet<usize>, AllocError>
 fn order_only(
     alloc: Global,
     parts: &[Part],
-    inputs: &IndexSet<usize>,
-) -> Result<IndexSet<usize>, AllocError>
+    inputs: &IndexSet<u32>,
+) -> Result<IndexSet<u32>, AllocError>
     ensures { IfOk result (λ others. others.keys
         ≡ fold with_number [] (numbers_without inputs.now.keys (flat_map
         (λ part. part.needs.order_only.items) parts.now))) }
@@ -204,7 +204,7 @@ fn order_only(
     Ok(others)
 }
 
-fn add_all(set: &mut IndexSet<usize>, numbers: &[usize]) -> Result<(), AllocError>
+fn add_all(set: &mut IndexSet<u32>, numbers: &[u32]) -> Result<(), AllocError>
     ensures { OnOk result (set.new.keys ≡ fold with_number set.old.keys numbers.now) }
 {
     for number in numbers {
@@ -215,9 +215,9 @@ fn add_all(set: &mut IndexSet<usize>, numbers: &[usize]) -> Result<(), AllocErro
 
 // Adds those numbers that aren't among others.
 fn add_others(
-    set: &mut IndexSet<usize>,
-    others: &IndexSet<usize>,
-    numbers: &[usize],
+    set: &mut IndexSet<u32>,
+    others: &IndexSet<u32>,
+    numbers: &[u32],
 ) -> Result<(), AllocError>
     ensures { OnOk result (set.new.keys ≡ fold with_number set.old.keys (numbers_without others.now.keys numbers.now)) }
 {

@@ -72,6 +72,20 @@ impl<'a> Chains<'a> {
         }
     }
 
+    /// The same, but the question itself isn't stored.
+    pub(crate) fn choice_alone(&self, tried: &mut Tried, name: &[u8]) -> Result<Choice, AllocError>
+        requires { IsRightFor self.now.patterns self.now.known.now tried.old 1 }
+        ensures chosen { IfOk result (λ choice. choice
+            ≡ option_map choice_view (choice_of self.now.patterns self.now.known.now name.now)) }
+        ensures right { OnOk result (IsRightFor self.now.patterns self.now.known.now tried.new 1) }
+        ensures kept { Keeps tried.old tried.new }
+    {
+        match self.answer(tried, CHAIN_LIMIT, name, &[])? {
+            Some(candidate) => Ok(Some(self.chosen(name, candidate)?)),
+            None => Ok(None),
+        }
+    }
+
     // What makes a name after a chain, if up to `left` more rules may be added.
     #[cycle(search)]
     fn ask(

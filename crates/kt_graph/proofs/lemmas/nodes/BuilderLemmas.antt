@@ -163,8 +163,8 @@ pub built_more : (start now built : GraphBuilder) (nodes : List StoredNode) (nam
     → HasBuilt start (record built { nodes = nodes })
 built_more start now built nodes name node h at grown says pushed = record {
   over = record {
-    rules = grown.searched_rules ∙ h.over.rules ∙ ap (λ (x : Bor (List Rule)). patterns_of x.now) (sym grown.book);
-    known_names = grown.searched_names ∙ h.over.known_names ∙ ap (λ (x : Bor (List Text)). x.now) (sym grown.known_names);
+    rules = grown.finder_rules ∙ h.over.rules ∙ ap (λ (x : Bor (List Rule)). patterns_of x.now) (sym grown.book);
+    known_names = grown.finder_names ∙ h.over.known_names ∙ ap (λ (x : Bor (List Text)). x.now) (sym grown.known_names);
   };
   book = grown.book ∙ h.book;
   known_names = grown.known_names ∙ h.known_names;

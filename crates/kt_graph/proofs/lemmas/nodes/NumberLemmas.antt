@@ -1,5 +1,5 @@
 -- Numbers for names: what holds of numbers stays when more names are reached.
-use Rattle.std.proofs.Common.{◌≡◌, ℕ, suc, zero, Bool, true, false, ◌+◌, ◌<◌, if◌then◌else◌, List, [], ◌∷◌, ◌++◌, length, map, fold, take, drop, get_or, Some, slice_get, refl, sym, ap, subst, ◌∙◌}
+use Rattle.std.proofs.Common.{◌≡◌, ℕ, suc, zero, Bool, true, false, ◌+◌, ◌<◌, ◌≤◌, if◌then◌else◌, List, [], ◌∷◌, ◌++◌, length, map, fold, take, drop, get_or, Some, slice_get, refl, sym, ap, subst, ◌∙◌, arith}
 use Rattle.std.specs.List.{flat_map}
 use Rattle.std.proofs.lemmas.List.{append-nil, append_assoc, map-append, take_more, drop_more}
 use Rattle.std.proofs.lemmas.List.Concat.{flat_map-append}
@@ -13,6 +13,11 @@ use Rattle.kt_graph.specs.nodes.Node.{Part}
 use Rattle.kt_graph.specs.inner.nodes.Stored.{StoredPart}
 use Rattle.kt_graph.specs.inner.nodes.Named.{put_together}
 use Rattle.kt_graph.specs.inner.nodes.Numbering.{StandFor, SaysNeeds, SaysPart, SayParts}
+
+-- no name is among none
+pub none_among : (names : List Text) (name : Text) → length names ≤ 0 → is_among names name ≡ false
+none_among [] name h = refl
+none_among (first ∷ names) name h = absurd (omega arith)
 
 -- ---- names that grow
 

@@ -38,8 +38,8 @@ pub grows_after : (old middle new : GraphBuilder) (needed : List Text) → Reach
 grows_after old middle new needed first second = record {
   book = second.book ∙ first.book;
   known_names = second.known_names ∙ first.known_names;
-  searched_rules = second.searched_rules ∙ first.searched_rules;
-  searched_names = second.searched_names ∙ first.searched_names;
+  finder_rules = second.finder_rules ∙ first.finder_rules;
+  finder_names = second.finder_names ∙ first.finder_names;
   nodes = second.nodes ∙ first.nodes;
   names = second.names ∙ ap (λ l. fold with_name l needed) first.names;
   instances = beginning old.instances.keys middle.instances.keys new.instances.keys first.instances second.instances;

@@ -15,15 +15,15 @@ use Rattle.kt_graph.specs.nodes.Views.{name_at}
 
 -- the search uses the rules of the book and its known names
 pub record IsOver (builder : GraphBuilder) : Type 0 where
-  pub rules : builder.search.rules ≡ patterns_of builder.book.now
-  pub known_names : builder.search.known ≡ builder.known.now
+  pub rules : builder.finder.rules ≡ patterns_of builder.book.now
+  pub known_names : builder.finder.known ≡ builder.known.now
 
 -- names are reached; those reached before and the makings keep their numbers, and all else stays
 pub record ReachesMore (old : GraphBuilder) (needed : List Text) (new : GraphBuilder) : Type 0 where
   pub book : new.book ≡ old.book
   pub known_names : new.known ≡ old.known
-  pub searched_rules : new.search.rules ≡ old.search.rules
-  pub searched_names : new.search.known ≡ old.search.known
+  pub finder_rules : new.finder.rules ≡ old.finder.rules
+  pub finder_names : new.finder.known ≡ old.finder.known
   pub nodes : new.nodes ≡ old.nodes
   pub names : new.numbers ≡ fold with_name old.numbers needed
   pub instances : take (length old.instances.keys) new.instances.keys ≡ old.instances.keys

@@ -11,7 +11,7 @@ use Rattle.kt_graph.specs.nodes.Views.{names_at}
 
 -- the bytes of a name
 abbrev pub reached_text : ReachedName → Text
-reached_text (InBook name) = name.now
+reached_text (InBook name number) = name.now
 reached_text (Other name) = name
 
 -- the place that a mark stands for

@@ -68,6 +68,11 @@ pub record HasAnswered (rules : List Rule) (known : List Text) (old new : Tried)
 abbrev pub IsPrefix : {A : Type 0} → List A → List A → Type 0
 IsPrefix old new = (length old ≤ length new) × ((count : ℕ) → count ≤ length old → take count new ≡ take count old)
 
+-- the rules and known names of a search
+pub record Finding : Type 0 where
+  pub rules : List Rule
+  pub known : List Text
+
 -- no question is removed, and none gets another answer
 pub record Keeps (old new : Tried) : Type 0 where
   pub questions : IsPrefix old.questions.keys new.questions.keys

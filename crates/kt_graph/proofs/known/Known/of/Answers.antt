@@ -14,5 +14,5 @@ returns c =
     let listed = listed_names c.args.files.now in
     let named = flat_map (named_by (suffixes_of rules)) rules in
     ap (fold with_name c.add_listed.new.names) c.in_ok-book.ensures
-    ∙ ap (λ (names : List Text). fold with_name names named) (c.in_ok-add_listed.ensures ∙ ap (λ (names : List Text). fold with_name names listed) c.new-list.ensures)
+    ∙ ap (λ (names : List Text). fold with_name names named) (c.in_ok-add_listed.ensures ∙ ap (λ (names : List Text). fold with_name names listed) c.in_ok-list.ensures)
     ∙ sym (fold-append with_name [] listed named)

@@ -1,6 +1,6 @@
 use Rattle.std.proofs.Common.{◌≤◌, ◌<◌, ◌++◌, ℕ, List, length, sym, ap, ◌∙◌, arith}
 use Rattle.std.proofs.lemmas.List.{drop_all}
-use Rattle.kt_graph.specs.inner.faults.Edges.{rows_held, rows_of, turned_from, with_edges}
+use Rattle.kt_graph.specs.inner.faults.Edges.{edges_to, rows_held, rows_of, turned_from, with_edges}
 use Rattle.kt_graph.proofs.lemmas.faults.CircleLemmas.{length-rows}
 use Rattle.kt_graph.proofs.lemmas.faults.EdgeLemmas.{turned_are, turned_more, turned_parts}
 use Rattle.kt_graph.proofs.faults.edges.Edges.reversed.Goals as goal
@@ -12,7 +12,9 @@ loop-vertex-preserved c =
     turned_more (rows_of c.args.self.now) c.loop-vertex.vertex (c.next.result.0.now ++ c.next.result.1.now) (rows_held c.loop-vertex.rows.items) (rows_held c.add_to-in-loop-vertex.new.rows.items)
     within c.next.ensures
     (turned_parts (rows_held c.loop-vertex.rows.items) (rows_held c.add_to.new.rows.items) (rows_held c.add_to-in-loop-vertex.new.rows.items) c.loop-vertex.vertex
-    c.next.result.0.now c.next.result.1.now c.in_ok-add_to.ensures c.in_ok-add_to-2.ensures)
+    c.next.result.0.now c.next.result.1.now
+    (c.in_ok-add_to.ensures ∙ ap (λ to. with_edges (rows_held c.loop-vertex.rows.items) (edges_to to c.next.result.0.now)) c.in_ok-to.ensures)
+    (c.in_ok-add_to-2.ensures ∙ ap (λ to. with_edges (rows_held c.add_to.new.rows.items) (edges_to to c.next.result.1.now)) c.in_ok-to.ensures))
     ∙ c.loop-vertex.invariant
 
 pub returns : goal.returns

@@ -1,4 +1,4 @@
-use Rattle.std.proofs.Common.{◌≡◌, ◌∙◌, ◌^◌, Some, ap, option_map, refl, rules, sym}
+use Rattle.std.proofs.Common.{◌∙◌, ◌^◌, ap, option_map, refl, sym}
 use Rattle.kt_graph.specs.inner.nodes.Reached.{reached_text}
 use Rattle.kt_graph.specs.inner.nodes.Stored.{node_held}
 use Rattle.kt_graph.proofs.lemmas.nodes.BuilderLemmas.{all_done, begun, built_more, fewer_left, none_left}
@@ -16,32 +16,28 @@ loop-name-init c =
 
 pub loop-name-preserved : goal.loop-name-preserved
 loop-name-preserved c =
-    let text : c.as_slice.result.now ≡ reached_text c.in-Some.name = search rules in
-    let at = sym c.in_ok-name.ensures.next ∙ ap (option_map reached_text) c.in-Some.is ∙ ap Some (sym text) in
-    built_more c.args.self.now c.loop-name.self c.build.new.self c.push.new.self c.as_slice.result.now (node_held c.in_ok-node.node)
+    let at = sym c.in_ok-name.ensures.next ∙ ap (option_map reached_text) c.in-Some.is in
+    built_more c.args.self.now c.loop-name.self c.build.new.self c.push.new.self (reached_text c.in-Some.name) (node_held c.in_ok-node.node)
     c.loop-name.invariant at c.in_ok-node.ensures.grown c.in_ok-node.ensures.says c.in_ok-push.ensures
 
 pub loop-name-preserved-in_ok-push : goal.loop-name-preserved-in_ok-push
 loop-name-preserved-in_ok-push c =
-    let text : c.as_slice.result.now ≡ reached_text c.in-Some.name = search rules in
-    let at = sym c.in_ok-name.ensures.next ∙ ap (option_map reached_text) c.in-Some.is ∙ ap Some (sym text) in
-    built_more c.args.self.now c.loop-name.self c.build.new.self c.push.new.self c.as_slice.result.now (node_held c.in_ok-node.node)
+    let at = sym c.in_ok-name.ensures.next ∙ ap (option_map reached_text) c.in-Some.is in
+    built_more c.args.self.now c.loop-name.self c.build.new.self c.push.new.self (reached_text c.in-Some.name) (node_held c.in_ok-node.node)
     c.loop-name.invariant at c.in_ok-node.ensures.grown c.in_ok-node.ensures.says c.in_ok-push.ensures
 
 pub loop-name-preserved-in_ok-push-2 : goal.loop-name-preserved-in_ok-push-2
 loop-name-preserved-in_ok-push-2 c =
-    let text : c.as_slice.result.now ≡ reached_text c.in-Some.name = search rules in
-    let at = sym c.in_ok-name.ensures.next ∙ ap (option_map reached_text) c.in-Some.is ∙ ap Some (sym text) in
-    built_more c.args.self.now c.loop-name.self c.build.new.self c.push.new.self c.as_slice.result.now (node_held c.in_ok-node.node)
+    let at = sym c.in_ok-name.ensures.next ∙ ap (option_map reached_text) c.in-Some.is in
+    built_more c.args.self.now c.loop-name.self c.build.new.self c.push.new.self (reached_text c.in-Some.name) (node_held c.in_ok-node.node)
     c.loop-name.invariant at c.in_ok-node.ensures.grown c.in_ok-node.ensures.says c.in_ok-push.ensures
 
 pub loop-name-smaller : goal.loop-name-smaller
 loop-name-smaller c =
     let self = c.loop-name.self in
     let built = c.build.new.self in
-    let text : c.as_slice.result.now ≡ reached_text c.in-Some.name = search rules in
-    let at = sym c.in_ok-name.ensures.next ∙ ap (option_map reached_text) c.in-Some.is ∙ ap Some (sym text) in
-    fewer_left self.numbers self.nodes built.nodes c.push.new.self c.as_slice.result.now (node_held c.in_ok-node.node) (2 ^ 63) at
+    let at = sym c.in_ok-name.ensures.next ∙ ap (option_map reached_text) c.in-Some.is in
+    fewer_left self.numbers self.nodes built.nodes c.push.new.self (reached_text c.in-Some.name) (node_held c.in_ok-node.node) (2 ^ 63) at
     c.in_ok-name.ensures.small c.in_ok-node.ensures.grown.nodes c.in_ok-push.ensures
 
 pub returns : goal.returns

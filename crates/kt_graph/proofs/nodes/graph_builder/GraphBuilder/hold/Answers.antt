@@ -14,8 +14,8 @@ returns-clause-grown c =
     always_ok c.new.result (λ name. record {
       book = ap (λ (s : GraphBuilder). s.book) others;
       known_names = ap (λ (s : GraphBuilder). s.known) others;
-      searched_rules = ap (λ (s : GraphBuilder). s.search.rules) others;
-      searched_names = ap (λ (s : GraphBuilder). s.search.known) others;
+      finder_rules = ap (λ (s : GraphBuilder). s.finder.rules) others;
+      finder_names = ap (λ (s : GraphBuilder). s.finder.known) others;
       nodes = ap (λ (s : GraphBuilder). s.nodes) others;
       names = ap (λ (s : GraphBuilder). s.numbers) others ∙ c.in_ok-parts.ensures.reached
           ∙ ap (fold with_name c.args.self.now.numbers) (sym (flat_map-map (λ (part : Part). all_needs part.needs) part_named c.args.named.parts.items));

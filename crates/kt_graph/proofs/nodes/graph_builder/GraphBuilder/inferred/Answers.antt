@@ -4,7 +4,8 @@ use Rattle.std.proofs.lemmas.Result.{IfOk-weaker}
 use Rattle.kt_rules.specs.Book.{patterns_of}
 use Rattle.kt_graph.specs.inner.nodes.Inferring.{Infers, InfersFrom}
 use Rattle.kt_graph.specs.nodes.Node.{searched}
-use Rattle.kt_graph.specs.search.Search.{Searching, choice_of}
+use Rattle.kt_graph.specs.inner.search.Chains.{Finding}
+use Rattle.kt_graph.specs.search.Search.{choice_of}
 use Rattle.kt_graph.specs.search.Views.{choice_view}
 use Rattle.kt_graph.proofs.lemmas.nodes.InferringLemmas.{some_tells}
 use Rattle.kt_graph.proofs.nodes.graph_builder.GraphBuilder.inferred.Goals as goal
@@ -17,10 +18,10 @@ returns-in-Some-clause-tells c =
     let name = c.args.name.now in
     let chosen = c.in-Some.chosen in
     let some : Some chosen ≡ option_map choice_view (choice_of (patterns_of book) known name)
-    = sym c.in-Some.is ∙ c.in_ok-chosen.ensures.chosen ∙ ap (λ r. option_map choice_view (choice_of r old.search.known name)) c.requires.rules
+    = sym c.in-Some.is ∙ c.in_ok-chosen.ensures.chosen ∙ ap (λ r. option_map choice_view (choice_of r old.finder.known name)) c.requires.rules
     ∙ ap (λ k. option_map choice_view (choice_of (patterns_of book) k name)) c.requires.known_names in
     let rules : c.choose.new.self.rules ≡ patterns_of book
-    = ap (λ (s : Searching). s.rules) c.in_ok-chosen.ensures.asked ∙ c.requires.rules in
+    = ap (λ (s : Finding). s.rules) c.choose.ensures.same ∙ c.requires.rules in
     IfOk-weaker c.inference.result (Infers c.choose.new.self.rules chosen) (InfersFrom (searched book known name))
     (λ inferred h. some_tells book known name chosen inferred (sym c.is_phony.ensures ∙ c.if-is_phony.false) some (subst (λ r. Infers r chosen inferred) rules h))
     c.inference.ensures

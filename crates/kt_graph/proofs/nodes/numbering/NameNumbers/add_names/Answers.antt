@@ -1,4 +1,4 @@
-use Rattle.std.proofs.Common.{◌∙◌, ap, fold, sym}
+use Rattle.std.proofs.Common.{◌∙◌, ap, fold, slice_get, sym}
 use Rattle.kt_rules.specs.Names.{with_name}
 use Rattle.kt_rules.specs.Targets.{names_view, needed_view}
 use Rattle.kt_graph.proofs.lemmas.nodes.NumberLemmas.{said_more}
@@ -13,6 +13,7 @@ loop-name-preserved c =
     record {
       reached = ap (λ l. fold with_name l rest) reached ∙ sym (ap (fold with_name c.loop-name.self) c.in-Some.ensures.steps) ∙ c.loop-name.invariant.reached;
       say = λ earlier h.
-          said_more c.loop-name.self c.needed_number.new.self earlier (names_view c.args.names) left rest name c.loop-name.numbers.items c.push.new.self.items c.in_ok-number.number
-          c.in-Some.ensures.steps reached c.in_ok-number.ensures.numbered c.in_ok-push.ensures.items (c.loop-name.invariant.say earlier h);
+          said_more c.loop-name.self c.needed_number.new.self earlier (names_view c.args.names) left rest name c.loop-name.numbers.items c.push.new.self.items c.in_ok-narrow.field-0
+          c.in-Some.ensures.steps reached
+          (ap (slice_get c.needed_number.new.self) c.in_ok-narrow.ensures ∙ c.in_ok-number.ensures.numbered) c.in_ok-push.ensures.items (c.loop-name.invariant.say earlier h);
     }

@@ -1,5 +1,5 @@
 use Rattle.std.proofs.Common.{◌++◌}
-use Rattle.kt_graph.proofs.nodes.numbering.NameNumbers.new.Goals as goal
+use Rattle.kt_graph.proofs.nodes.numbering.NameNumbers.with_room.Goals as goal
 
 pub invariant_of-result : goal.invariant_of-result
 invariant_of-result c = c.in_ok-none.ensures.placed (c.args.table.now ++ c.new.result)
