@@ -252,10 +252,8 @@ fn stop_of(alloc: Global, plan: &GraphPlan, trouble: Unwritable) -> Option<Stop>
 fn least_output<'p>(plan: &'p GraphPlan, number: usize) -> &'p [u8]
     ensures { result.now ≡ least_output (plan_view plan.now).statements number }
 {
-    let outputs = Listed::Outputs(number);
-    if plan.name_count(outputs) > 0 {
-        plan.name(outputs, 0)
-    } else {
-        b""
+    match plan.names(Listed::Outputs(number)).at(0) {
+        Some(name) => name,
+        None => b"",
     }
 }
