@@ -5,6 +5,7 @@ pub mod NodeGroupLemmas
 pub mod GraphPlanLemmas
 pub mod TellingLemmas
 pub mod PlanLemmas
+pub mod TextLemmas
 pub mod BlameLemmas
 pub mod MeaningLemmas
 pub mod PlanningLemmas

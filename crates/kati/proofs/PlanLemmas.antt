@@ -1,6 +1,6 @@
 -- The plan of what goals need can be written, if its names and commands can.
 use Rattle.std.proofs.Common.{◌≡◌, ◌≢◌, ℕ, ◌+◌, Bool, true, false, not, ◌&&◌, if◌then◌else◌, cond, List, [], ◌∷◌, ◌++◌, map, filter, find, flat_map, Option, Some, None, refl, sym, ap, ◌∙◌, subst, ⊎_elim, append-nil, arith, ◌||◌}
-use Rattle.std.specs.Prelude.{IfOk, MatchOption, Result, Ok, Err, length, nat_eq, slice_get}
+use Rattle.std.specs.Prelude.{IfOk, MatchOption, Result, Ok, Err, nat_eq, slice_get}
 use Rattle.std.specs.Option.{option_and_then, option_map_or}
 use Rattle.std.specs.List.{All, AllPairs, Contains, list_all, list_any}
 use Rattle.std.specs.List.Sorted.{IsStrictlySortedBy}
@@ -329,11 +329,11 @@ least_here (Some s) name is = by s.outs is
     by [] e = absurd (cc e)
     by (first ∷ outs) e = sym (same_Some first name e)
 
-pub least_none : (found : Option Statement) → length (names_at (λ s. s.outs) found) ≡ 0
+pub least_none : (found : Option Statement) → None ≡ slice_get (names_at (λ s. s.outs) found) 0
     → [] ≡ option_map_or (λ statement. first_output statement.outs) found []
 least_none None is = refl
 least_none (Some s) is = by s.outs is
   where
-    by : (outs : List Text) → length outs ≡ 0 → [] ≡ first_output outs
+    by : (outs : List Text) → None ≡ slice_get outs 0 → [] ≡ first_output outs
     by [] e = refl
-    by (first ∷ outs) e = absurd (omega (arith, e))
+    by (first ∷ outs) e = absurd (cc e)

@@ -1,13 +1,16 @@
 -- A sketch as the code holds it.
-use Rattle.std.proofs.Common.{◌≡◌, ℕ, ◌-◌, ◌≤◌, List, [], ◌∷◌, ◌++◌, length, map, take, drop, Option, Some, None, refl, sym, ap, ◌∙◌, arith, zero, suc, subst, ◌||◌}
+use Rattle.std.proofs.Common.{◌≡◌, ℕ, ◌-◌, ◌≤◌, Bool, true, List, [], ◌∷◌, ◌++◌, length, map, take, drop, Option, Some, None, refl, sym, ap, ◌∙◌, arith, zero, suc, subst, ◌||◌}
 use Rattle.std.specs.Prelude.{option_map, slice_get}
-use Rattle.std.specs.List.{list_any, slice_range}
+use Rattle.std.specs.List.{list_all, list_any, slice_range}
+use Rattle.std.proofs.lemmas.Bool.{and_from, and_parts}
 use Rattle.std.proofs.Math.Seq.{drop-append_seam, take-length}
 use Rattle.std.proofs.lemmas.List.{drop-append-le, length-append, length-drop, take-append-le}
 use Rattle.std.proofs.lemmas.Option.{slice_get-map}
 use Rattle.kt_text.specs.Words.{Text}
 use Rattle.kt_recipe.specs.Views.{command_in}
 use Rattle.kati.specs.declared.sketch.Mark.{Mark}
+use Rattle.kt_ninja.specs.Writable.{is_command_byte, is_made}
+use Rattle.kati.specs.Planning.{made_by}
 use Rattle.kati.specs.inner.Drawn.{AreWithin, Drawn, drawn_view, joined_view}
 use Rattle.kati.proofs.RangeLemmas.{last_range, same_range}
 
@@ -58,3 +61,31 @@ pub drawn_nowhere : (text : Text) (marks : List Mark) (i : ℕ) (all : List Draw
     → None ≡ slice_get all i
 drawn_nowhere text marks i all is same =
     ap (option_map (drawn_view text)) (sym is) ∙ sym (slice_get-map (drawn_view text) marks i) ∙ ap (λ (ds : List Drawn). slice_get ds i) same
+
+-- ---- what can be written
+
+taken_pass : {A : Type 0} (p : A → Bool) (n : ℕ) (xs : List A) → list_all p xs ≡ true → list_all p (take n xs) ≡ true
+taken_pass p zero xs all = refl
+taken_pass p (suc n) [] all = refl
+taken_pass p (suc n) (x ∷ xs) all =
+    let parts = and_parts (p x) (list_all p xs) all in
+    and_from (p x) (list_all p (take n xs)) parts.0 (taken_pass p n xs parts.1)
+
+left_pass : {A : Type 0} (p : A → Bool) (n : ℕ) (xs : List A) → list_all p xs ≡ true → list_all p (drop n xs) ≡ true
+left_pass p zero xs all = all
+left_pass p (suc n) [] all = refl
+left_pass p (suc n) (x ∷ xs) all = left_pass p n xs (and_parts (p x) (list_all p xs) all).1
+
+part_made : (part : Text) → list_all is_command_byte part ≡ true → is_made (made_by (command_in part)) ≡ true
+part_made [] all = refl
+part_made (byte ∷ part) all = all
+
+-- the commands can be written, if the text of all can
+pub commands_made : (text : Text) (marks : List Mark) → list_all is_command_byte text ≡ true
+    → list_all (λ (one : Drawn). is_made (made_by one.command)) (map (drawn_view text) marks) ≡ true
+commands_made text [] all = refl
+commands_made text (mark ∷ marks) all =
+    and_from (is_made (made_by (command_in (slice_range text mark.start mark.end)))) _
+    (part_made (slice_range text mark.start mark.end)
+    (taken_pass is_command_byte (mark.end - mark.start) (drop mark.start text) (left_pass is_command_byte mark.start text all)))
+    (commands_made text marks all)

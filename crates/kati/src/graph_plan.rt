@@ -61,19 +61,6 @@ impl<'g> GraphPlan<'g> {
             None => Part::Always,
         }
     }
-
-    #[inline(always)]
-    fn names(&self, list: Listed) -> NameList<'_, 'g>
-        ensures { names_view result ≡ names_listed (plan_view self.now) list }
-    {
-        match list {
-            Listed::Outputs(statement) => self.part(statement).outputs(),
-            Listed::Inputs(statement) => self.part(statement).inputs(),
-            Listed::Implicit(statement) => self.part(statement).implicit(),
-            Listed::OrderOnly(statement) => self.part(statement).order_only(),
-            Listed::Defaults => NameList::Names(self.goals.as_slice()),
-        }
-    }
 }
 
 impl<'a, 'g> Part<'a, 'g> {
@@ -167,30 +154,32 @@ fn first_order_only<'a, 'g>(nodes: &'a [Node<'g>]) -> NameList<'a, 'g>
     }
 }
 
-impl PlanView for GraphPlan<'_> {
+impl<'a, 'g: 'a> PlanView<'a> for GraphPlan<'g> {
+    type Names = NameList<'a, 'g>;
+
     ghost use Rattle.std.specs.Prelude.{◌≡◌, ◌<◌, Some, length, option_map, slice_get};
     ghost use Rattle.kt_ninja.specs.View.{made_at, made_by, names_listed};
     ghost use Rattle.kati.specs.inner.Shown.{plan_view};
 
     ghost plan = { plan_view };
 
-    fn statement_count(&self) -> usize {
+    fn statement_count(&'a self) -> usize {
         let groups = self.groups.len().min(self.sketch.len());
         if self.always { groups + 1 } else { groups }
     }
 
-    fn command(&self, statement: usize) -> Option<&[u8]> {
+    fn command(&'a self, statement: usize) -> Option<&'a [u8]> {
         self.part(statement).command()
     }
 
-    fn name_count(&self, list: Listed) -> usize {
-        self.names(list).len()
-    }
-
-    fn name(&self, list: Listed, place: usize) -> &[u8] {
-        match self.names(list).name(place) {
-            Some(name) => name,
-            None => b"",
+    #[inline(always)]
+    fn names(&'a self, list: Listed) -> NameList<'a, 'g> {
+        match list {
+            Listed::Outputs(statement) => self.part(statement).outputs(),
+            Listed::Inputs(statement) => self.part(statement).inputs(),
+            Listed::Implicit(statement) => self.part(statement).implicit(),
+            Listed::OrderOnly(statement) => self.part(statement).order_only(),
+            Listed::Defaults => NameList::Names(self.goals.as_slice()),
         }
     }
 }

@@ -4,6 +4,7 @@ ghost use Rattle.kati.specs.Planning.{always_build, outs_of};
 ghost use Rattle.kati.specs.inner.Shown.{names_view};
 
 use kt_graph::{ALWAYS_BUILD, Inputs, Node};
+use kt_ninja::NamesView;
 use kt_rules::Name;
 
 /// Some of the names of a statement, in order.
@@ -20,10 +21,29 @@ pub(crate) enum NameList<'a, 'g> {
 }
 
 impl<'a, 'g> NameList<'a, 'g> {
+    /// The name at a place, if there is one.
     #[inline(always)]
-    pub(crate) fn len(&self) -> usize
-        ensures { result ≡ length (names_view self.now) }
+    pub(crate) fn at(&self, place: usize) -> Option<&'a [u8]>
+        ensures { option_map (λ name. name.now) result ≡ slice_get (names_view self.now) place }
     {
+        match self {
+            NameList::Empty => None,
+            NameList::AlwaysBuild => always_build_at(place),
+            NameList::Members(nodes) => member_at(*nodes, place),
+            NameList::Needs(inputs) => inputs.name(place),
+            NameList::Names(names) => name_at(*names, place),
+        }
+    }
+}
+
+impl<'a, 'g: 'a> NamesView<'a> for NameList<'a, 'g> {
+    ghost use Rattle.std.specs.Prelude.{◌≡◌, ◌<◌, Some, length, slice_get};
+    ghost use Rattle.kati.specs.inner.Shown.{names_view};
+
+    ghost names = { names_view };
+
+    #[inline(always)]
+    fn len(&self) -> usize {
         match self {
             NameList::Empty => 0,
             NameList::AlwaysBuild => 1,
@@ -33,17 +53,11 @@ impl<'a, 'g> NameList<'a, 'g> {
         }
     }
 
-    /// The name at a place, if there is one.
     #[inline(always)]
-    pub(crate) fn name(&self, place: usize) -> Option<&'a [u8]>
-        ensures { option_map (λ name. name.now) result ≡ slice_get (names_view self.now) place }
-    {
-        match self {
-            NameList::Empty => None,
-            NameList::AlwaysBuild => always_build_at(place),
-            NameList::Members(nodes) => member_at(*nodes, place),
-            NameList::Needs(inputs) => inputs.name(place),
-            NameList::Names(names) => name_at(*names, place),
+    fn name(&self, place: usize) -> &'a [u8] {
+        match self.at(place) {
+            Some(name) => name,
+            None => b"",
         }
     }
 }

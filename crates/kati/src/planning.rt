@@ -1,13 +1,15 @@
 //! The plan of a graph.
-ghost use Rattle.std.specs.Prelude.{◌≡◌, ◌<◌, ◌++◌, ◌∷◌, [], List, get_or, length, IfOk, MatchOption, None, Some, false};
+ghost use Rattle.std.specs.Prelude.{◌≡◌, ◌<◌, ◌++◌, ◌∷◌, [], List, get_or, length, IfOk, MatchOption, None, Some};
+ghost use Rattle.std.specs.Prelude.{false, true};
+ghost use Rattle.std.specs.List.{list_all};
 ghost use Rattle.kt_text.specs.Words.{Text};
 ghost use Rattle.kt_eval.specs.declared.fault.Fault.{Fault as FaultType};
 ghost use Rattle.kt_graph.specs.faults.Faults.{IsSoundGraph};
 ghost use Rattle.kt_graph.specs.nodes.Groups.{groups_of};
 ghost use Rattle.kt_recipe.specs.Views.{command_in};
-ghost use Rattle.kt_ninja.specs.Writable.{HasWritableTexts, IsWritable, told_obstacle};
+ghost use Rattle.kt_ninja.specs.Writable.{HasWritableTexts, IsWritable, is_made, is_name, told_obstacle};
 ghost use Rattle.kt_eval.specs.Outcome.{AsksNothing, Gives, done, then_do};
-ghost use Rattle.kati.specs.Planning.{command_for, least_output, plan_groups, plan_of, planned, text_fault};
+ghost use Rattle.kati.specs.Planning.{command_for, least_output, made_by, plan_groups, plan_of, planned, text_fault};
 ghost use Rattle.kati.specs.Planning.{unwritable_in, written};
 ghost use Rattle.kati.specs.inner.Drawn.{AlwaysFirst, draw_groups, drawn_of, statements_drawn};
 ghost use Rattle.kati.specs.inner.Shown.{plan_view};
@@ -22,7 +24,9 @@ use crate::words::stop_on;
 use kt_eval::{Makefile, Stop};
 use kt_graph::{Graph, Node};
 use kt_list::Sequence;
-use kt_ninja::{Listed, Plan, PlanView, Unwritable, copied_plan, texts_can_be_written};
+use kt_ninja::{
+    Listed, Plan, PlanView, Unwritable, copied_plan, name_can_be_written, texts_can_be_written,
+};
 use kt_recipe::Commands;
 use kt_rules::{Book, FaultKind, Name};
 use std::alloc::{AllocError, Global};
@@ -37,15 +41,16 @@ pub(crate) fn graph_plan<'g>(
     goals: Vec<Name>,
     messages: &mut Vec<Sequence<u8>>,
 ) -> Result<GraphPlan<'g>, Stop>
+    requires { (known : List Text) × IsSoundGraph makefile.now.book known goals.items graph.now }
     ensures gives { Gives plan_view result messages.new.items
         (planned makefile.now.book makefile.now.macros limit goals.items graph.now messages.old.items) }
     ensures asks_nothing { AsksNothing result }
-    ensures writable { (known : List Text) → IsSoundGraph makefile.now.book known goals.items graph.now
-        → IfOk result (λ plan. IsWritable (plan_view plan)) }
+    ensures writable { IfOk result (λ plan. IsWritable (plan_view plan)) }
 {
     let groups = all_groups(alloc, graph)?;
     let sketch = sketched(alloc, makefile, limit, &groups, messages)?;
-    written(alloc, plan_of(groups, sketch, goals))
+    let can_be_written = has_writable_texts(graph, &sketch);
+    written(alloc, plan_of(groups, sketch, goals), can_be_written)
 }
 
 /// The same, copied into a `Plan`.
@@ -57,11 +62,11 @@ pub(crate) fn plan(
     goals: Vec<Name>,
     messages: &mut Vec<Sequence<u8>>,
 ) -> Result<Plan, Stop>
+    requires { (known : List Text) × IsSoundGraph makefile.now.book known goals.items graph.now }
     ensures gives { Gives (λ plan. plan) result messages.new.items
         (planned makefile.now.book makefile.now.macros limit goals.items graph.now messages.old.items) }
     ensures asks_nothing { AsksNothing result }
-    ensures writable { (known : List Text) → IsSoundGraph makefile.now.book known goals.items graph.now
-        → IfOk result IsWritable }
+    ensures writable { IfOk result IsWritable }
 {
     let plan = graph_plan(alloc, makefile, limit, graph, goals, messages)?;
     Ok(copied_plan(alloc, &plan)?)
@@ -191,6 +196,25 @@ fn put_command(
     }
 }
 
+// Whether each name of the graph and each command can be written. A name that many need is looked at once.
+fn has_writable_texts(graph: &Graph, sketch: &Sketch) -> bool
+    ensures { result ≡ true → (list_all (λ node. is_name node.name) graph.now ≡ true)
+        × (list_all (λ drawn. is_made (made_by drawn.command)) sketch.now ≡ true) }
+{
+    sketch.has_writable_commands() && has_writable_names(graph)
+}
+
+fn has_writable_names(graph: &Graph) -> bool
+    ensures { result ≡ list_all (λ node. is_name node.name) graph.now }
+{
+    for node in graph.nodes() {
+        if !name_can_be_written(node.name()) {
+            return false;
+        }
+    }
+    true
+}
+
 fn plan_of<'g>(groups: NodeGroups<'g>, sketch: Sketch, goals: Vec<Name>) -> GraphPlan<'g>
     requires { AlwaysFirst groups sketch }
     ensures { plan_view result ≡ plan_of (statements_drawn groups.entry sketch) goals.items }
@@ -204,14 +228,23 @@ fn plan_of<'g>(groups: NodeGroups<'g>, sketch: Sketch, goals: Vec<Name>) -> Grap
     }
 }
 
-// The plan, unless one of its names or commands can't be written.
+// The plan, unless one of its names or commands can't be written. Where it isn't known that all can, they are looked
+// at in the plan's order.
 #[tactic(auto, unfolding(crate::specs::Planning::written))]
-fn written<'g>(alloc: Global, plan: GraphPlan<'g>) -> Result<GraphPlan<'g>, Stop>
+fn written<'g>(
+    alloc: Global,
+    plan: GraphPlan<'g>,
+    can_be_written: bool,
+) -> Result<GraphPlan<'g>, Stop>
+    requires { can_be_written ≡ true → HasWritableTexts (plan_view plan) }
     ensures gives { (said : List Text) → Gives plan_view result said (written (plan_view plan.entry) said) }
     ensures asks_nothing { AsksNothing result }
     ensures same { IfOk result (λ copy. plan_view copy ≡ plan_view plan.entry) }
     ensures texts { IfOk result (λ copy. HasWritableTexts (plan_view copy)) }
 {
+    if can_be_written {
+        return Ok(plan);
+    }
     match text_stop(alloc, &plan) {
         None => Ok(plan),
         Some(stop) => Err(stop),
@@ -252,10 +285,8 @@ fn stop_of(alloc: Global, plan: &GraphPlan, trouble: Unwritable) -> Option<Stop>
 fn least_output<'p>(plan: &'p GraphPlan, number: usize) -> &'p [u8]
     ensures { result.now ≡ least_output (plan_view plan.now).statements number }
 {
-    let outputs = Listed::Outputs(number);
-    if plan.name_count(outputs) > 0 {
-        plan.name(outputs, 0)
-    } else {
-        b""
+    match plan.names(Listed::Outputs(number)).at(0) {
+        Some(name) => name,
+        None => b"",
     }
 }

@@ -1,9 +1,12 @@
 //! What is stored for the groups of a plan besides their nodes.
-ghost use Rattle.std.specs.Prelude.{◌≡◌, ◌≤◌, ◌++◌, ◌∷◌, [], OnOk, length, option_map, slice_get};
-ghost use Rattle.std.specs.List.{list_any};
+ghost use Rattle.std.specs.Prelude.{◌≡◌, ◌≤◌, ◌++◌, ◌∷◌, [], OnOk, length, option_map, slice_get, true};
+ghost use Rattle.std.specs.List.{list_all, list_any};
+ghost use Rattle.kt_ninja.specs.Writable.{is_made};
 ghost use Rattle.kt_recipe.specs.Views.{command_in};
+ghost use Rattle.kati.specs.Planning.{made_by};
 ghost use Rattle.kati.specs.inner.Drawn.{drawing_view, drawn_view, joined_view};
 
+use kt_ninja::command_can_hold;
 use kt_rules::Name;
 use std::alloc::{AllocError, Global};
 use std::boxed::Box;
@@ -76,6 +79,13 @@ impl Sketch {
         ensures { result ≡ list_any (λ drawn. drawn.always) self.now }
     {
         any_always(self.marks.as_slice())
+    }
+
+    /// Whether each command can be written, which the text of all commands tells at once.
+    pub(crate) fn has_writable_commands(&self) -> bool
+        ensures { result ≡ true → list_all (λ drawn. is_made (made_by drawn.command)) self.now ≡ true }
+    {
+        command_can_hold(self.text.as_slice())
     }
 
     /// Adds a group at the end.

@@ -1,13 +1,16 @@
-use Rattle.std.proofs.Common.{rules}
+use Rattle.std.proofs.Common.{◌∙◌, List, ap, sym}
 use Rattle.std.specs.Prelude.{slice_get}
+use Rattle.kt_text.specs.Words.{Text}
 use Rattle.kati.specs.inner.Shown.{plan_view}
 use Rattle.kati.proofs.PlanLemmas.{least_here, least_none}
 use Rattle.kati.proofs.planning.least_output.Goals as goal
 
-pub returns-then-name_count-gt0 : goal.returns-then-name_count-gt0
-returns-then-name_count-gt0 c =
-    least_here (slice_get (plan_view c.args.plan.now).statements c.args.number) c.name.result.now c.name.ensures
+pub returns-in-Some : goal.returns-in-Some
+returns-in-Some c =
+    least_here (slice_get (plan_view c.args.plan.now).statements c.args.number) c.in-Some.name.now
+    (sym (ap (λ (names : List Text). slice_get names 0) c.names.ensures) ∙ sym c.in-Some.ensures)
 
-pub returns-else-name_count-gt0 : goal.returns-else-name_count-gt0
-returns-else-name_count-gt0 c =
-    least_none (slice_get (plan_view c.args.plan.now).statements c.args.number) (search rules)
+pub returns-in-None : goal.returns-in-None
+returns-in-None c =
+    least_none (slice_get (plan_view c.args.plan.now).statements c.args.number)
+    (c.in-None.ensures ∙ ap (λ (names : List Text). slice_get names 0) c.names.ensures)

@@ -24,8 +24,11 @@ returns-clause-means c = λ asked.
     plan_means c.args.args.now.limit (wanted_view c.args.sources.now c.args.goals.items) (traced c.args.messages.now.items asked) _
     c.plan-plan.new.messages.items c.plan-plan.result (search rules) c.plan-plan.ensures.gives
 
+pub plan-plan-requires : goal.plan-plan-requires
+plan-plan-requires c = (c.args.sources.now.known, search rules)
+
 pub returns-clause-writable : goal.returns-clause-writable
-returns-clause-writable c = c.plan-plan.ensures.writable c.args.sources.now.known (search rules)
+returns-clause-writable c = c.plan-plan.ensures.writable
 
 pub returns-clause-sound : goal.returns-clause-sound
 returns-clause-sound c =
@@ -33,4 +36,4 @@ returns-clause-sound c =
     let sound : IsSoundGraph want.read.book want.known want.goals c.in_ok-graph.graph = search rules in
     sound_if_ok c.args.args.now.limit want (traced c.args.messages.now.items []) c.plan-plan.result (traced c.plan-plan.new.messages.items [])
     (plan_means c.args.args.now.limit want (traced c.args.messages.now.items []) _ c.plan-plan.new.messages.items c.plan-plan.result sound c.plan-plan.ensures.gives)
-    (c.plan-plan.ensures.writable c.args.sources.now.known sound)
+    c.plan-plan.ensures.writable

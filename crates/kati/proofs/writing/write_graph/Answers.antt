@@ -6,6 +6,9 @@ use Rattle.kati.proofs.MeaningLemmas.{seen_means}
 use Rattle.kati.proofs.TellingLemmas.{plan_tells, stop_tells}
 use Rattle.kati.proofs.writing.write_graph.Goals as goal
 
+pub graph_plan-plan-requires : goal.graph_plan-plan-requires
+graph_plan-plan-requires g c = (c.args.sources.now.known, c.requires)
+
 pub returns-in-Ok-clause-tells : goal.returns-in-Ok-clause-tells
 returns-in-Ok-clause-tells g c = λ asked.
     let want = wanted_view c.args.sources.now c.args.goals.items in

@@ -1,0 +1,9 @@
+use Rattle.std.proofs.Common.{◌≡◌}
+use Rattle.std.specs.List.{list_all}
+use Rattle.kt_graph.specs.nodes.Node.{Node}
+use Rattle.kt_ninja.specs.Writable.{is_name}
+use Rattle.kati.proofs.planning.has_writable_names.Given as goal
+
+abbrev pub invariant-loop-node : goal.invariant-loop-node
+invariant-loop-node l =
+    list_all (λ (node : Node). is_name node.name) l.node-iterator ≡ list_all (λ (node : Node). is_name node.name) l.fn.graph
