@@ -163,7 +163,8 @@ impl<'a> GraphBuilder<'a> {
 
     // The explicit rules of a name.
     fn rules(&self, name: &ReachedName<'a>) -> Result<Vec<TargetRule<'a>>, AllocError>
-        ensures { IfOk result (λ rules. map rule_view rules.items ≡ explicit_rules self.now.book.now (reached_text name.now)) }
+        ensures { IfOk result (λ rules. map rule_view rules.items
+            ≡ explicit_rules self.now.book.now (reached_text name.now)) }
     {
         let mut rules = Vec::new(self.alloc);
         for rule in self.explicit(name) {
