@@ -6,9 +6,11 @@ import re
 
 CRATES = ["kt_list", "kt_text", "kt_syntax", "kt_rules", "kt_eval", "kt_graph", "kt_recipe", "kt_ninja", "kati_args",
           "kati", "kati_names"]
-CALL = re.compile(r"^ *(?:pub )?fn (\w+)(?:<[^>]*>)?\(([^{;]*?)\)\s*->([^{;]*?)(?:\{|;|ensures|requires)", re.MULTILINE)
+PARAMETERS = r"(?:<(?:[^<>]|<[^<>]*>)*>)?"
+CALL = re.compile(r"^ *(?:pub )?fn (\w+)" + PARAMETERS + r"\(([^{;]*?)\)\s*->([^{;]*?)(?:\{|;|ensures|requires)",
+                  re.MULTILINE)
 FAULTS = re.compile(r"AllocError|\b(?:Text|Line|Rule|Graph|Read|Arg|Run|File)Fault\b|\bStop\b")
-OWNER = re.compile(r"^(pub trait|trait|impl)(?:<[^>]*>)? (?:[^\n{]* for )?(\w+)", re.MULTILINE)
+OWNER = re.compile(r"^(pub trait|trait|impl)" + PARAMETERS + r" (?:[^\n{]* for )?(\w+)", re.MULTILINE)
 ROW = re.compile(r"^\| (\w+) \| (`.*`) \| (.*) \|$", re.MULTILINE)
 
 
