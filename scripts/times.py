@@ -39,6 +39,8 @@ ROOT = Path(__file__).resolve().parent.parent
 BUILT = ROOT / "crates/kati_program/out/kati_program"
 FIGURES, PICTURE = ROOT / "docs/BENCHMARKS.md", ROOT / "docs/times.svg"
 MEGABYTE = 2**20
+# How often the memory of a unit is measured.
+PEAKS = 3
 LIST, PLAN = "files.txt", "plan.ninja"
 MAKE = ["make", "-n", "-r", "-R"]
 CKATI = ["ckati", "--ninja", "--no_builtin_rules", "-f", "Makefile"]
@@ -252,28 +254,42 @@ def instructions(words, folder):
 
 
 def unit_figures(make_files, size, asked, shared_object):
-    """Instructions, allocations and peak bytes of one run."""
+    """Instructions and allocations of one run."""
+    words = [asked.kati, "-f", "Makefile", "--files", LIST]
+    with tempfile.TemporaryDirectory(prefix="times_") as name:
+        folder = Path(name)
+        write(folder, *make_files(size))
+        return instructions(words, folder), allocations(words, folder, shared_object)
+
+
+def peak(make_files, size, asked):
+    """The least peak of a few runs, in bytes: it varies by some 100 KB."""
     kati = Tool("kati", [asked.kati, "-f", "Makefile", "--files", LIST], 8 * MEGABYTE)
     with tempfile.TemporaryDirectory(prefix="times_") as name:
         folder = Path(name)
         write(folder, *make_files(size))
-        kati.run(folder, asked.seconds)
-        return instructions(kati.words, folder), allocations(kati.words, folder, shared_object), kati.bytes
+        peaks = []
+        for _ in range(PEAKS):
+            kati.bytes = 0
+            kati.run(folder, asked.seconds)
+            peaks.append(kati.bytes)
+        return min(peaks)
 
 
 def units(asked):
-    """Prints what one unit more costs: the difference of two sizes, a fifth and two fifths of a case's smaller one."""
+    """Prints what one unit more costs: the difference of two sizes, a fifth and two fifths of a case's smaller one; of memory, of that size
+    and of twice as much, since a difference of few pages says little."""
     print("| Case | Instructions a unit | Allocations a unit | Bytes a unit at the peak |")
     print("|---|---|---|---|")
     with tempfile.TemporaryDirectory(prefix="times_") as folder:
         shared_object = built_object(folder)
         for label, make_files, sizes in TRANSLATING:
-            size = max((sizes[0] // 100 if asked.small else sizes[0]) // 5, 1)
+            full = max(sizes[0] // 100 if asked.small else sizes[0], 1)
+            size = max(full // 5, 1)
             one, two = (unit_figures(make_files, n, asked, shared_object) for n in (size, 2 * size))
             more = [(after - before) / size for before, after in zip(one, two)]
-            # A peak of few pages doesn't tell what a unit takes.
-            memory = f"{more[2]:,.0f}" if two[2] - one[2] >= MEGABYTE // 4 else "-"
-            print(f"| {label} | {more[0]:,.0f} | {more[1]:,.1f} | {memory} |", flush=True)
+            memory = (peak(make_files, 2 * full, asked) - peak(make_files, full, asked)) / full
+            print(f"| {label} | {more[0]:,.0f} | {more[1]:,.1f} | {memory:,.0f} |", flush=True)
 
 
 TABLES = {
