@@ -278,7 +278,7 @@ def peak(make_files, size, asked):
 
 def units(asked):
     """Prints what one unit more costs: the difference of two sizes, a fifth and two fifths of a case's smaller one; of memory, of that size
-    and of twice as much, since a difference of few pages says little."""
+    and of twice as much."""
     print("| Case | Instructions a unit | Allocations a unit | Bytes a unit at the peak |")
     print("|---|---|---|---|")
     with tempfile.TemporaryDirectory(prefix="times_") as folder:
@@ -288,8 +288,10 @@ def units(asked):
             size = max(full // 5, 1)
             one, two = (unit_figures(make_files, n, asked, shared_object) for n in (size, 2 * size))
             more = [(after - before) / size for before, after in zip(one, two)]
-            memory = (peak(make_files, 2 * full, asked) - peak(make_files, full, asked)) / full
-            print(f"| {label} | {more[0]:,.0f} | {more[1]:,.1f} | {memory:,.0f} |", flush=True)
+            memory = peak(make_files, 2 * full, asked) - peak(make_files, full, asked)
+            # A peak of few pages doesn't tell what a unit takes.
+            told = f"{memory / full:,.0f}" if memory >= MEGABYTE // 4 else "-"
+            print(f"| {label} | {more[0]:,.0f} | {more[1]:,.1f} | {told} |", flush=True)
 
 
 TABLES = {
