@@ -1,7 +1,8 @@
 """Makefiles of any size, for scripts/times.py.
 
-Each shape is a function of a number, and answers the files by their names, `Makefile` among them, and the names of the sources. All of
-them are written in what kati, ckati and GNU make share, but for the group of targets, which ckati doesn't know.
+Each shape is a function of a number, and answers the files by their names, `Makefile` among them, and the names of the
+sources. All of them are written in what kati, ckati and GNU make share, but for the group of targets, which ckati
+doesn't know.
 """
 
 MOST = 2**24  # bytes that kati takes in one makefile

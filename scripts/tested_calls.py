@@ -50,7 +50,8 @@ def rows(root):
 
 def tests_of(root, crate, tests):
     """The texts of the files in which tests stand: those of the crate, and of crates that are named."""
-    names = [crate + "_tests", crate + "_doubles", "kt_rules_doubles", "kati_doubles"] + re.findall(r"\b\w+_tests\b", tests)
+    names = [crate + "_tests", crate + "_doubles", "kt_rules_doubles", "kati_doubles"]
+    names += re.findall(r"\b\w+_tests\b", tests)
     paths = [path for name in names for path in (root / "crates" / name / "src").rglob("*.rt")]
     paths += [root / "crates/kt_list/src/tests.rt"] if crate == "kt_list" else []
     return [path.read_text(encoding="utf-8") for path in paths]

@@ -2,11 +2,12 @@
 """Times the built kati beside ckati, make and ninja, and prints the tables of docs/BENCHMARKS.md.
 
 TABLE is one of translating, units, layers, text, reading, hostile; all of them without one. Every makefile is made by
-scripts/large_makefiles.py. The tools run in turn, side by side, and the least time of the runs counts; the memory is the most that any
-run took. Needed are /usr/bin/time and, for their columns, the Debian packages ckati, make and ninja-build. kati gets a stack of 8 MB, and
-the others one of 1 GB, without which ckati doesn't end on a chain of 100,000 targets. --small takes a hundredth of each size, to try
-the script. The table "units" wants a C compiler, which makes the object that counts the allocations, and valgrind, which counts the
-instructions: both figures are the same at each run.
+scripts/large_makefiles.py. The tools run in turn, side by side, and the least time of the runs counts; the memory is
+the most that any run took. Needed are /usr/bin/time and, for their columns, the Debian packages ckati, make and
+ninja-build. kati gets a stack of 8 MB, and the others one of 1 GB, without which ckati doesn't end on a chain of
+100,000 targets. --small takes a hundredth of each size, to try the script. The table "units" wants a C compiler, which
+makes the object that counts the allocations, and valgrind, which counts the instructions: both figures are the same at
+each run.
 
 examples:
   scripts/times.py                      all tables
@@ -106,8 +107,8 @@ class Tool:
         words = ["/usr/bin/time", "-q", "-f", "%M", "-o", str(note), *self.words]
         with open(folder / f"{self.name}.out", "wb") as out:
             start = time.perf_counter()
-            process = subprocess.Popen(words, cwd=folder, stdin=subprocess.DEVNULL, stdout=out, stderr=subprocess.DEVNULL,
-                                       start_new_session=True, preexec_fn=self.take_stack)
+            process = subprocess.Popen(words, cwd=folder, stdin=subprocess.DEVNULL, stdout=out,
+                                       stderr=subprocess.DEVNULL, start_new_session=True, preexec_fn=self.take_stack)
             # A wait with a limit of its own looks only every 50 milliseconds.
             ends = threading.Timer(limit, os.killpg, (process.pid, signal.SIGKILL))
             ends.start()
@@ -146,7 +147,8 @@ def tools(asked, with_ckati=True):
 
 
 def write(folder, files, sources):
-    """Writes the files, an empty file for each source, and the list of the sources; answers the bytes of the makefiles."""
+    """Writes the files, an empty file for each source, and the list of the sources; answers the bytes of the
+    makefiles."""
     for name, text in {**files, **dict.fromkeys(sources, ""), LIST: "\n".join([*sources, ""])}.items():
         (folder / name).parent.mkdir(parents=True, exist_ok=True)
         (folder / name).write_text(text)
@@ -187,8 +189,8 @@ def compare_one(row, made, found, asked):
         run_all(list(found.values()), folder, asked)
         loads = loads_in_ninja(folder, folder / "kati.out")
     kati, ckati, make = (found.get(name, absent) for name in ("kati", "ckati", "make"))
-    cells = [kati.told() + loads, kati.growth(), ckati.told(), make.told(), ratio(kati, ckati, "seconds"), ratio(kati, make, "seconds"),
-             ratio(kati, ckati, "bytes")]
+    cells = [kati.told() + loads, kati.growth(), ckati.told(), make.told()]
+    cells += [ratio(kati, ckati, "seconds"), ratio(kati, make, "seconds"), ratio(kati, ckati, "bytes")]
     print(f"| {row} | {' | '.join(cells)} |", flush=True)
 
 
@@ -233,7 +235,8 @@ def hostile(asked):
             size = write(Path(name), *make_files(size // 100 if asked.small else size))
             run_all([kati], Path(name), asked)
         seconds = "-" if kati.seconds is None else f"{kati.seconds:.2f}"
-        cells = [row, f"{size:,}", str(kati.status), seconds, f"{kati.bytes / MEGABYTE:.0f}", f"{kati.bytes / size:.1f}"]
+        cells = [row, f"{size:,}", str(kati.status), seconds]
+        cells += [f"{kati.bytes / MEGABYTE:.0f}", f"{kati.bytes / size:.1f}"]
         print(f"| {' | '.join(cells)} |", flush=True)
 
 
@@ -277,8 +280,8 @@ def peak(make_files, size, asked):
 
 
 def units(asked):
-    """Prints what one unit more costs: the difference of two sizes, a fifth and two fifths of a case's smaller one; of memory, of that size
-    and of twice as much."""
+    """Prints what one unit more costs: the difference of two sizes, a fifth and two fifths of a case's smaller one; of
+    memory, of that size and of twice as much."""
     print("| Case | Instructions a unit | Allocations a unit | Bytes a unit at the peak |")
     print("|---|---|---|---|")
     with tempfile.TemporaryDirectory(prefix="times_") as folder:
@@ -309,9 +312,11 @@ def main():
     parser.add_argument("tables", nargs="*", metavar="TABLE", choices=[[], *TABLES], help=", ".join(TABLES))
     parser.add_argument("--kati", default=str(BUILT), metavar="PROGRAM", help="the built program")
     parser.add_argument("--runs", type=int, default=3, metavar="N", help="runs of each, 3 without it")
-    parser.add_argument("--seconds", type=int, default=60, metavar="N", help="the most that a run may take, 60 without it")
+    parser.add_argument("--seconds", type=int, default=60, metavar="N",
+                        help="the most that a run may take, 60 without it")
     parser.add_argument("--small", action="store_true", help="a hundredth of each size")
-    parser.add_argument("--picture", action="store_true", help="draw docs/times.svg from docs/BENCHMARKS.md, and run nothing")
+    parser.add_argument("--picture", action="store_true",
+                        help="draw docs/times.svg from docs/BENCHMARKS.md, and run nothing")
     asked = parser.parse_args()
     if asked.picture:
         PICTURE.write_text(picture.draw(picture.rows_of(FIGURES.read_text())))

@@ -33,7 +33,8 @@ def rows_of(document):
 
 
 def shares(row, part):
-    """Each tool's figure over a base: the time of the faster of ckati and make; the memory of ckati, or else of make."""
+    """Each tool's figure over a base: the time of the faster of ckati and make; the memory of ckati, or
+    else of make."""
     values = {tool: getattr(getattr(row, tool), part, None) for tool in TOOLS}
     others = [values[tool] for tool in ("ckati", "make") if values[tool]]
     base = values["ckati"] if part == "memory" and values["ckati"] else min(others)
