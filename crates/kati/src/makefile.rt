@@ -10,8 +10,8 @@ ghost use Rattle.kati.specs.Makefile.{command_line_table, makefile_names, makefi
 ghost use Rattle.kati.specs.inner.Views.{read_view};
 
 use kati_args::{Args, Macro as Definition, Word};
-use kt_eval::{Files, Flavour, Machine, Macro, Macros, Makefile, Origin, Reading, Stop};
-use kt_list::{Sequence, Shared};
+use kt_eval::{Files, Flavour, Machine, Macro, Macros, Makefile, Origin, Reading, Stop, Value};
+use kt_list::Sequence;
 use kt_rules::Book;
 use std::alloc::{AllocError, Global};
 
@@ -57,11 +57,10 @@ fn macros_of(alloc: Global, definitions: &[Definition]) -> Result<Macros, AllocE
 fn set(alloc: Global, macros: &mut Macros, definition: &Definition) -> Result<(), AllocError>
     ensures { OnOk result (macros.new ≡ with_macro macros.old definition.now) }
 {
-    let text = Vec::from_slice(alloc, kt_text::trim_start(definition.value.as_slice()))?;
     let value = Macro {
         flavour: Flavour::Deferred,
         origin: Origin::CommandLine,
-        value: Shared::from_vec(text)?,
+        value: Value::copied(alloc, kt_text::trim_start(definition.value.as_slice()))?,
     };
     macros.insert(Vec::from_slice(alloc, definition.name.as_slice())?, value)
 }

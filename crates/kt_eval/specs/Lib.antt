@@ -1,4 +1,5 @@
 pub mod files
+pub mod Values
 pub mod macros
 pub mod Prefixes
 pub mod State

@@ -14,6 +14,7 @@ use crate::macros::{Flavour, Macro};
 use crate::reading::page::{Page, RawLine, Source};
 use crate::state::{Found, Frame, Left};
 use crate::stop::Stop;
+use crate::value::Value;
 use kt_list::{Sequence, Shared};
 use kt_rules::{Entry, FaultKind, Place, read_rule};
 use kt_syntax::{Operator, Term, Unterminated, recipe_text};
@@ -74,7 +75,7 @@ impl<'a, M: Scope, F: Files> Evaluation<'a, M, F> {
         match innermost(&self.frames, name) {
             Some(value) => Ok(Some(Found {
                 flavour: Flavour::Immediate,
-                value: Shared::from_vec(Vec::from_slice(self.alloc, value)?)?,
+                value: Value::copied(self.alloc, value)?,
             })),
             None => self.macros.find(name),
         }
@@ -87,7 +88,7 @@ impl<'a, M: Scope, F: Files> Evaluation<'a, M, F> {
         below: u64,
         name: &[u8],
         out: &mut Vec<u8>,
-    ) -> Result<Option<Shared<u8>>, AllocError>
+    ) -> Result<Option<Value>, AllocError>
         ensures put { OnOk result (out.new.items ≡ out.old.items ++ put_of below (lookup name.now self.now.world)) }
         ensures left { IfOk result (λ left. left ≡ still_deferred below (lookup name.now self.now.world)) }
     {
@@ -292,7 +293,7 @@ impl<'a, M: Scope, F: Files> Evaluation<'a, M, F> {
         &mut self,
         name: Vec<u8>,
         flavour: Flavour,
-        front: Option<Shared<u8>>,
+        front: Option<Value>,
         text: Vec<u8>,
     ) -> Result<(), AllocError>
         requires { M.writable ≡ true }
@@ -309,7 +310,7 @@ impl<'a, M: Scope, F: Files> Evaluation<'a, M, F> {
         match front {
             Some(front) => self.macros.append(name, flavour, front, &text).unwrap(),
             None => {
-                let value = Shared::from_vec(text)?;
+                let value = Value::from_vec(text)?;
                 let value = Macro::of_makefile(flavour, value);
                 self.macros.put(name, value).unwrap()
             }

@@ -10,6 +10,7 @@ mod macros;
 mod reading;
 mod state;
 mod stop;
+mod value;
 
 pub use expanding::{Function, TextFunction};
 pub use fault::Fault;
@@ -17,3 +18,4 @@ pub use files::{FileFault, Files, LARGEST_FILE, MemFiles};
 pub use macros::{Automatic, Flavour, Macro, Macros, Makefile, NoAutomatic, Origin};
 pub use reading::{Machine, Reading};
 pub use stop::Stop;
+pub use value::Value;

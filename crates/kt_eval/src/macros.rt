@@ -13,9 +13,9 @@ pub(crate) mod automatic;
 pub(crate) mod scope;
 
 use crate::state::Found;
+use crate::value::Value;
 pub use automatic::{Automatic, NoAutomatic};
 use indexmap::IndexMap;
-use kt_list::Shared;
 pub use scope::Makefile;
 use std::alloc::{AllocError, Global};
 use std::marker::Model;
@@ -44,7 +44,7 @@ pub enum Origin {
 pub struct Macro {
     pub flavour: Flavour,
     pub origin: Origin,
-    pub value: Shared<u8>,
+    pub value: Value,
 }
 
 impl Macro {
@@ -52,7 +52,7 @@ impl Macro {
     ghost use Rattle.kt_eval.specs.macros.Macros.{set_by_makefile};
 
     // A macro that a makefile sets.
-    pub(crate) fn of_makefile(flavour: Flavour, value: Shared<u8>) -> Macro
+    pub(crate) fn of_makefile(flavour: Flavour, value: Value) -> Macro
         ensures { result ≡ set_by_makefile flavour value }
     {
         Macro {
@@ -63,11 +63,11 @@ impl Macro {
     }
 
     // Appends a space and more text to the value; in place, if nothing else holds the value.
-    fn append(&mut self, more: &[u8]) -> Result<(), AllocError>
+    fn append(&mut self, alloc: Global, more: &[u8]) -> Result<(), AllocError>
         ensures { OnOk result (self.new ≡ record self.old { value = (self.old.value ++ codes " ") ++ more.now }) }
     {
-        self.value.extend_from_slice(b" ")?;
-        self.value.extend_from_slice(more)
+        self.value.extend_from_slice(alloc, b" ")?;
+        self.value.extend_from_slice(alloc, more)
     }
 
     // Appends the value if it needs no expansion with `below` levels left, and otherwise returns it, shared.
@@ -76,7 +76,7 @@ impl Macro {
         &self,
         below: u64,
         out: &mut Vec<u8>,
-    ) -> Result<Option<Shared<u8>>, AllocError>
+    ) -> Result<Option<Value>, AllocError>
         ensures put { OnOk result (out.new.items ≡ out.old.items ++ put_of below (Some (found_of self.now))) }
         ensures left { IfOk result (λ left. left ≡ still_deferred below (Some (found_of self.now))) }
     {
@@ -169,7 +169,7 @@ impl Macros {
         name: &[u8],
         below: u64,
         out: &mut Vec<u8>,
-    ) -> Result<Option<Shared<u8>>, AllocError>
+    ) -> Result<Option<Value>, AllocError>
         ensures put { OnOk result (out.new.items
             ≡ out.old.items ++ put_of below (option_map found_of (find name.now self.now))) }
         ensures left { IfOk result (λ left. left
@@ -196,20 +196,21 @@ impl Macros {
         &mut self,
         name: Vec<u8>,
         flavour: Flavour,
-        front: Shared<u8>,
+        front: Value,
         text: &[u8],
     ) -> Result<(), AllocError>
         ensures { OnOk result (self.new
             ≡ put name.items (set_by_makefile flavour ((front ++ codes " ") ++ text.now)) self.old) }
     {
+        let alloc = self.alloc;
         let mut longer = Macro::of_makefile(flavour, front);
         match self.entries.get_mut(name.as_slice()) {
             Some(entry) => {
                 *entry = longer;
-                entry.append(text)
+                entry.append(alloc, text)
             }
             None => {
-                longer.append(text)?;
+                longer.append(alloc, text)?;
                 self.insert(name, longer)
             }
         }

@@ -2,13 +2,14 @@
 ghost use Rattle.std.specs.Prelude.{◌≡◌};
 
 use crate::macros::Flavour;
-use kt_list::{Sequence, Shared};
+use crate::value::Value;
+use kt_list::Sequence;
 
 /// The flavour and value of a name while it is used.
 #[derive(Debug, Drop)]
 pub struct Found {
     pub flavour: Flavour,
-    pub value: Shared<u8>,
+    pub value: Value,
 }
 
 /// What remains of a term after all that needs no further level was appended.
@@ -16,7 +17,7 @@ pub struct Found {
 pub(crate) enum Left {
     Nothing,
     /// A value that has to be expanded.
-    Value(Shared<u8>),
+    Value(Value),
     /// All of it.
     Whole,
 }
@@ -25,7 +26,7 @@ pub(crate) enum Left {
 #[derive(Debug, Drop)]
 pub enum Frame {
     /// The name of a loop's variable, and its current word.
-    Loop(Shared<u8>, Shared<u8>),
+    Loop(Value, Value),
     /// The arguments of a call, the first of which is the name of the called macro.
-    Call(Sequence<Shared<u8>>),
+    Call(Sequence<Value>),
 }

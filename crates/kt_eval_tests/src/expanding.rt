@@ -1,7 +1,7 @@
 //! What texts are expanded to.
 use kati_doubles::{put_messages, put_stop};
-use kt_eval::{Flavour, Macro, Macros, NoAutomatic, Origin, Stop};
-use kt_list::{Sequence, Shared};
+use kt_eval::{Flavour, Macro, Macros, NoAutomatic, Origin, Stop, Value};
+use kt_list::Sequence;
 use kt_testing::{Random, put};
 use std::alloc::{AllocError, Global};
 use std::test::Fail;
@@ -11,7 +11,7 @@ mod levels;
 fn table(alloc: Global, rows: &[(&str, Flavour, &str)]) -> Result<Macros, AllocError> {
     let mut macros = Macros::new(alloc);
     for (name, flavour, value) in rows {
-        let value = Shared::from_vec(Vec::from_slice(alloc, value.as_bytes())?)?;
+        let value = Value::copied(alloc, value.as_bytes())?;
         let name = Vec::from_slice(alloc, name.as_bytes())?;
         macros.insert(
             name,

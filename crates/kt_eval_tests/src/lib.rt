@@ -10,3 +10,5 @@ mod faults;
 mod files;
 #[cfg(test)]
 mod reading;
+#[cfg(test)]
+mod values;

@@ -1,7 +1,6 @@
 //! What makefiles say when they are read, by the rows that kati is to read.
 use kati_doubles::{files_of, put_messages, put_stop};
-use kt_eval::{Files, Flavour, Machine, Macro, Macros, MemFiles, Origin, Reading, Stop};
-use kt_list::Shared;
+use kt_eval::{Files, Flavour, Machine, Macro, Macros, MemFiles, Origin, Reading, Stop, Value};
 use kt_rules::{Book, NeededNames, RecipeLine};
 use kt_testing::put;
 use std::alloc::{AllocError, Global};
@@ -33,7 +32,7 @@ const ALONE: Start<'static> = Start {
 fn arguments_of(alloc: Global, named: &[(&str, &str)]) -> Result<Macros, AllocError> {
     let mut macros = Macros::new(alloc);
     for (name, text) in named {
-        let value = Shared::from_vec(Vec::from_slice(alloc, text.as_bytes())?)?;
+        let value = Value::copied(alloc, text.as_bytes())?;
         macros.insert(
             Vec::from_slice(alloc, name.as_bytes())?,
             Macro {
@@ -186,6 +185,10 @@ fn assigns(rt: HostRuntime) -> Result<(), Fail> {
             (
                 "A := x\nA += y\nB := $(A)\nA += z\n$(info $(A) $(B))\n",
                 "x y z x y\n",
+            ),
+            (
+                "A := a text of some bytes\nA += and a longer one\nB := $(A)\nA += z\n$(info $(A)|$(B))\n",
+                "a text of some bytes and a longer one z|a text of some bytes and a longer one\n",
             ),
             ("A += $(B)\nB = y\n$(info $(A))\n", "y\n"),
             ("A = 1\nA ?= 2\nB ?= 3\n$(info $(A)$(B))\n", "13\n"),

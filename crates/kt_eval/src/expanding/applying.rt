@@ -19,7 +19,8 @@ use crate::files::Files;
 use crate::macros::scope::Scope;
 use crate::state::Frame;
 use crate::stop::Stop;
-use kt_list::{Sequence, Shared};
+use crate::value::Value;
+use kt_list::Sequence;
 use kt_rules::FaultKind;
 use kt_text::{stripped, words};
 
@@ -108,9 +109,9 @@ impl<'a, M: Scope, F: Files> Evaluation<'a, M, F> {
     pub(crate) fn each_argument(
         &mut self,
         below: u64,
-        first: Vec<Shared<u8>>,
+        first: Vec<Value>,
         texts: &[&[u8]],
-    ) -> Result<Vec<Shared<u8>>, Stop>
+    ) -> Result<Vec<Value>, Stop>
         ensures { Does (λ v. v.items) M.writable below
             (λ e. each_argument e first.items (map (λ a. a.now) texts.now)) result self.old self.new }
     {
@@ -118,7 +119,7 @@ impl<'a, M: Scope, F: Files> Evaluation<'a, M, F> {
         let mut place = 0;
         'arguments: while place < texts.len() {
             let x = self.expand(below, texts[place])?;
-            out.push(Shared::from_vec(x)?)?;
+            out.push(Value::from_vec(x)?)?;
             place += 1;
         }
         Ok(out)
@@ -194,7 +195,7 @@ impl<'a, M: Scope, F: Files> Evaluation<'a, M, F> {
     {
         let expanded = self.expand(below, variable)?;
         let list = self.expand(below, list)?;
-        let name = Shared::from_vec(Vec::from_slice(self.alloc, stripped(&expanded))?)?;
+        let name = Value::copied(self.alloc, stripped(&expanded))?;
         self.each_word(below, &name, &list, body)
     }
 
@@ -204,7 +205,7 @@ impl<'a, M: Scope, F: Files> Evaluation<'a, M, F> {
     pub(crate) fn each_word(
         &mut self,
         below: u64,
-        name: &Shared<u8>,
+        name: &Value,
         list: &[u8],
         body: &[u8],
     ) -> Result<Vec<u8>, Stop>
@@ -215,7 +216,7 @@ impl<'a, M: Scope, F: Files> Evaluation<'a, M, F> {
         let mut separator: &[u8] = b"";
         let mut rest = words(list);
         'words: while let Some(word) = rest.next() {
-            let word = Shared::from_vec(Vec::from_slice(self.alloc, word)?)?;
+            let word = Value::copied(self.alloc, word)?;
             self.bind(Frame::Loop(name.share()?, word))?;
             let x = self.expand(below, body)?;
             self.unbind();
@@ -254,7 +255,7 @@ impl<'a, M: Scope, F: Files> Evaluation<'a, M, F> {
             return Err(Stop::Fault(self.fault(FaultKind::RefusedFunction, name)?));
         }
         let mut first = Vec::new(self.alloc);
-        first.push(Shared::from_vec(Vec::from_slice(self.alloc, name)?)?)?;
+        first.push(Value::copied(self.alloc, name)?)?;
         let arguments = self.each_argument(below, first, texts)?;
         self.call(below, name, arguments)
     }
@@ -266,7 +267,7 @@ impl<'a, M: Scope, F: Files> Evaluation<'a, M, F> {
         &mut self,
         below: u64,
         name: &[u8],
-        arguments: Vec<Shared<u8>>,
+        arguments: Vec<Value>,
     ) -> Result<Vec<u8>, Stop>
         ensures { Does (λ v. v.items) M.writable below
             (λ e. called e name.now arguments.items) result self.old self.new }

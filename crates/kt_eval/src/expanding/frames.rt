@@ -6,7 +6,7 @@ ghost use Rattle.std.specs.Str.Parse.{digits_value};
 ghost use Rattle.kt_eval.specs.State.{argument, innermost, is_digits, is_padded, seen};
 
 use crate::state::Frame;
-use kt_list::Shared;
+use crate::value::Value;
 
 // The value of a name in the innermost binding that has one.
 #[tactic(auto, unfolding(crate::specs::State::innermost))]
@@ -67,7 +67,7 @@ fn is_padded(name: &[u8]) -> bool
 }
 
 // The argument with this number, or an empty text after the last.
-fn argument<'f>(arguments: &'f [Shared<u8>], name: &[u8]) -> &'f [u8]
+fn argument<'f>(arguments: &'f [Value], name: &[u8]) -> &'f [u8]
     requires { list_all is_ascii_digit name.now ≡ true }
     ensures { result.now ≡ argument name.now arguments.now }
 {

@@ -4,7 +4,7 @@ ghost use Rattle.kt_text.specs.Functions.{Answers};
 ghost use Rattle.kt_eval.specs.expanding.TextFunctions.{argument, arity, has_name, row_of, text_function};
 ghost use Rattle.kt_eval.specs.expanding.TextFunctions.{text_function_name, text_result};
 
-use kt_list::Shared;
+use crate::value::Value;
 use kt_text::{TextFault, functions};
 use std::alloc::Global;
 
@@ -130,7 +130,7 @@ fn named_among(functions: &[TextFunction], name: &[u8]) -> Option<TextFunction>
 pub(crate) fn text_result(
     alloc: Global,
     function: TextFunction,
-    arguments: &[Shared<u8>],
+    arguments: &[Value],
 ) -> Result<Vec<u8>, TextFault>
     ensures { Answers result (text_result function arguments.now) }
 {
@@ -161,7 +161,7 @@ pub(crate) fn text_result(
 }
 
 // The argument at a place, from 0, or an empty text.
-fn argument(arguments: &[Shared<u8>], place: usize) -> &[u8]
+fn argument(arguments: &[Value], place: usize) -> &[u8]
     ensures { result.now ≡ argument arguments.now place }
 {
     match arguments.get(place) {

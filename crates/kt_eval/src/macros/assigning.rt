@@ -4,7 +4,7 @@ ghost use Rattle.kt_eval.specs.macros.Macros.{appending, assigning, reassigning,
 ghost use Rattle.kt_eval.specs.inner.Views.{assigning_view};
 
 use crate::macros::{Flavour, Macro, Origin};
-use kt_list::Shared;
+use crate::value::Value;
 use kt_syntax::Operator;
 use std::alloc::{AllocError, Global};
 
@@ -14,9 +14,9 @@ pub(crate) enum Assigning {
     /// The macro stays as it is.
     Keeps,
     /// The text as written becomes the deferred value, after this old value and a space if there is one.
-    Defers(Option<Shared<u8>>),
+    Defers(Option<Value>),
     /// The expanded text becomes the immediate value, after this old value and a space if there is one.
-    Expands(Option<Shared<u8>>),
+    Expands(Option<Value>),
     /// The expanded text with each dollar doubled becomes the deferred value.
     Escapes,
 }

@@ -13,7 +13,7 @@ ghost use Rattle.kt_eval.specs.inner.Plain.{put_of, still_deferred};
 use crate::macros::automatic::Automatic;
 use crate::macros::{Flavour, Macro, Macros};
 use crate::state::Found;
-use kt_list::Shared;
+use crate::value::Value;
 use kt_rules::{Book, Entry, RuleFault, Warnings};
 use std::alloc::AllocError;
 
@@ -43,7 +43,7 @@ pub(crate) trait Scope {
         name: &[u8],
         below: u64,
         out: &mut Vec<u8>,
-    ) -> Result<Option<Shared<u8>>, AllocError>
+    ) -> Result<Option<Value>, AllocError>
         ensures put { OnOk result (out.new.items
             ≡ out.old.items ++ put_of below (unbound name.now (automatic self.now) (table self.now))) }
         ensures left { IfOk result (λ left. left
@@ -64,7 +64,7 @@ pub(crate) trait Scope {
         &mut self,
         name: Vec<u8>,
         flavour: Flavour,
-        front: Shared<u8>,
+        front: Value,
         text: &[u8],
     ) -> Option<Result<(), AllocError>>
         ensures set { MatchOption result (writable ≡ false) (λ done. OnOk done (table self.new
@@ -113,7 +113,7 @@ impl Scope for Makefile {
         name: &[u8],
         below: u64,
         out: &mut Vec<u8>,
-    ) -> Result<Option<Shared<u8>>, AllocError> {
+    ) -> Result<Option<Value>, AllocError> {
         self.macros.put_value(name, below, out)
     }
 
@@ -129,7 +129,7 @@ impl Scope for Makefile {
         &mut self,
         name: Vec<u8>,
         flavour: Flavour,
-        front: Shared<u8>,
+        front: Value,
         text: &[u8],
     ) -> Option<Result<(), AllocError>> {
         Some(self.macros.append(name, flavour, front, text))
@@ -166,10 +166,9 @@ impl<'a, A: Automatic> Scope for Frozen<'a, A> {
         match self.automatic.value(name)? {
             Some(value) => {
                 let macros = self.macros;
-                let value = Vec::from_slice(macros.alloc, value.as_slice())?;
                 Ok(Some(Found {
                     flavour: Flavour::Immediate,
-                    value: Shared::from_vec(value)?,
+                    value: Value::copied(macros.alloc, value.as_slice())?,
                 }))
             }
             None => self.macros.found(name),
@@ -182,7 +181,7 @@ impl<'a, A: Automatic> Scope for Frozen<'a, A> {
         name: &[u8],
         below: u64,
         out: &mut Vec<u8>,
-    ) -> Result<Option<Shared<u8>>, AllocError> {
+    ) -> Result<Option<Value>, AllocError> {
         if let Some(value) = self.automatic.value(name)? {
             out.extend_from_slice(value.as_slice())?;
             return Ok(None);
@@ -202,7 +201,7 @@ impl<'a, A: Automatic> Scope for Frozen<'a, A> {
         &mut self,
         _name: Vec<u8>,
         _flavour: Flavour,
-        _front: Shared<u8>,
+        _front: Value,
         _text: &[u8],
     ) -> Option<Result<(), AllocError>> {
         None

@@ -14,7 +14,8 @@ use crate::files::Files;
 use crate::macros::scope::Makefile;
 use crate::macros::{Flavour, Macro, Macros, Origin};
 use crate::stop::Stop;
-use kt_list::{Sequence, Shared};
+use crate::value::Value;
+use kt_list::Sequence;
 use kt_rules::Book;
 use std::alloc::{AllocError, Global};
 use std::marker::Model;
@@ -219,7 +220,7 @@ fn set_default(
     if macros.get(name).is_some() {
         return Ok(());
     }
-    let value = Shared::from_vec(Vec::from_slice(alloc, value)?)?;
+    let value = Value::copied(alloc, value)?;
     macros.insert(
         Vec::from_slice(alloc, name)?,
         Macro {

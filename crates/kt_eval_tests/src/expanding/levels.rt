@@ -1,7 +1,6 @@
 //! Texts over macros that refer to one another, expanded with few levels, beside a plain way that goes level by level.
 use super::told;
 use kt_eval::{Flavour, Macro, Macros, Origin};
-use kt_list::Shared;
 use kt_testing::{Random, put};
 use std::alloc::{AllocError, Global};
 use std::test::Fail;
@@ -83,13 +82,12 @@ fn values(alloc: Global, random: &mut Random) -> Vec<Value> {
 fn table(alloc: Global, values: &[Value]) -> Result<Macros, AllocError> {
     let mut macros = Macros::new(alloc);
     for (name, value) in NAMES.iter().zip(values.iter()) {
-        let text = Vec::from_slice(alloc, value.text.as_slice())?;
         macros.insert(
             Vec::from_slice(alloc, name)?,
             Macro {
                 flavour: value.flavour,
                 origin: Origin::Makefile,
-                value: Shared::from_vec(text)?,
+                value: kt_eval::Value::copied(alloc, value.text.as_slice())?,
             },
         )?;
     }

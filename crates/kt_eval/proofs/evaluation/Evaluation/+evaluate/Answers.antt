@@ -166,20 +166,9 @@ apply_eval-returns-in_err-x g t c =
       blames = search rules;
     }
 
-pub call_by_name-returns-in_err-from_slice : goal.call_by_name-returns-in_err-from_slice
-call_by_name-returns-in_err-from_slice g t c =
-    let p = err_from_is_err_and c.from_residual-in_err-from_slice.result c.from_residual-in_err-from_slice.ensures.1 in
-    record {
-      gives = λ known. rw (p.1, p.2) tt;
-      cut = λ known. rw (p.1, p.2)
-          (call_by_name_front g.M.Scope.writable (store_of c.args.self.now.known) c.args.below c.args.name.now (map (λ a. a.now) c.args.texts.now) c.args.self.now.world);
-      kept = search rules;
-      blames = search rules;
-    }
-
-pub call_by_name-returns-in_err-from_vec : goal.call_by_name-returns-in_err-from_vec
-call_by_name-returns-in_err-from_vec g t c =
-    let p = err_from_is_err_and c.from_residual-in_err-from_vec.result c.from_residual-in_err-from_vec.ensures.1 in
+pub call_by_name-returns-in_err-copied : goal.call_by_name-returns-in_err-copied
+call_by_name-returns-in_err-copied g t c =
+    let p = err_from_is_err_and c.from_residual-in_err-copied.result c.from_residual-in_err-copied.ensures.1 in
     record {
       gives = λ known. rw (p.1, p.2) tt;
       cut = λ known. rw (p.1, p.2)

@@ -1,0 +1,128 @@
+//! Texts that macros, bindings and arguments hold.
+ghost use Rattle.std.specs.Prelude.{◌≡◌, ◌++◌, IfOk, IfSome, OnErr, OnOk};
+ghost use Rattle.kt_eval.specs.Values.{value_of};
+
+use kt_list::Shared;
+use std::alloc::{AllocError, Global};
+use std::marker::Model;
+
+/// The value of a macro, a bound word or an argument. A short one lies in the value itself and takes no memory; a long
+/// one is held by all that share it.
+///
+/// A contract sees it as just its bytes.
+#[derive(Debug, Drop)]
+pub struct Value {
+    form: Form,
+}
+
+// A value of at most so many bytes is short: they lie beside a size and a tag in four words.
+const SHORT: usize = 30;
+
+#[derive(Debug, Drop)]
+enum Form {
+    Short { size: u8, bytes: [u8; SHORT] },
+    Long(Shared<u8>),
+}
+
+impl Model for Value {
+    ghost use Rattle.std.specs.Prelude.{ℕ, List};
+    ghost use Rattle.kt_eval.specs.Values.{value_of};
+
+    ghost Value = { List ℕ };
+
+    ghost view = { λ value. value_of value.form };
+}
+
+impl Value {
+    /// A copy of bytes. Takes memory where they are more than 30.
+    pub fn copied(alloc: Global, bytes: &[u8]) -> Result<Value, AllocError>
+        ensures { IfOk result (λ value. value ≡ bytes.now) }
+    {
+        match short(bytes) {
+            Some(form) => Ok(Value { form }),
+            None => Value::long(Vec::from_slice(alloc, bytes)?),
+        }
+    }
+
+    /// The bytes of a vector, which is given back where they are at most 30.
+    pub fn from_vec(bytes: Vec<u8>) -> Result<Value, AllocError>
+        ensures { IfOk result (λ value. value ≡ bytes.items) }
+    {
+        match short(bytes.as_slice()) {
+            Some(form) => Ok(Value { form }),
+            None => Value::long(bytes),
+        }
+    }
+
+    /// The bytes, borrowed.
+    pub fn as_slice(&self) -> &[u8]
+        ensures { result.now ≡ self.now }
+    {
+        match &self.form {
+            Form::Short { size, bytes } => bytes.get(..usize::from(*size)).unwrap_or(bytes),
+            Form::Long(text) => text.as_slice(),
+        }
+    }
+
+    /// The same value once more. Many bytes are shared, not copied.
+    pub fn share(&self) -> Result<Value, AllocError>
+        ensures { IfOk result (λ value. value ≡ self.now) }
+    {
+        match &self.form {
+            Form::Short { size, bytes } => Ok(Value {
+                form: Form::Short {
+                    size: *size,
+                    bytes: *bytes,
+                },
+            }),
+            Form::Long(text) => Ok(Value {
+                form: Form::Long(text.share()?),
+            }),
+        }
+    }
+
+    // Puts more bytes after these: in place where they are many and nothing else holds them, else after a copy.
+    pub(crate) fn extend_from_slice(&mut self, alloc: Global, more: &[u8]) -> Result<(), AllocError>
+        ensures done { OnOk result (self.new ≡ self.old ++ more.now) }
+        ensures refused { OnErr result (self.new ≡ self.old) }
+    {
+        if let Form::Long(text) = &mut self.form {
+            return text.extend_from_slice(more);
+        }
+        *self = joined(alloc, self.as_slice(), more)?;
+        Ok(())
+    }
+
+    fn long(bytes: Vec<u8>) -> Result<Value, AllocError>
+        ensures { IfOk result (λ value. value ≡ bytes.items) }
+    {
+        Ok(Value {
+            form: Form::Long(Shared::from_vec(bytes)?),
+        })
+    }
+}
+
+// Bytes, and more after them.
+fn joined(alloc: Global, front: &[u8], more: &[u8]) -> Result<Value, AllocError>
+    ensures { IfOk result (λ value. value ≡ front.now ++ more.now) }
+{
+    let mut bytes = Vec::with_capacity(alloc, front.len().saturating_add(more.len()))?;
+    bytes.extend_from_slice(front)?;
+    bytes.extend_from_slice(more)?;
+    Value::from_vec(bytes)
+}
+
+// The form of few bytes.
+fn short(bytes: &[u8]) -> Option<Form>
+    ensures { IfSome result (λ form. value_of form ≡ bytes.now) }
+{
+    if bytes.len() > SHORT {
+        return None;
+    }
+    let mut held = [0; SHORT];
+    held[..bytes.len()].copy_from_slice(bytes);
+    Some(Form::Short {
+        size: bytes.len() as u8,
+        bytes: held,
+    })
+}
