@@ -22,7 +22,7 @@ use Rattle.kt_ninja.specs.declared.plan.Statement.{Statement}
 use Rattle.kati.specs.Exact.{IsAlwaysBuilt, IsMadeOnce, IsOfGroup, PlansAreGraphs, StandInOrder, TellsGraph}
 use Rattle.kati.specs.Meaning.{Meaning, MeansGoals, Wanted, prepared}
 use Rattle.kati.specs.Planning.{always_build, always_built, command_for, first_output, has_implicit, outs_of, plan_groups, plan_of, statement_of, with_always_built}
-use Rattle.kati.proofs.OutcomeLemmas.{gave_both}
+use Rattle.kt_recipe.proofs.CommandLemmas.{gave_both}
 use Rattle.kati.proofs.PlanLemmas.{from_flat, law, name_in, name_reached, node_is, order, outs_in, outs_told, statements_in, to_flat}
 use Rattle.kati.proofs.ReadBackLemmas.{has_plan, plan_given, read_back, went_on}
 

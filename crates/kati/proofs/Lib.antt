@@ -13,6 +13,8 @@ pub mod RunLemmas
 pub mod LimitLemmas
 pub mod ReadBackLemmas
 pub mod TellLemmas
+pub mod OutputLemmas
+pub mod ExpectingLemmas
 pub mod AskedLemmas
 pub mod ExactLemmas
 pub mod SoundLemmas

@@ -14,18 +14,6 @@ use Rattle.kati.specs.Makefile.{makefile_read}
 use Rattle.kati.specs.Meaning.{Wanted, prepared, wanted_by}
 use Rattle.kati.specs.Steps.{telling}
 
--- two steps that came to a value
-pub record GaveBoth {L A B : Type 0} (first : Outcome L A) (next : A → StepOver L B) (left : L) (value : B) : Type 0 where
-  pub middle : L
-  pub given : A
-  pub is : first ≡ Gave middle given
-  pub rest : next given middle ≡ Gave left value
-
-pub gave_both : {L A B : Type 0} (first : Outcome L A) (next : A → StepOver L B) (left : L) (value : B) → then_do first next ≡ Gave left value
-    → GaveBoth first next left value
-gave_both (Gave middle x) next left value e = record { middle = middle; given = x; is = refl; rest = e }
-gave_both (Stopped middle fault) next left value e = absurd (cc e)
-
 pub telling_asks : {A : Type 0} (trace : Trace) (step : StepOver (List Text) A) → (left_of (telling step trace)).asked ≡ trace.asked
 telling_asks {A} trace step = by (step trace.said)
   where

@@ -42,7 +42,7 @@ use Rattle.kt_ninja.specs.View.{names_at}
 use Rattle.kt_ninja.specs.Writable.{IsWritable, HasWritableTexts, Obstacle, bad_name, bad_command, is_empty, is_made, is_name, obstacle_of_statements}
 use Rattle.kati.specs.Planning.{always_build, always_built, command_for, first_output, has_implicit, outs_of, plan_groups, plan_of, statement_of, text_fault, unwritable_in, with_always_built}
 use Rattle.kati.specs.inner.Stops.{IsFaultOf}
-use Rattle.kati.proofs.OutcomeLemmas.{gave_both}
+use Rattle.kt_recipe.proofs.CommandLemmas.{gave_both}
 use Rattle.kati.specs.inner.Views.{is_text_trouble}
 use Rattle.std.proofs.lemmas.Option.{none-some, same_Some}
 

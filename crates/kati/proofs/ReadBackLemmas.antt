@@ -20,7 +20,7 @@ use Rattle.kati.specs.Planning.{plan_groups, plan_of, plan_unless, planned, text
 use Rattle.kati.specs.ReadBack.{PlansReadBack}
 use Rattle.kati.specs.Steps.{telling}
 use Rattle.kati.specs.inner.Views.{is_text_trouble}
-use Rattle.kati.proofs.OutcomeLemmas.{gave_both}
+use Rattle.kt_recipe.proofs.CommandLemmas.{gave_both}
 use Rattle.kati.proofs.PlanLemmas.{can_be_written, outs_told, text_troubles}
 
 abbrev pub plan_in : Result Plan Fault → Plan → Plan
@@ -94,7 +94,7 @@ plan_given limit want nodes trace plan e =
     let stored = plan_unless_is plan (plan_of both.given want.goals) (unwritable_in (plan_of both.given want.goals).statements) both.middle told.0 both.rest in
     record { heard = both.middle; statements = both.given; groups = both.is; fine = stored.0; is = stored.1 }
 
-goals_fine : (limit : ℕ) (want : Wanted) (trace : Trace) (m : Meaning) (plan : Plan) → m.result ≡ Ok plan
+pub goals_fine : (limit : ℕ) (want : Wanted) (trace : Trace) (m : Meaning) (plan : Plan) → m.result ≡ Ok plan
     → MeansGoals limit want trace m → IsWritable plan
 goals_fine limit want trace m plan ok (inl p) =
     let of = plan_given limit want p.nodes trace plan (sym (ap (λ (n : Meaning). n.result) p.means) ∙ ok) in

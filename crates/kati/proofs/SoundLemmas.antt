@@ -25,7 +25,7 @@ use Rattle.kt_ninja.specs.declared.plan.Plan.{Plan}
 use Rattle.kt_ninja.specs.declared.plan.Statement.{Statement}
 use Rattle.kt_ninja.specs.Writable.{IsWritable}
 use Rattle.kati.specs.Exact.{IsAlwaysBuilt, IsOfGroup, TellsGraph}
-use Rattle.kati.specs.Meaning.{Wanted}
+use Rattle.kati.specs.Meaning.{Meaning, MeansGoals, Wanted}
 use Rattle.kati.specs.Planning.{always_build, always_built, implicit_of, joined_inputs, joined_order_only, outs_of, statement_of}
 use Rattle.kati.specs.Sound.{IsSoundPlan, IsUnreserved, NeedsInput, NeedsItself, PlansAreSound}
 use Rattle.kati.specs.inner.Views.{GoalsEnd}
@@ -242,6 +242,11 @@ module _ (read : Read) (limit : ℕ) (known goals : List Text) (plan : Plan) (te
   pub sound_plan : IsSoundPlan plan
   sound_plan = record { uncircled = uncircled; files_differ = differ; unreserved = unreserved }
 
+pub goals_sound : (limit : ℕ) (want : Wanted) (trace : Trace) (m : Meaning) (plan : Plan) → m.result ≡ Ok plan → IsWritable plan
+    → MeansGoals limit want trace m → IsSoundPlan plan
+goals_sound limit want trace m plan ok fine means =
+    sound_plan want.read limit want.known want.goals plan (goals_told limit want trace m plan ok fine means)
+
 pub are_sound : PlansAreSound
 are_sound args store asked m plan means ok =
     let graph = are_graphs args store asked m plan means ok in
@@ -253,5 +258,5 @@ pub sound_if_ok : (limit : ℕ) (want : Wanted) (trace : Trace) (result : Result
     → Ends (GoalsEnd limit want) trace (λ (plan : Plan). plan) result left
     → IfOk result IsWritable → IfOk result IsSoundPlan
 sound_if_ok limit want trace (Ok plan) left means fine =
-    sound_plan want.read limit want.known want.goals plan (goals_told limit want trace (meant left.said left.asked (Ok plan)) plan refl fine means)
+    goals_sound limit want trace (meant left.said left.asked (Ok plan)) plan refl fine means
 sound_if_ok limit want trace (Err stop) left means fine = tt

@@ -26,7 +26,9 @@ use Rattle.kati.specs.Meaning.{Meaning, MeansAfter, MeansGoals, Means, Wanted, m
 use Rattle.kati.specs.Messages.{messages_text}
 use Rattle.kati.specs.inner.Delivered.{HasWritten, TellsAndWrites, TellsBlames, TellsPlan, TellsStop, TellsText, TextBlames, Writes}
 use Rattle.kati.specs.inner.Views.{EndMeans, GoalsEnd}
+use Rattle.kati.proofs.ExactLemmas.{are_graphs}
 use Rattle.kati.proofs.ReadBackLemmas.{read_back}
+use Rattle.kati.proofs.SoundLemmas.{are_sound}
 use Rattle.kati.proofs.RunLemmas.{graph_if_plan, sound_if_plan}
 
 -- ---- messages, and then the plan's text
@@ -220,6 +222,8 @@ leaves_by args store (Err faults.WriteOut) old new is front t = record {
   names = sym t.names;
   plan = t.plan;
   planned = t.planned;
+  graph = are_graphs args store old.files.names (meaning_of t.end) t.plan t.means t.planned;
+  sound = are_sound args store old.files.names (meaning_of t.end) t.plan t.means t.planned;
   unchecked = is;
   written = t.written;
   told = t.told;
@@ -239,8 +243,8 @@ leaves_by args store (Err faults.Memory) old new is front t = inl (record { name
 pub goals_blame : (result : Result Status RunFault) (files files' : FilesSeen) (out out' err err' : SinkSeen) → files'.failed ≡ files.failed
     → TellsBlames result out out' err err' → Blames result (devices files out err) (devices files' out' err')
 goals_blame (Ok status) files files' out out' err err' same b = (same, b.0, b.1)
-goals_blame (Err faults.WriteOut) files files' out out' err err' same b = b
-goals_blame (Err faults.WriteErr) files files' out out' err err' same b = b
+goals_blame (Err faults.WriteOut) files files' out out' err err' same b = (b, same)
+goals_blame (Err faults.WriteErr) files files' out out' err err' same b = (b, same)
 goals_blame (Err (faults.Read name)) files files' out out' err err' same b = absurd b
 goals_blame (Err faults.Memory) files files' out out' err err' same b = same
 
@@ -258,7 +262,7 @@ pub stop_blame : (stop : Stop) (said : List Text) (result : Result Status RunFau
     → BlamesBy {A = Unit {0}} (Err stop) files.failed files'.failed files'.names → TellsStop stop said result err err' → TextBlames result err err'
     → Blames result (devices files out err) (devices files' out err')
 stop_blame (stops.Fault fault) said (Ok status) files files' out err err' by h b = (by, refl, b)
-stop_blame (stops.Fault fault) said (Err faults.WriteErr) files files' out err err' by h b = b
+stop_blame (stops.Fault fault) said (Err faults.WriteErr) files files' out err err' by h b = (b, by)
 stop_blame (stops.Fault fault) said (Err faults.Memory) files files' out err err' by h b = by
 stop_blame (stops.Fault fault) said (Err faults.WriteOut) files files' out err err' by h b = absurd h
 stop_blame (stops.Fault fault) said (Err (faults.Read name)) files files' out err err' by h b = absurd h

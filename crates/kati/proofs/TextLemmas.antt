@@ -26,7 +26,7 @@ use Rattle.kt_ninja.proofs.Deciding.{texts_unobstructed}
 use Rattle.kt_ninja.proofs.PrintedPieces.{all_both}
 use Rattle.kati.specs.Planning.{always_built, command_for, has_implicit, has_phony, implicit_of, joined_inputs, joined_order_only, made_by, outs_of, plan_groups, plan_of, statement_of, text_fault, unwritable_in, with_always_built}
 use Rattle.kati.specs.inner.Drawn.{Drawn, statements_drawn}
-use Rattle.kati.proofs.OutcomeLemmas.{gave_both}
+use Rattle.kt_recipe.proofs.CommandLemmas.{gave_both}
 use Rattle.kati.proofs.PlanLemmas.{from_flat, in_nodes, law, name_in, node_is, statements_in}
 
 implicit_pass : (always : Bool) → list_all is_name (implicit_of always) ≡ true

@@ -1,14 +1,15 @@
 -- The state of the devices after a run, and after the program (kati's own).
-use Rattle.std.specs.Prelude.{◌≡◌, ◌⊎◌, ℕ, List, [], Option, Some, None, Result, Ok, Err, IfOk, IfSome, IsOk}
+use Rattle.std.specs.Prelude.{◌≡◌, ◌⊎◌, ℕ, List, [], Option, Some, None, Result, Ok, Err, IfOk, IsOk}
 use Rattle.std.specs.Prelude.{string_bytes}
 use Rattle.kt_list.specs.Counters.{Rises}
 use Rattle.kt_text.specs.Words.{Text}
 use Rattle.kt_ninja.specs.declared.plan.Plan.{Plan}
 use Rattle.kt_ninja.specs.Text.{plan_text}
+use Rattle.kt_ninja.specs.Writable.{IsWritable}
 use Rattle.kt_ninja.specs.Written.{GrowsByFront, SinkSeen, Takes}
 use Rattle.kt_eval.specs.declared.fault.Fault.{Fault}
 use Rattle.kt_eval.specs.Prefixes.{IsPrefix, last}
-use Rattle.kt_eval.specs.files.Files.{FilesSeen, Store}
+use Rattle.kt_eval.specs.files.Files.{AgreeWith, FilesSeen, Store}
 use Rattle.kati_args.specs.declared.args.Args.{Args}
 use Rattle.kati_args.specs.declared.fault.ArgFault.{ArgFault}
 use Rattle.kati_args.specs.Args.{Answers}
@@ -16,6 +17,7 @@ use Rattle.kati.specs.declared.faults.RunFault.{RunFault}
 use Rattle.kati.specs.declared.faults.RunFault.TheVariants as faults
 use Rattle.kati.specs.declared.outcome.Outcome.{Outcome}
 use Rattle.kati.specs.declared.status.Status.{Status}
+use Rattle.kati.specs.declared.status.Status.TheVariants as statuses
 use Rattle.kati.specs.Asked.{names_asked}
 use Rattle.kati.specs.Checking.{AskedAtCheck, HasStatus, IsReadAs, names_with_check}
 use Rattle.kati.specs.Devices.{Devices}
@@ -57,6 +59,8 @@ pub record EndsAtOut (args : Args) (store : Store) (old new : Devices) : Type 0 
   pub names : new.files.names ≡ meaning.asked
   pub plan : Plan
   pub planned : meaning.result ≡ Ok plan
+  pub graph : IsGraphOf args store old.files.names plan
+  pub sound : IsSoundPlan plan
   pub unchecked : args.check ≡ None
   pub written : GrowsByFront old.out new.out (plan_text plan)
   pub told : Takes old.err new.err (err_text meaning)
@@ -99,16 +103,37 @@ Leaves args store (Err faults.WriteErr) old new = EndsAtErr args store old new
 Leaves args store (Err (faults.Read name)) old new = IsKept args store (faults.Read name) old new
 Leaves args store (Err faults.Memory) old new = IsKept args store faults.Memory old new
 
+-- ---- the output after a run, whatever the files hold
+
+-- it has a plan's text, or a prefix of it; the plan can be written and is sound
+pub record HasPlanText (Has : SinkSeen → SinkSeen → Text → Type 0) (old new : SinkSeen) : Type 0 where
+  pub plan : Plan
+  pub writable : IsWritable plan
+  pub sound : IsSoundPlan plan
+  pub has : Has old new (plan_text plan)
+
+-- it has a plan's text only after a run that wrote one, and a prefix only where it failed; otherwise nothing is written,
+-- and nothing is if a file is to be checked
+abbrev pub LeavesOut : Option Text → Result Status RunFault → SinkSeen → SinkSeen → Type 0
+LeavesOut (Some checked) result old new = new ≡ old
+LeavesOut None (Ok statuses.Done) old new = HasPlanText Takes old new
+LeavesOut None (Ok statuses.Differs) old new = ⊥
+LeavesOut None (Ok statuses.Fault) old new = new ≡ old
+LeavesOut None (Err faults.WriteOut) old new = HasPlanText GrowsByFront old new
+LeavesOut None (Err faults.WriteErr) old new = new ≡ old
+LeavesOut None (Err (faults.Read name)) old new = new ≡ old
+LeavesOut None (Err faults.Memory) old new = new ≡ old
+
 -- what caused a fault of a run: the failures of that device rose, and a file is reported with the name asked for last;
--- or memory ran out, and no file failed; a run that comes to its end has met no failure
+-- where an output failed or memory ran out, no file failed; a run that comes to its end has met no failure
 abbrev pub Blames : Result Status RunFault → Devices → Devices → Type 0
 Blames (Ok status) old new = (new.files.failed ≡ old.files.failed) × (new.out.failed ≡ old.out.failed)
     × (new.err.failed ≡ old.err.failed)
 Blames (Err (faults.Read name)) old new = Rises old.files.failed new.files.failed
     × (last new.files.names ≡ Some (string_bytes name))
 Blames (Err faults.Memory) old new = new.files.failed ≡ old.files.failed
-Blames (Err faults.WriteOut) old new = Rises old.out.failed new.out.failed
-Blames (Err faults.WriteErr) old new = Rises old.err.failed new.err.failed
+Blames (Err faults.WriteOut) old new = Rises old.out.failed new.out.failed × (new.files.failed ≡ old.files.failed)
+Blames (Err faults.WriteErr) old new = Rises old.err.failed new.err.failed × (new.files.failed ≡ old.files.failed)
 
 -- the same for a step that only reads
 abbrev pub ReadBlames : {A : Type 0} → Result A RunFault → FilesSeen → FilesSeen → Type 0
@@ -123,11 +148,13 @@ abbrev pub Translates : Args → Store → Outcome → List Text → List Text �
 Translates args store outcome asked asked' =
     Means args store asked (record { messages = outcome.messages; result = outcome.result; asked = asked' })
 
--- a run with these arguments, and the exit status; after it, only the reason why it didn't come to its end is written
+-- a run with these arguments, and the exit status; after it, only the reason why it didn't come to its end is written;
+-- what the run left is told of each store that agrees with all that was answered
 pub record RunExits (args : Args) (code : ℕ) (old new : Devices) : Type 0 where
   pub run : Result Status RunFault
   pub ended : Devices
-  pub leaves : IfSome old.files.known (λ store. Leaves args store run old ended)
+  pub leaves : (store : Store) → AgreeWith store new.files.answers → Leaves args store run old ended
+  pub output : LeavesOut args.check run old.out ended.out
   pub blames : Blames run old ended
   pub exit : code ≡ exit_code run
   pub told : ReportsEnd run ended new

@@ -31,7 +31,7 @@ ReportsEnd (Err fault) old new =
 -- the help goes to the output, and a failure there is reported on the error output
 abbrev pub GivesHelp : Text → ℕ → SinkSeen → SinkSeen → SinkSeen → SinkSeen → Type 0
 GivesHelp text code out out' err err' =
-    ((code ≡ 0) × Takes out out' text × (err' ≡ err))
+    ((code ≡ 0) × Takes out out' text × (out'.failed ≡ out.failed) × (err' ≡ err))
     ⊎ ((code ≡ fault_code faults.WriteOut) × Rises out.failed out'.failed × GrowsByFront out out' text
     × WritesOrFails (fault_words faults.WriteOut) err err')
 

@@ -1,24 +1,32 @@
 //! Whether a Ninja file is the plan.
-ghost use Rattle.std.specs.Prelude.{◌≡◌, ◌∷◌, ◌++◌, [], IfOk, IfErr, IfSome, OnOk, option_map, Some};
-ghost use Rattle.kt_eval.specs.files.Files.{look};
+ghost use Rattle.std.specs.Prelude.{◌≡◌, ◌≤◌, ◌∷◌, ◌++◌, [], IfOk, IfErr, OnOk, option_map, Some, true};
+ghost use Rattle.kt_eval.specs.files.Files.{AgreeWith, AnswersGrow, Store, look};
+ghost use Rattle.kt_ninja.specs.Text.{plan_text};
+ghost use Rattle.kt_ninja.specs.Writable.{IsWritable};
 ghost use Rattle.kati.specs.Checking.{AskedAtCheck, IsChecked, IsSame};
 ghost use Rattle.kati.specs.AfterRun.{ReadBlames};
 ghost use Rattle.kati.specs.declared.faults.RunFault.TheVariants.{Memory};
 
+use crate::expecting::Expecting;
 use crate::faults::RunFault;
 use crate::status::Status;
 use kt_eval::{FileFault, Files};
-use kt_ninja::{Plan, ReadFault, read_plan};
+use kt_ninja::{Plan, ReadFault, read_plan, write_plan};
 use std::alloc::Global;
 
 /// Whether the file with this name exists and is read as the plan, however it is spelled.
+#[tactic(auto, using(crate::proofs::BlameLemmas::one_read))]
 pub(crate) fn check<F: Files>(
     alloc: Global,
     plan: &Plan,
     name: &str,
     files: &mut F,
 ) -> Result<Status, RunFault>
-    ensures checks { IfSome (F.seen files.old).known (λ store. IfOk result (IsChecked plan.now (look store name.now))) }
+    requires { IsWritable plan.now }
+    ensures checks { (store : Store) → AgreeWith store (F.seen files.new).answers
+        → IfOk result (IsChecked plan.now (look store name.now)) }
+    ensures grows { AnswersGrow (F.seen files.old).answers (F.seen files.new).answers }
+    ensures counts { (F.seen files.old).failed ≤ (F.seen files.new).failed }
     ensures asked { OnOk result ((F.seen files.new).names ≡ (F.seen files.old).names ++ name.now ∷ []) }
     ensures stopped { IfErr result
         (λ fault. AskedAtCheck fault name.now (F.seen files.old).names (F.seen files.new).names) }
@@ -35,6 +43,7 @@ pub(crate) fn check<F: Files>(
 
 // Whether a file that was looked for exists and is the plan.
 fn compare(alloc: Global, plan: &Plan, found: Option<Vec<u8>>) -> Result<Status, RunFault>
+    requires { IsWritable plan.now }
     ensures checks { IfOk result (IsChecked plan.now (option_map (λ text. text.items) found)) }
     ensures blames { IfErr result (λ fault. fault ≡ Memory) }
 {
@@ -44,15 +53,29 @@ fn compare(alloc: Global, plan: &Plan, found: Option<Vec<u8>>) -> Result<Status,
     }
 }
 
+// Most files are the text that a run before wrote for the plan, which is told without reading it.
 fn compare_text(alloc: Global, plan: &Plan, text: &[u8]) -> Result<Status, RunFault>
+    requires { IsWritable plan.now }
     ensures checks { IfOk result (IsChecked plan.now (Some text.now)) }
     ensures blames { IfErr result (λ fault. fault ≡ Memory) }
 {
+    if is_text_of(plan, text) {
+        return Ok(Status::Done);
+    }
     match read_plan(alloc, text) {
         Ok(other) => Ok(same_or_not(&other, plan)),
         Err(ReadFault::NotNinja(_)) => Ok(Status::Differs),
         Err(ReadFault::Memory) => Err(RunFault::Memory),
     }
+}
+
+// Whether this is the text that is written for the plan.
+fn is_text_of(plan: &Plan, text: &[u8]) -> bool
+    requires { IsWritable plan.now }
+    ensures { result ≡ true → plan_text plan.now ≡ text.now }
+{
+    let mut expecting = Expecting::new(text);
+    write_plan(plan, &mut expecting).is_ok() && expecting.has_taken(text)
 }
 
 fn same_or_not(read: &Plan, plan: &Plan) -> Status

@@ -2,6 +2,7 @@
 #![tactic(auto)]
 
 mod checking;
+mod expecting;
 mod faults;
 mod goals;
 mod graph_plan;

@@ -1,5 +1,6 @@
 //! The list of files that exist.
-ghost use Rattle.std.specs.Prelude.{◌≡◌, [], option_map, IfOk, IfSome, Some};
+ghost use Rattle.std.specs.Prelude.{◌≡◌, ◌≤◌, [], option_map, IfOk, Some};
+ghost use Rattle.kt_eval.specs.files.Files.{AgreeWith, AnswersGrow, Store};
 ghost use Rattle.kt_eval.specs.Prefixes.{IsPrefix};
 ghost use Rattle.kt_eval.specs.reading.Machine.{Trace, traced};
 ghost use Rattle.kt_eval.specs.Outcome.{AsksNothing, Gives, left_of};
@@ -21,13 +22,12 @@ pub(crate) fn listed<F: Files>(
     name: &Option<Word>,
     files: &mut F,
 ) -> Result<Vec<u8>, Stop>
-    ensures gives { IfSome (F.seen files.old).known
-        (λ store. Gives (λ v. v.items) result (traced [] (F.seen files.new).names)
-        (listed store name.now (traced [] (F.seen files.old).names))) }
-    ensures asked { IfSome (F.seen files.old).known
-        (λ store. IsPrefix (F.seen files.new).names (left_of (listed store name.now (traced []
-        (F.seen files.old).names))).asked) }
-    ensures keeps { (F.seen files.new).known ≡ (F.seen files.old).known }
+    ensures gives { (store : Store) → AgreeWith store (F.seen files.new).answers → Gives (λ v. v.items) result
+        (traced [] (F.seen files.new).names) (listed store name.now (traced [] (F.seen files.old).names)) }
+    ensures asked { (store : Store) → AgreeWith store (F.seen files.new).answers → IsPrefix (F.seen files.new).names
+        (left_of (listed store name.now (traced [] (F.seen files.old).names))).asked }
+    ensures grows { AnswersGrow (F.seen files.old).answers (F.seen files.new).answers }
+    ensures counts { (F.seen files.old).failed ≤ (F.seen files.new).failed }
     ensures blames { Blames result (F.seen files.old) (F.seen files.new) }
 {
     match name {
@@ -36,13 +36,14 @@ pub(crate) fn listed<F: Files>(
     }
 }
 
+#[tactic(auto, using(crate::proofs::BlameLemmas::one_read))]
 fn read_list<F: Files>(alloc: Global, name: &str, files: &mut F) -> Result<Vec<u8>, Stop>
-    ensures gives { IfSome (F.seen files.old).known
-        (λ store. Gives (λ v. v.items) result (traced [] (F.seen files.new).names)
-        (listed store (Some name.now) (traced [] (F.seen files.old).names))) }
-    ensures asked { IfSome (F.seen files.old).known (λ store. IsPrefix (F.seen files.new).names
-        (left_of (listed store (Some name.now) (traced [] (F.seen files.old).names))).asked) }
-    ensures keeps { (F.seen files.new).known ≡ (F.seen files.old).known }
+    ensures gives { (store : Store) → AgreeWith store (F.seen files.new).answers → Gives (λ v. v.items) result
+        (traced [] (F.seen files.new).names) (listed store (Some name.now) (traced [] (F.seen files.old).names)) }
+    ensures asked { (store : Store) → AgreeWith store (F.seen files.new).answers → IsPrefix (F.seen files.new).names
+        (left_of (listed store (Some name.now) (traced [] (F.seen files.old).names))).asked }
+    ensures grows { AnswersGrow (F.seen files.old).answers (F.seen files.new).answers }
+    ensures counts { (F.seen files.old).failed ≤ (F.seen files.new).failed }
     ensures blames { Blames result (F.seen files.old) (F.seen files.new) }
 {
     // Copied before the read, so that a failed device is always reported with its name.

@@ -1,5 +1,6 @@
 //! The makefile, with the macros of the command line.
-ghost use Rattle.std.specs.Prelude.{◌≡◌, ℕ, List, [], IfOk, IfSome, None, OnOk};
+ghost use Rattle.std.specs.Prelude.{◌≡◌, ◌≤◌, ℕ, List, [], IfOk, None, OnOk};
+ghost use Rattle.kt_eval.specs.files.Files.{AgreeWith, AnswersGrow, Store};
 ghost use Rattle.kt_text.specs.Words.{Text};
 ghost use Rattle.kt_eval.specs.reading.Machine.{ComesBefore, Read, Trace, nothing_read, read_by, read_of, reading_by};
 ghost use Rattle.kt_eval.specs.reading.Machine.{traced, traced_by};
@@ -21,12 +22,13 @@ pub(crate) fn makefile_read<F: Files>(
     args: &Args,
     files: &mut F,
 ) -> (Vec<Sequence<u8>>, Result<Makefile, Stop>)
-    ensures gives { IfSome (F.seen files.old).known (λ store. Gives read_view result.1
+    ensures gives { (store : Store) → AgreeWith store (F.seen files.new).answers → Gives read_view result.1
         (traced result.0.items (F.seen files.new).names)
-        (makefile_read args.now store (traced [] (F.seen files.old).names))) }
-    ensures asked { IfSome (F.seen files.old).known (λ store. IsPrefix (F.seen files.new).names
-        (left_of (makefile_read args.now store (traced [] (F.seen files.old).names))).asked) }
-    ensures keeps { (F.seen files.new).known ≡ (F.seen files.old).known }
+        (makefile_read args.now store (traced [] (F.seen files.old).names)) }
+    ensures asked { (store : Store) → AgreeWith store (F.seen files.new).answers → IsPrefix (F.seen files.new).names
+        (left_of (makefile_read args.now store (traced [] (F.seen files.old).names))).asked }
+    ensures grows { AnswersGrow (F.seen files.old).answers (F.seen files.new).answers }
+    ensures counts { (F.seen files.old).failed ≤ (F.seen files.new).failed }
     ensures blames { Blames result.1 (F.seen files.old) (F.seen files.new) }
 {
     match machine_of(alloc, args) {
@@ -71,12 +73,14 @@ fn read<F: Files>(
     name: &Option<Word>,
     files: &mut F,
 ) -> (Vec<Sequence<u8>>, Result<Makefile, Stop>)
-    ensures reads { machine.refusal ≡ None → IfSome (F.seen files.old).known (λ store. Gives read_view result.1
-        (traced result.0.items (F.seen files.new).names)
-        (reading_by store (makefile_names name.now) machine (F.seen files.old).names)) }
-    ensures asked { machine.refusal ≡ None → IfSome (F.seen files.old).known (λ store. IsPrefix (F.seen files.new).names
-        (left_of (reading_by store (makefile_names name.now) machine (F.seen files.old).names)).asked) }
-    ensures keeps { (F.seen files.new).known ≡ (F.seen files.old).known }
+    ensures reads { machine.refusal ≡ None → (store : Store) → AgreeWith store (F.seen files.new).answers
+        → Gives read_view result.1 (traced result.0.items (F.seen files.new).names)
+        (reading_by store (makefile_names name.now) machine (F.seen files.old).names) }
+    ensures asked { machine.refusal ≡ None → (store : Store) → AgreeWith store (F.seen files.new).answers
+        → IsPrefix (F.seen files.new).names
+        (left_of (reading_by store (makefile_names name.now) machine (F.seen files.old).names)).asked }
+    ensures grows { AnswersGrow (F.seen files.old).answers (F.seen files.new).answers }
+    ensures counts { (F.seen files.old).failed ≤ (F.seen files.new).failed }
     ensures blames { machine.refusal ≡ None
         → Blames result.1 (F.seen files.old) (F.seen files.new) }
 {
@@ -91,14 +95,14 @@ fn read_by_name<F: Files>(
     name: &Option<Word>,
     files: &mut F,
 ) -> Result<(), Stop>
-    ensures reads { machine.old.refusal ≡ None → IfSome (F.seen files.old).known
-        (λ store. Gives (λ _. read_by machine.new)
-        result (traced_by machine.new (F.seen files.new).names)
-        (reading_by store (makefile_names name.now) machine.old (F.seen files.old).names)) }
-    ensures cut { machine.old.refusal ≡ None → IfSome (F.seen files.old).known (λ store. IfCut result
-        (ComesBefore (traced_by machine.new (F.seen files.new).names)
-        (left_of (reading_by store (makefile_names name.now) machine.old (F.seen files.old).names)))) }
-    ensures keeps { (F.seen files.new).known ≡ (F.seen files.old).known }
+    ensures reads { machine.old.refusal ≡ None → (store : Store) → AgreeWith store (F.seen files.new).answers
+        → Gives (λ _. read_by machine.new) result (traced_by machine.new (F.seen files.new).names)
+        (reading_by store (makefile_names name.now) machine.old (F.seen files.old).names) }
+    ensures cut { machine.old.refusal ≡ None → (store : Store) → AgreeWith store (F.seen files.new).answers
+        → IfCut result (ComesBefore (traced_by machine.new (F.seen files.new).names)
+        (left_of (reading_by store (makefile_names name.now) machine.old (F.seen files.old).names))) }
+    ensures grows { AnswersGrow (F.seen files.old).answers (F.seen files.new).answers }
+    ensures counts { (F.seen files.old).failed ≤ (F.seen files.new).failed }
     ensures blames { machine.old.refusal ≡ None
         → Blames result (F.seen files.old) (F.seen files.new) }
 {

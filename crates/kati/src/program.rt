@@ -77,6 +77,7 @@ fn put_help<O: Sink>(out: &mut O, lead: &[u8], text: &str) -> Result<(), WriteFa
     ensures ok { OnOk result (Takes (O.seen out.old) (O.seen out.new) (lead.now ++ text.now)) }
     ensures fault { OnErr result (GrowsByFront (O.seen out.old) (O.seen out.new) (lead.now ++ text.now)) }
     ensures failed { OnErr result (Rises (O.seen out.old).failed (O.seen out.new).failed) }
+    ensures steady { OnOk result ((O.seen out.new).failed ≡ (O.seen out.old).failed) }
 {
     put(out, lead)?;
     put(out, text.as_bytes())

@@ -1,8 +1,9 @@
 //! A run of the program.
-ghost use Rattle.std.specs.Prelude.{◌≡◌, ◌≤◌, IfSome, Some, option_map};
+ghost use Rattle.std.specs.Prelude.{◌≡◌, ◌≤◌, Some, option_map};
+ghost use Rattle.kt_eval.specs.files.Files.{AgreeWith, AnswersGrow, Store};
 ghost use Rattle.kt_ninja.specs.Written.{SinkSeen};
 ghost use Rattle.kati.specs.Devices.{devices};
-ghost use Rattle.kati.specs.AfterRun.{Blames, Leaves};
+ghost use Rattle.kati.specs.AfterRun.{Blames, Leaves, LeavesOut};
 ghost use Rattle.kati.specs.Messages.{fault_text};
 ghost use Rattle.kati.specs.inner.Delivered.{fault_view};
 
@@ -29,12 +30,16 @@ pub fn run<F: Files, O: Sink, E: Sink>(
     out: &mut O,
     err: &mut E,
 ) -> Result<Status, RunFault>
-    ensures leaves { IfSome (F.seen files.old).known (λ store. Leaves args.now store result
+    ensures leaves { (store : Store) → AgreeWith store (F.seen files.new).answers → Leaves args.now store result
         (devices (F.seen files.old) (O.seen out.old) (E.seen err.old))
-        (devices (F.seen files.new) (O.seen out.new) (E.seen err.new))) }
+        (devices (F.seen files.new) (O.seen out.new) (E.seen err.new)) }
     ensures blames { Blames result
         (devices (F.seen files.old) (O.seen out.old) (E.seen err.old))
         (devices (F.seen files.new) (O.seen out.new) (E.seen err.new)) }
+    ensures output { LeavesOut args.now.check result (O.seen out.old) (O.seen out.new) }
+    ensures grows { AnswersGrow (F.seen files.old).answers (F.seen files.new).answers }
+    ensures counts_files { (F.seen files.old).failed ≤ (F.seen files.new).failed }
+    ensures counts_out { (O.seen out.old).failed ≤ (O.seen out.new).failed }
     ensures counts { (E.seen err.old).failed ≤ (E.seen err.new).failed }
 {
     match &args.check {
@@ -51,11 +56,13 @@ fn run_check<F: Files, E: Sink>(
     files: &mut F,
     err: &mut E,
 ) -> Result<Status, RunFault>
-    ensures leaves { (out : SinkSeen) → args.now.check ≡ Some name.now → IfSome (F.seen files.old).known
-        (λ store. Leaves args.now store result (devices (F.seen files.old) out (E.seen err.old))
-        (devices (F.seen files.new) out (E.seen err.new))) }
+    ensures leaves { (out : SinkSeen) → args.now.check ≡ Some name.now
+        → (store : Store) → AgreeWith store (F.seen files.new).answers → Leaves args.now store result (devices (F.seen files.old) out (E.seen err.old))
+        (devices (F.seen files.new) out (E.seen err.new)) }
     ensures blames { (out : SinkSeen) → Blames result (devices (F.seen files.old) out (E.seen err.old))
         (devices (F.seen files.new) out (E.seen err.new)) }
+    ensures grows { AnswersGrow (F.seen files.old).answers (F.seen files.new).answers }
+    ensures counts_files { (F.seen files.old).failed ≤ (F.seen files.new).failed }
     ensures counts { (E.seen err.old).failed ≤ (E.seen err.new).failed }
 {
     let outcome = translate(alloc, args, files)?;

@@ -1,5 +1,6 @@
 //! From a makefile to its plan.
-ghost use Rattle.std.specs.Prelude.{◌≡◌, List, [], IfErr, IfOk, IfSome};
+ghost use Rattle.std.specs.Prelude.{◌≡◌, ◌≤◌, List, [], IfErr, IfOk};
+ghost use Rattle.kt_eval.specs.files.Files.{AgreeWith, AnswersGrow, Store};
 ghost use Rattle.kt_text.specs.Words.{Text};
 ghost use Rattle.kt_graph.specs.faults.Faults.{IsSoundGraph, ReportsFirst};
 ghost use Rattle.kt_ninja.specs.Writable.{IsWritable};
@@ -34,14 +35,14 @@ use std::mem;
 /// The memory of its rules, known names and graph is freed only if a check is asked for, which needs it: otherwise a
 /// run translates once and ends, and would spend much of its time on freeing a million texts one by one.
 pub fn translate<F: Files>(alloc: Global, args: &Args, files: &mut F) -> Result<Outcome, RunFault>
-    ensures means { IfSome (F.seen files.old).known
-        (λ store. IfOk result
-        (λ outcome. Translates args.now store outcome (F.seen files.old).names (F.seen files.new).names)) }
-    ensures asked { IfSome (F.seen files.old).known
-        (λ store. IsPrefix (F.seen files.new).names (names_asked args.now store (F.seen files.old).names)) }
+    ensures means { (store : Store) → AgreeWith store (F.seen files.new).answers → IfOk result
+        (λ outcome. Translates args.now store outcome (F.seen files.old).names (F.seen files.new).names) }
+    ensures asked { (store : Store) → AgreeWith store (F.seen files.new).answers
+        → IsPrefix (F.seen files.new).names (names_asked args.now store (F.seen files.old).names) }
     ensures writable { IfOk result (λ outcome. IfOk outcome.result IsWritable) }
     ensures sound { IfOk result (λ outcome. IfOk outcome.result IsSoundPlan) }
-    ensures keeps { (F.seen files.new).known ≡ (F.seen files.old).known }
+    ensures grows { AnswersGrow (F.seen files.old).answers (F.seen files.new).answers }
+    ensures counts { (F.seen files.old).failed ≤ (F.seen files.new).failed }
     ensures blames { ReadBlames result (F.seen files.old) (F.seen files.new) }
 {
     let mut messages = Vec::new(alloc);
@@ -75,11 +76,12 @@ fn planned<F: Files>(
     messages: &mut Vec<Sequence<u8>>,
 ) -> Result<Plan, Stop>
     requires { messages.old.items ≡ [] }
-    ensures means { IfSome (F.seen files.old).known (λ store. Ends (EndMeans args.now store) (F.seen files.old).names
-        (λ plan. plan) result (traced messages.new.items (F.seen files.new).names)) }
-    ensures asked { IfSome (F.seen files.old).known
-        (λ store. IsPrefix (F.seen files.new).names (names_asked args.now store (F.seen files.old).names)) }
-    ensures keeps { (F.seen files.new).known ≡ (F.seen files.old).known }
+    ensures means { (store : Store) → AgreeWith store (F.seen files.new).answers → Ends (EndMeans args.now store)
+        (F.seen files.old).names (λ plan. plan) result (traced messages.new.items (F.seen files.new).names) }
+    ensures asked { (store : Store) → AgreeWith store (F.seen files.new).answers
+        → IsPrefix (F.seen files.new).names (names_asked args.now store (F.seen files.old).names) }
+    ensures grows { AnswersGrow (F.seen files.old).answers (F.seen files.new).answers }
+    ensures counts { (F.seen files.old).failed ≤ (F.seen files.new).failed }
     ensures blames { Blames result (F.seen files.old) (F.seen files.new) }
     ensures writable { IfOk result IsWritable }
     ensures sound { IfOk result IsSoundPlan }
@@ -112,12 +114,13 @@ pub(crate) fn prepared<F: Files>(
     messages: &mut Vec<Sequence<u8>>,
 ) -> Result<(Found, Vec<Name>), Stop>
     requires { messages.old.items ≡ [] }
-    ensures gives { IfSome (F.seen files.old).known (λ store. Gives (λ found. found_view found.0 found.1.items) result
-        (traced messages.new.items (F.seen files.new).names)
-        (prepared args.now store (traced [] (F.seen files.old).names))) }
-    ensures asked { IfSome (F.seen files.old).known
-        (λ store. IsPrefix (F.seen files.new).names (names_asked args.now store (F.seen files.old).names)) }
-    ensures keeps { (F.seen files.new).known ≡ (F.seen files.old).known }
+    ensures gives { (store : Store) → AgreeWith store (F.seen files.new).answers → Gives
+        (λ found. found_view found.0 found.1.items) result (traced messages.new.items (F.seen files.new).names)
+        (prepared args.now store (traced [] (F.seen files.old).names)) }
+    ensures asked { (store : Store) → AgreeWith store (F.seen files.new).answers
+        → IsPrefix (F.seen files.new).names (names_asked args.now store (F.seen files.old).names) }
+    ensures grows { AnswersGrow (F.seen files.old).answers (F.seen files.new).answers }
+    ensures counts { (F.seen files.old).failed ≤ (F.seen files.new).failed }
     ensures blames { Blames result (F.seen files.old) (F.seen files.new) }
 {
     let list = listed(alloc, &args.files, files)?;

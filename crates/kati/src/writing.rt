@@ -1,5 +1,6 @@
 //! A run that writes its plan.
-ghost use Rattle.std.specs.Prelude.{◌≡◌, ◌≤◌, ◌++◌, List, IfSome, MatchResult, None, codes};
+ghost use Rattle.std.specs.Prelude.{◌≡◌, ◌≤◌, ◌++◌, List, MatchResult, None, codes};
+ghost use Rattle.kt_eval.specs.files.Files.{AgreeWith, AnswersGrow, Store};
 ghost use Rattle.kt_text.specs.Words.{Text};
 ghost use Rattle.kt_list.specs.Counters.{Rises};
 ghost use Rattle.kt_eval.specs.Faults.{fault_line};
@@ -7,7 +8,7 @@ ghost use Rattle.kt_eval.specs.reading.Machine.{traced};
 ghost use Rattle.kt_graph.specs.faults.Faults.{IsSoundGraph};
 ghost use Rattle.kt_ninja.specs.Writable.{IsWritable};
 ghost use Rattle.kati.specs.Devices.{devices};
-ghost use Rattle.kati.specs.AfterRun.{Blames, Leaves};
+ghost use Rattle.kati.specs.AfterRun.{Blames, Leaves, LeavesOut};
 ghost use Rattle.kati.specs.Messages.{messages_text};
 ghost use Rattle.kati.specs.inner.Delivered.{TellsAndWrites, TellsBlames, TellsFault, TellsPlan, TellsStop, TextBlames};
 ghost use Rattle.kati.specs.inner.Delivered.{Writes};
@@ -40,12 +41,16 @@ pub(crate) fn write_plan_of<F: Files, O: Sink, E: Sink>(
     out: &mut O,
     err: &mut E,
 ) -> Result<Status, RunFault>
-    ensures leaves { args.now.check ≡ None → IfSome (F.seen files.old).known (λ store. Leaves args.now store result
-        (devices (F.seen files.old) (O.seen out.old) (E.seen err.old))
-        (devices (F.seen files.new) (O.seen out.new) (E.seen err.new))) }
+    ensures leaves { args.now.check ≡ None → (store : Store) → AgreeWith store (F.seen files.new).answers
+        → Leaves args.now store result (devices (F.seen files.old) (O.seen out.old) (E.seen err.old))
+        (devices (F.seen files.new) (O.seen out.new) (E.seen err.new)) }
+    ensures output { LeavesOut None result (O.seen out.old) (O.seen out.new) }
+    ensures grows { AnswersGrow (F.seen files.old).answers (F.seen files.new).answers }
+    ensures counts_files { (F.seen files.old).failed ≤ (F.seen files.new).failed }
     ensures blames { Blames result
         (devices (F.seen files.old) (O.seen out.old) (E.seen err.old))
         (devices (F.seen files.new) (O.seen out.new) (E.seen err.new)) }
+    ensures counts_out { (O.seen out.old).failed ≤ (O.seen out.new).failed }
     ensures counts { (E.seen err.old).failed ≤ (E.seen err.new).failed }
 {
     let mut messages = Vec::new(alloc);
@@ -55,7 +60,7 @@ pub(crate) fn write_plan_of<F: Files, O: Sink, E: Sink>(
             mem::forget(found);
             status
         }
-        Err(stop) => tell_stop(alloc, messages.as_slice(), stop, err),
+        Err(early) => tell_stop(alloc, messages.as_slice(), early, err),
     }
 }
 
@@ -73,6 +78,7 @@ fn write_found<O: Sink, E: Sink>(
         (traced messages.items asked) asked result
         (O.seen out.old) (O.seen out.new) (E.seen err.old) (E.seen err.new) }
     ensures blames { TellsBlames result (O.seen out.old) (O.seen out.new) (E.seen err.old) (E.seen err.new) }
+    ensures counts_out { (O.seen out.old).failed ≤ (O.seen out.new).failed }
     ensures counts { (E.seen err.old).failed ≤ (E.seen err.new).failed }
 {
     match sources_of(alloc, found) {
@@ -99,6 +105,7 @@ fn write_goals<O: Sink, E: Sink>(
         (traced messages.items asked) asked result
         (O.seen out.old) (O.seen out.new) (E.seen err.old) (E.seen err.new) }
     ensures blames { TellsBlames result (O.seen out.old) (O.seen out.new) (E.seen err.old) (E.seen err.new) }
+    ensures counts_out { (O.seen out.old).failed ≤ (O.seen out.new).failed }
     ensures counts { (E.seen err.old).failed ≤ (E.seen err.new).failed }
 {
     match sound_graph(alloc, sources, goals.as_slice()) {
@@ -127,6 +134,7 @@ fn write_graph<O: Sink, E: Sink>(
         (traced messages.items asked) asked result
         (O.seen out.old) (O.seen out.new) (E.seen err.old) (E.seen err.new) }
     ensures blames { TellsBlames result (O.seen out.old) (O.seen out.new) (E.seen err.old) (E.seen err.new) }
+    ensures counts_out { (O.seen out.old).failed ≤ (O.seen out.new).failed }
     ensures counts { (E.seen err.old).failed ≤ (E.seen err.new).failed }
 {
     let mut messages = messages;
@@ -160,6 +168,7 @@ fn tell_plan<O: Sink, E: Sink>(
     ensures tells { TellsPlan (plan_view plan.now) messages.now result
         (O.seen out.old) (O.seen out.new) (E.seen err.old) (E.seen err.new) }
     ensures blames { TellsBlames result (O.seen out.old) (O.seen out.new) (E.seen err.old) (E.seen err.new) }
+    ensures counts_out { (O.seen out.old).failed ≤ (O.seen out.new).failed }
     ensures counts { (E.seen err.old).failed ≤ (E.seen err.new).failed }
 {
     match tell(alloc, messages, None, err) {
@@ -171,6 +180,7 @@ fn tell_plan<O: Sink, E: Sink>(
 fn write<O: Sink>(plan: &GraphPlan, out: &mut O) -> Result<Status, RunFault>
     requires { IsWritable (plan_view plan.now) }
     ensures writes { Writes (plan_view plan.now) result (O.seen out.old) (O.seen out.new) }
+    ensures counts_out { (O.seen out.old).failed ≤ (O.seen out.new).failed }
     ensures blames { MatchResult result (λ _. (O.seen out.new).failed ≡ (O.seen out.old).failed)
         (λ _. Rises (O.seen out.old).failed (O.seen out.new).failed) }
 {

@@ -1,9 +1,11 @@
-//! The host's files. No contract says what they hold.
-ghost use Rattle.std.specs.Prelude.{◌≡◌, ◌≤◌, ◌↔◌, [], None, map, string_bytes, vec_len, IfErr, IfOk, IsNone, IsOk};
+//! The host's files. No contract says what they hold; contracts see what each read of them answered.
+ghost use Rattle.std.specs.Prelude.{◌≡◌, ◌≤◌, ◌↔◌, [], Err, IsErr, vec_len, IfErr, IfOk, IfSome, IsNone, IsOk};
+ghost use Rattle.kt_list.specs.Counters.{Rises};
 
 use kt_eval::{FileFault, Files};
-use std::fs;
+use kt_history::History;
 use std::io::{ErrorKind, Read};
+use std::{fs, slice};
 
 /// The maximum number of bytes, and of calls, for reading one file. It makes every read of a file end.
 const MOST: usize = 1_073_741_824;
@@ -12,10 +14,11 @@ const MOST: usize = 1_073_741_824;
 /// the work.
 const BLOCK: usize = 16_384;
 
-/// The host's files, by paths from the current directory.
+/// The host's files, by paths from the current directory. What they answered takes no memory: only proofs read it.
 #[derive(Drop)]
 pub struct HostFiles<'a> {
     rt: &'a HostRuntime,
+    answers: History<(String, Option<Vec<u8>>)>,
     asked: Vec<String>,
     failures: u64,
 }
@@ -23,20 +26,24 @@ pub struct HostFiles<'a> {
 impl<'a> HostFiles<'a> {
     /// Files of which none was asked for yet.
     pub fn new(rt: &'a HostRuntime) -> HostFiles<'a>
+        ensures answers { result.answers.items ≡ [] }
         ensures asked { result.asked.items ≡ [] }
         ensures failures { result.failures ≡ 0 }
     {
         HostFiles {
             rt,
+            answers: History::new(),
             asked: Vec::new(rt.alloc()),
             failures: 0,
         }
     }
 }
 
-/// All bytes up to the reader's end, unless they are more than the bound.
+/// All bytes up to the reader's end, unless they are more than the bound. Which these are is known of a reader that
+/// states its bytes, as one over memory does; the host's files don't.
 fn read_to_end<R: Read>(rt: &HostRuntime, reader: &mut R) -> Result<Vec<u8>, FileFault>
-    ensures { IfOk result (λ bytes. vec_len bytes ≤ MOST) }
+    ensures bound { IfOk result (λ bytes. vec_len bytes ≤ MOST) }
+    ensures all { IfOk result (λ bytes. IfSome (R.remaining reader.old) (λ all. bytes.items ≡ all)) }
 {
     let mut bytes = Vec::new(rt.alloc());
     let mut block = [0u8; BLOCK];
@@ -75,22 +82,72 @@ fn read_file(rt: &HostRuntime, name: &str) -> Result<Option<Vec<u8>>, FileFault>
     }
 }
 
+impl<'a> HostFiles<'a> {
+    ghost use Rattle.std.specs.Prelude.{◌≡◌, ◌++◌, ◌∷◌, [], IfErr, IfOk, OnErr, OnOk, map, string_bytes};
+
+    // Notes the name and what was found, and gives it. If the name can't be kept, nothing changes.
+    fn answered(
+        &mut self,
+        name: String,
+        found: Option<Vec<u8>>,
+    ) -> Result<Option<Vec<u8>>, FileFault>
+        ensures gives { IfOk result (λ given. given ≡ found) }
+        ensures answers { OnOk result (self.new.answers.items ≡ self.old.answers.items ++ (name, found) ∷ []) }
+        ensures asked { OnOk result (map string_bytes self.new.asked.items
+            ≡ map string_bytes self.old.asked.items ++ string_bytes name ∷ []) }
+        ensures refused { IfErr result (λ fault. fault ≡ FileFault.Memory) }
+        ensures kept { OnErr result (self.new.answers.items ≡ self.old.answers.items) }
+        ensures unasked { OnErr result (map string_bytes self.new.asked.items ≡ map string_bytes self.old.asked.items) }
+        ensures failures { self.new.failures ≡ self.old.failures }
+    {
+        let answer = (name, found);
+        let answers = self.answers.with(slice::from_ref(&answer));
+        let (name, found) = answer;
+        if self.asked.push(name).is_err() {
+            return Err(FileFault::Memory);
+        }
+        self.answers = answers;
+        Ok(found)
+    }
+
+    // Notes the name of a file whose device failed. If the name can't be kept, nothing changes.
+    fn failed(&mut self, name: String) -> Result<Option<Vec<u8>>, FileFault>
+        ensures fails { IsErr result }
+        ensures device { result ≡ Err FileFault.Device → (map string_bytes self.new.asked.items
+            ≡ map string_bytes self.old.asked.items ++ string_bytes name ∷ [])
+            × Rises self.old.failures self.new.failures }
+        ensures refused { result ≡ Err FileFault.Memory → (map string_bytes self.new.asked.items
+            ≡ map string_bytes self.old.asked.items) × (self.new.failures ≡ self.old.failures) }
+        ensures answers { self.new.answers.items ≡ self.old.answers.items }
+        ensures counts { self.old.failures ≤ self.new.failures }
+    {
+        if self.asked.push(name).is_err() {
+            return Err(FileFault::Memory);
+        }
+        self.failures = self.failures.saturating_add(1);
+        Err(FileFault::Device)
+    }
+}
+
 impl<'a> Files for HostFiles<'a> {
-    ghost seen = { λ s. record { known = None; names = map string_bytes s.asked.items; failed = s.failures } };
+    ghost use Rattle.std.specs.Prelude.{map, option_map, string_bytes};
+
+    ghost seen = { λ s. record {
+      answers = map (λ p. (string_bytes p.0, option_map (λ v. v.items) p.1)) s.answers.items;
+      names = map string_bytes s.asked.items;
+      failed = s.failures;
+    } };
 
     fn read(&mut self, name: &str) -> Result<Option<Vec<u8>>, FileFault> {
         let copy = match name.to_string(self.rt.alloc()) {
             Ok(copy) => copy,
             Err(_) => return Err(FileFault::Memory),
         };
-        let found = read_file(self.rt, name);
-        if matches!(found, Err(FileFault::Memory)) || self.asked.push(copy).is_err() {
-            return Err(FileFault::Memory);
+        match read_file(self.rt, name) {
+            Ok(found) => self.answered(copy, found),
+            Err(FileFault::Device) => self.failed(copy),
+            Err(FileFault::Memory) => Err(FileFault::Memory),
         }
-        if found.is_err() {
-            self.failures = self.failures.saturating_add(1);
-        }
-        found
     }
 
     fn asked(&self) -> &[String] {

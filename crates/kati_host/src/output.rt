@@ -1,6 +1,9 @@
-//! The host's outputs. No contract says what they took.
-ghost use Rattle.std.specs.Prelude.{◌≡◌, ◌<◌, ◌≤◌, IfSome, None, length};
+//! The host's outputs. What they took takes no memory: only proofs read it.
+ghost use Rattle.std.specs.Prelude.{◌≡◌, ◌<◌, ◌≤◌, ◌++◌, [], IfOk, OnErr, OnOk, Some, length, take};
+ghost use Rattle.std.specs.Io.KnownBytes.{Appends, Keeps};
+ghost use Rattle.kt_list.specs.Counters.{Rises};
 
+use kt_history::History;
 use kt_ninja::{Sink, SinkFault};
 use std::io::Write;
 
@@ -8,44 +11,61 @@ use std::io::Write;
 #[derive(Drop)]
 pub struct HostSink<W: Write + Drop> {
     output: W,
+    written: History<u8>,
     failures: u64,
 }
 
 impl<W: Write + Drop> HostSink<W> {
-    /// An output without a failed write so far.
+    /// An output that has taken nothing, without a failed write so far.
     pub fn new(output: W) -> HostSink<W>
-        ensures { result.failures ≡ 0 }
+        ensures written { result.written.items ≡ [] }
+        ensures failures { result.failures ≡ 0 }
     {
         HostSink {
             output,
+            written: History::new(),
             failures: 0,
         }
     }
-}
 
-/// Writes and flushes. `None` if either fails, or nothing was taken.
-fn send<W: Write>(output: &mut W, piece: &[u8]) -> Option<usize>
-    ensures { IfSome result (λ n. (0 < n) × (n ≤ length piece.now)) }
-{
-    let count = output.write(piece).ok()?;
-    output.flush().ok()?;
-    if count > 0 { Some(count) } else { None }
+    // Hands the piece to the output, notes what that took of it, and returns how many bytes that is.
+    fn hand_on(&mut self, piece: &[u8]) -> usize
+        ensures within { result ≤ length piece.now }
+        ensures noted { self.new.written.items ≡ self.old.written.items ++ take result piece.now }
+        ensures taken { Appends (W.contents self.old.output) (W.contents self.new.output) (take result piece.now) }
+        ensures failures { self.new.failures ≡ self.old.failures }
+    {
+        let count = self.output.write(piece).unwrap_or(0);
+        self.written = self.written.with(&piece[..count]);
+        count
+    }
+
+    // Flushes after this many bytes were taken. Taking none, like a failed flush, is a failure.
+    fn flushed(&mut self, count: usize) -> Result<usize, SinkFault>
+        ensures written { self.new.written.items ≡ self.old.written.items }
+        ensures taken { Keeps (W.contents self.old.output) (W.contents self.new.output) }
+        ensures count { IfOk result (λ n. (n ≡ count) × (0 < n)) }
+        ensures holds { OnOk result (self.new.failures ≡ self.old.failures) }
+        ensures counts { self.old.failures ≤ self.new.failures }
+        ensures fails { OnErr result (Rises self.old.failures self.new.failures) }
+    {
+        if count > 0 && self.output.flush().is_ok() {
+            return Ok(count);
+        }
+        self.failures = self.failures.saturating_add(1);
+        Err(SinkFault)
+    }
 }
 
 impl<W: Write + Drop> Sink for HostSink<W> {
-    ghost seen = { λ s. record { written = None; failed = s.failures } };
+    ghost seen = { λ s. record { written = Some s.written.items; failed = s.failures } };
 
     fn write(&mut self, piece: &[u8]) -> Result<usize, SinkFault> {
         if piece.is_empty() {
             return Ok(0);
         }
-        match send(&mut self.output, piece) {
-            Some(count) => Ok(count),
-            None => {
-                self.failures = self.failures.saturating_add(1);
-                Err(SinkFault)
-            }
-        }
+        let count = self.hand_on(piece);
+        self.flushed(count)
     }
 
     fn failures(&self) -> u64 {

@@ -14,7 +14,7 @@ blames_kept : (fault : RunFault) (files files' : FilesSeen) (out out' err err' :
     → Blames (Err fault) (devices files nothing_seen err) (devices files' nothing_seen err')
     → Blames (Err fault) (devices files out err) (devices files' out' err')
 blames_kept (faults.Read name) files files' out out' err err' blames = blames
-blames_kept faults.WriteOut files files' out out' err err' blames = omega (arith, blames)
+blames_kept faults.WriteOut files files' out out' err err' blames = absurd (omega (arith, blames.0))
 blames_kept faults.WriteErr files files' out out' err err' blames = blames
 blames_kept faults.Memory files files' out out' err err' blames = blames
 
@@ -22,7 +22,7 @@ pub blames_after : (run ended : Result Status RunFault) (files files' : FilesSee
     → NamesAfter run ended files'.names out out' → Blames run (devices files nothing_seen err) (devices files' nothing_seen err')
     → Blames ended (devices files out err) (devices files' out' err')
 blames_after (Ok status) (Ok status') files files' out out' err err' after blames = (blames.0, after.1, blames.2)
-blames_after (Ok status) (Err faults.WriteOut) files files' out out' err err' after blames = after.0
+blames_after (Ok status) (Err faults.WriteOut) files files' out out' err err' after blames = (after.0, blames.0)
 blames_after (Ok status) (Err faults.Memory) files files' out out' err err' after blames = blames.0
 blames_after (Ok status) (Err faults.WriteErr) files files' out out' err err' after blames = absurd after
 blames_after (Ok status) (Err (faults.Read name)) files files' out out' err err' after blames = absurd after

@@ -1,8 +1,9 @@
 -- What kati-asked writes, and how it ends (kati's own).
-use Rattle.std.specs.Prelude.{◌≡◌, ℕ, List, ◌++◌, None, Result, Ok, Err, IfSome, codes}
+use Rattle.std.specs.Prelude.{◌≡◌, ℕ, List, ◌++◌, None, Result, Ok, Err, codes}
 use Rattle.std.specs.List.{flat_map}
 use Rattle.kt_list.specs.Counters.{Rises}
 use Rattle.kt_text.specs.Words.{Text}
+use Rattle.kt_eval.specs.files.Files.{AgreeWith, Store}
 use Rattle.kt_ninja.specs.Written.{GrowsByFront, SinkSeen, Takes}
 use Rattle.kati_args.specs.declared.args.Args.{Args}
 use Rattle.kati.specs.declared.faults.RunFault.{RunFault}
@@ -43,7 +44,8 @@ nothing_seen = record { written = None; failed = 0 }
 pub record RunExits (args : Args) (code : ℕ) (old new : Devices) : Type 0 where
   pub run : Result Status RunFault
   pub ran : Devices
-  pub leaves : IfSome old.files.known (λ store. Leaves args store run (devices old.files nothing_seen old.err) ran)
+  pub leaves : (store : Store) → AgreeWith store new.files.answers
+      → Leaves args store run (devices old.files nothing_seen old.err) ran
   pub ended : Result Status RunFault
   pub named : Devices
   pub names : NamesAfter run ended ran.files.names old.out named.out

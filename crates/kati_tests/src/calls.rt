@@ -1,5 +1,6 @@
 //! `run` and `translate`, called as a library's user calls them.
-use kati::{Args, Outcome, RunFault, Status, args_of, run, translate};
+use crate::in_memory::{ran_in_memory, translated_in_memory};
+use kati::{Args, Outcome, RunFault, Status, args_of};
 use kati_doubles::{files_of, put_messages, sink_of, words_of};
 use kt_eval::{Fault, Files, MemFiles};
 use kt_ninja::MemSink;
@@ -153,7 +154,7 @@ fn after(reads: usize) -> u64 {
 
 /// Translates. It stands apart so that what the contract says burdens no other proof.
 fn translated(alloc: Global, args: &Args, files: &mut MemFiles) -> Result<Outcome, RunFault> {
-    translate(alloc, args, files)
+    translated_in_memory(alloc, args, files)
 }
 
 /// Runs. It stands apart as well.
@@ -164,7 +165,7 @@ fn ran(
     out: &mut MemSink,
     err: &mut MemSink,
 ) -> Result<Status, RunFault> {
-    run(alloc, args, files, out, err)
+    ran_in_memory(alloc, args, files, out, err)
 }
 
 fn is_at(found: &Option<Place>, wanted: Option<(&[u8], u64)>) -> bool {

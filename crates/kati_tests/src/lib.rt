@@ -4,5 +4,8 @@
 
 #[cfg(test)]
 mod calls;
+mod in_memory;
 #[cfg(test)]
 mod runs;
+
+pub use in_memory::{ran_in_memory, translated_in_memory};

@@ -3,6 +3,7 @@ use Rattle.kt_eval.specs.expanding.Expansion.{referred, body_of, each_term, expa
 use Rattle.kt_eval.specs.State.{lookup}
 use Rattle.kt_eval.specs.inner.Plain.{put_of, still_deferred, put_by, left_by}
 use Rattle.kt_eval.proofs.LevelLemmas.{evaluator_reads}
+use Rattle.kt_eval.proofs.lemmas.AgreementLemmas.{last_held, no_fewer}
 use Rattle.kt_eval.proofs.lemmas.LastLemmas.{last_after}
 use Rattle.kt_eval.proofs.lemmas.StepLemmas.{accepted_longer, accepted_same, apply_and_longer, apply_and_same, apply_or_longer}
 use Rattle.kt_eval.proofs.lemmas.StepLemmas.{appended_longer, appended_same, apply_longer, apply_same}
@@ -120,7 +121,7 @@ pub ruleset call_steps = (called_goes, value_of_goes)
 
 pub ruleset apply_eval_steps = (eval_goes, evaluator_reads)
 
-pub ruleset read_bytes_steps = (asked_goes, last_after)
+pub ruleset read_bytes_steps = (asked_goes, last_after, last_held, no_fewer)
 
 pub ruleset read_included_steps = (read_included_goes, read_file_goes)
 

@@ -10,3 +10,5 @@ pub mod StepLemmas
 pub mod EarlyLemmas
 pub mod TextLemmas
 pub mod LastLemmas
+pub mod AgreementLemmas
+pub mod StoreLemmas

@@ -1,5 +1,5 @@
 -- The steps of an evaluation, which leave a world, and what else a call leaves.
-use Rattle.std.specs.Prelude.{◌≡◌, ℕ, ◌≤◌, true, Option, Some, is_some, unwrap_or, List, [], length, take, Result, Ok}
+use Rattle.std.specs.Prelude.{◌≡◌, ℕ, ◌≤◌, Option, Some, List, length, take, Result, Ok}
 use Rattle.std.specs.Prelude.{Err, string_bytes}
 use Rattle.kt_list.specs.Counters.{Rises}
 use Rattle.kt_text.specs.Words.{Text}
@@ -9,22 +9,22 @@ use Rattle.kt_rules.specs.FaultKinds.{number_of, words_with}
 use Rattle.kt_eval.specs.declared.fault.Fault.{Fault}
 use Rattle.kt_eval.specs.declared.stop.Stop.{Stop}
 use Rattle.kt_eval.specs.declared.stop.Stop.TheVariants as stops
-use Rattle.kt_eval.specs.files.Files.{FilesSeen, Store}
+use Rattle.kt_eval.specs.files.Files.{Answer, AnswersGrow, FilesSeen}
 use Rattle.kt_eval.specs.Prefixes.{last}
 use Rattle.kt_eval.specs.Outcome.{Gave, Stopped, StepOver}
 use Rattle.kt_eval.specs.State.{World}
 
--- what is seen of an evaluation: its world, the bytes of its named files, if they are known, how often a read failed,
--- and the reference by which it holds the files
+-- what is seen of an evaluation: its world, what each read of a file answered, how often a read failed, and the
+-- reference by which it holds the files
 pub record Seen : Type 0 where
   pub world : World
-  pub known : Option Store
+  pub answers : List Answer
   pub failed : ℕ
   pub lender : ℕ
 
 -- what is seen of its files
 abbrev pub files_of : Seen → FilesSeen
-files_of e = record { known = e.known; names = e.world.asked; failed = e.failed }
+files_of e = record { answers = e.answers; names = e.world.asked; failed = e.failed }
 
 -- the lists that reading and expanding only add to: the messages, and the names asked for
 pub data Trail : Type 0 where
@@ -44,10 +44,10 @@ GoesOn old new =
     ((of : Trail) → length (trail of old) ≤ length (trail of new))
     × ((of : Trail) (count : ℕ) → count ≤ length (trail of old) → take count (trail of new) ≡ take count (trail of old))
 
--- the files are the same, with the same bytes; failures, messages and names asked for are only added to
+-- the files are the same; answers, failures, messages and names asked for are only added to
 abbrev pub Keeps : Seen → Seen → Type 0
 Keeps old new =
-    (new.known ≡ old.known) × (new.lender ≡ old.lender) × (old.failed ≤ new.failed) × GoesOn old.world new.world
+    AnswersGrow old.answers new.answers × (new.lender ≡ old.lender) × (old.failed ≤ new.failed) × GoesOn old.world new.world
 
 abbrev pub Step : Type 0 → Type 0
 Step A = StepOver World A
@@ -66,14 +66,6 @@ stop kind name w = Stopped w (fault_of w.place kind name)
 -- a change of the world
 abbrev pub change : (World → World) → Step (Unit {0})
 change f w = Gave (f w) tt
-
--- the bytes of the named files are known
-abbrev pub AreKnown : Option Store → Type 0
-AreKnown known = is_some known ≡ true
-
--- the bytes, if they are known
-abbrev pub store_of : Option Store → Store
-store_of known = unwrap_or known []
 
 -- a failed device is returned if the count of failures rose, with the name asked for last; nothing else is returned if
 -- a device failed

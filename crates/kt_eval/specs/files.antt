@@ -1,5 +1,6 @@
--- What files hold, and what a read changes: from a name, the bytes of its file, if there is one. `Including` defines
--- which names an include asks for.
+-- What files hold, what reads answer and change, and the stores that agree with the answers (`Agreement`). `Including`
+-- defines which names an include asks for.
 pub mod Files
 pub mod Memory
+pub mod Agreement
 pub mod Including

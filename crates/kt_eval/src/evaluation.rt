@@ -51,7 +51,7 @@ impl<'a, M: Scope, F: Files> Model for Evaluation<'a, M, F> {
         book = M.book s.macros;
         rule = s.rule;
       };
-      known = (F.seen s.files.now).known;
+      answers = (F.seen s.files.now).answers;
       failed = (F.seen s.files.now).failed;
       lender = s.files.ghost_name;
     } };
@@ -225,7 +225,8 @@ impl<'a, M: Scope, F: Files> Evaluation<'a, M, F> {
     ghost use Rattle.kt_eval.specs.reading.Rules.{close_rule, enter_rule, open_rule, recipe_line, rule_place};
     ghost use Rattle.kt_eval.specs.State.{move_to, set_macro, set_rule};
     ghost use Rattle.kt_eval.specs.Outcome.{Gives, IfCut, left_of};
-    ghost use Rattle.kt_eval.specs.Step.{AreKnown, Blames, GoesOn, Keeps, files_of, store_of};
+    ghost use Rattle.kt_eval.specs.Step.{Blames, GoesOn, Keeps, files_of};
+    ghost use Rattle.kt_eval.specs.files.Files.{AgreeWith, Store};
     ghost use Rattle.kt_eval.specs.macros.Macros.{assigning, find, set_by_makefile};
     ghost use Rattle.kt_eval.specs.inner.Views.{assigning_view, front_view, raw_view};
 
@@ -423,10 +424,10 @@ impl<'a, M: Scope, F: Files> Evaluation<'a, M, F> {
     // as out of memory.
     #[tactic(auto, using(crate::proofs::Steps::read_bytes_steps), unfolding(crate::specs::reading::Reading::read_bytes))]
     pub(crate) fn read_bytes(&mut self, name: &str) -> Result<Option<Vec<u8>>, Stop>
-        ensures gives { AreKnown self.old.known → Gives (λ found. option_map
-            (λ v. v.items) found) result self.new.world (read_bytes (store_of self.old.known) name.now self.old.world) }
-        ensures cut { AreKnown self.old.known → IfCut result
-            (GoesOn self.new.world (left_of (read_bytes (store_of self.old.known) name.now self.old.world))) }
+        ensures gives { (store : Store) → AgreeWith store self.new.answers → Gives (λ found. option_map
+            (λ v. v.items) found) result self.new.world (read_bytes store name.now self.old.world) }
+        ensures cut { (store : Store) → AgreeWith store self.new.answers → IfCut result
+            (GoesOn self.new.world (left_of (read_bytes store name.now self.old.world))) }
         ensures kept { Keeps self.old self.new }
         ensures blames { Blames result (files_of self.old) (files_of self.new) }
     {

@@ -2,8 +2,8 @@
 //!
 //! Takes a name, and returns the bytes of the file, or that there is none, or that its device failed. The names that
 //! were asked for and the number of failures can be read at any time.
-ghost use Rattle.std.specs.Prelude.{◌≡◌, option_map, map, string_bytes, IfOk, IfSome, ◌≤◌};
-ghost use Rattle.kt_eval.specs.files.Files.{AskedAfter, CountedAfter, FilesSeen, look};
+ghost use Rattle.std.specs.Prelude.{◌≡◌, ◌∷◌, ◌++◌, [], option_map, map, string_bytes, IfOk, OnErr, ◌≤◌};
+ghost use Rattle.kt_eval.specs.files.Files.{AskedAfter, CountedAfter, FilesSeen};
 
 mod including;
 mod memory;
@@ -30,9 +30,9 @@ pub trait Files {
     /// The bytes of the file, or `None` if there is no file with this name. The name counts as asked for, unless memory
     /// ran out. A failure of the device is counted, and nothing else is.
     fn read(&mut self, name: &str) -> Result<Option<Vec<u8>>, FileFault>
-        ensures found { IfSome (seen self.old).known
-            (λ store. IfOk result (λ found. option_map (λ v. v.items) found ≡ look store name.now)) }
-        ensures keeps { (seen self.new).known ≡ (seen self.old).known }
+        ensures answers { IfOk result (λ found. (seen self.new).answers
+            ≡ (seen self.old).answers ++ (name.now, option_map (λ v. v.items) found) ∷ []) }
+        ensures keeps { OnErr result ((seen self.new).answers ≡ (seen self.old).answers) }
         ensures asked { AskedAfter result (seen self.old) (seen self.new) name.now }
         ensures counts { (seen self.old).failed ≤ (seen self.new).failed }
         ensures fails { CountedAfter result (seen self.old) (seen self.new) };

@@ -8,6 +8,8 @@ ghost use Rattle.kt_eval.specs.expanding.Arguments.{ArgumentLaw};
 ghost use Rattle.kt_eval.specs.reading.BarePlaces.{BarePlaceLaw};
 ghost use Rattle.kt_eval.specs.expanding.Doubling.{DoublingLaw};
 ghost use Rattle.kt_eval.specs.expanding.Expansion.{apply, expanded};
+ghost use Rattle.kt_eval.specs.files.Agreement.{AddedGrow, AgreeingAreSteady, AgreeingHolds, HoldingAgrees};
+ghost use Rattle.kt_eval.specs.files.Agreement.{MemoryAgrees, SteadyAgree};
 ghost use Rattle.kt_eval.specs.files.Files.{Store};
 ghost use Rattle.kt_eval.specs.Growing.{StaysOneDeeper, TakesNothingBack};
 ghost use Rattle.kt_eval.specs.expanding.Levels.{evaluator};
@@ -79,4 +81,27 @@ pub fn doubled_texts_expand_to_themselves()
 /// closed; if there is none, none is found.
 pub fn law_of_bare_places()
     ensures { BarePlaceLaw }
+{}
+
+/// A store agrees with answers exactly if it holds what was answered, each time.
+pub fn agreement_is_of_each()
+    ensures agreeing { AgreeingHolds }
+    ensures holding { HoldingAgrees }
+{}
+
+/// Answers that are added to grow: a store that agrees with the later ones agrees with the earlier ones.
+pub fn added_answers_grow()
+    ensures { AddedGrow }
+{}
+
+/// Where no name was answered in two ways there is a store that agrees, and only there.
+pub fn steady_answers_have_a_store()
+    ensures some { SteadyAgree }
+    ensures only { AgreeingAreSteady }
+{}
+
+/// What files in memory answered agrees with what they hold: so all that is said for each store that agrees with the
+/// answers holds for theirs.
+pub fn files_in_memory_agree()
+    ensures { MemoryAgrees }
 {}

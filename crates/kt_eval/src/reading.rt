@@ -16,9 +16,10 @@ ghost use Rattle.kt_eval.specs.macros.Assignments.{assign_line};
 ghost use Rattle.kt_eval.specs.reading.Rules.{rule_line, rule_of_parts};
 ghost use Rattle.kt_syntax.specs.Comments.{plain_of};
 ghost use Rattle.kt_syntax.specs.Recipes.{recipe_of};
+ghost use Rattle.kt_eval.specs.files.Files.{AgreeWith, Store};
 ghost use Rattle.kt_eval.specs.inner.Doing.{Does, reading_from};
 ghost use Rattle.kt_eval.specs.Outcome.{Fails, Gives, IfCut, Stopped, left_of};
-ghost use Rattle.kt_eval.specs.Step.{AreKnown, Blames, GoesOn, Keeps, files_of, store_of};
+ghost use Rattle.kt_eval.specs.Step.{Blames, GoesOn, Keeps, files_of};
 ghost use Rattle.kt_eval.specs.inner.Views.{raw_view};
 
 mod conditionals;
@@ -150,13 +151,13 @@ impl<'a, M: Scope, F: Files> Evaluation<'a, M, F> {
         requires ahead { IsAhead place (length page.now.blocks.steps) step }
         requires within { place < length page.now.blocks.steps }
         ensures ahead { IfOk result (λ at. (place < at) × (at ≤ length page.now.blocks.steps)) }
-        ensures goes_on { AreKnown self.old.known → IfOk result
-            (λ at. reading_from M.writable self.old.known below page.now place self.old.world
-            ≡ reading_from M.writable self.old.known below page.now at self.new.world) }
-        ensures fails { AreKnown self.old.known → IfErr result (λ stop. Fails stop self.new.world
-            (reading_from M.writable self.old.known below page.now place self.old.world)) }
-        ensures cut { AreKnown self.old.known → IfCut result (GoesOn self.new.world
-            (left_of (reading_from M.writable self.old.known below page.now place self.old.world))) }
+        ensures goes_on { (store : Store) → AgreeWith store self.new.answers → IfOk result
+            (λ at. reading_from M.writable store below page.now place self.old.world
+            ≡ reading_from M.writable store below page.now at self.new.world) }
+        ensures fails { (store : Store) → AgreeWith store self.new.answers → IfErr result (λ stop. Fails stop self.new.world
+            (reading_from M.writable store below page.now place self.old.world)) }
+        ensures cut { (store : Store) → AgreeWith store self.new.answers → IfCut result (GoesOn self.new.world
+            (left_of (reading_from M.writable store below page.now place self.old.world))) }
         ensures kept { Keeps self.old self.new }
         ensures blames { Blames result (files_of self.old) (files_of self.new) }
     {
@@ -199,13 +200,13 @@ impl<'a, M: Scope, F: Files> Evaluation<'a, M, F> {
         requires reads { IsConditional page.now.blocks.steps place next after }
         requires ahead { IsAhead place (length page.now.blocks.steps) (step.Conditional next after) }
         ensures ahead { IfOk result (λ at. (place < at) × (at ≤ length page.now.blocks.steps)) }
-        ensures goes_on { AreKnown self.old.known → IfOk result
-            (λ at. reading_from M.writable self.old.known below page.now place self.old.world
-            ≡ reading_from M.writable self.old.known below page.now at self.new.world) }
-        ensures fails { AreKnown self.old.known → IfErr result (λ stop. Fails stop self.new.world
-            (reading_from M.writable self.old.known below page.now place self.old.world)) }
-        ensures cut { AreKnown self.old.known → IfCut result (GoesOn self.new.world
-            (left_of (reading_from M.writable self.old.known below page.now place self.old.world))) }
+        ensures goes_on { (store : Store) → AgreeWith store self.new.answers → IfOk result
+            (λ at. reading_from M.writable store below page.now place self.old.world
+            ≡ reading_from M.writable store below page.now at self.new.world) }
+        ensures fails { (store : Store) → AgreeWith store self.new.answers → IfErr result (λ stop. Fails stop self.new.world
+            (reading_from M.writable store below page.now place self.old.world)) }
+        ensures cut { (store : Store) → AgreeWith store self.new.answers → IfCut result (GoesOn self.new.world
+            (left_of (reading_from M.writable store below page.now place self.old.world))) }
         ensures kept { Keeps self.old self.new }
         ensures blames { Blames result (files_of self.old) (files_of self.new) }
     {

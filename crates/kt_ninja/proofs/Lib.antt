@@ -25,3 +25,4 @@ pub mod FormLemmas
 pub mod StateLemmas
 pub mod ReaderLemmas
 pub mod LineLemmas
+pub mod LayoutLemmas

@@ -15,4 +15,5 @@ pub mod Scopes
 pub mod NinjaRead
 pub mod Rows
 pub mod Reading
+pub mod Layout
 pub mod inner

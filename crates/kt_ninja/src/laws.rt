@@ -2,6 +2,7 @@
 ghost use Rattle.std.specs.Prelude.{◌≡◌, Ok};
 ghost use Rattle.kt_ninja.specs.declared.plan.Plan.{Plan};
 ghost use Rattle.kt_ninja.specs.Continued.{JoinedLaw};
+ghost use Rattle.kt_ninja.specs.Layout.{LayoutLaw};
 ghost use Rattle.kt_ninja.specs.NinjaRead.{ninja_read};
 ghost use Rattle.kt_ninja.specs.Text.{plan_text};
 ghost use Rattle.kt_ninja.specs.Writable.{IsWritable};
@@ -31,4 +32,9 @@ pub fn law_of_pieces()
 /// Joining the lines of a file takes away exactly its escaped newlines, each with the spaces after it.
 pub fn law_of_joined_lines()
     ensures { JoinedLaw }
+{}
+
+/// A comment changes nothing of what a file says, wherever it stands, and a blank line between statements neither.
+pub fn law_of_layout()
+    ensures { LayoutLaw }
 {}

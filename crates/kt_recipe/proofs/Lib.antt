@@ -9,4 +9,5 @@ pub mod LoopLemmas
 pub mod DeeperLemmas
 pub mod TermLemmas
 pub mod PlainLemmas
+pub mod CommandLemmas
 mod RowLemmas

@@ -233,6 +233,10 @@ pub marked_line : comes_to (with_shell (deferred (codes "X") (codes "a\n @- \nb"
 unfolding making
 marked_line = rw lines_told (rw shell_told (rw shell_told refl))
 
+pub three_pieces : comes_to (with_shell (deferred (codes "go") (codes "@echo one\n-false") ∷ [])) (simple (line 1 (codes "-a") ∷ line 2 (codes "$(go)") ∷ [])) ≡ Gave [] (Some (codes "{ /bin/sh -c 'a' || :; } && /bin/sh -c 'echo one' && { /bin/sh -c 'false' || :; }"))
+unfolding making
+three_pieces = rw a_told (rw shell_told (rw canned_told (rw shell_told (rw shell_told refl))))
+
 pub trailing_blank : comes_to (with_shell []) (simple (line 1 (codes "a ") ∷ line 2 (codes " @ ") ∷ [])) ≡ Gave [] (Some (codes "/bin/sh -c 'a '"))
 unfolding making
 trailing_blank = rw blank_told (rw shell_told (rw nothing_told refl))

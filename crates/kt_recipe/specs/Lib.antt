@@ -3,6 +3,7 @@ pub mod Automatic
 pub mod Quoting
 pub mod Lines
 pub mod Shell
+pub mod Commands
 pub mod Views
 pub mod Rows
 pub mod inner

@@ -103,6 +103,10 @@ pub record RowsOfCommands : Type 0 where
       comes_to (with_shell (deferred (codes "X") (codes "a\n @- \nb") ∷ []))
       (simple (line 1 (codes "-$(X)") ∷ []))
       ≡ Gave [] (Some (codes "{ /bin/sh -c 'a' || :; } && { /bin/sh -c 'b' || :; }"))
+  pub three_pieces :
+      comes_to (with_shell (deferred (codes "go") (codes "@echo one\n-false") ∷ []))
+      (simple (line 1 (codes "-a") ∷ line 2 (codes "$(go)") ∷ []))
+      ≡ Gave [] (Some (codes "{ /bin/sh -c 'a' || :; } && /bin/sh -c 'echo one' && { /bin/sh -c 'false' || :; }"))
   pub trailing_blank :
       comes_to (with_shell [])
       (simple (line 1 (codes "a ") ∷ line 2 (codes " @ ") ∷ []))

@@ -5,6 +5,7 @@ ghost use Rattle.kt_text.specs.Words.{Text};
 ghost use Rattle.kt_eval.specs.Growing.{StaysOneDeeper};
 ghost use Rattle.kt_eval.specs.macros.Macros.{Table};
 ghost use Rattle.kt_graph.specs.nodes.Node.{Node};
+ghost use Rattle.kt_recipe.specs.Commands.{CommandLaw};
 ghost use Rattle.kt_recipe.specs.Lines.{pieces_of};
 ghost use Rattle.kt_recipe.specs.Quoting.{quoted, word_of_quotes};
 ghost use Rattle.kt_recipe.specs.Rows.{RowsOfCommands, RowsOfMacros};
@@ -18,6 +19,12 @@ pub fn quotes_are_read_back()
 /// The pieces of a line, joined by newlines, are the line.
 pub fn pieces_are_the_line()
     ensures { (text : Text) → join_with_byte 10 (pieces_of text) ≡ text }
+{}
+
+/// The command of a node is exactly the calls of its pieces, in order and joined by ` && `: each nonempty piece of its
+/// expanded lines has one. Without a piece there is no command.
+pub fn commands_are_calls()
+    ensures { CommandLaw }
 {}
 
 /// A command that isn't too deep (E08) with a given number of levels is the same with one more.

@@ -174,6 +174,13 @@ module _ (reads : Bool) (store : Store) (levels : ℕ) (sheet : Sheet) where
       (fails_then stop v (read_define (evaluator reads store levels) kind body (at_line sheet place w)) _
       (λ _ u. read_items_front reads store levels sheet next u) h)
 
+  pub definition_taken : (w v : World) (items next : Items) (place end : ℕ) (kind : Kind) (body : Text) → items ≡ definition place end next
+      → kind ≡ line_kind (line_at sheet.lines place).text false → body ≡ body_at sheet (place + 1) end
+      → read_define (evaluator reads store levels) kind body (at_line sheet place w) ≡ Gave v tt
+      → read_items (evaluator reads store levels) sheet items w ≡ read_items (evaluator reads store levels) sheet next v
+  unfolding read_items
+  definition_taken w v items next place end kind body is kind_is body_is h = rw (is, ← kind_is, ← body_is, h)
+
   pub first_fails : (stop : Stop) (w v : World) (items : Items) (place : ℕ) (first : Items) (others : Branches) (next : Items)
       → items ≡ conditional place first others next
       → Early stop v (branch_holds (evaluator reads store levels) sheet place true w)

@@ -1,5 +1,5 @@
 -- What files hold, and what a read changes.
-use Rattle.std.specs.Prelude.{◌≡◌, ℕ, List, [], ◌∷◌, ◌++◌, nat_eq, Option, Some, None, Result, Ok, Err, if◌then◌else◌}
+use Rattle.std.specs.Prelude.{◌≡◌, ◌+◌, ◌≤◌, Bool, true, false, ℕ, List, [], ◌∷◌, ◌++◌, map, nat_eq, Option, Some, None, Result, Ok, Err, if◌then◌else◌}
 use Rattle.std.specs.Cmp.Lexicographic.{pointwise}
 use Rattle.kt_list.specs.Counters.{Rises}
 use Rattle.kt_eval.specs.declared.files.FileFault.{FileFault}
@@ -13,10 +13,39 @@ abbrev pub look : Store → List ℕ → Option (List ℕ)
 look [] name = None
 look (e ∷ es) name = if pointwise nat_eq e.0 name then Some e.1 else look es name
 
--- what is seen of files: the bytes of the file with each name, if they are known, the names that were asked for, in
--- order, and how often a read failed; at the greatest `u64` the count stays
+-- a name that was read, and the bytes of its file, or that there was no file
+abbrev pub Answer : Type 0
+Answer = List ℕ × Option (List ℕ)
+
+-- the answers that no file has one of these names
+abbrev pub absent : List (List ℕ) → List Answer
+absent names = map (λ name. (name, None)) names
+
+-- whether a store holds what was answered
+abbrev pub same_found : Option (List ℕ) → Option (List ℕ) → Bool
+same_found None None = true
+same_found None (Some answered) = false
+same_found (Some bytes) None = false
+same_found (Some bytes) (Some answered) = pointwise nat_eq bytes answered
+
+-- how many answers aren't the store's
+unfoldable pub differing : Store → List Answer → ℕ
+differing store [] = 0
+differing store (answer ∷ answers) = (if same_found (look store answer.0) answer.1 then 0 else 1) + differing store answers
+
+-- each answer is the store's
+abbrev pub AgreeWith : Store → List Answer → Type 0
+AgreeWith store answers = differing store answers ≡ 0
+
+-- Answers are only added to: from no store fewer of them differ. By a count it follows through calls and loops as an
+-- order on numbers does.
+abbrev pub AnswersGrow : List Answer → List Answer → Type 0
+AnswersGrow old new = (store : Store) → differing store old ≤ differing store new
+
+-- what is seen of files: what each read answered, the names that were asked for, in order, and how often a read failed;
+-- at the greatest `u64` the count stays
 pub record FilesSeen : Type 0 where
-  pub known : Option Store
+  pub answers : List Answer
   pub names : List (List ℕ)
   pub failed : ℕ
 

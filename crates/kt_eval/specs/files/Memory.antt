@@ -1,20 +1,25 @@
 -- Files in memory.
-use Rattle.std.specs.Prelude.{ℕ, List, ◌∷◌, [], ◌++◌, ◌==◌, Bool, Some, if◌then◌else◌}
+use Rattle.std.specs.Prelude.{ℕ, List, ◌∷◌, [], ◌++◌, ◌==◌, Bool, if◌then◌else◌, map}
 use Rattle.kt_list.specs.Counters.{one_more}
-use Rattle.kt_eval.specs.files.Files.{FilesSeen, Store}
+use Rattle.kt_eval.specs.files.Files.{Answer, FilesSeen, Store, look}
 
--- the bytes of the file with each name, the names asked for, which read fails, how many reads there were, and how many
--- failed
+-- the bytes of the file with each name, the names asked for, those of them that were answered, which read fails, how
+-- many reads there were, and how many failed
 pub record Memory : Type 0 where
   pub store : Store
+  pub answered : List (List ℕ)
   pub asked : List (List ℕ)
   pub nth : ℕ
   pub reads : ℕ
   pub failures : ℕ
 
+-- the store's answers to these names
+abbrev pub answers_from : Store → List (List ℕ) → List Answer
+answers_from store names = map (λ name. (name, look store name)) names
+
 -- what is seen of them, as of any files
 abbrev pub seen_of : Memory → FilesSeen
-seen_of m = record { known = Some m.store; names = m.asked; failed = m.failures }
+seen_of m = record { answers = answers_from m.store m.answered; names = m.asked; failed = m.failures }
 
 -- whether the next read is the one that fails
 abbrev pub fails_next : Memory → Bool
@@ -24,6 +29,7 @@ fails_next m = one_more m.reads == m.nth
 abbrev pub after_read : Memory → List ℕ → Memory
 after_read m name = record {
   store = m.store;
+  answered = if fails_next m then m.answered else m.answered ++ name ∷ [];
   asked = m.asked ++ name ∷ [];
   nth = m.nth;
   reads = one_more m.reads;

@@ -4,7 +4,8 @@ ghost use Rattle.kt_text.specs.Words.{words_of};
 ghost use Rattle.kt_eval.specs.State.{lookup};
 ghost use Rattle.kt_eval.specs.inner.Doing.{Does};
 ghost use Rattle.kt_eval.specs.Outcome.{Gives, IfCut, left_of};
-ghost use Rattle.kt_eval.specs.Step.{AreKnown, Blames, GoesOn, Keeps, files_of, store_of};
+ghost use Rattle.kt_eval.specs.files.Files.{AgreeWith, Store};
+ghost use Rattle.kt_eval.specs.Step.{Blames, GoesOn, Keeps, files_of};
 ghost use Rattle.kt_eval.specs.expanding.Levels.{evaluator};
 ghost use Rattle.kt_eval.specs.expanding.Expansion.{apply, apply_and, apply_call, apply_error, apply_eval};
 ghost use Rattle.kt_eval.specs.expanding.Expansion.{apply_foreach, apply_if, apply_info, apply_or, apply_text};
@@ -35,11 +36,11 @@ impl<'a, M: Scope, F: Files> Evaluation<'a, M, F> {
         function: Function,
         arguments: &[&[u8]],
     ) -> Result<Vec<u8>, Stop>
-        ensures gives { AreKnown self.old.known → Gives (λ v. v.items) result self.new.world
-            (apply (evaluator M.writable (store_of self.old.known) below) function (map (λ a. a.now) arguments.now)
+        ensures gives { (store : Store) → AgreeWith store self.new.answers → Gives (λ v. v.items) result self.new.world
+            (apply (evaluator M.writable store below) function (map (λ a. a.now) arguments.now)
             self.old.world) }
-        ensures cut { AreKnown self.old.known → IfCut result (GoesOn self.new.world (left_of
-            (apply (evaluator M.writable (store_of self.old.known) below) function (map (λ a. a.now) arguments.now)
+        ensures cut { (store : Store) → AgreeWith store self.new.answers → IfCut result (GoesOn self.new.world (left_of
+            (apply (evaluator M.writable store below) function (map (λ a. a.now) arguments.now)
             self.old.world))) }
         ensures kept { Keeps self.old self.new }
         ensures blames { Blames result (files_of self.old) (files_of self.new) }

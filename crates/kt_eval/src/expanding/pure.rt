@@ -71,9 +71,14 @@ struct NoFiles {
 }
 
 impl Files for NoFiles {
-    ghost use Rattle.std.specs.Prelude.{[], Some, map, string_bytes};
+    ghost use Rattle.std.specs.Prelude.{map, string_bytes};
+    ghost use Rattle.kt_eval.specs.files.Files.{absent};
 
-    ghost seen = { λ s. record { known = Some []; names = map string_bytes s.asked.items; failed = 0 } };
+    ghost seen = { λ s. record {
+      answers = absent (map string_bytes s.asked.items);
+      names = map string_bytes s.asked.items;
+      failed = 0;
+    } };
 
     fn read(&mut self, name: &str) -> Result<Option<Vec<u8>>, FileFault> {
         match self.note(name) {

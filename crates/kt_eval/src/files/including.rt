@@ -4,11 +4,12 @@ ghost use Rattle.std.specs.Str.{is_utf8};
 ghost use Rattle.std.specs.List.{list_any};
 ghost use Rattle.kt_text.specs.Words.{words_of};
 ghost use Rattle.kt_eval.specs.files.Including.{each_include, include_line, include_named, is_pattern};
+ghost use Rattle.kt_eval.specs.files.Files.{AgreeWith, Store};
 ghost use Rattle.kt_eval.specs.reading.Reading.{included, read_file, read_first, read_included};
-ghost use Rattle.kt_eval.specs.inner.Doing.{Does};
+ghost use Rattle.kt_eval.specs.inner.Doing.{Does, DoesIn};
 ghost use Rattle.kt_eval.specs.expanding.Levels.{evaluator};
 ghost use Rattle.kt_eval.specs.Outcome.{Gives, IfCut, left_of};
-ghost use Rattle.kt_eval.specs.Step.{AreKnown, Blames, GoesOn, Keeps, files_of, store_of};
+ghost use Rattle.kt_eval.specs.Step.{Blames, GoesOn, Keeps, files_of};
 
 use crate::evaluation::Evaluation;
 use crate::files::Files;
@@ -125,8 +126,8 @@ impl<'a, M: Scope, F: Files> Evaluation<'a, M, F> {
     #[tactic(auto, using(crate::proofs::Steps::read_included_goes), unfolding(crate::specs::reading::Reading::included))]
     pub(crate) fn included(&mut self, below: u64, optional: bool, name: &str) -> Result<(), Stop>
         requires { M.writable ≡ true }
-        ensures { Does (λ u. u) M.writable below
-            (λ e. included (store_of self.old.known) e optional name.now) result self.old self.new }
+        ensures { DoesIn (λ u. u) M.writable below
+            (λ store e. included store e optional name.now) result self.old self.new }
     {
         let found = self.read_bytes(name)?;
         self.read_included(below, optional, name, found)
@@ -179,11 +180,11 @@ impl<'a, M: Scope, F: Files> Evaluation<'a, M, F> {
     #[tactic(auto, using(crate::proofs::Steps::read_first_goes), unfolding(crate::specs::reading::Reading::read_first))]
     pub(crate) fn read_first(&mut self, limit: u64, names: &[&str]) -> Result<(), Stop>
         requires { M.writable ≡ true }
-        ensures gives { AreKnown self.old.known → Gives (λ u. u) result self.new.world
-            (read_first (store_of self.old.known) (evaluator M.writable (store_of self.old.known) limit)
+        ensures gives { (store : Store) → AgreeWith store self.new.answers → Gives (λ u. u) result self.new.world
+            (read_first store (evaluator M.writable store limit)
             (map (λ name. name.now) names.now) self.old.world) }
-        ensures cut { AreKnown self.old.known → IfCut result (GoesOn self.new.world (left_of
-            (read_first (store_of self.old.known) (evaluator M.writable (store_of self.old.known) limit)
+        ensures cut { (store : Store) → AgreeWith store self.new.answers → IfCut result (GoesOn self.new.world (left_of
+            (read_first store (evaluator M.writable store limit)
             (map (λ name. name.now) names.now) self.old.world))) }
         ensures kept { Keeps self.old self.new }
         ensures blames { Blames result (files_of self.old) (files_of self.new) }

@@ -12,6 +12,7 @@ pub struct MemFiles {
     alloc: Global,
     pairs: Vec<(String, Vec<u8>)>,
     asked: Vec<String>,
+    answered: Vec<String>,
     nth: u64,
     reads: u64,
     failures: u64,
@@ -25,6 +26,7 @@ impl Model for MemFiles {
 
     ghost view = { λ s. record {
       store = map (λ p. (string_bytes p.0, p.1.items)) s.pairs.items;
+      answered = map string_bytes s.answered.items;
       asked = map string_bytes s.asked.items;
       nth = s.nth;
       reads = s.reads;
@@ -41,6 +43,7 @@ impl MemFiles {
     pub fn new(alloc: Global, pairs: Vec<(String, Vec<u8>)>, nth: u64) -> MemFiles
         ensures { result ≡ record {
           store = map (λ p. (string_bytes p.0, p.1.items)) pairs.items;
+          answered = [];
           asked = [];
           nth = nth;
           reads = 0;
@@ -51,6 +54,7 @@ impl MemFiles {
             alloc,
             pairs,
             asked: Vec::new(alloc),
+            answered: Vec::new(alloc),
             nth,
             reads: 0,
             failures: 0,
@@ -75,18 +79,21 @@ fn find(
 }
 
 impl Files for MemFiles {
-    ghost use Rattle.std.specs.Prelude.{◌≡◌, ◌≤◌, Some, option_map, true, false, IfOk, IfErr, OnOk};
+    ghost use Rattle.std.specs.Prelude.{◌≡◌, ◌≤◌, ◌∷◌, ◌++◌, [], option_map, true, false, IfOk, IfErr, OnOk, OnErr};
     ghost use Rattle.kt_eval.specs.files.Files.{AskedAfter, CountedAfter, IsDevice, IsMemory, look};
     ghost use Rattle.kt_eval.specs.files.Memory.{after_read, fails_next, seen_of};
 
     ghost seen = { seen_of };
 
     fn read(&mut self, name: &str) -> Result<Option<Vec<u8>>, FileFault>
-        ensures found { IfOk result (λ found. option_map (λ v. v.items) found ≡ look self.old.store name.now) }
-        ensures keeps { (seen_of self.new).known ≡ (seen_of self.old).known }
+        ensures answers { IfOk result (λ found. (seen_of self.new).answers
+            ≡ (seen_of self.old).answers ++ (name.now, option_map (λ v. v.items) found) ∷ []) }
+        ensures keeps { OnErr result ((seen_of self.new).answers ≡ (seen_of self.old).answers) }
         ensures asked { AskedAfter result (seen_of self.old) (seen_of self.new) name.now }
         ensures counts { (seen_of self.old).failed ≤ (seen_of self.new).failed }
         ensures fails { CountedAfter result (seen_of self.old) (seen_of self.new) }
+
+        ensures found { IfOk result (λ found. option_map (λ v. v.items) found ≡ look self.old.store name.now) }
 
         // The device fails at the nth read and at no other.
         ensures device { IfErr result (λ e. IsDevice e → fails_next self.old ≡ true) }
@@ -98,17 +105,26 @@ impl Files for MemFiles {
         let Ok(copy) = name.to_string(self.alloc) else {
             return Err(FileFault::Memory);
         };
+        let Ok(again) = name.to_string(self.alloc) else {
+            return Err(FileFault::Memory);
+        };
         let Ok(found) = find(self.alloc, self.pairs.as_slice(), name) else {
             return Err(FileFault::Memory);
         };
         if self.asked.push(copy).is_err() {
             return Err(FileFault::Memory);
         }
-        self.reads = self.reads.saturating_add(1);
-        if self.reads == self.nth {
+        let reads = self.reads.saturating_add(1);
+        if reads == self.nth {
+            self.reads = reads;
             self.failures = self.failures.saturating_add(1);
             return Err(FileFault::Device);
         }
+        if self.answered.push(again).is_err() {
+            let _ = self.asked.pop();
+            return Err(FileFault::Memory);
+        }
+        self.reads = reads;
         Ok(found)
     }
 

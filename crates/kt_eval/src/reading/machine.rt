@@ -1,6 +1,7 @@
 //! Reads makefiles to their end.
 
-ghost use Rattle.std.specs.Prelude.{◌≡◌, ◌≤◌, IfErr, IfOk, IfSome, None, OnOk, Some, map, true};
+ghost use Rattle.std.specs.Prelude.{◌≡◌, ◌≤◌, IfErr, IfOk, None, OnOk, Some, map, true};
+ghost use Rattle.kt_eval.specs.files.Files.{AgreeWith, AnswersGrow, Store};
 ghost use Rattle.kt_eval.specs.Prefixes.{IsPrefix};
 ghost use Rattle.kt_eval.specs.reading.Machine.{ComesBefore, IsCopy, Remembers, Repeats, nothing_read, read_by};
 ghost use Rattle.kt_eval.specs.reading.Machine.{read_of, reading, reading_by, traced, traced_by, with_default};
@@ -81,12 +82,12 @@ impl Machine {
     /// prefix of the names is asked for. A failed device is reported with the name asked for last; after such a failure
     /// nothing else is returned.
     pub fn read_file<F: Files>(&mut self, files: &mut F, names: &[&str]) -> Result<(), Stop>
-        ensures reads { self.old.refusal ≡ None → IfSome (F.seen files.old).known (λ store. Gives
+        ensures reads { self.old.refusal ≡ None → (store : Store) → AgreeWith store (F.seen files.new).answers → Gives
             (λ _. read_by self.new) result (traced_by self.new (F.seen files.new).names)
-            (reading_by store (map (λ name. name.now) names.now) self.old (F.seen files.old).names)) }
-        ensures cut { self.old.refusal ≡ None → IfSome (F.seen files.old).known
-            (λ store. IfCut result (ComesBefore (traced_by self.new (F.seen files.new).names)
-            (left_of (reading_by store (map (λ name. name.now) names.now) self.old (F.seen files.old).names)))) }
+            (reading_by store (map (λ name. name.now) names.now) self.old (F.seen files.old).names) }
+        ensures cut { self.old.refusal ≡ None → (store : Store) → AgreeWith store (F.seen files.new).answers
+            → IfCut result (ComesBefore (traced_by self.new (F.seen files.new).names)
+            (left_of (reading_by store (map (λ name. name.now) names.now) self.old (F.seen files.old).names))) }
         ensures repeats { (stop : StopType) → self.old.refusal ≡ Some stop → Repeats result stop }
         ensures untouched { (stop : StopType) → self.old.refusal ≡ Some stop → (files.new ≡ files.old)
             × (self.new ≡ self.old) }
@@ -94,7 +95,7 @@ impl Machine {
         ensures limited { self.new.limit ≡ self.old.limit }
         ensures said { IsPrefix self.old.said self.new.said }
         ensures asked { IsPrefix (F.seen files.old).names (F.seen files.new).names }
-        ensures keeps { (F.seen files.new).known ≡ (F.seen files.old).known }
+        ensures grows { AnswersGrow (F.seen files.old).answers (F.seen files.new).answers }
         ensures counts { (F.seen files.old).failed ≤ (F.seen files.new).failed }
         ensures blames { self.old.refusal ≡ None
             → Blames result (F.seen files.old) (F.seen files.new) }
@@ -111,17 +112,17 @@ impl Machine {
 
     // Reads once. Meanwhile an empty book is in place of the machine's own.
     fn read<F: Files>(&mut self, files: &mut F, names: &[&str]) -> Result<(), Stop>
-        ensures reads { IfSome (F.seen files.old).known (λ store. Gives (λ _. read_by self.new)
+        ensures reads { (store : Store) → AgreeWith store (F.seen files.new).answers → Gives (λ _. read_by self.new)
             result (traced_by self.new (F.seen files.new).names)
-            (reading_by store (map (λ name. name.now) names.now) self.old (F.seen files.old).names)) }
-        ensures cut { IfSome (F.seen files.old).known
-            (λ store. IfCut result (ComesBefore (traced_by self.new (F.seen files.new).names)
-            (left_of (reading_by store (map (λ name. name.now) names.now) self.old (F.seen files.old).names)))) }
+            (reading_by store (map (λ name. name.now) names.now) self.old (F.seen files.old).names) }
+        ensures cut { (store : Store) → AgreeWith store (F.seen files.new).answers
+            → IfCut result (ComesBefore (traced_by self.new (F.seen files.new).names)
+            (left_of (reading_by store (map (λ name. name.now) names.now) self.old (F.seen files.old).names))) }
         ensures limited { self.new.limit ≡ self.old.limit }
         ensures refusal { self.new.refusal ≡ self.old.refusal }
         ensures said { IsPrefix self.old.said self.new.said }
         ensures asked { IsPrefix (F.seen files.old).names (F.seen files.new).names }
-        ensures keeps { (F.seen files.new).known ≡ (F.seen files.old).known }
+        ensures grows { AnswersGrow (F.seen files.old).answers (F.seen files.new).answers }
         ensures counts { (F.seen files.old).failed ≤ (F.seen files.new).failed }
         ensures blames { Blames result (F.seen files.old) (F.seen files.new) }
     {
@@ -170,17 +171,17 @@ fn read_once<F: Files>(
     files: &mut F,
     names: &[&str],
 ) -> (Makefile, Vec<Sequence<u8>>, Result<(), Stop>)
-    ensures reads { IfSome (F.seen files.old).known (λ store. Gives (λ _. read_of result.0.macros result.0.book)
-        result.2 (traced result.1.items (F.seen files.new).names)
+    ensures reads { (store : Store) → AgreeWith store (F.seen files.new).answers
+        → Gives (λ _. read_of result.0.macros result.0.book) result.2 (traced result.1.items (F.seen files.new).names)
         (reading store (map (λ name. name.now) names.now) limit (read_of makefile.macros makefile.book)
-        (traced messages.items (F.seen files.old).names))) }
-    ensures cut { IfSome (F.seen files.old).known
-        (λ store. IfCut result.2 (ComesBefore (traced result.1.items (F.seen files.new).names)
+        (traced messages.items (F.seen files.old).names)) }
+    ensures cut { (store : Store) → AgreeWith store (F.seen files.new).answers
+        → IfCut result.2 (ComesBefore (traced result.1.items (F.seen files.new).names)
         (left_of (reading store (map (λ name. name.now) names.now) limit (read_of makefile.macros makefile.book)
-        (traced messages.items (F.seen files.old).names))))) }
+        (traced messages.items (F.seen files.old).names)))) }
     ensures said { IsPrefix messages.items result.1.items }
     ensures asked { IsPrefix (F.seen files.old).names (F.seen files.new).names }
-    ensures keeps { (F.seen files.new).known ≡ (F.seen files.old).known }
+    ensures grows { AnswersGrow (F.seen files.old).answers (F.seen files.new).answers }
     ensures counts { (F.seen files.old).failed ≤ (F.seen files.new).failed }
     ensures blames { Blames result.2 (F.seen files.old) (F.seen files.new) }
 {

@@ -14,6 +14,7 @@ returns-in-Ok g c =
         run = c.run-ended.result;
         ended = devices files (g.O.Sink.seen c.run-ended.new.out) (g.E.Sink.seen c.run-ended.new.err);
         leaves = c.run-ended.ensures.leaves;
+        output = c.run-ended.ensures.output;
         blames = c.run-ended.ensures.blames;
         exit = c.finish.ensures.code;
         told = told_end c.run-ended.result files (g.O.Sink.seen c.run-ended.new.out) (g.E.Sink.seen c.run-ended.new.err) (g.E.Sink.seen c.finish.new.err)

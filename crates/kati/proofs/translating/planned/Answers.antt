@@ -1,9 +1,7 @@
-use Rattle.kati.proofs.BlameLemmas.{if_some-weaker}
 use Rattle.kati.proofs.MeaningLemmas.{then_means}
 use Rattle.kati.proofs.translating.planned.Goals as goal
 
 pub returns-clause-means : goal.returns-clause-means
-returns-clause-means g c = if_some-weaker (g.F.Files.seen c.args.files.now).known _ _
-    (λ store is. then_means c.args.args.now store (g.F.Files.seen c.args.files.now).names _ _ _ c.planned_of-plan.result is
+returns-clause-means g c = λ store agrees.
+    (then_means c.args.args.now store (g.F.Files.seen c.args.files.now).names _ _ _ c.planned_of-plan.result (c.in_ok-found.ensures.gives store agrees)
     (c.planned_of-plan.ensures.means (g.F.Files.seen c.prepared.new.files).names))
-    c.in_ok-found.ensures.gives

@@ -1,6 +1,5 @@
 -- A reading from its first line to its end.
-use Rattle.std.proofs.Common.{◌≡◌, ℕ, List, [], Option, Some, None, Result, Ok, Err, refl, sym, true}
-use Rattle.std.specs.Prelude.{IfSome}
+use Rattle.std.proofs.Common.{◌≡◌, ℕ, List, [], Result, Ok, Err, refl, sym, true}
 use Rattle.kt_text.specs.Words.{Text}
 use Rattle.kt_rules.specs.Entry.{Rule}
 use Rattle.kt_eval.specs.declared.stop.Stop.{Stop}
@@ -10,7 +9,7 @@ use Rattle.kt_eval.specs.macros.Macros.{Table}
 use Rattle.kt_eval.specs.State.{World}
 use Rattle.kt_eval.specs.declared.state.Frame.{Frame}
 use Rattle.kt_eval.specs.Outcome.{Outcome, Gave, Stopped, Gives, IfCut, leaving, left_of, then_do}
-use Rattle.kt_eval.specs.Step.{told, asked_for, GoesOn, AreKnown, store_of}
+use Rattle.kt_eval.specs.Step.{told, asked_for, GoesOn}
 use Rattle.kt_eval.specs.expanding.Levels.{evaluator}
 use Rattle.kt_eval.specs.reading.Reading.{read_first}
 use Rattle.kt_eval.specs.reading.Machine.{ComesBefore, Read, Trace, first_world, read_of, reading, trace_of, traced}
@@ -45,33 +44,21 @@ cut_so (Err stops.Memory) w outcome h = in_the_end w outcome h
 module _ (names : List Text) (limit : ℕ) (before : Read) (trace : Trace) (frames : List Frame) (result : Result (Unit {0}) Stop)
     (w : World) (table : Table) (book : List Rule) (said asked : List Text) (empty : frames ≡ []) (t : w.table ≡ table) (b : w.book ≡ book)
     (s : w.said ≡ said) (a : w.asked ≡ asked) where
-  -- a reading, from the state at its end, if the bytes of the named files are known
-  pub reads_when : (known : Option Store)
-      → (AreKnown known → Gives (λ u. u) result w (read_first (store_of known) (evaluator true (store_of known) limit) names (record (first_world before trace) { frames = frames })))
-      → IfSome known (λ store. Gives (λ _. read_of table book) result (traced said asked) (reading store names limit before trace))
-  reads_when None h = tt
-  reads_when (Some store) h = rw (sym t, sym b, sym s, sym a)
-      (ends_so result w (read_first store (evaluator true store limit) names (first_world before trace)) (rw empty at (h refl)))
+  -- a reading, from the state at its end
+  pub reads_when : (store : Store)
+      → Gives (λ u. u) result w (read_first store (evaluator true store limit) names (record (first_world before trace) { frames = frames }))
+      → Gives (λ _. read_of table book) result (traced said asked) (reading store names limit before trace)
+  reads_when store h = rw (sym t, sym b, sym s, sym a)
+      (ends_so result w (read_first store (evaluator true store limit) names (first_world before trace)) (rw empty at h))
 
-  pub cut_when : (known : Option Store)
-      → (AreKnown known → IfCut result (GoesOn w (left_of (read_first (store_of known) (evaluator true (store_of known) limit) names (record (first_world before trace) { frames = frames })))))
-      → IfSome known (λ store. IfCut result (ComesBefore (traced said asked) (left_of (reading store names limit before trace))))
-  cut_when None h = tt
-  cut_when (Some store) h = rw (sym s, sym a)
-      (cut_so result w (read_first store (evaluator true store limit) names (first_world before trace)) (rw empty at (h refl)))
+  pub cut_when : (store : Store)
+      → IfCut result (GoesOn w (left_of (read_first store (evaluator true store limit) names (record (first_world before trace) { frames = frames }))))
+      → IfCut result (ComesBefore (traced said asked) (left_of (reading store names limit before trace)))
+  cut_when store h = rw (sym s, sym a)
+      (cut_so result w (read_first store (evaluator true store limit) names (first_world before trace)) (rw empty at h))
 
 -- before the first line the messages and the names are a prefix of those of the reading
 pub before_reading : (store : Store) (names : List Text) (limit : ℕ) (before : Read) (trace : Trace)
     → ComesBefore trace (left_of (reading store names limit before trace))
 before_reading store names limit before trace = in_the_end (first_world before trace)
     (read_first store (evaluator true store limit) names (first_world before trace)) (read_first_front true store limit names (first_world before trace))
-
-pub known_before : (names : List Text) (limit : ℕ) (before : Read) (trace : Trace) (known : Option Store)
-    → IfSome known (λ store. ComesBefore trace (left_of (reading store names limit before trace)))
-known_before names limit before trace None = tt
-known_before names limit before trace (Some store) = before_reading store names limit before trace
-
--- nothing is said of a call that was cut
-pub known_cut : (known : Option Store) → IfSome known (λ store. Unit {0})
-known_cut None = tt
-known_cut (Some store) = tt

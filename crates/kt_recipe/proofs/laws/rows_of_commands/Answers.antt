@@ -7,6 +7,7 @@ returns c = record {
   canned = RowLemmas.canned;
   marked = RowLemmas.marked;
   marked_line = RowLemmas.marked_line;
+  three_pieces = RowLemmas.three_pieces;
   trailing_blank = RowLemmas.trailing_blank;
   no_piece = RowLemmas.no_piece;
   double_colon = RowLemmas.double_colon;

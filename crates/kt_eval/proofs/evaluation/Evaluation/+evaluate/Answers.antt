@@ -1,4 +1,4 @@
-use Rattle.std.proofs.Common.{◌≡◌, ◌∙◌, ap, List, rules, subst, sym}
+use Rattle.std.proofs.Common.{◌≡◌, ◌∙◌, ap, arith, List, rules, subst, sym}
 use Rattle.kt_text.specs.Words.{Text}
 use Rattle.kt_syntax.specs.Reading.{left_at}
 use Rattle.kt_syntax.specs.Terms.{token_of}
@@ -6,9 +6,10 @@ use Rattle.kt_eval.specs.expanding.Expansion.{expanded}
 use Rattle.kt_eval.specs.inner.Views.{compared_view}
 use Rattle.kt_eval.specs.Outcome.{Gave, Outcome, left_of}
 use Rattle.kt_eval.specs.State.{World, lookup}
-use Rattle.kt_eval.specs.Step.{AreKnown, GoesOn, store_of}
+use Rattle.kt_eval.specs.Step.{GoesOn}
+use Rattle.kt_eval.specs.files.Files.{AgreeWith, Store}
 use Rattle.std.proofs.lemmas.Result.{err_from_is_err_and}
-use Rattle.kt_eval.proofs.lemmas.EarlyLemmas.{Early, call_fails, close_fails, eval_fails, foreach_fails, word_fails, sheet_fails, equal_fails, argument_at_fails, argument_at_front, or_at_fails, and_at_fails, definition_fails, first_fails, branch_fails}
+use Rattle.kt_eval.proofs.lemmas.EarlyLemmas.{Early, call_fails, close_fails, eval_fails, foreach_fails, word_fails, sheet_fails, equal_fails, argument_at_fails, argument_at_front, or_at_fails, and_at_fails, definition_fails, definition_taken, first_fails, branch_fails}
 use Rattle.kt_eval.specs.inner.Plain.{put_of}
 use Rattle.kt_eval.proofs.lemmas.expanding.AppendingLemmas.{put_gives, value_fails, value_front, value_gives, whole_gives, term_fails, term_gives}
 use Rattle.kt_eval.proofs.lemmas.expanding.PlainLemmas.{value_put, value_expanded}
@@ -21,18 +22,18 @@ use Rattle.kt_eval.proofs.evaluation.Evaluation.+evaluate.Goals as goal
 
 pub read_conditional-returns-then-branch-clause-goes_on :
     goal.read_conditional-returns-then-branch-clause-goes_on
-read_conditional-returns-then-branch-clause-goes_on g t c = λ known.
-    let e = evaluator g.M.Scope.writable (store_of c.args.self.now.known) c.args.below in
+read_conditional-returns-then-branch-clause-goes_on g t c = λ store agrees.
+    let e = evaluator g.M.Scope.writable store c.args.below in
     rw c.past.ensures
     (first_taken e c.args.page.now c.args.page.now.blocks.steps c.args.place c.args.next c.args.after c.args.self.now.world c.branch_holds.new.self.world
-    c.requires.reads (c.in_ok-branch_holds.ensures.gives known ∙ ap (λ b. Gave c.branch_holds.new.self.world b) c.if-branch.true))
+    c.requires.reads (c.in_ok-branch_holds.ensures.gives store agrees ∙ ap (λ b. Gave c.branch_holds.new.self.world b) c.if-branch.true))
 
 pub put_term-returns-in-Nothing : goal.put_term-returns-in-Nothing
 put_term-returns-in-Nothing g t c = record {
-  gives = λ known.
-      put_gives g.M.Scope.writable (store_of c.args.self.now.known) c.args.below c.args.out.now.items c.put_plain.new.out.items (token_of c.args.term) c.args.self.now.world
+  gives = λ store agrees.
+      put_gives g.M.Scope.writable store c.args.below c.args.out.now.items c.put_plain.new.out.items (token_of c.args.term) c.args.self.now.world
       (sym c.in-Nothing.is ∙ c.in_ok-put_plain.ensures.left) c.in_ok-put_plain.ensures.put;
-  cut = λ known. tt;
+  cut = λ store agrees. tt;
   kept = search rules;
   blames = search rules;
 }
@@ -42,12 +43,12 @@ put_term-returns-in_err-x-in-Value g t c =
     let p = err_from_is_err_and c.from_residual-in_err-x-in-Value.result c.from_residual-in_err-x-in-Value.ensures.1 in
     let h = rw c.as_slice.ensures at c.in_err-x-in-Value.ensures.gives in
     let k = rw c.as_slice.ensures at c.in_err-x-in-Value.ensures.cut in
-    let early = λ (known : AreKnown c.args.self.now.known).
-    (value_fails g.M.Scope.writable (store_of c.args.self.now.known) c.args.below c.in_err-x-in-Value.field-0.0 c.args.out.now.items c.in-Value.value (token_of c.args.term) c.args.self.now.world c.expand.new.self.world
-    (sym c.in-Value.is ∙ c.in_ok-put_plain.ensures.left) (h known, k known)) in
+    let early = λ (store : Store) (agrees : AgreeWith store c.expand.new.self.answers).
+    (value_fails g.M.Scope.writable store c.args.below c.in_err-x-in-Value.field-0.0 c.args.out.now.items c.in-Value.value (token_of c.args.term) c.args.self.now.world c.expand.new.self.world
+    (sym c.in-Value.is ∙ c.in_ok-put_plain.ensures.left) (h store agrees, k store agrees)) in
     record {
-      gives = λ known. rw (p.1, p.2) (early known).0;
-      cut = λ known. rw (p.1, p.2) (early known).1;
+      gives = λ store agrees. rw (p.1, p.2) (early store agrees).0;
+      cut = λ store agrees. rw (p.1, p.2) (early store agrees).1;
       kept = search rules;
       blames = search rules;
     }
@@ -57,10 +58,10 @@ put_term-returns-in_err-extend_from_slice-in-Value g t c =
     let p = err_from_is_err_and c.from_residual-in_err-extend_from_slice-in-Value.result c.from_residual-in_err-extend_from_slice-in-Value.ensures.1 in
     let h = rw c.as_slice.ensures at c.in_ok-x-in-Value.ensures.gives in
     record {
-      gives = λ known. rw (p.1, p.2) tt;
-      cut = λ known. rw (p.1, p.2)
-          (value_front g.M.Scope.writable (store_of c.args.self.now.known) c.args.below c.args.out.now.items c.in_ok-x-in-Value.x.items c.in-Value.value (token_of c.args.term) c.args.self.now.world c.expand.new.self.world
-          (sym c.in-Value.is ∙ c.in_ok-put_plain.ensures.left) (h known));
+      gives = λ store agrees. rw (p.1, p.2) tt;
+      cut = λ store agrees. rw (p.1, p.2)
+          (value_front g.M.Scope.writable store c.args.below c.args.out.now.items c.in_ok-x-in-Value.x.items c.in-Value.value (token_of c.args.term) c.args.self.now.world c.expand.new.self.world
+          (sym c.in-Value.is ∙ c.in_ok-put_plain.ensures.left) (h store agrees));
       kept = search rules;
       blames = search rules;
     }
@@ -69,22 +70,22 @@ pub put_term-returns-in_ok-extend_from_slice-in-Value : goal.put_term-returns-in
 put_term-returns-in_ok-extend_from_slice-in-Value g t c =
     let h = rw c.as_slice.ensures at c.in_ok-x-in-Value.ensures.gives in
     record {
-      gives = λ known.
-          value_gives g.M.Scope.writable (store_of c.args.self.now.known) c.args.below c.args.out.now.items c.put_plain.new.out.items c.extend_from_slice.new.self.items c.in_ok-x-in-Value.x.items c.in-Value.value (token_of c.args.term) c.args.self.now.world c.expand.new.self.world
-          (sym c.in-Value.is ∙ c.in_ok-put_plain.ensures.left) c.in_ok-put_plain.ensures.put (h known)
+      gives = λ store agrees.
+          value_gives g.M.Scope.writable store c.args.below c.args.out.now.items c.put_plain.new.out.items c.extend_from_slice.new.self.items c.in_ok-x-in-Value.x.items c.in-Value.value (token_of c.args.term) c.args.self.now.world c.expand.new.self.world
+          (sym c.in-Value.is ∙ c.in_ok-put_plain.ensures.left) c.in_ok-put_plain.ensures.put (h store agrees)
           (rw c.deref.ensures.value at c.in_ok-extend_from_slice-in-Value.ensures.items);
-      cut = λ known. tt;
+      cut = λ store agrees. tt;
       kept = search rules;
       blames = search rules;
     }
 
 pub put_term-returns-in_ok-extend_from_slice-in-Whole : goal.put_term-returns-in_ok-extend_from_slice-in-Whole
 put_term-returns-in_ok-extend_from_slice-in-Whole g t c = record {
-  gives = λ known.
-      whole_gives g.M.Scope.writable (store_of c.args.self.now.known) c.args.below c.args.out.now.items c.put_plain.new.out.items c.extend_from_slice-in-Whole.new.self.items c.in_ok-x-in-Whole.x.items (token_of c.args.term) c.args.self.now.world c.expand_term.new.self.world
-      (sym c.in-Whole.is ∙ c.in_ok-put_plain.ensures.left) c.in_ok-put_plain.ensures.put (c.in_ok-x-in-Whole.ensures.gives known)
+  gives = λ store agrees.
+      whole_gives g.M.Scope.writable store c.args.below c.args.out.now.items c.put_plain.new.out.items c.extend_from_slice-in-Whole.new.self.items c.in_ok-x-in-Whole.x.items (token_of c.args.term) c.args.self.now.world c.expand_term.new.self.world
+      (sym c.in-Whole.is ∙ c.in_ok-put_plain.ensures.left) c.in_ok-put_plain.ensures.put (c.in_ok-x-in-Whole.ensures.gives store agrees)
       (rw c.deref-in-Whole.ensures.value at c.in_ok-extend_from_slice-in-Whole.ensures.items);
-  cut = λ known. tt;
+  cut = λ store agrees. tt;
   kept = search rules;
   blames = search rules;
 }
@@ -93,27 +94,27 @@ pub expand_here-returns-in_err-put_term : goal.expand_here-returns-in_err-put_te
 unfolding expanded
 expand_here-returns-in_err-put_term g t c =
     let p = err_from_is_err_and c.from_residual-in_err-put_term.result c.from_residual-in_err-put_term.ensures.1 in
-    let h = rw c.terms.invariant.kept.0 at c.in_err-put_term.ensures.gives in
-    let k = rw c.terms.invariant.kept.0 at c.in_err-put_term.ensures.cut in
-    let early = λ (known : AreKnown c.args.self.now.known).
-    (subst (λ (o : Outcome World Text). Early c.in_err-put_term.field-0.0 c.put_term.new.self.world o) (c.terms.invariant.rest known)
-    (term_fails g.M.Scope.writable (store_of c.args.self.now.known) c.args.below c.in_err-put_term.field-0.0 c.terms.out.items (token_of c.in-Some.term) c.terms.rest c.next.new.self c.terms.self.world c.put_term.new.self.world c.in-Some.ensures.steps (h known, k known))) in
+    let h = c.in_err-put_term.ensures.gives in
+    let k = c.in_err-put_term.ensures.cut in
+    let early = λ (store : Store) (agrees : AgreeWith store c.put_term.new.self.answers).
+    (subst (λ (o : Outcome World Text). Early c.in_err-put_term.field-0.0 c.put_term.new.self.world o) (c.terms.invariant.rest store (omega (arith, c.in_err-put_term.ensures.kept.0 store)))
+    (term_fails g.M.Scope.writable store c.args.below c.in_err-put_term.field-0.0 c.terms.out.items (token_of c.in-Some.term) c.terms.rest c.next.new.self c.terms.self.world c.put_term.new.self.world c.in-Some.ensures.steps (h store agrees, k store agrees))) in
     record {
-      gives = λ known. rw (p.1, p.2) (early known).0;
-      cut = λ known. rw (p.1, p.2) (early known).1;
+      gives = λ store agrees. rw (p.1, p.2) (early store agrees).0;
+      cut = λ store agrees. rw (p.1, p.2) (early store agrees).1;
       kept = search rules;
       blames = search rules;
     }
 
 pub expand_here-terms-preserved : goal.expand_here-terms-preserved
 expand_here-terms-preserved g t c =
-    let h = rw c.terms.invariant.kept.0 at c.in_ok-put_term.ensures.gives in
+    let h = c.in_ok-put_term.ensures.gives in
     record {
       kept = search rules;
       unfailed = search rules;
-      rest = λ known.
-          sym (term_gives g.M.Scope.writable (store_of c.args.self.now.known) c.args.below c.terms.out.items c.put_term.new.out.items (token_of c.in-Some.term) c.terms.rest c.next.new.self c.terms.self.world c.put_term.new.self.world c.in-Some.ensures.steps (h known))
-          ∙ c.terms.invariant.rest known;
+      rest = λ store agrees.
+          sym (term_gives g.M.Scope.writable store c.args.below c.terms.out.items c.put_term.new.out.items (token_of c.in-Some.term) c.terms.rest c.next.new.self c.terms.self.world c.put_term.new.self.world c.in-Some.ensures.steps (h store agrees))
+          ∙ c.terms.invariant.rest store (omega (arith, c.in_ok-put_term.ensures.kept.0 store));
     }
 
 pub value_of-returns-in-None : goal.value_of-returns-in-None
@@ -121,10 +122,10 @@ value_of-returns-in-None g t c =
     let found = lookup c.args.name.now c.args.self.now.world in
     let text : c.put_value.new.out.items ≡ put_of c.args.below found = search rules in
     record {
-      gives = λ known.
-          value_put g.M.Scope.writable (store_of c.args.self.now.known) c.args.below found c.args.self.now.world (sym c.in-None.is ∙ c.in_ok-put_value.ensures.left)
+      gives = λ store agrees.
+          value_put g.M.Scope.writable store c.args.below found c.args.self.now.world (sym c.in-None.is ∙ c.in_ok-put_value.ensures.left)
           ∙ ap (λ t. Gave c.args.self.now.world t) (sym text);
-      cut = λ known. tt;
+      cut = λ store agrees. tt;
       kept = search rules;
       blames = search rules;
     }
@@ -133,11 +134,11 @@ pub value_of-returns-in-Some : goal.value_of-returns-in-Some
 value_of-returns-in-Some g t c =
     let h = rw c.as_slice.ensures at c.expand.ensures.gives in
     let k = rw c.as_slice.ensures at c.expand.ensures.cut in
-    let is = λ (known : AreKnown c.args.self.now.known).
-    (value_expanded g.M.Scope.writable (store_of c.args.self.now.known) c.args.below (lookup c.args.name.now c.args.self.now.world) c.in-Some.value c.args.self.now.world (sym c.in-Some.is ∙ c.in_ok-put_value.ensures.left)) in
+    let is = λ (store : Store) (agrees : AgreeWith store c.expand.new.self.answers).
+    (value_expanded g.M.Scope.writable store c.args.below (lookup c.args.name.now c.args.self.now.world) c.in-Some.value c.args.self.now.world (sym c.in-Some.is ∙ c.in_ok-put_value.ensures.left)) in
     record {
-      gives = λ known. rw (is known).0 (h known);
-      cut = λ known. rw (is known).0 (k known);
+      gives = λ store agrees. rw (is store agrees).0 (h store agrees);
+      cut = λ store agrees. rw (is store agrees).0 (k store agrees);
       kept = search rules;
       blames = search rules;
     }
@@ -145,11 +146,11 @@ value_of-returns-in-Some g t c =
 pub apply_foreach-returns-in_err-expanded : goal.apply_foreach-returns-in_err-expanded
 apply_foreach-returns-in_err-expanded g t c =
     let p = err_from_is_err_and c.from_residual.result c.from_residual.ensures.1 in
-    let early = λ (known : AreKnown c.args.self.now.known).
-    (foreach_fails g.M.Scope.writable (store_of c.args.self.now.known) c.args.below c.in_err-expanded.field-0.0 c.args.self.now.world c.expand.new.self.world c.args.variable.now c.args.list.now c.args.body.now (c.in_err-expanded.ensures.gives known, c.in_err-expanded.ensures.cut known)) in
+    let early = λ (store : Store) (agrees : AgreeWith store c.expand.new.self.answers).
+    (foreach_fails g.M.Scope.writable store c.args.below c.in_err-expanded.field-0.0 c.args.self.now.world c.expand.new.self.world c.args.variable.now c.args.list.now c.args.body.now (c.in_err-expanded.ensures.gives store agrees, c.in_err-expanded.ensures.cut store agrees)) in
     record {
-      gives = λ known. rw (p.1, p.2) (early known).0;
-      cut = λ known. rw (p.1, p.2) (early known).1;
+      gives = λ store agrees. rw (p.1, p.2) (early store agrees).0;
+      cut = λ store agrees. rw (p.1, p.2) (early store agrees).1;
       kept = search rules;
       blames = search rules;
     }
@@ -157,11 +158,11 @@ apply_foreach-returns-in_err-expanded g t c =
 pub apply_eval-returns-in_err-x : goal.apply_eval-returns-in_err-x
 apply_eval-returns-in_err-x g t c =
     let p = err_from_is_err_and c.from_residual-in_err-x.result c.from_residual-in_err-x.ensures.1 in
-    let early = λ (known : AreKnown c.args.self.now.known).
-    (eval_fails g.M.Scope.writable (store_of c.args.self.now.known) c.args.below c.in_err-x.field-0.0 c.args.self.now.world c.expand.new.self.world c.args.text.now (search rules) (c.in_err-x.ensures.gives known, c.in_err-x.ensures.cut known)) in
+    let early = λ (store : Store) (agrees : AgreeWith store c.expand.new.self.answers).
+    (eval_fails g.M.Scope.writable store c.args.below c.in_err-x.field-0.0 c.args.self.now.world c.expand.new.self.world c.args.text.now (search rules) (c.in_err-x.ensures.gives store agrees, c.in_err-x.ensures.cut store agrees)) in
     record {
-      gives = λ known. rw (p.1, p.2) (early known).0;
-      cut = λ known. rw (p.1, p.2) (early known).1;
+      gives = λ store agrees. rw (p.1, p.2) (early store agrees).0;
+      cut = λ store agrees. rw (p.1, p.2) (early store agrees).1;
       kept = search rules;
       blames = search rules;
     }
@@ -170,9 +171,9 @@ pub call_by_name-returns-in_err-copied : goal.call_by_name-returns-in_err-copied
 call_by_name-returns-in_err-copied g t c =
     let p = err_from_is_err_and c.from_residual-in_err-copied.result c.from_residual-in_err-copied.ensures.1 in
     record {
-      gives = λ known. rw (p.1, p.2) tt;
-      cut = λ known. rw (p.1, p.2)
-          (call_by_name_front g.M.Scope.writable (store_of c.args.self.now.known) c.args.below c.args.name.now (map (λ a. a.now) c.args.texts.now) c.args.self.now.world);
+      gives = λ store agrees. rw (p.1, p.2) tt;
+      cut = λ store agrees. rw (p.1, p.2)
+          (call_by_name_front g.M.Scope.writable store c.args.below c.args.name.now (map (λ a. a.now) c.args.texts.now) c.args.self.now.world);
       kept = search rules;
       blames = search rules;
     }
@@ -181,9 +182,9 @@ pub call_by_name-returns-in_err-push : goal.call_by_name-returns-in_err-push
 call_by_name-returns-in_err-push g t c =
     let p = err_from_is_err_and c.from_residual-in_err-push.result c.from_residual-in_err-push.ensures.1 in
     record {
-      gives = λ known. rw (p.1, p.2) tt;
-      cut = λ known. rw (p.1, p.2)
-          (call_by_name_front g.M.Scope.writable (store_of c.args.self.now.known) c.args.below c.args.name.now (map (λ a. a.now) c.args.texts.now) c.args.self.now.world);
+      gives = λ store agrees. rw (p.1, p.2) tt;
+      cut = λ store agrees. rw (p.1, p.2)
+          (call_by_name_front g.M.Scope.writable store c.args.below c.args.name.now (map (λ a. a.now) c.args.texts.now) c.args.self.now.world);
       kept = search rules;
       blames = search rules;
     }
@@ -191,11 +192,11 @@ call_by_name-returns-in_err-push g t c =
 pub call_by_name-returns-in_err-arguments : goal.call_by_name-returns-in_err-arguments
 call_by_name-returns-in_err-arguments g t c =
     let p = err_from_is_err_and c.from_residual-in_err-arguments.result c.from_residual-in_err-arguments.ensures.1 in
-    let early = λ (known : AreKnown c.args.self.now.known).
-    (call_fails g.M.Scope.writable (store_of c.args.self.now.known) c.args.below c.in_err-arguments.field-0.0 c.args.self.now.world c.each_argument.new.self.world c.args.name.now c.push.new.self.items (map (λ a. a.now) c.args.texts.now) (search rules) (search rules) (c.in_err-arguments.ensures.gives known, c.in_err-arguments.ensures.cut known)) in
+    let early = λ (store : Store) (agrees : AgreeWith store c.each_argument.new.self.answers).
+    (call_fails g.M.Scope.writable store c.args.below c.in_err-arguments.field-0.0 c.args.self.now.world c.each_argument.new.self.world c.args.name.now c.push.new.self.items (map (λ a. a.now) c.args.texts.now) (search rules) (search rules) (c.in_err-arguments.ensures.gives store agrees, c.in_err-arguments.ensures.cut store agrees)) in
     record {
-      gives = λ known. rw (p.1, p.2) (early known).0;
-      cut = λ known. rw (p.1, p.2) (early known).1;
+      gives = λ store agrees. rw (p.1, p.2) (early store agrees).0;
+      cut = λ store agrees. rw (p.1, p.2) (early store agrees).1;
       kept = search rules;
       blames = search rules;
     }
@@ -204,9 +205,9 @@ pub read_rule-returns-in_err-recipe : goal.read_rule-returns-in_err-recipe
 read_rule-returns-in_err-recipe g t c =
     let p = err_from_is_err_and c.from_residual.result c.from_residual.ensures.1 in
     record {
-      gives = λ known. rw (p.1, p.2) tt;
-      cut = λ known. rw (p.1, p.2)
-          (rule_of_parts_front g.M.Scope.writable (store_of c.args.self.now.known) c.args.below (Some (record { head = c.args.head.now; recipe = option_map (λ text. text.now) c.args.recipe })) c.args.self.now.world);
+      gives = λ store agrees. rw (p.1, p.2) tt;
+      cut = λ store agrees. rw (p.1, p.2)
+          (rule_of_parts_front g.M.Scope.writable store c.args.below (Some (record { head = c.args.head.now; recipe = option_map (λ text. text.now) c.args.recipe })) c.args.self.now.world);
       kept = search rules;
       blames = search rules;
     }
@@ -215,9 +216,9 @@ pub read_rule-returns-in_err-head : goal.read_rule-returns-in_err-head
 read_rule-returns-in_err-head g t c =
     let p = err_from_is_err_and c.from_residual-in_err-head.result c.from_residual-in_err-head.ensures.1 in
     record {
-      gives = λ known. rw (p.1, p.2) tt;
-      cut = λ known. rw (p.1, p.2)
-          (rule_of_parts_front g.M.Scope.writable (store_of c.args.self.now.known) c.args.below (Some (record { head = c.args.head.now; recipe = option_map (λ text. text.now) c.args.recipe })) c.args.self.now.world);
+      gives = λ store agrees. rw (p.1, p.2) tt;
+      cut = λ store agrees. rw (p.1, p.2)
+          (rule_of_parts_front g.M.Scope.writable store c.args.below (Some (record { head = c.args.head.now; recipe = option_map (λ text. text.now) c.args.recipe })) c.args.self.now.world);
       kept = search rules;
       blames = search rules;
     }
@@ -225,11 +226,11 @@ read_rule-returns-in_err-head g t c =
 pub are_equal-returns-in_err-x : goal.are_equal-returns-in_err-x
 are_equal-returns-in_err-x g t c =
     let p = err_from_is_err_and c.from_residual.result c.from_residual.ensures.1 in
-    let early = λ (known : AreKnown c.args.self.now.known).
-    (equal_fails g.M.Scope.writable (store_of c.args.self.now.known) c.args.below c.in_err-x.field-0.0 c.args.self.now.world c.expand_text.new.self.world (compared_view c.in-Some.compared) (c.in_err-x.ensures.gives known, c.in_err-x.ensures.cut known)) in
+    let early = λ (store : Store) (agrees : AgreeWith store c.expand_text.new.self.answers).
+    (equal_fails g.M.Scope.writable store c.args.below c.in_err-x.field-0.0 c.args.self.now.world c.expand_text.new.self.world (compared_view c.in-Some.compared) (c.in_err-x.ensures.gives store agrees, c.in_err-x.ensures.cut store agrees)) in
     record {
-      gives = λ known. rw (p.1, p.2, c.in-Some.is) (early known).0;
-      cut = λ known. rw (p.1, p.2, c.in-Some.is) (early known).1;
+      gives = λ store agrees. rw (p.1, p.2, c.in-Some.is) (early store agrees).0;
+      cut = λ store agrees. rw (p.1, p.2, c.in-Some.is) (early store agrees).1;
       kept = search rules;
       blames = search rules;
     }
@@ -237,14 +238,14 @@ are_equal-returns-in_err-x g t c =
 pub each_argument-returns-in_err-x : goal.each_argument-returns-in_err-x
 each_argument-returns-in_err-x g t c =
     let p = err_from_is_err_and c.from_residual.result c.from_residual.ensures.1 in
-    let h = rw c.arguments.invariant.kept.0 at c.in_err-x.ensures.gives in
-    let k = rw c.arguments.invariant.kept.0 at c.in_err-x.ensures.cut in
-    let early = λ (known : AreKnown c.args.self.now.known).
-    (subst (λ (o : Outcome World (List Text)). Early c.in_err-x.field-0.0 c.expand.new.self.world o) (c.arguments.invariant.rest known)
-    (argument_at_fails g.M.Scope.writable (store_of c.args.self.now.known) c.args.below c.in_err-x.field-0.0 c.arguments.self.world c.expand.new.self.world c.arguments.out.items c.args.texts.now c.arguments.place _ c.arguments-test.true (h known, k known))) in
+    let h = c.in_err-x.ensures.gives in
+    let k = c.in_err-x.ensures.cut in
+    let early = λ (store : Store) (agrees : AgreeWith store c.expand.new.self.answers).
+    (subst (λ (o : Outcome World (List Text)). Early c.in_err-x.field-0.0 c.expand.new.self.world o) (c.arguments.invariant.rest store (omega (arith, c.in_err-x.ensures.kept.0 store)))
+    (argument_at_fails g.M.Scope.writable store c.args.below c.in_err-x.field-0.0 c.arguments.self.world c.expand.new.self.world c.arguments.out.items c.args.texts.now c.arguments.place _ c.arguments-test.true (h store agrees, k store agrees))) in
     record {
-      gives = λ known. rw (p.1, p.2) (early known).0;
-      cut = λ known. rw (p.1, p.2) (early known).1;
+      gives = λ store agrees. rw (p.1, p.2) (early store agrees).0;
+      cut = λ store agrees. rw (p.1, p.2) (early store agrees).1;
       kept = search rules;
       blames = search rules;
     }
@@ -252,12 +253,12 @@ each_argument-returns-in_err-x g t c =
 pub each_argument-returns-in_err-from_vec : goal.each_argument-returns-in_err-from_vec
 each_argument-returns-in_err-from_vec g t c =
     let p = err_from_is_err_and c.from_residual-in_err-from_vec.result c.from_residual-in_err-from_vec.ensures.1 in
-    let h = rw c.arguments.invariant.kept.0 at c.in_ok-x.ensures.gives in
+    let h = c.in_ok-x.ensures.gives in
     record {
-      gives = λ known. rw (p.1, p.2) tt;
-      cut = λ known. rw (p.1, p.2)
-          (subst (λ (o : Outcome World (List Text)). GoesOn c.expand.new.self.world (left_of o)) (c.arguments.invariant.rest known)
-          (argument_at_front g.M.Scope.writable (store_of c.args.self.now.known) c.args.below c.arguments.self.world c.expand.new.self.world c.arguments.out.items c.args.texts.now c.arguments.place _ _ c.arguments-test.true (h known)));
+      gives = λ store agrees. rw (p.1, p.2) tt;
+      cut = λ store agrees. rw (p.1, p.2)
+          (subst (λ (o : Outcome World (List Text)). GoesOn c.expand.new.self.world (left_of o)) (c.arguments.invariant.rest store (omega (arith, c.in_ok-x.ensures.kept.0 store)))
+          (argument_at_front g.M.Scope.writable store c.args.below c.arguments.self.world c.expand.new.self.world c.arguments.out.items c.args.texts.now c.arguments.place _ _ c.arguments-test.true (h store agrees)));
       kept = search rules;
       blames = search rules;
     }
@@ -265,12 +266,12 @@ each_argument-returns-in_err-from_vec g t c =
 pub each_argument-returns-in_err-push : goal.each_argument-returns-in_err-push
 each_argument-returns-in_err-push g t c =
     let p = err_from_is_err_and c.from_residual-in_err-push.result c.from_residual-in_err-push.ensures.1 in
-    let h = rw c.arguments.invariant.kept.0 at c.in_ok-x.ensures.gives in
+    let h = c.in_ok-x.ensures.gives in
     record {
-      gives = λ known. rw (p.1, p.2) tt;
-      cut = λ known. rw (p.1, p.2)
-          (subst (λ (o : Outcome World (List Text)). GoesOn c.expand.new.self.world (left_of o)) (c.arguments.invariant.rest known)
-          (argument_at_front g.M.Scope.writable (store_of c.args.self.now.known) c.args.below c.arguments.self.world c.expand.new.self.world c.arguments.out.items c.args.texts.now c.arguments.place _ _ c.arguments-test.true (h known)));
+      gives = λ store agrees. rw (p.1, p.2) tt;
+      cut = λ store agrees. rw (p.1, p.2)
+          (subst (λ (o : Outcome World (List Text)). GoesOn c.expand.new.self.world (left_of o)) (c.arguments.invariant.rest store (omega (arith, c.in_ok-x.ensures.kept.0 store)))
+          (argument_at_front g.M.Scope.writable store c.args.below c.arguments.self.world c.expand.new.self.world c.arguments.out.items c.args.texts.now c.arguments.place _ _ c.arguments-test.true (h store agrees)));
       kept = search rules;
       blames = search rules;
     }
@@ -278,14 +279,14 @@ each_argument-returns-in_err-push g t c =
 pub each_word-returns-in_err-x : goal.each_word-returns-in_err-x
 each_word-returns-in_err-x g t c =
     let p = err_from_is_err_and c.from_residual-in_err-x.result c.from_residual-in_err-x.ensures.1 in
-    let h = rw (c.in_ok-bind.ensures.done, c.words.invariant.kept.0) at c.in_err-x.ensures.gives in
-    let k = rw (c.in_ok-bind.ensures.done, c.words.invariant.kept.0) at c.in_err-x.ensures.cut in
-    let early = λ (known : AreKnown c.args.self.now.known).
-    (subst (λ (o : Outcome World Text). Early c.in_err-x.field-0.0 c.expand.new.self.world o) (c.words.invariant.rest known)
-    (word_fails g.M.Scope.writable (store_of c.args.self.now.known) c.args.below c.in_err-x.field-0.0 c.words.self.world c.expand.new.self.world c.args.name.now c.args.body.now c.words.out.items c.words.separator.now _ _ c.in-Some.word.now c.words.rest c.next.new.self c.in-Some.ensures.steps (search rules) (search rules) (h known, k known))) in
+    let h = rw c.in_ok-bind.ensures.done at c.in_err-x.ensures.gives in
+    let k = rw c.in_ok-bind.ensures.done at c.in_err-x.ensures.cut in
+    let early = λ (store : Store) (agrees : AgreeWith store c.expand.new.self.answers).
+    (subst (λ (o : Outcome World Text). Early c.in_err-x.field-0.0 c.expand.new.self.world o) (c.words.invariant.rest store (omega (arith, rw c.in_ok-bind.ensures.done at (c.in_err-x.ensures.kept.0 store))))
+    (word_fails g.M.Scope.writable store c.args.below c.in_err-x.field-0.0 c.words.self.world c.expand.new.self.world c.args.name.now c.args.body.now c.words.out.items c.words.separator.now _ _ c.in-Some.word.now c.words.rest c.next.new.self c.in-Some.ensures.steps (search rules) (search rules) (h store agrees, k store agrees))) in
     record {
-      gives = λ known. rw (p.1, p.2) (early known).0;
-      cut = λ known. rw (p.1, p.2) (early known).1;
+      gives = λ store agrees. rw (p.1, p.2) (early store agrees).0;
+      cut = λ store agrees. rw (p.1, p.2) (early store agrees).1;
       kept = search rules;
       blames = search rules;
     }
@@ -293,11 +294,11 @@ each_word-returns-in_err-x g t c =
 pub read_page-returns-in_err-read_items : goal.read_page-returns-in_err-read_items
 read_page-returns-in_err-read_items g t c =
     let p = err_from_is_err_and c.from_residual.result c.from_residual.ensures.1 in
-    let early = λ (known : AreKnown c.args.self.now.known).
-    (sheet_fails g.M.Scope.writable (store_of c.args.self.now.known) c.args.below c.args.page.now c.in_err-read_items.field-0.0 c.args.self.now.world c.read_items.new.self.world (c.in_err-read_items.ensures.gives known, c.in_err-read_items.ensures.cut known)) in
+    let early = λ (store : Store) (agrees : AgreeWith store c.read_items.new.self.answers).
+    (sheet_fails g.M.Scope.writable store c.args.below c.args.page.now c.in_err-read_items.field-0.0 c.args.self.now.world c.read_items.new.self.world (c.in_err-read_items.ensures.gives store agrees, c.in_err-read_items.ensures.cut store agrees)) in
     record {
-      gives = λ known. rw (p.1, p.2) (early known).0;
-      cut = λ known. rw (p.1, p.2) (early known).1;
+      gives = λ store agrees. rw (p.1, p.2) (early store agrees).0;
+      cut = λ store agrees. rw (p.1, p.2) (early store agrees).1;
       kept = search rules;
       blames = search rules;
     }
@@ -305,11 +306,11 @@ read_page-returns-in_err-read_items g t c =
 pub read_page-returns-in_err-close_rule : goal.read_page-returns-in_err-close_rule
 read_page-returns-in_err-close_rule g t c =
     let p = err_from_is_err_and c.from_residual-in_err-close_rule.result c.from_residual-in_err-close_rule.ensures.1 in
-    let early = λ (known : AreKnown c.args.self.now.known).
-    (close_fails g.M.Scope.writable (store_of c.args.self.now.known) c.args.below c.args.page.now c.in_err-close_rule.field-0.0 c.args.self.now.world c.read_items.new.self.world c.close_rule.new.self.world _ (c.in_ok-read_items.ensures.gives known) (c.in_err-close_rule.ensures.gives, c.in_err-close_rule.ensures.cut)) in
+    let early = λ (store : Store) (agrees : AgreeWith store c.close_rule.new.self.answers).
+    (close_fails g.M.Scope.writable store c.args.below c.args.page.now c.in_err-close_rule.field-0.0 c.args.self.now.world c.read_items.new.self.world c.close_rule.new.self.world _ (c.in_ok-read_items.ensures.gives store (omega (arith, c.in_err-close_rule.ensures.kept.0 store))) (c.in_err-close_rule.ensures.gives, c.in_err-close_rule.ensures.cut)) in
     record {
-      gives = λ known. rw (p.1, p.2) (early known).0;
-      cut = λ known. rw (p.1, p.2) (early known).1;
+      gives = λ store agrees. rw (p.1, p.2) (early store agrees).0;
+      cut = λ store agrees. rw (p.1, p.2) (early store agrees).1;
       kept = search rules;
       blames = search rules;
     }
@@ -317,14 +318,14 @@ read_page-returns-in_err-close_rule g t c =
 pub apply_or-returns-in_err-x : goal.apply_or-returns-in_err-x
 apply_or-returns-in_err-x g t c =
     let p = err_from_is_err_and c.from_residual.result c.from_residual.ensures.1 in
-    let h = rw (c.arguments.invariant.kept.0, c.stripped.ensures) at c.in_err-x.ensures.gives in
-    let k = rw (c.arguments.invariant.kept.0, c.stripped.ensures) at c.in_err-x.ensures.cut in
-    let early = λ (known : AreKnown c.args.self.now.known).
-    (subst (λ (o : Outcome World Text). Early c.in_err-x.field-0.0 c.expand.new.self.world o) (c.arguments.invariant.rest known)
-    (or_at_fails g.M.Scope.writable (store_of c.args.self.now.known) c.args.below c.in_err-x.field-0.0 c.arguments.self.world c.expand.new.self.world c.args.texts.now c.arguments.place _ c.arguments-test.true (h known, k known))) in
+    let h = rw c.stripped.ensures at c.in_err-x.ensures.gives in
+    let k = rw c.stripped.ensures at c.in_err-x.ensures.cut in
+    let early = λ (store : Store) (agrees : AgreeWith store c.expand.new.self.answers).
+    (subst (λ (o : Outcome World Text). Early c.in_err-x.field-0.0 c.expand.new.self.world o) (c.arguments.invariant.rest store (omega (arith, c.in_err-x.ensures.kept.0 store)))
+    (or_at_fails g.M.Scope.writable store c.args.below c.in_err-x.field-0.0 c.arguments.self.world c.expand.new.self.world c.args.texts.now c.arguments.place _ c.arguments-test.true (h store agrees, k store agrees))) in
     record {
-      gives = λ known. rw (p.1, p.2) (early known).0;
-      cut = λ known. rw (p.1, p.2) (early known).1;
+      gives = λ store agrees. rw (p.1, p.2) (early store agrees).0;
+      cut = λ store agrees. rw (p.1, p.2) (early store agrees).1;
       kept = search rules;
       blames = search rules;
     }
@@ -332,74 +333,80 @@ apply_or-returns-in_err-x g t c =
 pub apply_and-returns-in_err-x : goal.apply_and-returns-in_err-x
 apply_and-returns-in_err-x g t c =
     let p = err_from_is_err_and c.from_residual.result c.from_residual.ensures.1 in
-    let h = rw (c.arguments.invariant.kept.0, c.stripped.ensures) at c.in_err-x.ensures.gives in
-    let k = rw (c.arguments.invariant.kept.0, c.stripped.ensures) at c.in_err-x.ensures.cut in
-    let early = λ (known : AreKnown c.args.self.now.known).
-    (subst (λ (o : Outcome World Text). Early c.in_err-x.field-0.0 c.expand.new.self.world o) (c.arguments.invariant.rest known)
-    (and_at_fails g.M.Scope.writable (store_of c.args.self.now.known) c.args.below c.in_err-x.field-0.0 c.arguments.self.world c.expand.new.self.world c.args.texts.now c.arguments.place _ c.arguments-test.true (h known, k known))) in
+    let h = rw c.stripped.ensures at c.in_err-x.ensures.gives in
+    let k = rw c.stripped.ensures at c.in_err-x.ensures.cut in
+    let early = λ (store : Store) (agrees : AgreeWith store c.expand.new.self.answers).
+    (subst (λ (o : Outcome World Text). Early c.in_err-x.field-0.0 c.expand.new.self.world o) (c.arguments.invariant.rest store (omega (arith, c.in_err-x.ensures.kept.0 store)))
+    (and_at_fails g.M.Scope.writable store c.args.below c.in_err-x.field-0.0 c.arguments.self.world c.expand.new.self.world c.args.texts.now c.arguments.place _ c.arguments-test.true (h store agrees, k store agrees))) in
     record {
-      gives = λ known. rw (p.1, p.2) (early known).0;
-      cut = λ known. rw (p.1, p.2) (early known).1;
+      gives = λ store agrees. rw (p.1, p.2) (early store agrees).0;
+      cut = λ store agrees. rw (p.1, p.2) (early store agrees).1;
       kept = search rules;
       blames = search rules;
     }
 
 pub read_conditional-returns-in_err-branch_holds-clause-fails : goal.read_conditional-returns-in_err-branch_holds-clause-fails
-read_conditional-returns-in_err-branch_holds-clause-fails g t c = λ known.
+read_conditional-returns-in_err-branch_holds-clause-fails g t c = λ store agrees.
     let p = err_from_is_err_and c.from_residual.result c.from_residual.ensures.1 in
     let r = c.requires.reads in
     rw (p.1, p.2)
-    (first_fails g.M.Scope.writable (store_of c.args.self.now.known) c.args.below c.args.page.now c.in_err-branch_holds.field-0.0 c.args.self.now.world c.branch_holds.new.self.world (left_at c.args.page.now.blocks.steps c.args.place) c.args.place r.first r.others r.rest r.left (c.in_err-branch_holds.ensures.gives known, c.in_err-branch_holds.ensures.cut known)).0
+    (first_fails g.M.Scope.writable store c.args.below c.args.page.now c.in_err-branch_holds.field-0.0 c.args.self.now.world c.branch_holds.new.self.world (left_at c.args.page.now.blocks.steps c.args.place) c.args.place r.first r.others r.rest r.left (c.in_err-branch_holds.ensures.gives store agrees, c.in_err-branch_holds.ensures.cut store agrees)).0
 
 pub read_conditional-returns-in_err-branch_holds-clause-cut : goal.read_conditional-returns-in_err-branch_holds-clause-cut
-read_conditional-returns-in_err-branch_holds-clause-cut g t c = λ known.
+read_conditional-returns-in_err-branch_holds-clause-cut g t c = λ store agrees.
     let p = err_from_is_err_and c.from_residual.result c.from_residual.ensures.1 in
     let r = c.requires.reads in
     rw (p.1, p.2)
-    (first_fails g.M.Scope.writable (store_of c.args.self.now.known) c.args.below c.args.page.now c.in_err-branch_holds.field-0.0 c.args.self.now.world c.branch_holds.new.self.world (left_at c.args.page.now.blocks.steps c.args.place) c.args.place r.first r.others r.rest r.left (c.in_err-branch_holds.ensures.gives known, c.in_err-branch_holds.ensures.cut known)).1
+    (first_fails g.M.Scope.writable store c.args.below c.args.page.now c.in_err-branch_holds.field-0.0 c.args.self.now.world c.branch_holds.new.self.world (left_at c.args.page.now.blocks.steps c.args.place) c.args.place r.first r.others r.rest r.left (c.in_err-branch_holds.ensures.gives store agrees, c.in_err-branch_holds.ensures.cut store agrees)).1
 
 pub read_step-returns-in_err-read_define-in-Define-clause-fails : goal.read_step-returns-in_err-read_define-in-Define-clause-fails
-read_step-returns-in_err-read_define-in-Define-clause-fails g t c = λ known.
+read_step-returns-in_err-read_define-in-Define-clause-fails g t c = λ store agrees.
     let p = err_from_is_err_and c.from_residual-in_err-read_define-in-Define.result c.from_residual-in_err-read_define-in-Define.ensures.1 in
     let h = rw c.in_ok-line-in-Define.ensures.done at c.in_err-read_define-in-Define.ensures.gives in
     let k = rw c.in_ok-line-in-Define.ensures.done at c.in_err-read_define-in-Define.ensures.cut in
     let is = rw c.in-Define.is at c.requires.reads in
     rw (p.1, p.2)
-    (definition_fails g.M.Scope.writable (store_of c.args.self.now.known) c.args.below c.args.page.now c.in_err-read_define-in-Define.field-0.0 c.args.self.now.world c.read_define.new.self.world (left_at c.args.page.now.blocks.steps c.args.place) (left_at c.args.page.now.blocks.steps c.in-Define.end) c.args.place c.in-Define.end _ _ is (search rules) (search rules) (h known, k known)).0
+    (definition_fails g.M.Scope.writable store c.args.below c.args.page.now c.in_err-read_define-in-Define.field-0.0 c.args.self.now.world c.read_define.new.self.world (left_at c.args.page.now.blocks.steps c.args.place) (left_at c.args.page.now.blocks.steps c.in-Define.end) c.args.place c.in-Define.end _ _ is (search rules) (search rules) (h store agrees, k store agrees)).0
 
 pub read_step-returns-in_err-read_define-in-Define-clause-cut : goal.read_step-returns-in_err-read_define-in-Define-clause-cut
-read_step-returns-in_err-read_define-in-Define-clause-cut g t c = λ known.
+read_step-returns-in_err-read_define-in-Define-clause-cut g t c = λ store agrees.
     let p = err_from_is_err_and c.from_residual-in_err-read_define-in-Define.result c.from_residual-in_err-read_define-in-Define.ensures.1 in
     let h = rw c.in_ok-line-in-Define.ensures.done at c.in_err-read_define-in-Define.ensures.gives in
     let k = rw c.in_ok-line-in-Define.ensures.done at c.in_err-read_define-in-Define.ensures.cut in
     let is = rw c.in-Define.is at c.requires.reads in
     rw (p.1, p.2)
-    (definition_fails g.M.Scope.writable (store_of c.args.self.now.known) c.args.below c.args.page.now c.in_err-read_define-in-Define.field-0.0 c.args.self.now.world c.read_define.new.self.world (left_at c.args.page.now.blocks.steps c.args.place) (left_at c.args.page.now.blocks.steps c.in-Define.end) c.args.place c.in-Define.end _ _ is (search rules) (search rules) (h known, k known)).1
+    (definition_fails g.M.Scope.writable store c.args.below c.args.page.now c.in_err-read_define-in-Define.field-0.0 c.args.self.now.world c.read_define.new.self.world (left_at c.args.page.now.blocks.steps c.args.place) (left_at c.args.page.now.blocks.steps c.in-Define.end) c.args.place c.in-Define.end _ _ is (search rules) (search rules) (h store agrees, k store agrees)).1
+
+pub read_step-returns-in_ok-read_define-in-Define-clause-goes_on : goal.read_step-returns-in_ok-read_define-in-Define-clause-goes_on
+read_step-returns-in_ok-read_define-in-Define-clause-goes_on g t c = λ store agrees.
+    let h = rw c.in_ok-line-in-Define.ensures.done at c.in_ok-read_define-in-Define.ensures.gives in
+    let is = rw c.in-Define.is at c.requires.reads in
+    definition_taken g.M.Scope.writable store c.args.below c.args.page.now c.args.self.now.world c.read_define.new.self.world (left_at c.args.page.now.blocks.steps c.args.place) (left_at c.args.page.now.blocks.steps c.in-Define.end) c.args.place c.in-Define.end _ _ is (search rules) (search rules) (h store agrees)
 
 pub read_conditional-returns-in_err-branch_holds-2-clause-fails : goal.read_conditional-returns-in_err-branch_holds-2-clause-fails
-read_conditional-returns-in_err-branch_holds-2-clause-fails g t c = λ known.
+read_conditional-returns-in_err-branch_holds-2-clause-fails g t c = λ store agrees.
     let p = err_from_is_err_and c.from_residual-in_err-branch_holds-2.result c.from_residual-in_err-branch_holds-2.ensures.1 in
-    let h = rw c.branches.invariant.kept.0 at c.in_err-branch_holds-2.ensures.gives in
-    let k = rw c.branches.invariant.kept.0 at c.in_err-branch_holds-2.ensures.cut in
+    let h = c.in_err-branch_holds-2.ensures.gives in
+    let k = c.in_err-branch_holds-2.ensures.cut in
     rw (p.1, p.2)
-    (branch_fails g.M.Scope.writable (store_of c.args.self.now.known) c.args.below c.args.page.now c.args.page.now.blocks.steps c.branches.at c.args.after c.branches.self.world _ c.in_Some-condition.condition c.in_Some-condition.next c.in_Some-condition.ensures.some.0 c.in_err-branch_holds-2.field-0.0 c.branch_holds-in_Some-condition.new.self.world
-    (c.branches.invariant.rest known) c.in_Some-condition.ensures.before c.in_Some-condition.ensures.some.1 (h known, k known)).0
+    (branch_fails g.M.Scope.writable store c.args.below c.args.page.now c.args.page.now.blocks.steps c.branches.at c.args.after c.branches.self.world _ c.in_Some-condition.condition c.in_Some-condition.next c.in_Some-condition.ensures.some.0 c.in_err-branch_holds-2.field-0.0 c.branch_holds-in_Some-condition.new.self.world
+    (c.branches.invariant.rest store (omega (arith, c.in_err-branch_holds-2.ensures.kept.0 store))) c.in_Some-condition.ensures.before c.in_Some-condition.ensures.some.1 (h store agrees, k store agrees)).0
 
 pub read_conditional-returns-in_err-branch_holds-2-clause-cut : goal.read_conditional-returns-in_err-branch_holds-2-clause-cut
-read_conditional-returns-in_err-branch_holds-2-clause-cut g t c = λ known.
+read_conditional-returns-in_err-branch_holds-2-clause-cut g t c = λ store agrees.
     let p = err_from_is_err_and c.from_residual-in_err-branch_holds-2.result c.from_residual-in_err-branch_holds-2.ensures.1 in
-    let h = rw c.branches.invariant.kept.0 at c.in_err-branch_holds-2.ensures.gives in
-    let k = rw c.branches.invariant.kept.0 at c.in_err-branch_holds-2.ensures.cut in
+    let h = c.in_err-branch_holds-2.ensures.gives in
+    let k = c.in_err-branch_holds-2.ensures.cut in
     rw (p.1, p.2)
-    (branch_fails g.M.Scope.writable (store_of c.args.self.now.known) c.args.below c.args.page.now c.args.page.now.blocks.steps c.branches.at c.args.after c.branches.self.world _ c.in_Some-condition.condition c.in_Some-condition.next c.in_Some-condition.ensures.some.0 c.in_err-branch_holds-2.field-0.0 c.branch_holds-in_Some-condition.new.self.world
-    (c.branches.invariant.rest known) c.in_Some-condition.ensures.before c.in_Some-condition.ensures.some.1 (h known, k known)).1
+    (branch_fails g.M.Scope.writable store c.args.below c.args.page.now c.args.page.now.blocks.steps c.branches.at c.args.after c.branches.self.world _ c.in_Some-condition.condition c.in_Some-condition.next c.in_Some-condition.ensures.some.0 c.in_err-branch_holds-2.field-0.0 c.branch_holds-in_Some-condition.new.self.world
+    (c.branches.invariant.rest store (omega (arith, c.in_err-branch_holds-2.ensures.kept.0 store))) c.in_Some-condition.ensures.before c.in_Some-condition.ensures.some.1 (h store agrees, k store agrees)).1
 
 pub read_items-lines-init : goal.read_items-lines-init
 read_items-lines-init g t c =
-    let e = evaluator g.M.Scope.writable (store_of c.args.self.now.known) c.args.below in
+    let e = λ (store : Store). evaluator g.M.Scope.writable store c.args.below in
     record {
       kept = search rules;
       unfailed = search rules;
       within = c.first-place.ensures.within;
-      rest = λ known. ap (λ items. read_items e c.args.page.now items c.args.self.now.world) c.first-place.ensures.whole;
+      rest = λ store agrees. ap (λ items. read_items (e store) c.args.page.now items c.args.self.now.world) c.first-place.ensures.whole;
     }

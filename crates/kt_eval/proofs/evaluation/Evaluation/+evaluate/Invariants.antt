@@ -3,7 +3,8 @@
 use Rattle.std.proofs.Common.{◌≡◌, ◌<◌, ◌≤◌, ◌+◌, ◌-◌, ◌*◌, [], length, map, drop}
 use Rattle.kt_text.specs.Words.{words_of}
 use Rattle.kt_syntax.specs.Terms.{terms_of}
-use Rattle.kt_eval.specs.Step.{AreKnown, Keeps, store_of}
+use Rattle.kt_eval.specs.Step.{Keeps}
+use Rattle.kt_eval.specs.files.Files.{AgreeWith, Store}
 use Rattle.kt_eval.specs.expanding.Expansion.{each_term, each_argument, apply_or, apply_and, each_word}
 use Rattle.kt_eval.specs.expanding.Levels.{evaluator}
 use Rattle.kt_eval.specs.files.Including.{each_include}
@@ -198,11 +199,11 @@ decreases-included g l = 64 * l.below + 25
 
 abbrev pub invariant-expand_here-terms : goal.invariant-expand_here-terms
 invariant-expand_here-terms g l =
-    let e = evaluator g.M.Scope.writable (store_of l.fn.self.known) l.below in
+    let e = λ (store : Store). evaluator g.M.Scope.writable store l.below in
     record {
       kept : Keeps l.fn.self l.self;
       unfailed : l.self.failed ≡ l.fn.self.failed;
-      rest : AreKnown l.fn.self.known → each_term e l.out.items l.rest l.self.world ≡ each_term e [] (terms_of l.text) l.fn.self.world;
+      rest : (store : Store) → AgreeWith store l.self.answers → each_term (e store) l.out.items l.rest l.self.world ≡ each_term (e store) [] (terms_of l.text) l.fn.self.world;
     }
 
 abbrev pub decreases-expand_here-terms : goal.decreases-expand_here-terms
@@ -210,11 +211,11 @@ decreases-expand_here-terms g l = length l.rest
 
 abbrev pub invariant-each_argument-arguments : goal.invariant-each_argument-arguments
 invariant-each_argument-arguments g l =
-    let e = evaluator g.M.Scope.writable (store_of l.fn.self.known) l.below in
+    let e = λ (store : Store). evaluator g.M.Scope.writable store l.below in
     record {
       kept : Keeps l.fn.self l.self;
       unfailed : l.self.failed ≡ l.fn.self.failed;
-      rest : AreKnown l.fn.self.known → each_argument e l.out.items (map (λ a. a.now) (drop l.place l.texts)) l.self.world ≡ each_argument e l.fn.first.items (map (λ a. a.now) l.texts) l.fn.self.world;
+      rest : (store : Store) → AgreeWith store l.self.answers → each_argument (e store) l.out.items (map (λ a. a.now) (drop l.place l.texts)) l.self.world ≡ each_argument (e store) l.fn.first.items (map (λ a. a.now) l.texts) l.fn.self.world;
     }
 
 abbrev pub decreases-each_argument-arguments : goal.decreases-each_argument-arguments
@@ -222,11 +223,11 @@ decreases-each_argument-arguments g l = length l.texts - l.place
 
 abbrev pub invariant-apply_or-arguments : goal.invariant-apply_or-arguments
 invariant-apply_or-arguments g l =
-    let e = evaluator g.M.Scope.writable (store_of l.fn.self.known) l.below in
+    let e = λ (store : Store). evaluator g.M.Scope.writable store l.below in
     record {
       kept : Keeps l.fn.self l.self;
       unfailed : l.self.failed ≡ l.fn.self.failed;
-      rest : AreKnown l.fn.self.known → apply_or e (map (λ a. a.now) (drop l.place l.texts)) l.self.world ≡ apply_or e (map (λ a. a.now) l.texts) l.fn.self.world;
+      rest : (store : Store) → AgreeWith store l.self.answers → apply_or (e store) (map (λ a. a.now) (drop l.place l.texts)) l.self.world ≡ apply_or (e store) (map (λ a. a.now) l.texts) l.fn.self.world;
     }
 
 abbrev pub decreases-apply_or-arguments : goal.decreases-apply_or-arguments
@@ -234,11 +235,11 @@ decreases-apply_or-arguments g l = length l.texts - l.place
 
 abbrev pub invariant-apply_and-arguments : goal.invariant-apply_and-arguments
 invariant-apply_and-arguments g l =
-    let e = evaluator g.M.Scope.writable (store_of l.fn.self.known) l.below in
+    let e = λ (store : Store). evaluator g.M.Scope.writable store l.below in
     record {
       kept : Keeps l.fn.self l.self;
       unfailed : l.self.failed ≡ l.fn.self.failed;
-      rest : AreKnown l.fn.self.known → apply_and e (map (λ a. a.now) (drop l.place l.texts)) l.self.world ≡ apply_and e (map (λ a. a.now) l.texts) l.fn.self.world;
+      rest : (store : Store) → AgreeWith store l.self.answers → apply_and (e store) (map (λ a. a.now) (drop l.place l.texts)) l.self.world ≡ apply_and (e store) (map (λ a. a.now) l.texts) l.fn.self.world;
     }
 
 abbrev pub decreases-apply_and-arguments : goal.decreases-apply_and-arguments
@@ -246,11 +247,11 @@ decreases-apply_and-arguments g l = length l.texts - l.place
 
 abbrev pub invariant-each_word-words : goal.invariant-each_word-words
 invariant-each_word-words g l =
-    let e = evaluator g.M.Scope.writable (store_of l.fn.self.known) l.below in
+    let e = λ (store : Store). evaluator g.M.Scope.writable store l.below in
     record {
       kept : Keeps l.fn.self l.self;
       unfailed : l.self.failed ≡ l.fn.self.failed;
-      rest : AreKnown l.fn.self.known → each_word e l.name l.body l.out.items l.separator l.rest l.self.world ≡ each_word e l.name l.body [] [] (words_of l.list) l.fn.self.world;
+      rest : (store : Store) → AgreeWith store l.self.answers → each_word (e store) l.name l.body l.out.items l.separator l.rest l.self.world ≡ each_word (e store) l.name l.body [] [] (words_of l.list) l.fn.self.world;
     }
 
 abbrev pub decreases-each_word-words : goal.decreases-each_word-words
@@ -258,11 +259,11 @@ decreases-each_word-words g l = length l.rest
 
 abbrev pub invariant-each_include-names : goal.invariant-each_include-names
 invariant-each_include-names g l =
-    let e = evaluator g.M.Scope.writable (store_of l.fn.self.known) l.below in
+    let e = λ (store : Store). evaluator g.M.Scope.writable store l.below in
     record {
       kept : Keeps l.fn.self l.self;
       unfailed : l.self.failed ≡ l.fn.self.failed;
-      rest : AreKnown l.fn.self.known → each_include e l.optional l.rest l.self.world ≡ each_include e l.optional (words_of l.names) l.fn.self.world;
+      rest : (store : Store) → AgreeWith store l.self.answers → each_include (e store) l.optional l.rest l.self.world ≡ each_include (e store) l.optional (words_of l.names) l.fn.self.world;
     }
 
 abbrev pub decreases-each_include-names : goal.decreases-each_include-names
@@ -270,12 +271,12 @@ decreases-each_include-names g l = length l.rest
 
 abbrev pub invariant-read_items-lines : goal.invariant-read_items-lines
 invariant-read_items-lines g l =
-    let e = evaluator g.M.Scope.writable (store_of l.fn.self.known) l.below in
+    let e = λ (store : Store). evaluator g.M.Scope.writable store l.below in
     record {
       kept : Keeps l.fn.self l.self;
       unfailed : l.self.failed ≡ l.fn.self.failed;
       within : l.place ≤ length l.page.blocks.steps;
-      rest : AreKnown l.fn.self.known → read_items e l.page (left_at l.page.blocks.steps l.place) l.self.world ≡ read_items e l.page (tree_of l.page.blocks.steps) l.fn.self.world;
+      rest : (store : Store) → AgreeWith store l.self.answers → read_items (e store) l.page (left_at l.page.blocks.steps l.place) l.self.world ≡ read_items (e store) l.page (tree_of l.page.blocks.steps) l.fn.self.world;
     }
 
 abbrev pub decreases-read_items-lines : goal.decreases-read_items-lines
@@ -283,13 +284,13 @@ decreases-read_items-lines g l = length l.page.blocks.steps - l.place
 
 abbrev pub invariant-read_conditional-branches : goal.invariant-read_conditional-branches
 invariant-read_conditional-branches g l =
-    let e = evaluator g.M.Scope.writable (store_of l.fn.self.known) l.below in
+    let e = λ (store : Store). evaluator g.M.Scope.writable store l.below in
     record {
       kept : Keeps l.fn.self l.self;
       unfailed : l.self.failed ≡ l.fn.self.failed;
       ahead : l.place < l.at;
       within : l.at ≤ length l.page.blocks.steps;
-      rest : AreKnown l.fn.self.known → Tries e l.page l.page.blocks.steps l.at l.after l.self.world (read_items e l.page (left_at l.page.blocks.steps l.place) l.fn.self.world);
+      rest : (store : Store) → AgreeWith store l.self.answers → Tries (e store) l.page l.page.blocks.steps l.at l.after l.self.world (read_items (e store) l.page (left_at l.page.blocks.steps l.place) l.fn.self.world);
     }
 
 abbrev pub decreases-read_conditional-branches : goal.decreases-read_conditional-branches

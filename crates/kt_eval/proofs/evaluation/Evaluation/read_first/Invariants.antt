@@ -1,14 +1,15 @@
 use Rattle.std.proofs.Common.{◌≡◌, map, drop}
 use Rattle.kt_eval.specs.expanding.Levels.{evaluator}
 use Rattle.kt_eval.specs.reading.Reading.{read_first}
-use Rattle.kt_eval.specs.Step.{AreKnown, Keeps, store_of}
+use Rattle.kt_eval.specs.Step.{Keeps}
+use Rattle.kt_eval.specs.files.Files.{AgreeWith, Store}
 use Rattle.kt_eval.proofs.evaluation.Evaluation.read_first.Given as goal
 
 abbrev pub invariant-loop-name : goal.invariant-loop-name
 invariant-loop-name g l =
-    let e = evaluator g.M.Scope.writable (store_of l.fn.self.known) l.limit in
+    let e = λ (store : Store). evaluator g.M.Scope.writable store l.limit in
     record {
       kept : Keeps l.fn.self l.self;
       unfailed : l.self.failed ≡ l.fn.self.failed;
-      rest : AreKnown l.fn.self.known → read_first (store_of l.fn.self.known) e (map (λ name. name.now) (drop l.name-index l.names)) l.self.world ≡ read_first (store_of l.fn.self.known) e (map (λ name. name.now) l.names) l.fn.self.world;
+      rest : (store : Store) → AgreeWith store l.self.answers → read_first store (e store) (map (λ name. name.now) (drop l.name-index l.names)) l.self.world ≡ read_first store (e store) (map (λ name. name.now) l.names) l.fn.self.world;
     }

@@ -1,21 +1,20 @@
 use Rattle.std.proofs.Common.{map}
 use Rattle.std.proofs.lemmas.Result.{err_from_is_err_and}
 use Rattle.kt_eval.specs.reading.Machine.{read_by, traced_by}
-use Rattle.kt_eval.proofs.lemmas.reading.MachineLemmas.{known_before, known_cut}
+use Rattle.kt_eval.proofs.lemmas.reading.MachineLemmas.{before_reading}
 use Rattle.kt_eval.proofs.reading.machine.Machine.read.Goals as goal
 
 pub returns-in_err-empty-clause-reads : goal.returns-in_err-empty-clause-reads
-returns-in_err-empty-clause-reads g c =
+returns-in_err-empty-clause-reads g c = λ store agrees.
     let p = err_from_is_err_and c.from_residual.result c.from_residual.ensures.1 in
-    rw (p.1, p.2) (known_cut (g.F.Files.seen c.args.files.now).known)
+    rw (p.1, p.2) tt
 
 pub returns-in_err-empty-clause-cut : goal.returns-in_err-empty-clause-cut
-returns-in_err-empty-clause-cut g c =
+returns-in_err-empty-clause-cut g c = λ store agrees.
     let p = err_from_is_err_and c.from_residual.result c.from_residual.ensures.1 in
     let held = c.args.self.now in
     rw (p.1, p.2)
-    (known_before (map (λ name. name.now) c.args.names.now) held.limit (read_by held) (traced_by held (g.F.Files.seen c.args.files.now).names)
-    (g.F.Files.seen c.args.files.now).known)
+    (before_reading store (map (λ name. name.now) c.args.names.now) held.limit (read_by held) (traced_by held (g.F.Files.seen c.args.files.now).names))
 
 pub returns-clause-reads : goal.returns-clause-reads
 returns-clause-reads g c =
