@@ -1,5 +1,5 @@
-RULES += rules-begin
 VALUE_001 = left_001 right_001
+RULES += rules-begin
 VALUE_002 = left_002 right_002
 VALUE_003 = left_003 right_003
 VALUE_004 = left_004 right_004
