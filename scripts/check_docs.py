@@ -10,6 +10,8 @@ What is checked:
              name, and none ends in a number in brackets
   calls      docs/PROOFS.md names a test for each public call that takes memory, which is there and calls it
   files      each file that a document names, and each link within the repository, leads somewhere
+  specs      each definition that a document names as specs/.. is there, in one of the crates
+  crates     crates.txt and the table of crates in docs/DESIGN.md say of each crate that it stands on the same ones
   lines      no line of a document has more than 120 columns, but in tables and output
   examples   each block of README.md, example/README.md and docs/USING.md that begins with ```console is run, in a copy
              of the repository, by bash with the built programs, the tools, make and ninja; what it prints has to be
@@ -42,6 +44,7 @@ import tempfile
 from pathlib import Path
 
 sys.dont_write_bytecode = True
+import crates_stated
 import tested_calls
 from timing import picture
 
@@ -55,6 +58,7 @@ WIDTH = 120
 
 OPTION = re.compile(r"(?<![\w-])--?[A-Za-z][a-z-]*")
 NAMED = re.compile(r"(?:docs|scripts|crates|tools|share|example|\.ci)/[\w./*{},-]*|\b[A-Z]{3,}\.md\b")
+DEFINITION = re.compile(r"(?<![\w/])specs/[\w/]+(?:\.antt)?")
 FAULT = re.compile(r"\w+::\w+(?:\([^)]*\))? => \(?(\d+)\b")
 PROGRESS = re.compile(r"\[\d+/\d+\] ")
 MARK = "\x01done\x01"
@@ -294,6 +298,20 @@ def check_files(place, report):
         report.check(not missing, f"{path.relative_to(place.root)} names what isn't there: {', '.join(missing)}")
 
 
+def check_specs(place, report):
+    for path in place.documents():
+        named = dict.fromkeys(DEFINITION.findall(path.read_text(encoding="utf-8")))
+        missing = [name for name in named if not any(place.root.glob(f"crates/*/{name}"))
+                   and not any(place.root.glob(f"crates/*/{name}.antt"))]
+        report.check(not missing, f"{path.relative_to(place.root)} names definitions that aren't there: "
+                     + ", ".join(missing))
+
+
+def check_crates(place, report):
+    differ = list(crates_stated.differing(place.root))
+    report.check(not differ, "crates.txt and docs/DESIGN.md say otherwise what a crate stands on:", *differ)
+
+
 def check_lines(place, report):
     for path in place.documents():
         fenced, long = False, []
@@ -421,8 +439,8 @@ def check_picture(place, report):
 
 
 CHECKS = {"options": check_options, "faults": check_faults, "cases": check_cases, "calls": check_calls,
-          "files": check_files, "lines": check_lines, "examples": check_examples, "scripts": check_scripts,
-          "gate": check_gate, "picture": check_picture}
+          "files": check_files, "specs": check_specs, "crates": check_crates, "lines": check_lines,
+          "examples": check_examples, "scripts": check_scripts, "gate": check_gate, "picture": check_picture}
 
 
 class Parser(argparse.ArgumentParser):

@@ -5,12 +5,16 @@
 
 NAME is a test's name or the beginning of one, as test_build.Headers; all of them without one. A test whose program
 isn't there is skipped. The names of tests that failed or were skipped are told, and the last line is `N passed, M
-failed, K skipped`. The exit status is 1 where one failed, else 0.
+failed, K skipped`. Where one failed and the program kati is older than the source, this is said before.
+The exit status is 1 where one failed, else 0.
+
+KATI_RANDOM_TREES says how many trees test_random_edits tries, and KATI_RANDOM_SEED which.
 
 examples:
   python3 tools/tests
   python3 tools/tests test_build.Regenerating
   KATI=/usr/bin/kati python3 tools/tests test_port
+  KATI_RANDOM_TREES=100 python3 tools/tests test_random_edits
 """
 import argparse
 import os
@@ -42,6 +46,15 @@ def tests_in(suite):
             yield one
 
 
+def older_than_source(top):
+    """The program kati and a source of it that is newer, if there is one."""
+    program = Path(os.environ.get("KATI") or top / "crates/kati_program/out/kati_program")
+    newest = max(top.glob("crates/*/src/**/*.rt"), key=lambda path: path.stat().st_mtime, default=None)
+    if newest is not None and program.is_file() and program.stat().st_mtime < newest.stat().st_mtime:
+        return program, newest.relative_to(top)
+    return None
+
+
 def main():
     parser = argparse.ArgumentParser(prog="python3 tools/tests", description=__doc__,
                                      formatter_class=argparse.RawDescriptionHelpFormatter)
@@ -57,6 +70,9 @@ def main():
     for test, why in done.skipped:
         print(f"skipped: {test.id()}: {why}")
     failed = len(done.failures) + len(done.errors) + len(done.unexpectedSuccesses)
+    older = older_than_source(HERE.parent.parent) if failed else None
+    if older:
+        print(f"{older[0]} is older than {older[1]}: build it anew, if a test failed for that")
     print(f"{done.passed} passed, {failed} failed, {len(done.skipped)} skipped")
     return 1 if failed or not found else 0
 

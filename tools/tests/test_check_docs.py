@@ -49,7 +49,7 @@ class Spoiling(unittest.TestCase):
         return done.stdout
 
     def test_as_it_is(self):
-        self.check("options", "cases", "calls", "files", "lines", "gate", "picture", failed=0)
+        self.check("options", "cases", "calls", "files", "specs", "crates", "lines", "gate", "picture", failed=0)
 
     def test_an_option_that_only_the_code_has(self):
         self.spoil("crates/kati_args/src/command.rt", '.long("depth")', '.long("deep")')
@@ -107,6 +107,23 @@ class Spoiling(unittest.TestCase):
     def test_a_file_that_is_not_there(self):
         self.spoil("docs/GATE.md", "scripts/run_cases.py", "scripts/walk_cases.py")
         self.assertIn("scripts/walk_cases.py", self.check("files", failed=1))
+
+    def test_a_definition_that_is_not_there(self):
+        proofs = self.root / "docs/PROOFS.md"
+        proofs.unlink()
+        self.spoil("docs/DESIGN.md", "`specs/Rows`", "`specs/Rowz`")
+        said = self.check("specs", failed=1)
+        self.assertIn("docs/DESIGN.md names definitions that aren't there: specs/Rowz\n", said)
+
+    def test_a_crate_that_stands_on_another_one(self):
+        self.spoil("crates.txt", "kt_syntax: kt_text bstr", "kt_syntax: kt_text kt_list bstr")
+        self.assertIn("kt_syntax: kt_list kt_text | kt_text\n", self.check("crates", failed=1))
+
+    def test_a_crate_that_the_table_lacks(self):
+        self.spoil("docs/DESIGN.md", "| kati_host | the host's", "| kati_hosts | the host's")
+        said = self.check("crates", failed=1)
+        self.assertIn("    kati_host: kati kt_eval kt_history kt_list kt_ninja | \n", said)
+        self.assertIn("    kati_hosts:  | kati kt_eval kt_history kt_list kt_ninja\n", said)
 
     def test_a_link_that_leads_nowhere(self):
         self.spoil("docs/PORTING.md", "](#override)", "](#overriding)")

@@ -1,4 +1,5 @@
 """kati-compare: the same commands, and how it is told where they aren't."""
+import os
 import shutil
 
 from support import TOP, Tree, needs
@@ -28,7 +29,7 @@ class Comparing(Tree):
         self.copy_example()
         self.assertEqual(self.compared(0), "same: 3 commands\n")
         self.assertEqual(self.compared(0, "prog", "clean", "sources"), "same: 5 commands\n")
-        self.assertEqual(self.compared(0, "prog", "CFLAGS=-O3 -DX='a b'"), "same: 3 commands\n")
+        self.assertTrue(self.compared(0, "prog", "CFLAGS=-O3 -DX='a b'").startswith("same: 3 commands; make had the"))
         self.assertFalse((self.top / "prog").exists())
 
     def test_what_is_known_to_differ(self):
@@ -38,7 +39,68 @@ class Comparing(Tree):
         self.differ("all: x.o\n%.o: %.c ; one\n.c.o: ; two\nx.c: ; touch $@\n", ["one"], ["two"])
 
     def test_what_one_has_more_often(self):
-        self.differ("all: a\n\techo one\na: ; echo $(A)\nA =\nA += y\n", ["echo y"], ["echo  y"])
+        self.differ("A =\nA += y\nall: a b\n\techo '[$(A)]'\na: ; echo $(A)\nb: ; echo '[y]'\n",
+                    ["echo '[y]'"], ["echo '[ y]'"])
+
+    def test_blanks_between_words_alone(self):
+        self.write(Makefile="A =\nA += y\nall: a\n\techo one\na: ; echo $(A) ' z'\n")
+        self.assertEqual(self.run_in("make", "-n", "a").out, "echo y ' z'\n")
+        self.assertEqual(self.compared(0), "same: 2 commands, 1 of them but for blanks\n")
+
+    def test_blanks_in_quotes_count(self):
+        self.differ("A =\nA += y\nall: ; echo \"$(A)\" \\$(A)\n", ['echo "y" \\y'], ['echo " y" \\ y'])
+
+    def test_what_a_shell_says_is_make_s_own(self):
+        kept = "ifdef MAKE_VERSION\nOS := $(shell echo one; true)\nB != echo two\nelse\nOS = {}\nB = two\nendif\n"
+        self.write(Makefile=kept.format("one") + "all: ; echo $(OS) $(B)\n")
+        self.assertEqual(self.run_in("make", "-n").out, "echo one two\n")
+        self.assertEqual(self.compared(0), "same: 1 command\n")
+        self.differ(kept.format("") + "all: ; echo $(OS) $(B)\n", ["echo one two"], ["echo  two"])
+
+    def test_a_shell_is_asked_by_the_makefile_s_own(self):
+        self.write(Makefile="SHELL = /bin/bash\nifdef MAKE_VERSION\nX := $(shell echo {a,b})\nelse\nX = a b\nendif\n"
+                            "all: ; echo $(X) $(SHELL)\n")
+        self.assertEqual(self.run_in("make", "-n").out, "echo a b /bin/bash\n")
+        self.assertEqual(self.compared(0), "same: 1 command\n")
+
+    def test_a_recipe_line_that_make_runs_even_so_is_not_run(self):
+        self.same("ifdef MAKE_VERSION\nX := $(shell echo x)\nelse\nX = x\nendif\nall: ; +touch run $(X)\n", 1)
+        self.assertFalse((self.top / "run").exists())
+
+    def test_an_include_that_make_would_first_make(self):
+        self.write(Makefile="-include config.mk\nprog$(EXT): main.c ; cc -o $@ $<\nconfig.mk: ; echo EXT=.x > $@\n",
+                   main_c="")
+        told = self.compared(1).splitlines()
+        self.assertTrue(told[0].startswith("not compared: make would first make what it includes"), told)
+        self.assertEqual(told[1:], ["  echo EXT=.x > config.mk"])
+        self.assertFalse((self.top / "config.mk").exists())
+        self.assertIn("cc -o prog.x main.c", self.run_in("make", "-n").out)
+        self.assertEqual(self.compared(0), "same: 1 command\n")
+
+    def test_an_include_that_is_out_of_date(self):
+        self.write(config_mk="A = old\n", from_txt="new\n", main_c="",
+                   Makefile="include config.mk\nall: ; echo $(A)\nconfig.mk: from.txt ; sed 's/^/A = /' $< > $@\n")
+        os.utime(self.top / "config.mk", (1, 1))
+        self.assertTrue(self.compared(1).startswith("not compared: "))
+        self.assertIn("echo new", self.run_in("make", "-n").out)
+        self.assertEqual(self.compared(0), "same: 1 command\n")
+
+    def test_an_include_that_the_goals_need_too(self):
+        makefile = "include config.mk\nprog: main.c config.mk ; cc -o $@ $<\nconfig.mk: ; echo A = b > $@\n"
+        self.write(Makefile=makefile, main_c="", config_mk="A = b\n")
+        by_make = self.run_in("make", "-n", "-B").out.splitlines()
+        self.assertIn("echo A = b > config.mk", by_make)
+        self.assertEqual(self.compared(0), "same: 2 commands\n")
+        self.differ(makefile.replace("main.c config.mk", "main.c $(N)") + "ifdef MAKE_VERSION\nelse\nall: more\n"
+                    "more: ; echo more\nendif\nall: prog\n", [], ["echo more"], "all")
+
+    def test_words_of_which_make_knows_nothing(self):
+        self.write(Makefile="ifdef MAKE_VERSION\nA := $(shell echo one)\nendif\nall: ; echo $(A)\n")
+        self.assertEqual(self.run_in("make", "-n").out, "echo one\n")
+        self.assertEqual(self.compared(0, "A=two"), "same: 1 command; make had the macros of the command line too, "
+                                                    "see --words-for-kati\n")
+        self.assertEqual(self.compared(1, "--words-for-kati", "A=two").splitlines()[:2], ["- echo one", "+ echo two"])
+        self.assertEqual(self.compared(0, "--words-for-kati", "A=one", "all"), "same: 1 command\n")
 
     def test_nothing_is_said_to_be_nothing(self):
         self.write(Makefile="all:\n")
@@ -59,6 +121,7 @@ class Comparing(Tree):
         self.assertFalse((self.top / "run").exists())
 
     def test_includes_are_not_made_and_messages_are_no_commands(self):
+        self.put("a.mk", "")
         self.same("-include a.mk\n%.mk: ; touch $@ run\n$(info told)\nall: ; echo $(info more)told\n", 1)
         self.assertFalse((self.top / "run").exists())
 
@@ -79,7 +142,7 @@ class Comparing(Tree):
                          "prog: prog.o\n%.o: %.c ; mine $<\n", "prog: prog.o\nprog.o: ; mine $(RM)\n"):
             with self.subTest(makefile):
                 self.write(prog_c="")
-                self.same(makefile, 2, "--builtin", "CFLAGS=-g")
+                self.same("CFLAGS = -g\n" + makefile, 2, "--builtin")
 
     def test_a_built_in_rule_that_kati_has_not_is_told(self):
         self.write(prog_sh="")
@@ -94,8 +157,26 @@ class Comparing(Tree):
         ran = self.tool("kati-compare")
         self.assertEqual(ran.status, 3)
         self.assertIn("No rule to make target 'absent'", ran.said)
+        self.assertNotIn("--builtin", ran.said)
         self.assertEqual(self.tool("kati-compare", "--check", "x").status, 64)
         self.assertEqual(self.tool("kati-compare", MAKE="no/such/make").status, 3)
+
+
+    def test_a_fault_of_make_s_alone(self):
+        self.write(Makefile="all: ; echo\nifdef MAKE_VERSION\n$(error no)\nendif\n")
+        self.assertIn("Makefile:3: *** no.  Stop.", self.run_in("make").said)
+        ran = self.tool("kati-compare")
+        self.assertEqual(ran.status, 3)
+        self.assertIn("make ends with status 2 where kati has no fault:\nMakefile:3: *** no.  Stop.", ran.said)
+
+    def test_a_rule_of_make_s_own_that_is_missing(self):
+        self.write(Makefile="prog: prog.o ; cc -o $@ $^\n", prog_c="")
+        self.assertEqual(self.run_in("make", "-n").status, 0)
+        ran = self.tool("kati-compare")
+        self.assertEqual(ran.status, 3)
+        self.assertIn("No rule to make target 'prog.o'", ran.said)
+        self.assertIn("make takes it with its own rules: try --builtin", ran.said)
+        self.assertEqual(self.compared(0, "--builtin"), "same: 2 commands\n")
 
 
 @needs("kati", "ninja", "make", "cc")
@@ -136,3 +217,22 @@ class Building(Tree):
         before = self.made()
         self.compared(0)
         self.assertEqual(self.made(), before)
+
+    def test_what_stands_above_is_copied_too(self):
+        self.put("lib/v.h", "#define V 7\n")
+        self.put("prog/main.c", '#include "../lib/v.h"\nint main(void) { return V; }\n')
+        self.put("prog/Makefile", "TOP = ..\nall: prog ../lib/out\nprog: main.c ; cc -o $@ $<\n"
+                                  "../lib/out: ; cp $(TOP)/lib/v.h $@\n")
+        before = self.made()
+        ran = self.run_in("sh", "-c", f"cd prog && {self.tool_path('kati-compare')} --build")
+        self.assertEqual((ran.status, ran.said), (0, ""), ran.all)
+        self.assertEqual(ran.out, "same: 2 commands\nsame: 2 files came into being\n")
+        self.assertEqual(self.made(), before)
+        self.assertEqual(self.run_in("sh", "-c", "cd prog && make -s && ./prog").status, 7)
+
+    def test_words_for_kati_alone(self):
+        self.write(Makefile="ifdef MAKE_VERSION\nA := $(shell echo one)\nendif\nout: ; echo $(A) > out\n")
+        self.assertEqual(self.compared(0, "A=one", "--words-for-kati"),
+                         "same: 1 command\nsame: 1 file came into being\n")
+        self.assertIn("! out: other bytes", self.compared(1, "A=two", "--words-for-kati"))
+        self.assertIn("same: 1 file", self.compared(0, "A=two"))

@@ -1,4 +1,5 @@
 """kati-port: what it finds is what kati refuses, by the same number; what means something else; values of macros."""
+import os
 import re
 import shlex
 
@@ -49,6 +50,9 @@ REFUSED = [
     (".DEFAULT: ; echo\nall: ; echo\n", 1, "E22"),
     (".IGNORE:\nall: ; echo\n", 1, "E22"),
     (".EXPORT_ALL_VARIABLES:\nall: ; echo\n", 1, "E22"),
+    ("FILES = readme $(addprefix data/,*)\nall: $(FILES) ; echo\n", 1, "E20"),
+    ("all: $(foreach d,a b,$(d)/*.c) ; echo\n", 1, "E20"),
+    ("LIB = lib.a\nall: $(LIB)(x.o) ; echo\n", 2, "E20"),
 ]
 
 # Forms that kati takes otherwise than make, and words of the advice.
@@ -74,6 +78,11 @@ OTHERWISE = [
     ("all:\n\tifdef X\n\techo\n\tendif\n", 2, "shell"),
     ("all: ; $(MAKE) -C lib\nmore: ; ${MAKE} -C more\n", 1, "runs make"),
     ("all: ; echo\n%.o: %.c ; cc $<\n.c.o: ; mine $<\n", 3, "pattern rules"),
+    ("lib.a: lib.a(a.o b.o) ; ar r lib.a\n", 1, "several names"),
+    ("lib.a(a.o  b.o): a.h ; echo\na.h: ; echo\n", 1, "several names"),
+    ("-include config.mk\nall: ; echo\nconfig.mk: ; echo A = b > $@\n", 1, "make it before kati"),
+    ("all: ; echo\nsinclude config.mk\n%.mk: %.in ; cp $< $@\n", 2, "make it before kati"),
+    ("SRC = a.c\nall: ; echo\n-include $(SRC:.c=.d)\n%.d: %.c ; cc -MM $< > $@\n", 3, "make it before kati"),
 ]
 
 # What looks like such forms and is none.
@@ -95,6 +104,11 @@ FINE = [
     "all:\n\techo one \\#a '# b' \"it's # c\" $${d#e} f#g \\\n\t  two\n",
     "MAKE = gmake\nall: ; $(MAKE) -C lib\n",
     "all: ; echo\n%.o: %.cc ; c++ $<\n.c.o: ; cc $<\n",
+    "-include config.mk\nall: ; echo\nconfig.mk: ;\n%.mk:\n",
+    "-include a.c\nall: ; echo\na.c: ; touch $@\n",
+    "SRC = a.c\nall: ; echo\n-include $(SRC:.c=.d)\n%.d: ;\n%.x: %.y ; echo\n",
+    "all: $(addprefix x,a b) $(subst *,,a*) ; echo\nxa xb a: ; echo\n",
+    "all: a(b)c ; echo\na(b)c: ; echo\n",
     "A := one\nall: $(A) | dir ; echo $| $(@D) $(<F)\none: ; echo\ndir: ; mkdir dir\n",
 ]
 
@@ -172,6 +186,52 @@ class Porting(Tree):
         self.assertEqual(self.port(1, "Makefile")[-2], "Makefile: 3 in the way: 2 E16, 1 E17")
         self.assertEqual(self.port(1, "Makefile", "A=x")[-2], "Makefile: 2 in the way: 1 E16, 1 E17")
 
+    # What isn't taken, and what is.
+    BRANCHES = [
+        ("ifdef X\nexport A\nelse\nA = b\nendif\nall: ; echo\n", {"Makefile:2:"}),
+        ("ifeq ($(X),)\nA = b\nelse\nexport A\nall: ; $(CC)\nendif\nall: ; echo\n", {"Makefile:4:", "Makefile:5:"}),
+        ("ifeq (a,b)\nexport A\nelse ifdef Y\nexport B\nelse\n  ifdef Z\nA != ls\n  endif\nendif\nall: ; echo\n",
+         {"Makefile:2:", "Makefile:4:", "Makefile:7:"}),
+        ("ifdef X\nifdef MAKE_VERSION\nexport A\nelse\nexport B\nendif\nendif\nall: ; echo\n", {"Makefile:5:"}),
+        ("ifdef X\ninclude sub.mk\nendif\nall: ; echo\n", {"sub.mk:1:", "sub.mk:3:"}),
+        ("X = 1\ninclude sub.mk\nall: ; echo\n", {"sub.mk:3:"}),
+        ("all: ; echo\nifdef X\n\techo $(shell ls)\nendif\n\techo\n", {"Makefile:3:"}),
+        ("all: ; echo\n\techo\nifdef X\n\techo $(CC)\nendif\n", {"Makefile:4:"}),
+        ("define D\nifdef X\nexport A\nendif\nendef\nifdef X\nexport B\nendif\nall: ; echo\n", {"Makefile:7:"}),
+    ]
+
+    def test_what_stands_in_branches_that_are_not_taken(self):
+        self.write(sub_mk="A = $(HOME)\nifndef X\nexport A\nendif\n")
+        for makefile, idle in self.BRANCHES:
+            with self.subTest(makefile):
+                self.write(Makefile=makefile)
+                ran = self.tool("kati-port", "Makefile")
+                lines = ran.out.splitlines()
+                self.assertEqual({one.split(" ")[0] for one in lines[:-2] if "not taken] " in one}, idle)
+                others = [one for one in lines[:-2] if "not taken] " not in one]
+                self.assertEqual(ran.status, 1 if others else 0)
+                self.assertIn("in branches that aren't taken", lines[-2])
+                self.assertEqual(lines[-1], "kati takes Makefile")
+
+    def test_a_use_that_is_taken_counts(self):
+        self.write(Makefile="ifdef X\nall: ; $(CC)\nendif\nall: ; $(CC)\n")
+        self.assertEqual([one[:11] for one in self.port(1, "Makefile")[:-2]], ["Makefile:4:"])
+
+    def test_what_stands_behind_a_fault_counts(self):
+        self.write(Makefile="ifdef X\nexport A\nendif\nexport B\nifdef X\nexport C\nendif\nall: ; echo\n")
+        found = self.port(1, "Makefile")
+        self.assertEqual([one.split("]")[0] for one in found[:-2]],
+                         ["Makefile:2: export A [E17, not taken", "Makefile:4: export B [E17",
+                          "Makefile:6: export C [E17"])
+        self.assertEqual(found[-2], "Makefile: 2 in the way: 2 E17; 1 in branches that aren't taken")
+        self.assertEqual(found[-1], "kati's first fault: Makefile:4: *** refused form export [E17]")
+
+    def test_a_word_takes_a_branch(self):
+        self.write(Makefile="ifdef X\nexport A\nendif\nall: ; echo\n")
+        self.assertIn("[E17]", self.port(1, "Makefile", "X=1")[0])
+        self.assertIn("[E17, not taken]", self.port(0, "Makefile")[0])
+        self.assertIn("[E17, not taken]", self.port(0, "--builtin", "Makefile")[0])
+
     def test_several_makefiles(self):
         self.write(a_mk="all: ; echo\n", b_mk="all: ; echo $(shell ls)\n")
         self.assertEqual([one for one in self.port(1, "a.mk", "b.mk") if "takes" in one or "first" in one],
@@ -211,3 +271,79 @@ class Macros(Tree):
         self.copy_example()
         ran = self.tool("kati-port", "--macros", "Makefile")
         self.assertEqual((ran.status, ran.out), (0, ""))
+
+    def macros_of(self, folder, status=0, **environment):
+        """The words that kati-port says in a folder of the tree."""
+        port = self.tool_path("kati-port")
+        ran = self.run_in("sh", "-c", f"cd {folder} && {port} --macros Makefile", **environment)
+        self.assertEqual(ran.status, status, ran.all)
+        self.said = ran.said
+        return [shlex.split(line)[0] for line in ran.out.splitlines()]
+
+    def by_make(self, folder, *names):
+        """The same words by make itself, which stands where it is asked."""
+        asked = "".join(f"$(info {name}=$({name}))" for name in names)
+        return self.run_in("make", "-s", "-C", folder, "--no-print-directory", "--eval", f"told: ; @:{asked}",
+                           "told").out.splitlines()
+
+    def test_what_stands_above_this_folder(self):
+        self.put("lib/v.h", "#define V 7\n")
+        for up in ("..", "$(CURDIR)/..", "./.."):
+            for depth in ("prog", "prog/deep"):
+                with self.subTest((up, depth)):
+                    name = f"{up}/.." if depth == "prog/deep" else up
+                    self.put(f"{depth}/Makefile", f"V := $(shell sed -n 's/.define V //p' {name}/lib/v.h)\n"
+                             f"H := $(wildcard {name}/lib/*.h)\nT := $(shell cd {name}; pwd)\nall: ; echo\n")
+                    wanted = self.by_make(depth, "V", "H", "T")
+                    self.assertEqual(wanted[0], "V=7")
+                    self.assertEqual(wanted[2], f"T={self.top}")
+                    self.assertEqual(self.macros_of(depth), wanted)
+
+    def test_an_include_above_that_names_what_is_above_it(self):
+        self.put("rules.mk", "X := $(shell cat $(TOP)/../above.txt)\n")
+        self.put("a/Makefile", "TOP = ..\ninclude $(TOP)/rules.mk\nY := $(shell cat ../rules.mk | wc -l)\n"
+                               "all: ; echo\n")
+        self.assertEqual(self.macros_of("a"), ["Y=1"])
+
+    def test_the_folder_keeps_its_name(self):
+        self.put("prog/Makefile", "N := $(shell basename $$PWD)\nall: ; echo\n")
+        self.assertEqual(self.by_make("prog", "N"), ["N=prog"])
+        self.assertEqual(self.macros_of("prog"), ["N=prog"])
+
+    def test_a_copy_of_the_home_folder_is_too_much(self):
+        self.put("home/prog/Makefile", "X := $(shell ls ../x)\nall: ; echo\n")
+        self.assertEqual(self.macros_of("home/prog", 3, HOME=self.top / "home"), [])
+        self.assertIn(f"Makefile needs .., which is {self.top}/home: too much", self.said)
+
+    def test_pipes_and_their_kin_are_not_copied(self):
+        os.mkfifo(self.top / "pipe")
+        self.write(Makefile="X := $(shell echo x)\nall: ; echo\n")
+        self.assertEqual(self.macros_of("."), ["X=x"])
+
+    def test_make_s_status_counts(self):
+        self.write(Makefile="X := $(shell echo x)\ninclude gen.mk\ngen.mk: ; exit 3\nall: ; echo\n")
+        self.assertEqual(self.run_in("make", "-n").status, 2)
+        self.assertEqual(self.macros_of(".", 3), [])
+        self.assertIn("make -pn ends with status 2", self.said)
+        self.assertIn("gen.mk", self.said)
+
+    @needs("git")
+    def test_version_control_is_asked(self):
+        self.write(Makefile="V := $(shell git rev-list --count HEAD)\nall: ; echo\n")
+        who = ["-c", "user.name=a", "-c", "user.email=a@b"]
+        for words in (["init", "-q"], ["add", "Makefile"], [*who, "commit", "-q", "-m", "one"]):
+            self.assertEqual(self.run_in("git", *words).status, 0)
+        self.assertEqual(self.by_make(".", "V"), ["V=1"])
+        self.assertEqual(self.macros_of("."), ["V=1"])
+        self.put("sub/Makefile", "V := $(shell git rev-list --count HEAD)\nW := $(shell git ls-files ..)\n"
+                                 "X := $(shell git status --short | wc -l)\nall: ; echo\n")
+        for folder in ("sub", "tree/sub"):
+            with self.subTest(folder):
+                wanted = self.by_make(folder, "V", "W", "X")
+                self.assertEqual(wanted[0], "V=1")
+                self.assertEqual(self.macros_of(folder), wanted)
+                # The same in another work tree, where git has a file in the place of its folder.
+                if folder == "sub":
+                    for words in (["add", "sub"], [*who, "commit", "-q", "--amend", "-m", "one"],
+                                  ["worktree", "add", "-q", "tree"]):
+                        self.assertEqual(self.run_in("git", *words).status, 0)

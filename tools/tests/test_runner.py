@@ -1,5 +1,6 @@
 """scripts/run_checks.py: what comes through, what is added up, and how it ends. Other checks stand in for the real
 ones."""
+import os
 import re
 import shutil
 import sys
@@ -78,5 +79,25 @@ class Tests(Tree):
         self.assertEqual(ran.status, 1)
         self.assertEqual(ran.out.splitlines()[-2:],
                          ["skipped: test_some.A.test_not: without it", "1 passed, 1 failed, 1 skipped"])
+        self.assertNotIn("older", ran.out)
         ran = self.run_in(sys.executable, ".", "test_some.A.test_well")
         self.assertEqual((ran.status, ran.out.splitlines()[-1]), (0, "1 passed, 0 failed, 0 skipped"))
+
+    def test_a_program_that_is_older_than_the_source_is_told_where_a_test_failed(self):
+        self.put("crates/kt_x/src/a.rt", "")
+        self.put("crates/kati_program/out/kati_program", "")
+        program, source = self.top / "crates/kati_program/out/kati_program", self.top / "crates/kt_x/src/a.rt"
+        tests = self.top / "tools/tests"
+        tests.mkdir(parents=True)
+        shutil.copy(TOP / "tools/tests/__main__.py", tests)
+        (tests / "test_some.py").write_text("import unittest\n\n\nclass A(unittest.TestCase):\n"
+                                            "    def test_well(self):\n        pass\n\n"
+                                            "    def test_badly(self):\n        self.fail()\n")
+        told = f"{program} is older than crates/kt_x/src/a.rt: build it anew, if a test failed for that\n"
+        for older, names, is_told in ((program, [], True), (program, ["test_some.A.test_well"], False),
+                                      (source, [], False)):
+            with self.subTest((older.name, names)):
+                os.utime(program)
+                os.utime(source)
+                os.utime(older, (1, 1))
+                self.assertEqual(told in self.run_in(sys.executable, tests, *names, KATI="").out, is_told)

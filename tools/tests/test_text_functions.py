@@ -1,13 +1,17 @@
-"""The table of text functions: in the code, in its definition, and in docs/LANGUAGE.md, section 4.
+"""The table of text functions: in the code, in its definition, and in docs/LANGUAGE.md, section 4. And the lists of
+all functions: in the code, and in what kati-port knows.
 
 Run it by `python3 -m unittest discover tools/tests` at the top of the repository.
 """
-import pathlib
 import re
 import unittest
 
-TOP = pathlib.Path(__file__).resolve().parents[2]
+from support import TOP
+
+from kati_tools import forms
+
 CODE = TOP / "crates/kt_eval/src/expanding/text_functions.rt"
+CALLS = TOP / "crates/kt_eval/src/expanding/calls.rt"
 DEFINITION = TOP / "crates/kt_eval/specs/expanding/TextFunctions.antt"
 LANGUAGE = TOP / "docs/LANGUAGE.md"
 
@@ -44,6 +48,12 @@ def numbers_in_list(language):
     return shown
 
 
+def names_in(function):
+    """The names that a function of the code compares with."""
+    body = re.search(rf"^fn {function}\(.*?^}}", text_of(CALLS), re.DOTALL | re.MULTILINE).group(0)
+    return re.findall(r'is_name\(name, b"([^"]*)"\)', body)
+
+
 class TextFunctions(unittest.TestCase):
     def setUp(self):
         self.code = rows_of_code(text_of(CODE))
@@ -61,6 +71,13 @@ class TextFunctions(unittest.TestCase):
 
     def test_definition_has_the_same_rows(self):
         self.assertEqual(self.code, rows_of_definition(text_of(DEFINITION)))
+
+    def test_kati_port_knows_the_same_functions(self):
+        names = [name for _, name, _ in self.code]
+        self.assertCountEqual(forms.FUNCTIONS, names + names_in("other_function"))
+
+    def test_kati_port_knows_the_functions_that_are_refused(self):
+        self.assertCountEqual(forms.REFUSED, names_in("is_refused_function"))
 
     def test_list_shows_as_many_arguments(self):
         shown = numbers_in_list(text_of(LANGUAGE))

@@ -19,6 +19,7 @@ ADVICE = {
     "eval in recipe": "move it out of the recipe",
     "name": "write the names out, or pass them: kati \"SRC=$(echo *.c)\"",
     "dependencies": "leave it out; kati-build --deps reads what the compiler writes by -MMD",
+    "members": "kati takes it as several names; make the archive from its objects by one rule: lib.a: a.o b.o",
     "archive": "make the archive from its objects by one rule: lib.a: a.o b.o",
     ".ONESHELL": "continue the lines of the recipe by backslashes",
     ".SECONDEXPANSION": "use a static pattern rule, or write a rule for each target by eval",
@@ -34,6 +35,7 @@ ADVICE = {
     "blank": "put a blank after it",
     "separator": "a rule has a colon; a macro's name is one word",
     "absent": "make the file first, or write -include",
+    "made include": "make makes it, where it is absent or out of date, and reads it then; make it before kati",
     "group": "give it a recipe; use : for double colons and pattern rules",
     "mixed colons": "use one of : and ::",
     "escaped percent": "take another name: \\% isn't taken",
@@ -70,10 +72,11 @@ NUMBERS = {kind: number for number, kinds in KINDS.items() for kind in kinds}
 
 
 class Finding:
-    """A form that stands in the way, and where."""
+    """A form that stands in the way, and where; `is_idle` says that kati doesn't take the branch that it is in."""
 
     def __init__(self, file, number, form, kind):
         self.file, self.number, self.form, self.kind = file, number, " ".join(form.split()), kind
+        self.is_idle = False
 
     def fault(self):
         """The number of the fault, or the words for none."""
@@ -82,4 +85,5 @@ class Finding:
     def told(self):
         """The line that tells of it."""
         form = self.form if len(self.form) <= 60 else self.form[:57] + "..."
-        return f"{self.file}:{self.number}: {form} [{self.fault()}] {ADVICE[self.kind]}"
+        idle = ", not taken" if self.is_idle else ""
+        return f"{self.file}:{self.number}: {form} [{self.fault()}{idle}] {ADVICE[self.kind]}"

@@ -1,11 +1,13 @@
 """The command kati-build: translates a makefile, keeps the translation up to date, and runs ninja."""
 import os
 import shutil
+import signal
 import subprocess
 import sys
 
-from . import compile_commands, files, header_dependencies, includes, ninja_text, sources, top_file, translating, words
-from .programs import Stop, bytes_of, ending, need, say
+from . import compile_commands, files, includes, insertions, ninja_text, one_at_a_time, sources, top_file, translating
+from . import words
+from .programs import UNFORESEEN, Stop, bytes_of, ending, need, say
 
 TOOL = "kati-build"
 KATIS_FIRST_LINE = "# kati\n"
@@ -24,19 +26,29 @@ files:
                                include comes into being. So a plain `ninja` is enough from then on
   build.kati/translated.ninja  what kati wrote; with --deps, where header dependencies are too
   build.kati/files.txt         the list of the files that exist, as kati got it
+  build.kati/lock              what a run holds while it translates: one at a time, the next one waits
   build.kati/                  has ninja's own log too. It is named after FILE: .kati for .ninja
+
+what is added:
+  To the block of a statement --deps adds where its header dependencies are. What hangs on a target
+  that is made each time, as one of .PHONY, gets `restat = 1`, where its file is there: so what is
+  made from it is made again only if it changed, as by make. Before a file with such lines is put in
+  place, and with --builtin, `kati --check` is asked of it, by the same words and list; where its
+  status isn't 0, the build of before is kept. kati's own text isn't asked of.
 
 which files are watched:
   The program kati-asked, where it is found, tells each file that the translation asked for.
   Without it, lines that begin with `include`, `-include` or `sinclude` are looked for. Of a name
   that holds a reference, each listed file that it could name is watched.
   The list of sources is made again when a folder that it is made from has changed. What the build
-  itself makes isn't listed, unless it was there when the list was first made.
+  itself makes isn't listed, unless it was there when the list was first made. The list of git and
+  of find has the files of the folders outside this one that rules name, as ../inc of ../inc/h.h.
 
 header dependencies:
   --deps gives each statement whose command has -MD or -MMD the file that the compiler writes: that
   of -MF, or the one named after the output. So ninja makes again what includes a changed header.
   Of two statements that write the same file none can use it; this is said, and -MF $@.d helps.
+  Ninja takes the file away once it has read it, but for one that the makefile names.
 
 environment:
   KATI, KATI_ASKED, NINJA      the programs kati, kati-asked and ninja
@@ -54,6 +66,8 @@ exit status:
   3     a file can't be read or written, or a program isn't there
   4     kati ran out of memory
   64    wrong usage; the Ninja file that is there isn't one of kati's
+  70    a fault of the tool itself; where kati --check tells of it, the build of before is kept
+  130   interrupted
   else  ninja's own: 1 where a command failed, 2 and 130 where it was interrupted"""
 
 
@@ -97,10 +111,7 @@ class Build:
         self.translated = os.path.join(self.room, sources.TRANSLATED)
         self.list = os.path.join(self.room, "files.txt")
         refuse_words(asked, self.output)
-        self.is_first = not os.path.exists(self.room)
         self.program = translating.find_asked(asked.kati_asked)
-        self.translator = translating.Translator(asked, self.room)
-        os.makedirs(self.room, exist_ok=True)
 
     def makefile(self):
         """The makefile's name."""
@@ -119,58 +130,97 @@ class Build:
         found += ["--depth", str(asked.depth)] if asked.depth is not None else []
         return found + asked.words
 
-    def names_asked(self, listing):
-        """What the translation asked for; without kati-asked a guess. kati's list and its makefile for --builtin
+    def makefiles(self):
+        """The names that kati takes for the makefile, until one is there."""
+        if self.asked.makefile is not None:
+            return [self.asked.makefile]
+        return ["makefile"] if os.path.isfile("makefile") else ["makefile", "Makefile"]
+
+    def names_asked(self):
+        """What the translation asks for; None where only a guess can tell. kati's list and its makefile for --builtin
         are no sources."""
-        found = self.translator.asked(self.program, listing)
-        if found is None:
-            makefile = self.translator.makefile
-            found = includes.asked(["makefile", "Makefile"] if makefile is None else [makefile], listing.names)
+        if includes.includes_nothing(self.makefiles()):
+            return self.makefiles()
+        found = self.translator.asked(self.program)
         own = {self.translator.list, self.translator.makefile if self.asked.builtin else None}
         own.update(os.path.join(self.room, one) for one in (translating.MACROS, translating.RULES))
-        return [name for name in found if name not in own]
+        return None if found is None else [name for name in found if name not in own]
 
     def translate(self):
-        """Makes the translation and the file that ninja reads; answers kati's status."""
-        before = files.read(self.list)
-        old = ninja_text.statements(files.read(self.translated) or "")
-        listing = sources.listing(self.asked.files_from, self.output, self.room)
+        """Makes the translation and the file that ninja reads, alone in the folder; answers the status."""
+        def say_waiting():
+            say(TOOL, f"waits for another run that has {os.path.join(self.room, one_at_a_time.NAME)}")
+        with one_at_a_time.held(self.room, say_waiting) as is_first:
+            try:
+                self.translator = translating.Translator(self.asked, self.room)
+                return self.translate_alone()
+            finally:
+                self.tidy(is_first)
+
+    def tidy(self, is_first):
+        """Takes away what a run leaves that didn't come to its end: its new files; its folder where it made that."""
+        if is_first and not os.path.exists(self.translated):
+            shutil.rmtree(self.room, ignore_errors=True)
+        elif os.path.isdir(self.room):
+            for name in (name for name in os.listdir(self.room) if name.endswith(".new")):
+                files.remove(os.path.join(self.room, name))
+
+    def translate_alone(self):
+        """The same, where no other run is in the folder."""
+        before, old = files.read(self.list), files.read(self.translated) or ""
+        asked = self.names_asked()
+        listing = translating.listing(self.asked, self.output, self.room, asked)
         kept = listing.names if before is None else before.split("\n")
         found = self.translator.translate(listing, ninja_text.outputs(old), kept)
         sys.stderr.buffer.write(bytes_of(found.said))
         if found.status:
-            what = f"; {self.output} stays as it is" if os.path.exists(self.output) else ""
-            say(TOOL, f"kati ended with status {found.status}{what}")
-            os.unlink(self.translator.list)
-            self.remove_new_room()
+            self.say_kept(f"kati ended with status {found.status}")
             return found.status
-        self.write(found, listing)
+        content = insertions.Content(found, self.asked.deps)
+        if content.text != old and not self.is_right(content):
+            return UNFORESEEN
+        if asked is None:
+            asked = includes.asked(self.makefiles(), listing.names)
+        made = top_file.normal(found.outputs)
+        names = top_file.watched(asked, listing, made, self.output)
+        top = top_file.text(self, names, made, content.text)
+        self.write(found, content, content.text != old, top)
         return 0
 
-    def remove_new_room(self):
-        """Takes the folder away where it was made for this run."""
-        if self.is_first:
-            shutil.rmtree(self.room)
+    def say_kept(self, words):
+        """Tells why the build of before is kept."""
+        say(TOOL, words + (f"; {self.output} stays as it is" if os.path.exists(self.output) else ""))
 
-    def write(self, found, listing):
-        """Replaces the files of which the bytes differ; the one that ninja reads is the last."""
-        headers = header_dependencies.Dependencies(found.statements if self.asked.deps else [])
-        text = headers.added(found.text, found.statements)
-        names = top_file.watched(self.names_asked(listing), listing, ninja_text.outputs(found.statements), self.output)
-        files.replace(self.list, files.read(self.translator.list), self.room)
-        os.unlink(self.translator.list)
+    def is_right(self, content):
+        """Whether kati says that a text still says what the makefile says. kati's own text needs no asking."""
+        if content.is_katis and not self.asked.builtin:
+            return True
+        status, said = self.translator.check(files.staged(self.translated, content.text, self.room))
+        if status:
+            sys.stderr.buffer.write(bytes_of(said))
+            self.say_kept("what it added to kati's text would change the build, as kati --check says by status "
+                          f"{status}")
+        return status == 0
+
+    def write(self, found, content, is_new, top):
+        """Replaces the files of which the bytes differ; the one that ninja reads, with the text `top`, is the last."""
+        files.settle(self.translator.list, self.list)
         if self.asked.compile_commands:
             files.replace(compile_commands.NAME, compile_commands.text(found.statements), self.room)
-        is_new = files.replace(self.translated, text, self.room)
+        if is_new:
+            files.put(files.staged(self.translated, content.text, self.room), self.translated)
         # ninja, which asks for no other run of it, needn't hear it each time.
-        for doubt in headers.doubts if is_new or not self.asked.no_ninja else []:
+        for doubt in content.doubts if is_new or not self.asked.no_ninja else []:
             say(TOOL, doubt)
-        files.replace(self.output, top_file.text(self, names, found.statements, text), self.room)
+        files.replace(self.output, top, self.room)
 
     def run_ninja(self, more):
-        """Runs ninja on the file; answers its status."""
+        """Runs ninja on the file; answers its status. An interrupt is ninja's: it ends its commands, and tells so."""
         sys.stdout.flush()
         sys.stderr.flush()
+        # Not SIG_IGN, which ninja would inherit; but where it was that, as in the background, it stays.
+        if signal.getsignal(signal.SIGINT) != signal.SIG_IGN:
+            signal.signal(signal.SIGINT, lambda *_: None)
         return subprocess.run([need("ninja"), "-f", self.output, *more]).returncode
 
 

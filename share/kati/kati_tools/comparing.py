@@ -2,10 +2,17 @@
 import tempfile
 from collections import Counter
 
-from . import files, make_commands, scratch_builds, shell_text, sources, translating, words
+from . import files, make_commands, scratch_builds, shell_text, translating, words
+from .command_lists import Compared, alone
 from .programs import Stop, ending, need, run, say, write_text
 
 TOOL = "kati-compare"
+# What `same` is worth where make had macros of the command line too, and what is said of includes that make makes.
+SHARED = "; make had the macros of the command line too, see --words-for-kati"
+UNMADE = """\
+not compared: make would first make what it includes, and read it; kati reads what is there. `make -n` makes it by
+"""
+MOST_SHOWN = 5
 
 ABOUT = """\
 Compares the commands that make would run from nothing with those of the Ninja file that kati
@@ -14,42 +21,53 @@ make -n, which runs what $(shell ..) says, kati and ninja -t commands."""
 
 MORE = """\
 what is said:
-  same: N commands      both have the same commands, each as often
+  same: N commands      both have the same commands, each as often. Blanks between words don't count;
+                        where they alone differ, this is said. Macros of the command line are make's
+                        too, so `same` doesn't say that make has these values: --words-for-kati does
   nothing to compare    neither has a command
+  not compared          make would first make an include that isn't there or is out of date, and the
+                        commands that do so: what it then reads, kati doesn't. `make -n` makes them
   else                  lines with - are make's alone, lines with + kati's alone, and a count
   With --build, a line with ! is a file that has other bytes.
 
 how make is asked:
   make -n -B -r -R -f SUFFIXES -f - GOALS MACROS SHELL=noop < MAKEFILE
   SUFFIXES is a file with the suffixes that kati begins with. `-f -` keeps make from making its
-  makefile again. noop, which does nothing, keeps it from running lines with $(MAKE). A backslash
-  and its newline in a recipe are joined as kati joins them. The environment is PATH, HOME and
-  TMPDIR alone, since kati takes no macros from it; so it is for both builds of --build. With
-  --builtin make is asked without -r and -R, and in both builds it has its own rules in any case.
+  makefile again. noop, a shell that does nothing for a recipe, keeps it from running lines with
+  $(MAKE), and runs what $(shell ..) says. What make includes it makes anew, for -B; those commands
+  count where kati has them too. A backslash and its newline in a recipe are joined as kati joins
+  them. The environment is PATH, HOME and TMPDIR alone, since kati takes no macros from it; so it is
+  for both builds of --build. With --builtin make is asked without -r and -R, and in both builds it
+  has its own rules in any case.
 
 examples:
   kati-compare                      the first target of the makefile
   kati-compare all install          all commands of both goals
   kati-compare --builtin -f lua.mk  make by its own rules, kati by those of share/kati
   kati-compare --build              builds both ways in scratch copies, and compares the bytes
+  kati-port --macros Makefile | xargs kati-compare --words-for-kati       whether the words hold
 
 exit status:
   0   the same, or nothing to compare
-  1   they differ; --build: a build failed, or files differ
+  1   they differ, or aren't compared; --build: a build failed, or files differ
   2   the makefile has a fault, as kati says
   3   a file can't be read, a program isn't there, or make has a fault where kati has none
   4   kati ran out of memory
-  64  wrong usage"""
+  64  wrong usage
+  70  a fault of the tool itself; 130 where it is interrupted"""
 
 
 def parser():
     """The command line of kati-compare."""
     made = words.Parser(prog="kati-compare", description=ABOUT, epilog=MORE,
-                        usage="kati-compare [--build] [--builtin] [--files-from git|find|FILE] [--kati PROGRAM]\n"
-                              "                    [KATI WORDS]")
+                        usage="kati-compare [--build] [--words-for-kati] [--builtin] [--files-from git|find|FILE]\n"
+                              "                    [--kati PROGRAM] [KATI WORDS]")
     made.add_argument("--build", action="store_true",
-                      help="builds by make and by ninja, each in a scratch copy of this folder, and compares the "
-                           "files that came into being")
+                      help="builds by make and by ninja, each in a scratch copy of this folder, from as far up as the "
+                           "makefiles name ../, and compares the files that came into being")
+    made.add_argument("--words-for-kati", action="store_true",
+                      help="gives the macros NAME=VALUE to kati alone, so that it shows whether they are what make has "
+                           "by itself")
     words.add_builtin(made)
     words.add_files_from(made)
     words.add_kati(made)
@@ -81,22 +99,11 @@ def ninja_commands(translation, room):
     return [line for line in out.split("\n") if line]
 
 
-def alone(lines, others):
-    """The lines that stand in the first list more often than in the second, in their order."""
-    left, found = Counter(others), []
-    for line in lines:
-        if left[line]:
-            left[line] -= 1
-        else:
-            found.append(line)
-    return found
-
-
-def without_messages(lines, before, said):
-    """make's lines without those before it makes the goals, and those of $(info ..), which kati writes on standard
-    error."""
+def besides(before, said):
+    """What make prints that is no command of the goals: the lines before it makes them, and those of $(info ..) in
+    recipes, which kati writes on standard error."""
     messages = Counter(line.strip() for line in said.split("\n")) - Counter(before)
-    return alone(lines, [*before, *messages.elements()])
+    return [*before, *messages.elements()]
 
 
 def counted(number, noun):
@@ -104,23 +111,37 @@ def counted(number, noun):
     return f"{number} {noun}{'' if number == 1 else 's'}"
 
 
-def compare_commands(by_make, by_kati):
-    """Tells whether both have the same commands; answers whether they do."""
-    makes, katis = alone(by_make, by_kati), alone(by_kati, by_make)
-    if not by_make and not by_kati:
-        write_text("nothing to compare: neither make nor kati has a command for these goals\n")
-    elif not makes and not katis:
-        write_text(f"same: {counted(len(by_make), 'command')}\n")
-    else:
-        write_text("".join([*(f"- {line}\n" for line in makes), *(f"+ {line}\n" for line in katis)]))
-        write_text(f"differ: {counted(len(makes), 'command')} of make's alone, {len(katis)} of kati's alone, "
-                   f"{len(by_make) - len(makes)} the same\n")
-    return not makes and not katis
+def verdict(found, are_words_shared):
+    """The line that says how the commands of both compare."""
+    if not found.is_same:
+        return f"differ: {counted(len(found.makes), 'command')} of make's alone, {len(found.katis)} of kati's alone, " \
+               f"{found.count - len(found.katis)} the same"
+    if not found.count:
+        return "nothing to compare: neither make nor kati has a command for these goals"
+    blanks = f", {found.in_blanks} of them but for blanks" if found.in_blanks else ""
+    return f"same: {counted(found.count, 'command')}{blanks}{SHARED if are_words_shared else ''}"
+
+
+def compare_commands(asking, asked, by_kati, said):
+    """Tells whether make and kati have the same commands; answers whether they do."""
+    goals, macros = words.goals_of(asked.words), words.macros_of(asked.words)
+    makes_macros = [] if asked.words_for_kati else macros
+    by_make, before = asking.commands(goals, makes_macros)
+    first = alone(asking.first(makes_macros), [line.strip() for line in said.split("\n")])
+    if first:
+        shown = first[:MOST_SHOWN] + ([f"and {len(first) - MOST_SHOWN} more"] if len(first) > MOST_SHOWN else [])
+        write_text("".join([UNMADE, *(f"  {line}\n" for line in shown)]))
+        return False
+    found = Compared(by_make, besides(before, said), by_kati)
+    write_text("".join([*(f"- {line}\n" for line in found.makes), *(f"+ {line}\n" for line in found.katis)]))
+    write_text(verdict(found, bool(makes_macros)) + "\n")
+    return found.is_same
 
 
 def compare_builds(asked, translation, room):
     """Builds both ways, and tells whether the same files came into being; answers whether they did."""
-    by_make, by_ninja = scratch_builds.both(asked.makefile, asked.words, translation, room)
+    given = words.goals_of(asked.words) if asked.words_for_kati else asked.words
+    by_make, by_ninja = scratch_builds.both(asked.makefile, given, translation, room)
     lines = list(scratch_builds.told(by_make, by_ninja))
     if lines:
         write_text("".join(f"{line}\n" for line in lines) + "the builds differ\n")
@@ -136,7 +157,7 @@ def compare(asked):
     translating.tell_of_other(TOOL, asked.makefile)
     with tempfile.TemporaryDirectory(prefix="kati-compare-") as room:
         translator = translating.Translator(asked, room)
-        translation = translator.translate(sources.listing(asked.files_from))
+        translation = translator.translate(translating.listing(asked))
         if translation.status:
             say(TOOL, f"kati ended with status {translation.status}:\n{translation.said.rstrip()}")
             return translation.status
@@ -144,8 +165,7 @@ def compare(asked):
         by_kati = [text.strip() for command in commands for text in unwrapped(command)]
         asking = make_commands.Asking(asked.makefile or translating.default_makefile(), asked.builtin,
                                       shell_of(commands), room)
-        by_make, before = asking.commands(words.goals_of(asked.words), words.macros_of(asked.words))
-        is_same = compare_commands(without_messages(by_make, before, translation.said), by_kati)
+        is_same = compare_commands(asking, asked, by_kati, translation.said)
         if asked.build:
             is_same = compare_builds(asked, translation, room) and is_same
         return 0 if is_same else 1

@@ -1,7 +1,15 @@
-"""Files that are replaced whole, and only where their bytes differ."""
+"""Files that are replaced whole, and only where their bytes differ; the folders of those that aren't there."""
 import os
 
 from .programs import bytes_of, text_of
+
+
+def nearest_folder(name):
+    """The folder in which a file would come into being, or the nearest above it that is there."""
+    folder = os.path.dirname(name)
+    while folder and not os.path.isdir(folder):
+        folder = os.path.dirname(folder)
+    return folder or "."
 
 
 def read(path):
@@ -13,15 +21,48 @@ def read(path):
         return None
 
 
-def replace(path, text, room):
-    """Gives a file this text, by way of a new file in the folder `room`; answers whether it had another one.
+def remove(path):
+    """Takes a file away, if it is there."""
+    try:
+        os.unlink(path)
+    except FileNotFoundError:
+        pass
 
-    The new file gets its time after it has its name, so that it is no older than the folder that holds it."""
-    if read(path) == text:
-        return False
-    new = os.path.join(room, "new")
-    with open(new, "wb") as file:
-        file.write(bytes_of(text))
+
+def write(path, data):
+    """Writes bytes to a file; where that fails, nothing is left, and the error names the file."""
+    try:
+        with open(path, "wb") as file:
+            file.write(data)
+    except OSError as error:
+        remove(path)
+        raise OSError(error.errno, error.strerror, path) from error
+
+
+def staged(path, text, room):
+    """A new file in the folder `room` with a text for another one, whose name `put` gives it."""
+    new = os.path.join(room, os.path.basename(path) + ".new")
+    write(new, bytes_of(text))
+    return new
+
+
+def put(new, path):
+    """Gives a new file its name. It gets its time after that, so that it is no older than the folder that holds it."""
     os.replace(new, path)
     os.utime(path)
+
+
+def replace(path, text, room):
+    """Gives a file this text, by way of a new file in the folder `room`; answers whether it had another one."""
+    if read(path) == text:
+        return False
+    put(staged(path, text, room), path)
     return True
+
+
+def settle(new, path):
+    """Gives a new file its name where that file has other bytes; else takes the new one away."""
+    if read(new) == read(path):
+        remove(new)
+    else:
+        put(new, path)

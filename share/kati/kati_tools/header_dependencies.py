@@ -80,14 +80,26 @@ def depfile_of(command):
     return found
 
 
+def targets_of(command):
+    """The targets that the file of dependencies of a statement's command names: those of -MT or -MQ, or the object."""
+    compilations = [words for piece in shell_text.pieces(command) or []
+                    for words in shell_text.simple_commands(piece.text) if written_by(words) is not None]
+    if not compilations:
+        return []
+    words = compilations[0]
+    named = after(words, "-MT") or after(words, "-MQ") or after(words, "-o")
+    return named.split() if named else [os.path.splitext(os.path.basename(one))[0] + ".o" for one in sources_of(words)]
+
+
 class Dependencies:
-    """Where statements write their header dependencies: `files` has the file of each statement's first output.
+    """Where statements write their header dependencies: `files` has the file of each statement's first output, `kept`
+    those of these outputs whose file the makefile names, so that it has to stay.
 
     `doubts` tells of those for which that is no help. Of two statements that write one file, which both may run at
     a time, one would lose what the other has read and removed; so none of them gets it."""
 
     def __init__(self, found):
-        named, unknown = {}, []
+        self.statements, named, unknown = found, {}, []
         for statement in found:
             name = None if statement.command is None else depfile_of(statement.command)
             if name:
@@ -99,15 +111,33 @@ class Dependencies:
                        for output in unknown]
         self.doubts += [f"{', '.join(outputs)}: header dependencies are written to one file, {name}, and so aren't "
                         "used; -MF '$@.d' gives each its own" for name, outputs in named.items() if len(outputs) > 1]
+        self.kept = set()
+        self.find_kept()
 
-    def added(self, text, found):
-        """kati's text with `depfile` and `deps` in the block of each statement that has dependencies.
+    def find_kept(self):
+        """Finds the files that have to stay. Ninja reads such a file each time, and wants it to name the first output
+        and nothing else; where it doesn't, the file can't be used."""
+        named = {os.path.normpath(name) for one in self.statements for name in (*one.inputs, *one.outputs)}
+        for statement in self.statements:
+            output = statement.outputs[0]
+            if output not in self.files or os.path.normpath(self.files[output]) not in named:
+                continue
+            if [os.path.normpath(one) for one in targets_of(statement.command)] == [os.path.normpath(output)]:
+                self.kept.add(output)
+            else:
+                file = self.files.pop(output)
+                self.doubts.append(f"{output}: header dependencies aren't used, since the makefile names {file}, which "
+                                   "isn't of this name alone; -MF gives them another file")
+
+    def lines(self):
+        """`depfile` and `deps` for the block of each statement that has dependencies, by the number of its line.
 
         Ninja takes these keys from a block too. There kati reads them as variables, so that kati --check still
-        says the same build."""
-        lines = text.split("\n")
-        for statement in reversed(found):
-            name = self.files.get(statement.outputs[0])
-            if name:
-                lines.insert(statement.line + 1, f" depfile = {ninja_text.escaped_value(name)}\n deps = gcc")
-        return "\n".join(lines)
+        says the same build. With `deps` Ninja keeps what it read in its log and takes the file away."""
+        found = {}
+        for statement in self.statements:
+            output = statement.outputs[0]
+            if output in self.files:
+                log = [] if output in self.kept else [" deps = gcc"]
+                found[statement.line] = [f" depfile = {ninja_text.escaped_value(self.files[output])}", *log]
+        return found

@@ -8,6 +8,7 @@ import re
 
 from . import files
 
+WORD = re.compile(r"include[\s\\]")
 LINE = re.compile(r"^[ \t]*(?:-include|sinclude|include)[ \t]+(.*)$")
 IN_EVAL = re.compile(r"\$[({]eval[ \t]+(?:-include|sinclude|include)[ \t]+(.*)[)}]")
 REFERENCE = re.compile(r"\$(?:\([^()]*\)|\{[^{}]*\}|[^({])")
@@ -63,6 +64,12 @@ def fitting(pattern, listed):
     # `?` and `[` stand for themselves, since kati refuses them in an include's name.
     form = re.compile(fnmatch.translate(re.sub(r"([?\[])", r"[\1]", pattern)))
     return [name for name in listed if form.match(name)]
+
+
+def includes_nothing(makefiles):
+    """Whether no makefile can ask for another file, since it hasn't the words for it."""
+    texts = [files.read(name) for name in makefiles if os.path.isfile(name)]
+    return not any("eval" in text or WORD.search(text) for text in texts)
 
 
 def asked(makefiles, listed):

@@ -2,10 +2,10 @@
 its surroundings."""
 import re
 
-from . import files
+from . import files, includes
 from .advice import Finding
+from .forms import SUFFIXES, is_suffix_rule, without_references
 from .programs import SHARE
-from .scanning import SUFFIXES, is_suffix_rule
 from .translating import MACROS
 
 OF_MAKE = {"MAKEFLAGS", "MFLAGS", "CURDIR", "MAKEFILE_LIST", "MAKECMDGOALS", "MAKELEVEL", "MAKE_VERSION", "MAKE_HOST",
@@ -17,6 +17,7 @@ OF_THE_ENVIRONMENT = {"HOME", "PATH", "PWD", "OLDPWD", "USER", "LOGNAME", "HOSTN
 OTHER_MACROS = {"CO", "COFLAGS", "FC", "F77", "GET", "LINT", "M2C", "MAKEINFO", "OBJC", "PC", "TANGLE", "TEX",
                 "TEXI2DVI", "WEAVE", "CWEAVE", "CTANGLE", "COMPILE.f", "COMPILE.m", "COMPILE.p", "LINK.f", "LINK.m",
                 "LINK.p"}
+BRACKETS = {"(", ")"}
 SOURCES = (".c", ".cc", ".C", ".cpp", ".s", ".S", ".o")
 
 
@@ -43,7 +44,8 @@ def objects(scan):
     made = {name for rule in scan.rules if rule.has_recipe for name in rule.targets}
     named = [(rule.file, rule.number, name) for rule in scan.rules for name in rule.needs + rule.targets] + scan.values
     for file, number, name in named:
-        if name.endswith((".o", ".o)", ".o}")) and name not in made and not name.startswith("*"):
+        is_member = not BRACKETS.isdisjoint(without_references(name))
+        if name.endswith((".o", ".o)", ".o}")) and name not in made and not name.startswith("*") and not is_member:
             yield Finding(file, number, name, "built-in rule")
             return
 
@@ -88,25 +90,52 @@ def groups(scan):
             yield Finding(rule.file, rule.number, f"{' '.join(rule.targets)} &:", "group")
 
 
+def first_taken(scan, places):
+    """The first of these places that kati takes, else the first of all."""
+    return next((one for one in places if not scan.is_idle(*one[:2])), places[0])
+
+
 def macros(scan, has_builtin):
     """Macros that are referred to and that nothing assigns, though make has them."""
     kinds = {**dict.fromkeys(OTHER_MACROS, "built-in macro"), **dict.fromkeys(OF_MAKE, "of make"),
              **dict.fromkeys(OF_THE_ENVIRONMENT, "environment"), "MAKE": "inner make"}
     if not has_builtin:
         kinds.update(dict.fromkeys(macros_of_share(), "built-in macro"))
-    for name, (file, number) in scan.uses.items():
+    for name, places in scan.uses.items():
         if name in kinds and name not in scan.assigned:
-            yield Finding(file, number, f"$({name})", kinds[name])
+            yield Finding(*first_taken(scan, places), f"$({name})", kinds[name])
 
 
 def wild_values(scan):
     """Values with wildcards of macros that a rule's names refer to."""
-    for name, (file, number, word) in scan.wild.items():
+    for name, places in scan.wild.items():
         if name in scan.needed:
+            file, number, word = first_taken(scan, places)
             yield Finding(file, number, f"{name} = {word}", "name")
+
+
+def is_made(name, rules):
+    """Whether a rule with commands makes a file; of a name that holds a reference, what may be such a name."""
+    ending = includes.pattern_of(name).rpartition("*")[2]
+    for rule in rules:
+        for target in rule.targets if rule.has_commands else []:
+            if "$" in name and ending and target.endswith(ending) and ("%" in target or "$" in target):
+                return True
+            before, percent, after = target.partition("%")
+            if name == target or percent and name.startswith(before) and name.endswith(after):
+                return True
+    return False
+
+
+def made_includes(scan):
+    """Includes that make would first make."""
+    for file, number, word, name in scan.unmade:
+        if is_made(name, scan.rules):
+            yield Finding(file, number, f"{word} {name}", "made include")
 
 
 def findings(scan, has_builtin):
     """All of them."""
-    found = [*suffix_rules(scan), *suffix_order(scan), *groups(scan), *macros(scan, has_builtin), *wild_values(scan)]
+    found = [*suffix_rules(scan), *suffix_order(scan), *groups(scan), *macros(scan, has_builtin), *wild_values(scan),
+             *made_includes(scan)]
     return found if has_builtin else [*found, *objects(scan), *programs(scan)]

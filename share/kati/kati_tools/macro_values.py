@@ -4,10 +4,11 @@ import re
 import shlex
 import tempfile
 
-from . import makefile_text, sources
+from . import makefile_text
+from .forms import FUNCTION
 from .make_commands import environment
 from .programs import Stop, need, run
-from .scanning import FUNCTION
+from .scratch_copies import Copy
 
 ASKED = "kati_port_value_"
 
@@ -23,23 +24,24 @@ def names_in(text):
 
 
 def values(makefile, names, given):
-    """What `make -pn` tells of these macros, in a copy of this folder, since the functions may write files.
+    """What `make -pn` tells of these macros, in a scratch copy, since the functions may write files.
 
     A deferred macro is told unexpanded; so each is assigned, at once, to another. make prints its dollars doubled,
     as kati wants them."""
     with tempfile.TemporaryDirectory(prefix="kati-port-") as room:
-        tree, more = os.path.join(room, "tree"), os.path.join(room, "asked.mk")
-        sources.copy_tree(tree)
+        copy, more = Copy(makefile, os.path.join(room, "copy"), True), os.path.join(room, "asked.mk")
         with open(more, "w", encoding="utf-8", errors="surrogateescape") as file:
             file.writelines(f"{ASKED}{number} := $({name})\n" for number, name in enumerate(names))
             file.write(f".PHONY: {ASKED}\n{ASKED}: ;\n")
         call = ["make", "-pn", "-f", makefile, "-f", more, ASKED, *given]
-        _, out, said = run(call, executable=need("make"), cwd=tree, env=environment())
+        # git's index stays as it is, though the copies have other times of change.
+        status, out, said = run(call, executable=need("make"), cwd=copy.folder,
+                                env=environment(GIT_OPTIONAL_LOCKS="0"))
     found = dict(re.findall(rf"^{ASKED}(\d+) := ?(.*)$", out, re.MULTILINE))
-    if len(found) < len(names):
-        raise Stop(f"make -pn doesn't tell the values: {said.strip()}")
+    if status or len(found) < len(names):
+        raise Stop(f"make -pn ends with status {status} and doesn't tell the values:\n{said.strip()}")
     # What names the copy means this folder.
-    return {name: found[str(number)].replace(os.path.realpath(tree), os.getcwd()) for number, name in enumerate(names)}
+    return {name: copy.original(found[str(number)]) for number, name in enumerate(names)}
 
 
 def words(makefile, names, given):

@@ -1,7 +1,6 @@
 """The commands that make would run, asked in such a way that nothing is run."""
 import os
 import re
-import shutil
 
 from . import files
 from .programs import Stop, need, run
@@ -13,6 +12,11 @@ SUFFIXES = ".SUFFIXES: .o .c .cc .cpp .s .S .y .l .h .sh .a .f\n.SECONDARY:\n"
 # it.
 NO_GOAL = "kati_compare_makes_nothing"
 NO_RULE = f".PHONY: {NO_GOAL}\n{NO_GOAL}: ;\n.DEFAULT_GOAL :=\n"
+# A shell that runs no line of a recipe. make reads what $(shell ..) prints from a pipe, and leaves its own output,
+# which is a file, to recipes.
+NOOP = '#!/bin/sh\ntest -p /dev/stdout && exec {shell} "$@"\nexit 0\n'
+# How make names the makefile that it reads as standard input, of which it makes a file of its own.
+OF_THIS_MAKEFILE = re.compile(r"(^|\[)(?:-|[^\s:]*/Gm\w{6})(:\d+:)", re.MULTILINE)
 CONTINUED = re.compile(r"(?<!\\)((?:\\\\)*)\\\n")
 NOTHING = re.compile(r"make: (Nothing to be done for .*|'.*' is up to date)\.")
 
@@ -30,32 +34,46 @@ def lines_of(text):
 
 
 class Asking:
-    """How make is asked about a makefile: by standard input, with a shell that does nothing.
+    """How make is asked about a makefile: by standard input, with a shell that runs no recipe.
 
     `shell` is what stands for $(SHELL). `noop` is given as the shell, so that what make runs even under -n, lines with
-    $(MAKE), does nothing. Without its own macros and rules make has what kati has, a list of suffixes. Its own rules
-    can't be included in their place: make tries suffix rules behind all pattern rules of its makefiles."""
+    $(MAKE), does nothing; it runs what $(shell ..) and != say. Without its own macros and rules make has what kati
+    has, a list of suffixes. Its own rules can't be included in their place: make tries suffix rules behind all pattern
+    rules of its makefiles."""
 
     def __init__(self, makefile, has_builtin, shell, room):
         self.makefile, self.has_builtin, self.shell = makefile, has_builtin, shell
-        self.suffixes, self.noop = (os.path.join(room, name) for name in ("suffixes", "noop"))
+        self.suffixes, self.noop, self.printed = (os.path.join(room, name) for name in ("suffixes", "noop", "printed"))
         files.replace(self.suffixes, SUFFIXES + NO_RULE, room)
-        if not os.path.lexists(self.noop):
-            os.symlink(shutil.which("true") or "/bin/true", self.noop)
+        files.replace(self.noop, NOOP.format(shell=shell), room)
+        os.chmod(self.noop, 0o755)
 
-    def ask(self, words):
-        """What make prints for these words, a command a line."""
+    def run(self, words, has_builtin, always):
+        """make's status for these words, with what it prints, which `noop` must find to be no pipe."""
         # By its plain name, since $(MAKE) is the name that make has.
-        call = ["make", "-n", "-B", *([] if self.has_builtin else ["-r", "-R"]), "--no-print-directory"]
-        call += ["-f", self.suffixes, "-f", "-", *words, f"SHELL={self.noop}"]
-        with open(self.makefile, "rb") as given:
-            status, out, said = run(call, executable=need("make"), stdin=given, env=environment())
+        call = ["make", "-n", *(["-B"] if always else []), *([] if has_builtin else ["-r", "-R"])]
+        call += ["--no-print-directory", "-f", self.suffixes, "-f", "-", *words, f"SHELL={self.noop}"]
+        with open(self.makefile, "rb") as given, open(self.printed, "wb") as printed:
+            status, _, said = run(call, executable=need("make"), stdin=given, stdout=printed, env=environment())
+        return status, files.read(self.printed).replace(self.noop, self.shell), said
+
+    def ask(self, words, always=True):
+        """What make prints for these words, a command a line; with `always` as if nothing were made yet."""
+        status, out, said = self.run(words, self.has_builtin, always)
         if status:
-            raise Stop(f"make ends with status {status} where kati has no fault:\n{said.strip()}")
-        return lines_of(out.replace(self.noop, self.shell))
+            told = OF_THIS_MAKEFILE.sub(lambda match: f"{match[1]}{self.makefile}{match[2]}", said).strip()
+            takes_it = not self.has_builtin and self.run(words, True, always)[0] == 0
+            hint = "\nmake takes it with its own rules: try --builtin" if takes_it else ""
+            raise Stop(f"make ends with status {status} where kati has no fault:\n{told}{hint}")
+        return lines_of(out)
 
     def commands(self, goals, macros):
         """The commands for the goals. And what make prints before it makes them: it makes the includes anew, which
         kati doesn't, so those commands are the ones that a goal without any needs."""
         before = self.ask([NO_GOAL, *macros])
         return self.ask([*goals, *macros]), before
+
+    def first(self, macros):
+        """The commands by which make would first make what it includes: what isn't there, or is older than that of
+        which it is made."""
+        return self.ask([NO_GOAL, *macros], always=False)

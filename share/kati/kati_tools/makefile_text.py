@@ -7,6 +7,9 @@ REFUSED = {"override", "export", "unexport", "undefine", "private", "vpath", "lo
 ASSIGNED = re.compile(r"[ \t]*((?:\$\([^()]*\)|\$\{[^{}]*\}|[^\s:#=?+!$]|[?+!](?!=)|\$[^({])+)[ \t]*"
                       r"(:::=|::=|:=|\+=|\?=|!=|=)(.*)", re.DOTALL)
 CLOSING = {"(": ")", "{": "}"}
+OPENING = {closing: opening for opening, closing in CLOSING.items()}
+BRACKET = re.compile(r"[(){}]")
+MOST_LEVELS = 400
 
 
 class Line:
@@ -40,22 +43,38 @@ def end_of_reference(text, at):
     if at + 1 >= len(text) or text[at + 1] not in CLOSING:
         return at + 2
     opening, depth = text[at + 1], 0
-    for end in range(at + 1, len(text)):
-        depth += (text[end] == opening) - (text[end] == CLOSING[opening])
+    for match in re.compile(f"[{opening}{CLOSING[opening]}]").finditer(text, at + 1):
+        depth += 1 if match.group() == opening else -1
         if not depth:
-            return end + 1
+            return match.end()
     return len(text)
 
 
+def ends_of_brackets(text):
+    """Where the text ends that each bracket opens, by the bracket's place; of each kind for itself."""
+    found, open_ones = {}, {"(": [], "{": []}
+    for match in BRACKET.finditer(text):
+        bracket = match.group()
+        if bracket in CLOSING:
+            open_ones[bracket].append(match.start())
+        elif open_ones[OPENING[bracket]]:
+            found[open_ones[OPENING[bracket]].pop()] = match.end()
+    return found
+
+
 def references(text):
-    """The references of a text, those in others too; `$$` is none."""
-    found, at = [], text.find("$")
+    """The references of a text, those in others too, down to as many levels as kati takes; `$$` is none."""
+    found, outer, ends = [], [], ends_of_brackets(text)
+    at = text.find("$")
     while 0 <= at < len(text) - 1:
-        end = end_of_reference(text, at)
-        if text[at + 1] != "$":
+        while outer and outer[-1] <= at:
+            outer.pop()
+        after = text[at + 1]
+        end = ends.get(at + 1, len(text)) if after in CLOSING else at + 2
+        if after != "$" and len(outer) <= MOST_LEVELS:
             found.append(text[at:end])
-            found += references(text[at + 2:end - 1])
-        at = text.find("$", end)
+            outer.append(end)
+        at = text.find("$", at + (1 if after in CLOSING else 2))
     return found
 
 

@@ -3,7 +3,7 @@ import argparse
 import tempfile
 from collections import Counter
 
-from . import files, leaning, macro_values, scanning, sources, translating, words
+from . import branches, files, leaning, macro_values, scanning, translating, words
 from .programs import Stop, ending, write_text
 
 TOOL = "kati-port"
@@ -20,13 +20,15 @@ macro by itself, and kati hasn't."""
 
 MORE = """\
 what is told:
-  [Enn]       kati refuses the form by this fault, if it meets it: a branch that isn't taken, or a
-              macro that nothing uses, does no harm
+  [Enn]       kati refuses the form by this fault, if it meets it: a macro that nothing uses does no
+              harm. [Enn, not taken] stands in a branch that kati doesn't take, as it told of each up to
+              its first fault; it isn't counted, and may be met with other words
   [no fault]  kati takes the form, in another sense than make: names that lean on built-in rules,
               built-in macros, what tells of make's run, $(MAKE), variables of the environment that
               are often asked for, VPATH, suffix rules with prerequisites or beside a pattern rule,
               double colons without prerequisites, $? and $%, -lNAME as a prerequisite, .NOTPARALLEL,
-              conditionals and comments within a recipe that make hands to the shell
+              conditionals and comments within a recipe that make hands to the shell, lib.a(a.o b.o),
+              includes that make makes
 
 examples:
   kati-port Makefile                 what stands in the way
@@ -36,10 +38,12 @@ examples:
   kati-port --macros Makefile | xargs kati-build all       hands these words to kati-build
 
 exit status:
-  0   nothing stands in the way, and kati takes the makefile; --macros: the words are printed
+  0   nothing that counts is in the way, and kati takes the makefile; --macros: the words are printed
   1   something was told
-  3   a file can't be read, or a program isn't there
-  64  wrong usage"""
+  3   a file can't be read, or a program isn't there; --macros: make has a fault, or the copy can't be
+      made
+  64  wrong usage
+  70  a fault of the tool itself; 130 where it is interrupted"""
 
 
 def parser():
@@ -48,9 +52,9 @@ def parser():
                         usage="kati-port [--macros] [--builtin] [--files-from git|find|FILE] [--kati PROGRAM]\n"
                               "                 MAKEFILE.. [NAME=VALUE]..")
     made.add_argument("--macros", action="store_true",
-                      help="asks `make -pn`, in a copy of this folder, for the values of macros that come from "
-                           "$(shell ..) and $(wildcard ..), and prints them as NAME=VALUE words for kati, quoted for "
-                           "a shell, one a line")
+                      help="asks `make -pn`, in a copy of this folder, from as far up as the makefiles name ../, for "
+                           "the values of macros that come from $(shell ..) and $(wildcard ..), and prints them as "
+                           "NAME=VALUE words for kati, quoted for a shell, one a line")
     words.add_builtin(made)
     words.add_files_from(made)
     words.add_kati(made)
@@ -63,17 +67,28 @@ def all_findings(makefile, asked, macros):
     """What stands in the way in a makefile and its includes, file by file, from the first line to the last."""
     scan = scanning.Scan(word.split("=", 1)[0] for word in macros)
     scan.file_of(makefile)
+    with tempfile.TemporaryDirectory(prefix="kati-port-") as room:
+        copy = branches.write_copies(scan, room)[makefile]
+        scan.is_idle_place = branches.not_taken(translation(copy, asked, macros, room).said)
     found = scan.findings + leaning.findings(scan, asked.builtin)
+    for one in found:
+        one.is_idle = scan.is_idle(one.file, one.number)
     order = {name: number for number, name in enumerate(dict.fromkeys(one.file for one in found))}
     found = {(one.file, one.number, one.form, one.kind): one for one in found}
     return sorted(found.values(), key=lambda one: (one.file != makefile, order[one.file], one.number))
 
 
+def translation(makefile, asked, macros, room):
+    """kati's translation of a makefile."""
+    told = argparse.Namespace(kati=asked.kati, makefile=makefile, builtin=asked.builtin, depth=None, words=macros,
+                              files_from=asked.files_from)
+    return translating.Translator(told, room).translate(translating.listing(told))
+
+
 def first_fault(makefile, asked, macros):
     """What kati says of the makefile: its first fault, or None where it takes it."""
     with tempfile.TemporaryDirectory(prefix="kati-port-") as room:
-        told = argparse.Namespace(kati=asked.kati, makefile=makefile, builtin=asked.builtin, depth=None, words=macros)
-        found = translating.Translator(told, room).translate(sources.listing(asked.files_from))
+        found = translation(makefile, asked, macros, room)
         if found.status == 0:
             return None
         lines = [line for line in found.said.split("\n") if line]
@@ -82,10 +97,13 @@ def first_fault(makefile, asked, macros):
 
 def counted(found, fault):
     """The line that counts the findings by fault; `fault` is kati's own."""
-    if not found:
-        return "nothing in the way" if fault is None else "nothing found beside kati's own fault"
-    counts = Counter(one.fault() for one in found)
-    return f"{len(found)} in the way: " + ", ".join(f"{counts[fault]} {fault}" for fault in sorted(counts))
+    idle = sum(one.is_idle for one in found)
+    rest = f"; {idle} in branches that aren't taken" if idle else ""
+    counts = Counter(one.fault() for one in found if not one.is_idle)
+    if not counts:
+        return ("nothing in the way" if fault is None else "nothing found beside kati's own fault") + rest
+    told = ", ".join(f"{counts[fault]} {fault}" for fault in sorted(counts))
+    return f"{sum(counts.values())} in the way: {told}{rest}"
 
 
 def port(makefile, asked, macros):
@@ -95,7 +113,7 @@ def port(makefile, asked, macros):
     lines = [*(one.told() for one in found), f"{makefile}: {counted(found, fault)}",
              f"kati takes {makefile}" if fault is None else f"kati's first fault: {fault}"]
     write_text("".join(f"{line}\n" for line in lines))
-    return bool(found) or fault is not None
+    return any(not one.is_idle for one in found) or fault is not None
 
 
 def ask_macros(makefile, macros):

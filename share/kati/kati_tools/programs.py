@@ -3,6 +3,7 @@ import os
 import shutil
 import subprocess
 import sys
+import traceback
 from pathlib import Path
 
 # The folder of this package's parent: share/kati, in a checkout as where it is installed.
@@ -11,6 +12,8 @@ SHARE = Path(__file__).resolve().parent.parent
 TOP = SHARE.parent.parent
 
 NO_FILE = 3
+# A fault of the tool itself, and an interrupt.
+UNFORESEEN, INTERRUPTED = 70, 130
 
 
 class Stop(Exception):
@@ -76,14 +79,14 @@ def bytes_of(text):
 
 def run(words, **rest):
     """Runs a command; answers its status, standard output and standard error as texts."""
-    how = {"stdin": subprocess.DEVNULL, **rest}
-    ran = subprocess.run(words, stdout=subprocess.PIPE, stderr=subprocess.PIPE, **how)
-    return ran.returncode, text_of(ran.stdout), text_of(ran.stderr)
+    how = {"stdin": subprocess.DEVNULL, "stdout": subprocess.PIPE, **rest}
+    ran = subprocess.run(words, stderr=subprocess.PIPE, **how)
+    return ran.returncode, text_of(ran.stdout or b""), text_of(ran.stderr)
 
 
 def say(tool, words):
     """A line on standard error, after what standard output holds."""
-    sys.stdout.flush()
+    close_output()
     sys.stderr.buffer.write(bytes_of(f"{tool}: {words}\n"))
     sys.stderr.flush()
 
@@ -91,17 +94,45 @@ def say(tool, words):
 def write_text(text):
     """Text on standard output, bytes that aren't UTF-8 as they are."""
     sys.stdout.flush()
-    sys.stdout.buffer.write(bytes_of(text))
-    sys.stdout.flush()
+    try:
+        sys.stdout.buffer.write(bytes_of(text))
+        sys.stdout.flush()
+    except OSError as error:
+        raise OSError(error.errno, error.strerror, "standard output") from error
+
+
+def told(error):
+    """What to say of an error of a file."""
+    what = error.strerror or str(error)
+    return what if error.filename is None else f"{os.fsdecode(error.filename)}: {what}"
+
+
+def close_output():
+    """Gives standard output up where it takes nothing any more, or Python would try again at its end, and say so."""
+    try:
+        sys.stdout.flush()
+    except OSError:
+        os.dup2(os.open(os.devnull, os.O_WRONLY), sys.stdout.fileno())
 
 
 def ending(tool, call, *given):
-    """What a call answers; a Stop, a fault of a file and a closed output are told, with their status."""
+    """What a call answers. A Stop, a fault of a file, an interrupt and whatever else is left end the tool with a line
+    and a status: here alone, so that none ends with a traceback."""
     try:
         return call(*given)
     except Stop as stop:
         say(tool, stop)
         return stop.status
     except OSError as error:
-        say(tool, f"{error.filename}: {error.strerror}" if error.filename else error.strerror)
+        say(tool, told(error))
         return NO_FILE
+    except KeyboardInterrupt:
+        say(tool, "interrupted")
+        return INTERRUPTED
+    except Exception as error:
+        place = traceback.extract_tb(error.__traceback__)[-1]
+        say(tool, f"a fault of this tool, at {os.path.basename(place.filename)}:{place.lineno}: "
+                  f"{type(error).__name__}: {error}")
+        return UNFORESEEN
+    finally:
+        close_output()

@@ -3,28 +3,20 @@ expansion."""
 import os
 import re
 
-from . import files, makefile_text
+from . import branches, files, makefile_text
 from .advice import Finding
+from .forms import CALL, FUNCTION, MEMBER, WILD, has_continued_comment, has_wildcard, members_in, without_references
 from .programs import Stop
 
-FUNCTION = re.compile(r"\$[({](shell|wildcard|realpath|abspath|origin|flavor|file|guile|let|intcmp)[ \t\n]")
-CALL = re.compile(r"\$[({]call[ \t\n]+(subst|patsubst|strip|findstring|filter|filter-out|sort|word|wordlist|words|"
-                  r"firstword|lastword|dir|notdir|suffix|basename|addsuffix|addprefix|join|if|or|and|foreach|call|"
-                  r"value|eval|error|warning|info)[,)}]")
 SPECIAL = {".ONESHELL", ".SECONDEXPANSION", ".DEFAULT", ".IGNORE", ".WAIT", ".EXPORT_ALL_VARIABLES", ".NOTPARALLEL"}
-WILD = re.compile(r"[*?\[]|^~")
-MEMBER = re.compile(r"[^\s()$]+\([^()]*\)")
-# The parts of a recipe's text: what is escaped or quoted, a comment of the shell that ends in a continued line, others.
-SHELL_PART = re.compile(r"""\\.|'[^']*'|"(?:\\.|[^"\\])*"|(?<![^\s;&|(])#[^\n]*\\\n|.""", re.DOTALL)
-SUFFIXES = (".o", ".c", ".cc", ".cpp", ".s", ".S", ".y", ".l", ".h", ".sh", ".a", ".f")
 
 
 class Block:
-    """A conditional: whether it began behind a tab, how many rules were there, and whether its `else` is make's
-    alone."""
+    """A conditional: its number, the branch that it is in, whether it began behind a tab, how many rules were there,
+    and whether its `else` is make's alone."""
 
-    def __init__(self, is_tab, rules):
-        self.is_tab, self.rules, self.has_makes_else = is_tab, rules, False
+    def __init__(self, number, is_tab, rules):
+        self.number, self.is_tab, self.rules, self.branch, self.has_makes_else = number, is_tab, rules, 0, False
 
 
 class Scan:
@@ -34,31 +26,48 @@ class Scan:
         # The macros of the command line: kati never expands what the makefile assigns to them.
         self.given = set(given)
         self.findings, self.assigned, self.colons = [], set(self.given), {}
-        # Where each macro is first referred to: (file, number). What rules need, by macro. Values that hold a
-        # wildcard.
+        # Where each macro is referred to: (file, number). What rules need, by macro. Values that hold a wildcard:
+        # (file, number, word).
         self.uses, self.needed, self.wild = {}, {}, {}
-        # The rules, with whether they have a recipe, and the words of values.
-        self.rules, self.values, self.read = [], [], set()
-        # The conditionals that aren't closed.
-        self.blocks = []
+        # The rules, with whether they have a recipe, and the words of values. Includes that aren't there, or that a
+        # reference names: (file, number, word, name).
+        self.rules, self.values, self.read, self.unmade = [], [], {}, []
+        # The conditionals that aren't closed, and how many there were. Which branches are round a line, by file and
+        # number, and the marks that tell of branches (branches.py), by file and by number of the line before.
+        self.blocks, self.count, self.places, self.marks = [], 0, {}, {}
+        # Answers whether a place isn't taken.
+        self.is_idle_place = lambda place: False
         # How many conditionals are open from the beginning of a branch on that is make's alone; 0 outside such.
         self.skipped = 0
 
     def add(self, line, form, kind):
         self.findings.append(Finding(self.file, line.number, form, kind))
 
-    def file_of(self, name):
-        """Looks through a makefile, and then through what it includes by a plain name."""
+    def is_idle(self, file, number):
+        """Whether kati doesn't take a line."""
+        return self.is_idle_place(self.places.get((file, number), ()))
+
+    def file_of(self, name, around=()):
+        """Looks through a makefile, and then through what it includes by a plain name. `around` has the branches in
+        which it is included."""
         text = files.read(name)
         if text is None:
             raise Stop(f"no file {name}")
-        self.read.add(name)
+        self.read[name] = True
         self.file, self.open, self.depth, self.blocks, self.skipped, left = name, None, 0, [], 0, []
         for line in makefile_text.lines(text):
-            left += self.line(line)
-        for include in left:
+            place = (*around, *((block.number, block.branch) for block in self.blocks))
+            self.places[name, line.number] = place
+            left += [(include, place) for include in self.line(line)]
+        for include, place in left:
             if include not in self.read and os.path.isfile(include):
-                self.file_of(include)
+                self.file_of(include, place)
+
+    def mark(self, line, branch):
+        """Has it told that kati comes by this line, which begins a branch or ends a conditional."""
+        if self.blocks and not line.is_tab:
+            told = branches.mark_of(self.blocks[-1].number, branch)
+            self.marks.setdefault(self.file, {}).setdefault(line.number, []).append(told)
 
     def line(self, line):
         """Looks at a line; answers the files that it includes."""
@@ -81,9 +90,12 @@ class Scan:
             self.depth += {"define": 1, "endef": -1}.get(word, 0)
         elif word == "else" and self.skipped == 1:
             self.skipped = 0
+            self.blocks[-1].branch += 1
+            self.mark(line, self.blocks[-1].branch)
         elif word in makefile_text.CONDITIONS and word != "else":
             self.skipped += -1 if word == "endif" else 1
             if not self.skipped:
+                self.mark(line, branches.END)
                 self.blocks.pop()
 
     def is_makes_alone(self, word, rest):
@@ -112,7 +124,7 @@ class Scan:
         if self.open is not None and self.open.is_doubtful and (found or word in makefile_text.CONDITIONS):
             self.open = None
         if self.open is not None:
-            self.open.has_recipe = True
+            self.open.has_recipe = self.open.has_commands = True
             if word in makefile_text.CONDITIONS and self.is_new_block(word, True):
                 self.add(line, line.joined, "recipe condition")
             self.recipe(line, line.text)
@@ -133,11 +145,13 @@ class Scan:
 
         A rule from a branch may not be the one that is open behind it, if that branch isn't taken."""
         if word not in ("else", "endif"):
-            self.blocks.append(Block(is_tab, len(self.rules)))
+            self.count += 1
+            self.blocks.append(Block(self.count, is_tab, len(self.rules)))
             return True
-        block = self.blocks[-1] if self.blocks else Block(False, 0)
+        block = self.blocks[-1] if self.blocks else Block(0, False, 0)
         if self.open is not None and len(self.rules) > block.rules:
             self.open.is_doubtful = True
+        block.branch += 1
         if word == "endif" and self.blocks:
             self.blocks.pop()
         return is_tab and not block.is_tab
@@ -171,7 +185,7 @@ class Scan:
                 self.add(line, reference, "call")
             name = re.fullmatch(r"\$[({]([^ \t\n:,$(){}]+)(?::[^=]*=[^)}]*)?[)}]", reference)
             if name:
-                self.uses.setdefault(name.group(1), (self.file, line.number))
+                self.uses.setdefault(name.group(1), []).append((self.file, line.number))
 
     def plain_line(self, line, word):
         """A line that doesn't begin with a tab; answers the files that it includes."""
@@ -207,13 +221,17 @@ class Scan:
         self.values += [(self.file, line.number, word) for word in makefile_text.words(value)]
         if name in ("VPATH", ".RECIPEPREFIX") and value not in ("", "."):
             self.add(line, f"{name} {operator} {value}", name)
-        wild = [word for word in makefile_text.words(value) if "$" not in word and WILD.search(word)]
+        wild = [word for word in makefile_text.words(value) if has_wildcard(word)]
         if wild:
-            self.wild.setdefault(name, (self.file, line.number, wild[0]))
+            self.wild.setdefault(name, []).append((self.file, line.number, wild[0]))
 
     def condition(self, line, word, text):
         """A conditional."""
+        if word == "endif":
+            self.mark(line, branches.END)
         self.is_new_block(word, False)
+        if word != "endif" and self.blocks:
+            self.mark(line, self.blocks[-1].branch)
         rest = text.strip()[len(word):]
         inner = rest.strip().split(None, 1)
         if word == "else" and inner and inner[0] in makefile_text.CONDITIONS:
@@ -233,6 +251,8 @@ class Scan:
                 self.add(line, name, "dependencies" if name.endswith(".d") else "name")
             elif "$" not in name and word == "include" and not os.path.exists(name):
                 self.add(line, f"include {name}", "absent")
+            elif "$" in name or not os.path.exists(name):
+                self.unmade.append((self.file, line.number, word, name))
         return [name for name in names if "$" not in name]
 
     def refused(self, line, word, text):
@@ -254,6 +274,7 @@ class Scan:
         rule = makefile_text.Rule(line.joined)
         rule.file, rule.number = self.file, line.number
         rule.has_recipe, rule.is_doubtful = rule.recipe is not None, False
+        rule.has_commands = bool((rule.recipe or "").strip())
         self.expanded(line, line.joined if rule.recipe is None else line.joined[:len(line.joined) - len(rule.recipe)])
         if not rule.is_rule:
             self.no_rule(line)
@@ -280,10 +301,13 @@ class Scan:
 
     def names_of(self, line, rule):
         """The names in a rule line."""
+        for names in (rule.targets, rule.needs):
+            for members in members_in(names):
+                self.add(line, members, "members")
         for name in rule.targets + rule.needs:
-            if MEMBER.fullmatch(name):
+            if MEMBER.fullmatch(without_references(name)):
                 self.add(line, name, "archive")
-            elif "$" not in name and WILD.search(name):
+            elif has_wildcard(name):
                 self.add(line, name, "name")
             elif "\\%" in name:
                 self.add(line, name, "escaped percent")
@@ -307,13 +331,3 @@ class Scan:
         for name in rule.targets:
             if "$" not in name and "%" not in name and self.colons.setdefault(name, rule.is_double) != rule.is_double:
                 self.add(line, name, "mixed colons")
-
-
-def has_continued_comment(text):
-    """Whether a line of a recipe's text goes on after a comment of the shell."""
-    return any(re.match("#.", part.group()) for part in SHELL_PART.finditer(text))
-
-
-def is_suffix_rule(name):
-    """Whether a target is a suffix, or two, of those that kati begins with."""
-    return name in SUFFIXES or any(name.startswith(one) and name[len(one):] in SUFFIXES for one in SUFFIXES)

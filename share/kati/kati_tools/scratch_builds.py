@@ -1,12 +1,13 @@
 """A build by make and one by ninja, each in a scratch copy of this folder, and what came into being in them."""
 import hashlib
 import os
-import shutil
 import subprocess
 
-from . import files, ninja_text, sources
+from . import files, ninja_text
 from .make_commands import environment
 from .programs import need, text_of
+from .scratch_copies import Copy
+from .translating import default_makefile
 
 # What a compiler writes of the day of the build is the same in both.
 DAY = {"SOURCE_DATE_EPOCH": "0"}
@@ -21,39 +22,40 @@ def content(path):
         return hashlib.sha256(file.read()).hexdigest()
 
 
-def snapshot(top):
-    """What is in a folder, by name; pipes and their kin aside."""
+def snapshot(copy):
+    """What is in a scratch copy, by its name as seen from this folder; pipes and their kin aside."""
     found = {}
-    for at, _, names in os.walk(top):
+    for at, _, names in os.walk(copy.top):
         for name in names:
             path = os.path.join(at, name)
             if os.path.islink(path) or os.path.isfile(path):
-                found[os.path.relpath(path, top)] = content(path)
+                found[os.path.relpath(path, copy.folder)] = content(path)
     return found
 
 
 class Built:
     """A build's status and the end of what it said, and the files that came into being or changed."""
 
-    def __init__(self, name, words, tree):
-        sources.copy_tree(tree)
-        before = snapshot(tree)
-        ran = subprocess.run([name, *words], executable=need(name), cwd=tree, env=environment(**DAY),
+    def __init__(self, name, words, copy):
+        before = snapshot(copy)
+        ran = subprocess.run([name, *words], executable=need(name), cwd=copy.folder, env=environment(**DAY),
                              stdin=subprocess.DEVNULL, stdout=subprocess.PIPE, stderr=subprocess.STDOUT)
         self.status = ran.returncode
         self.said = "\n".join(text_of(ran.stdout).rstrip().split("\n")[-SHOWN:])
-        self.files = {name: one for name, one in snapshot(tree).items() if before.get(name) != one}
+        self.files = {name: one for name, one in snapshot(copy).items() if before.get(name) != one}
+        copy.remove()
 
 
 def both(makefile, words, translation, room):
     """The build by make and the one by ninja, both at one path, since compilers write it into what they make."""
-    tree, translated, top = (os.path.join(room, name) for name in ("tree", "translated.ninja", "top.ninja"))
+    place, translated, top = (os.path.join(room, name) for name in ("copy", "translated.ninja", "top.ninja"))
+    named = ["-f", makefile] if makefile else []
+    makefile = makefile or default_makefile() or "Makefile"
     files.replace(translated, translation.text, room)
     escaped = ninja_text.escaped_value
     files.replace(top, f"builddir = {escaped(room)}\nsubninja {ninja_text.escaped(translated)}\n", room)
-    by_make = Built("make", [f"-j{os.cpu_count()}", *(["-f", makefile] if makefile else []), *words], tree)
-    shutil.rmtree(tree)
-    return by_make, Built("ninja", ["-f", top], tree)
+    by_make = Built("make", [f"-j{os.cpu_count()}", *named, *words], Copy(makefile, place))
+    return by_make, Built("ninja", ["-f", top], Copy(makefile, place))
 
 
 def told(by_make, by_ninja):

@@ -1,9 +1,8 @@
 """The list of the files that exist, as kati wants it by --files."""
 import os
-import shutil
 
-from . import files
-from .programs import Stop, need, run
+from . import files, includes, outside
+from .programs import Stop, bytes_of, need, run
 
 # Folders of version control hold no sources.
 CONTROL = {".git", ".hg", ".svn"}
@@ -12,18 +11,25 @@ OWN = {".ninja_log", ".ninja_deps", ".ninja_lock"}
 TRANSLATED = "translated.ninja"
 
 
+def without_newlines(names):
+    """The names that a list and a Ninja file can hold."""
+    return [name for name in names if "\n" not in name]
+
+
 class Listing:
     """Names of files, those of them that are sources whatever makes them, and the folders and files on which the
     list depends."""
 
     def __init__(self, names, certain=(), folders=(), watched=()):
-        self.names, self.certain = sorted(name for name in names if "\n" not in name), set(certain)
-        self.folders, self.watched = list(folders), list(watched)
+        self.names, self.certain = sorted(without_newlines(names)), set(certain)
+        self.folders, self.watched = without_newlines(folders), without_newlines(watched)
 
     def without(self, made, before):
         """The names without those that the build makes, but for those listed before, and those that are certain."""
-        kept = self.certain.union(before)
-        return [name for name in self.names if name in kept or name not in made]
+        dropped = set(made).intersection(self.names)
+        if dropped:
+            dropped.difference_update(self.certain, before)
+        return [name for name in self.names if name not in dropped] if dropped else self.names
 
 
 def plain(name):
@@ -31,17 +37,40 @@ def plain(name):
     return name[2:] if name.startswith("./") else name
 
 
+def is_folder(entry):
+    """Whether an entry of a folder is one, or a link to one; a link that leads round isn't."""
+    try:
+        return entry.is_dir()
+    except OSError:
+        return False
+
+
+def inside(folder):
+    """The names of the folders and of the files in a folder; none where it can't be read. Links that lead to folders
+    are neither."""
+    try:
+        with os.scandir(folder) as found:
+            entries = list(found)
+    except OSError:
+        return [], []
+    folders = {one.name: one for one in entries if is_folder(one)}
+    return (sorted(name for name, one in folders.items() if not one.is_symlink()),
+            [one.name for one in entries if one.name not in folders])
+
+
 def walk(skipped):
     """The folders below this one and the files in them; folders of control, those of kati-build and the skipped
     ones aside."""
-    names, folders = [], []
-    for at, inside, found in os.walk("."):
+    names, folders, left = [], [], ["."]
+    while left:
+        at = left.pop()
+        below, found = inside(at)
         if TRANSLATED in found:
-            inside[:] = []
             continue
-        inside[:] = sorted(one for one in inside if one not in CONTROL and plain(os.path.join(at, one)) not in skipped)
-        folders.append(plain(at))
-        names += [plain(os.path.join(at, one)) for one in found if one not in OWN]
+        before = "" if at == "." else f"{at}/"
+        folders.append(at)
+        names += [before + one for one in found if one not in OWN]
+        left += [before + one for one in reversed(below) if one not in CONTROL and before + one not in skipped]
     return names, folders
 
 
@@ -75,8 +104,19 @@ def from_file(path):
     return Listing(names - {""}, names, (), [path])
 
 
-def listing(source, output=None, room=None):
-    """The files that exist, by the word of --files-from; the file `output` and those in the folder `room` aside."""
+def add_outside(found, makefiles, macros):
+    """Adds what stands in the folders outside this one that makefiles name. One that isn't there would come into being
+    in another."""
+    for folder in outside.folders(makefiles, macros):
+        found.names += outside.names(folder)
+        found.folders.append(folder if os.path.isdir(folder) else files.nearest_folder(folder))
+    found.names.sort()
+
+
+def listing(source, output=None, room=None, makefile=None, macros=(), asked=None):
+    """The files that exist, by the word of --files-from; the file `output` and those in the folder `room` aside. The
+    folders outside this one are those that `makefile` and its includes name, with these macros of the command line:
+    the names that kati asks for, where they are known, else a guess."""
     if source == "git":
         found = from_git({room})
     elif source == "find":
@@ -85,16 +125,11 @@ def listing(source, output=None, room=None):
     else:
         return from_file(source)
     found.names = [name for name in found.names if name != output]
+    if makefile:
+        add_outside(found, includes.asked([makefile], found.names) if asked is None else asked, macros)
     return found
 
 
 def write_list(names, path):
     """Writes the list where kati reads it."""
-    with open(path, "wb") as file:
-        for name in names:
-            file.write(name.encode("utf-8", "surrogateescape") + b"\n")
-
-
-def copy_tree(to):
-    """Copies this folder, without what version control keeps; links stay links, times stay too."""
-    shutil.copytree(".", to, symlinks=True, ignore=lambda at, names: [one for one in names if one in CONTROL])
+    files.write(path, bytes_of("\n".join([*names, ""])))

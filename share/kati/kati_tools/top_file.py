@@ -14,11 +14,13 @@ translation depends on, by kati-build itself, and ninja reads the file again whe
   depends on."""
 import hashlib
 import os
+import re
 import shlex
 
-from . import ninja_text
+from . import files, ninja_text
 from .programs import bytes_of
 
+UNUSUAL = re.compile(r"^\./|/\.|//|/$")
 FIRST_LINE = "# Written by kati-build, which writes it anew when the makefile changes.\n"
 TEMPLATE = FIRST_LINE + """\
 # What kati wrote has the sum {sum}.
@@ -33,27 +35,23 @@ build {output}: kati_build{inputs}
 """
 
 
-def nearest_folder(name):
-    """The folder in which a file would come into being, or the nearest above it that is there."""
-    folder = os.path.dirname(name)
-    while folder and not os.path.isdir(folder):
-        folder = os.path.dirname(folder)
-    return folder or "."
+def normal(names):
+    """Names also as Ninja has them: only few differ."""
+    unusual = {os.path.normpath(name) for name in names if "/" in name and UNUSUAL.search(name)}
+    return names | unusual if unusual else names
 
 
 def watched(asked, listing, made, output):
     """The names that the translation depends on, each once: files that are there, and folders; none that the build
-    makes as a folder."""
-    names = [name if os.path.lexists(name) else nearest_folder(name) for name in asked]
+    makes as a folder, of what it makes by `normal` names."""
+    names = [name if os.path.lexists(name) else files.nearest_folder(name) for name in asked]
     found = dict.fromkeys(os.path.normpath(name) for name in [*names, *listing.watched, *listing.folders])
-    made = {os.path.normpath(name) for name in made}
     return [name for name in found if name != os.path.normpath(output) and not (name in made and os.path.isdir(name))]
 
 
-def text(build, names, found, content):
-    """The text of the file for a `Build`; `names` are those that it depends on, `found` the statements of the text
-    `content`."""
-    made = {os.path.normpath(name) for name in ninja_text.outputs(found)}
+def text(build, names, made, content):
+    """The text of the file for a `Build`; `names` are those that it depends on, `made` what the text `content`
+    makes, by `normal` names."""
     present = [ninja_text.escaped(name) for name in names if name not in made]
     return TEMPLATE.format(
         sum=hashlib.sha256(bytes_of(content)).hexdigest(),

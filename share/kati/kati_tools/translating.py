@@ -1,9 +1,10 @@
 """A makefile's translation by kati, with the list of the files that exist."""
+import functools
 import os
 
 from . import files, ninja_text, sources
 from .programs import SHARE, Stop, find, find_kati, run, say
-from .words import WRONG_USAGE
+from .words import WRONG_USAGE, macros_of
 
 MACROS, RULES = "builtin-macros.mk", "builtin-rules.mk"
 # What is told by a list with what the build makes may change what the build makes; it doesn't go on for ever.
@@ -13,6 +14,13 @@ ROUNDS = 4
 def default_makefile():
     """The makefile that kati reads without -f, or None."""
     return next((name for name in ("makefile", "Makefile") if os.path.isfile(name)), None)
+
+
+def listing(asked, output=None, room=None, names=None):
+    """The files that exist, for a makefile and the words of its command line; `names` are those that kati asks for,
+    where they are known."""
+    makefile = asked.makefile or default_makefile()
+    return sources.listing(asked.files_from, output, room, makefile, macros_of(asked.words), names)
 
 
 def tell_of_other(tool, makefile):
@@ -51,8 +59,17 @@ class Translation:
     """What kati said: its status, its Ninja text and its messages; with the names of the list it had."""
 
     def __init__(self, status, text, said, names):
-        self.status, self.text, self.said, self.names = status, text, said, names
-        self.statements = ninja_text.statements(text) if status == 0 else []
+        self.status, self.text, self.said, self.names = status, text if status == 0 else "", said, names
+
+    @functools.cached_property
+    def statements(self):
+        """Its statements, which are built where they are asked for: that takes longer than the translation."""
+        return ninja_text.statements(self.text)
+
+    @functools.cached_property
+    def outputs(self):
+        """The names that it makes."""
+        return ninja_text.outputs(self.text)
 
 
 class Translator:
@@ -88,16 +105,24 @@ class Translator:
         if found.status and names != listing.names:
             found = self.with_list(listing.names)
         for _ in range(ROUNDS):
-            names = listing.without(ninja_text.outputs(found.statements), before)
+            names = listing.without(found.outputs, before)
             if found.status or names == found.names:
                 break
             found = self.with_list(names)
         return found
 
-    def asked(self, program, listing):
-        """The names that the translation asked for, in order, by kati-asked; None where that is absent or fails."""
+    def check(self, path):
+        """kati's status where it is asked by --check whether a file says what the makefile says, by the list of the
+        last translation; and its words."""
+        status, _, said = run(self.command(self.kati, "--check", path))
+        return status, said
+
+    def asked(self, program):
+        """The names that the translation asks for, in order, by kati-asked; None where that is absent or fails. They
+        are the same by any list."""
         if program is None:
             return None
+        sources.write_list([], self.list)
         status, out, _ = run(self.command(program))
         return [name for name in out.split("\n") if name] if status == 0 else None
 

@@ -1,6 +1,9 @@
 """The words of the command line that the tools share, in argparse's terms."""
 import argparse
+import contextlib
 import sys
+
+from .programs import close_output
 
 WRONG_USAGE = 64
 
@@ -11,6 +14,12 @@ class Parser(argparse.ArgumentParser):
     def __init__(self, hint="", **rest):
         super().__init__(formatter_class=argparse.RawDescriptionHelpFormatter, allow_abbrev=False, **rest)
         self.hint = hint
+
+    def print_help(self, file=None):
+        """Prints help, as far as the output takes it."""
+        with contextlib.suppress(OSError):
+            super().print_help(file)
+        close_output()
 
     def error(self, message):
         self.print_usage(sys.stderr)

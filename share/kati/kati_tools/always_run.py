@@ -1,0 +1,62 @@
+"""What hangs on a target that ninja makes at each run, and the lines by which its file counts, as for make.
+
+make looks at a file after its recipe: where it stays as it was, what is made from it isn't made again. ninja does so
+only with `restat`. So each statement that hangs on such a target, by however many others, gets it in its block; but
+the target itself doesn't, nor a statement of which no file is there: a recipe that makes none counts for make as one
+that made a new one."""
+import os
+import re
+
+from . import ninja_text
+
+LINE = " restat = 1"
+WITHOUT_INPUTS = ": phony\n"
+PHONY_WITHOUT_INPUTS = re.compile(r"\nbuild ((?:\$.|[^:$\n])*): phony(?=\n)")
+# kati's own mark of a phony target with a recipe.
+ALWAYS = "_kati_always_build_"
+
+
+class Graph:
+    """The `build` lines of a text: by each name what is made from it, and the numbers of the lines."""
+
+    def __init__(self, lines):
+        self.by_input, self.heads = {}, {}
+        for number, line in enumerate(lines):
+            if line.startswith("build "):
+                self.add(number, line)
+
+    def add(self, number, line):
+        """Takes in a line; its order-only inputs, for which nothing is made anew, aside."""
+        outputs, rest = ninja_text.cut(line)
+        self.heads[number] = outputs
+        for name in ninja_text.names(rest.split(" || ")[0])[1:]:
+            self.by_input.setdefault(name, []).append(number)
+
+    def hanging(self, starts):
+        """The numbers of the lines that hang on these names."""
+        found, left = set(), list(starts)
+        while left:
+            for number in self.by_input.get(left.pop(), []):
+                if number not in found:
+                    found.add(number)
+                    left += ninja_text.names(self.heads[number])
+        return found
+
+
+def gets_restat(line):
+    """Whether a `build` line that hangs on such a target gets `restat`."""
+    outputs, rest = ninja_text.cut(line)
+    rule, *inputs = ninja_text.names(rest)
+    is_always = ALWAYS in inputs
+    return rule != "phony" and not is_always and all(os.path.exists(ninja_text.plain(one))
+                                                     for one in ninja_text.names(outputs))
+
+
+def lines(text):
+    """The lines for kati's text, by the number of the line behind which they stand."""
+    if WITHOUT_INPUTS not in text:
+        return {}
+    starts = [name for outputs in PHONY_WITHOUT_INPUTS.findall(text) for name in ninja_text.names(outputs)]
+    all_lines = text.split("\n")
+    found = Graph(all_lines).hanging(starts)
+    return {number: [LINE] for number in found if gets_restat(all_lines[number])}

@@ -1,0 +1,57 @@
+"""One run at a time in a folder: each holds a lock there, and the next one waits for it."""
+import contextlib
+import errno
+import fcntl
+import os
+import time
+
+NAME = "lock"
+PAUSE = 0.02
+# A file system that has no locks: a run goes on without.
+WITHOUT_LOCKS = (errno.ENOLCK, errno.ENOSYS, errno.EOPNOTSUPP)
+# After so many seconds it is said that a run waits.
+SAID_AFTER = 1
+
+
+def opened(room):
+    """The lock of a folder, opened, and whether the folder was made for it."""
+    while True:
+        is_new = not os.path.isdir(room)
+        os.makedirs(room, exist_ok=True)
+        try:
+            return os.open(os.path.join(room, NAME), os.O_RDWR | os.O_CREAT, 0o666), is_new
+        except FileNotFoundError:
+            # Another run took the folder away meanwhile; where it can't be made again, that is told above.
+            time.sleep(PAUSE)
+
+
+def is_held(lock, room):
+    """Whether this run holds the lock, and the folder that has it is still there: who made it may remove it."""
+    try:
+        fcntl.flock(lock, fcntl.LOCK_EX | fcntl.LOCK_NB)
+        return os.path.samestat(os.fstat(lock), os.stat(os.path.join(room, NAME)))
+    except (BlockingIOError, FileNotFoundError):
+        return False
+    except OSError as error:
+        if error.errno in WITHOUT_LOCKS:
+            return True
+        raise
+
+
+@contextlib.contextmanager
+def held(room, say_waiting):
+    """Holds a folder, which is made where it isn't there; gives whether it was made. `say_waiting` is called once,
+    where it takes long."""
+    begun, is_said = time.monotonic(), False
+    while True:
+        lock, is_new = opened(room)
+        try:
+            if is_held(lock, room):
+                yield is_new
+                return
+        finally:
+            os.close(lock)
+        if not is_said and time.monotonic() - begun > SAID_AFTER:
+            say_waiting()
+            is_said = True
+        time.sleep(PAUSE)

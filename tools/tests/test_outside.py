@@ -1,0 +1,90 @@
+"""Files outside the folder: kati's list has those of the folders that makefiles name."""
+from support import TOOLS, Ran, Tree, needs
+
+RULE = "a.o:\n%.o: %.c {}\n\tcc -c -o $@ $<\n"
+
+# How a makefile names the folder ../inc, in which h.h stands; {top} is the absolute path of the folder above.
+NAMED = [
+    RULE.format("../inc/h.h"),
+    RULE.format("./../inc/h.h"),
+    RULE.format("{top}/inc/h.h"),
+    "TOP = ..\n" + RULE.format("$(TOP)/inc/h.h"),
+    "INC = $(TOP)/inc\nTOP = ..\n" + RULE.format("${INC}/h.h"),
+    "HEADERS := ../inc/g.h \\\n\t../inc/h.h\n" + RULE.format("$(HEADERS)"),
+    RULE.format("$(addprefix ../inc/,h.h)"),
+    "DIRS = ../inc ../none\n" + RULE.format("$(firstword $(foreach d,$(DIRS),$(d)/h.h))"),
+    "ifdef X\nTOP = ../none\nelse\nTOP = ..\nendif\n" + RULE.format("$(TOP)/inc/h.h"),
+    "include ../rules.mk\n",
+    "TOP = ..\ninclude $(TOP)/rules.mk\n",
+    "define R\n%.o: %.c ../inc/h.h\n\tcc -c -o $$@ $$<\nendef\na.o:\n$(eval $(R))\n",
+    "a.o: ../src/b.o\n\techo $^\n../src/%.o: ../src/%.c\n\tcc -c -o $@ $<\n",
+    ".SUFFIXES: .c .o\na.o: ../src/b.o\n\techo $^\n.c.o:\n\tcc -c -o $@ $<\n",
+    "a.o:\n%.o: ../src/%.c\n\tcc -c -o $@ $<\n",
+]
+# Nothing of this is asked for by a rule.
+UNNAMED = "CC = /usr/bin/cc\nPREFIX = /usr\nall: a.o\n%.o: %.c\n\tcc -c -o $@ $< -I ../inc > /dev/null\n" \
+    "install: a.o ; cp a.o $(PREFIX)\n"
+
+
+@needs("kati", "ninja", "make")
+class Outside(Tree):
+    """A makefile in prog/, beside inc/ and src/."""
+
+    def setUp(self):
+        super().setUp()
+        for name in ("inc/g.h", "inc/h.h", "src/a.c", "src/b.c", "prog/a.c"):
+            self.put(name, "")
+        self.put("rules.mk", RULE.format("../inc/h.h"))
+
+    def lay(self, makefile):
+        self.put("prog/Makefile", makefile.replace("{top}", str(self.top)))
+
+    def run_there(self, name, *words):
+        return Ran([TOOLS / name if name.startswith("kati") else name, *words], self.top / "prog")
+
+    def test_the_commands_are_make_s(self):
+        for makefile in NAMED:
+            with self.subTest(makefile):
+                self.lay(makefile)
+                by_make = self.run_there("make", "-n", "-B", "-r", "-R").out.splitlines()
+                self.assertIn("cc -c -o ", by_make[0])
+                for more in ([], ["TOP=.."]):
+                    ran = self.run_there("kati-compare", *more)
+                    self.assertEqual(ran.status, 0, ran.all)
+                    self.assertIn(f"same: {len(by_make)} command", ran.out)
+
+    def test_a_name_of_the_command_line(self):
+        self.lay("TOP = ../none\n" + RULE.format("$(TOP)/inc/h.h"))
+        self.assertEqual(self.run_there("make", "-n", "-r", "TOP=..").out, "cc -c -o a.o a.c\n")
+        self.assertIn("same: 1 command;", self.run_there("kati-compare", "TOP=..").out)
+
+    @needs("git")
+    def test_the_list_of_git(self):
+        self.lay(NAMED[0])
+        self.assertEqual(self.run_in("git", "init", "-q").status, 0)
+        self.assertEqual(self.run_there("kati-compare", "--files-from", "git").out, "same: 1 command\n")
+
+    def test_only_what_rules_name_is_listed(self):
+        self.lay(UNNAMED)
+        self.assertEqual(self.run_there("kati-build", "--no-ninja").status, 0)
+        self.assertEqual(self.read("prog/build.kati/files.txt"), "Makefile\na.c\n")
+
+    def test_what_comes_and_goes_there_is_seen(self):
+        self.lay("a.o:\n%.o: ../new/%.c\n\tcp ../new/a.c $@\n%.o: %.c ../inc/h.h\n\techo old > $@\n")
+        self.assertEqual(self.run_there("kati-build").status, 0)
+        self.assertEqual(self.read("prog/a.o"), "old\n")
+        self.assertEqual(self.run_there("ninja").status, 0)
+        self.assertEqual(self.run_there("ninja").out, "ninja: no work to do.\n")
+        self.put("new/a.c", "new\n")
+        self.assertEqual(self.run_there("ninja").status, 0)
+        self.assertEqual(self.read("prog/a.o"), "new\n")
+        (self.top / "new/a.c").unlink()
+        self.assertEqual(self.run_there("ninja").status, 0)
+        self.assertEqual(self.read("prog/a.o"), "old\n")
+
+    def test_what_the_build_makes_there_is_no_source(self):
+        self.lay("all: ../out/b.o\n../out/%.o: ../src/%.c\n\tmkdir -p ../out; cp $< $@\n%.x: ../out/%.o ; cp $< $@\n")
+        self.assertEqual(self.run_there("kati-build").status, 0)
+        self.assertEqual(self.run_there("ninja").status, 0)
+        self.assertEqual(self.read("prog/build.kati/files.txt").split(),
+                         ["../src/a.c", "../src/b.c", "Makefile", "a.c"])
