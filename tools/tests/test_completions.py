@@ -36,10 +36,11 @@ ASKED = [
     ("kati-asked --files s", ["sources.txt"]),
     ("kati-asked --check b", ["build.ninja"]),
     ("kati-asked -f other.mk ", ["other", "OTHER="]),
-    ("kati-build --", ["--files-from", "--files", "--deps", "--builtin", "--no-ninja", "--compile-commands", "--kati"]),
+    ("kati-build --", ["--port", "--files-from", "--files", "--deps", "--builtin", "--no-ninja", "--compile-commands",
+                       "--kati"]),
     ("kati-build --files-from g", ["git"]),
     ("kati-build l", ["lib"]),
-    ("kati-port --", ["--macros", "--builtin", "--files-from", "--kati"]),
+    ("kati-port --", ["--write", "--diff", "--values", "--macros", "--builtin", "--files-from", "--kati"]),
     ("kati-port o", ["other.mk"]),
     ("kati-compare --", ["--build", "--builtin", "--files-from", "--kati", "--depth"]),
 ]

@@ -32,11 +32,15 @@ end
 for command in kati kati-asked kati-build kati-port kati-compare
     complete -c $command -s h -l help -d help
 end
+complete -c kati-build -l port -d 'builds by any GNU makefile, which stays as it is'
 complete -c kati-build -s o -r -F -d 'the Ninja file'
 complete -c kati-build -l deps -d 'header dependencies of -MD and -MMD'
 complete -c kati-build -l no-ninja -d 'translates, and runs no ninja'
 complete -c kati-build -l compile-commands -d 'writes compile_commands.json too'
 complete -c kati-build -l kati-asked -r -F -d 'the program kati-asked'
+complete -c kati-port -l write -d 'rewrites the makefile until kati takes it'
+complete -c kati-port -l diff -d 'shows the change, and writes nothing'
+complete -c kati-port -l values -d 'makes kati-values.mk anew'
 complete -c kati-port -l macros -d 'prints what make asks the machine for'
 complete -c kati-compare -l build -d 'builds both ways, and compares the files'
 complete -c kati-compare -l words-for-kati -d 'gives the macros to kati alone'

@@ -25,6 +25,7 @@ files:
                                when it, an include or the list of sources changes, or an absent
                                include comes into being. So a plain `ninja` is enough from then on
   build.kati/translated.ninja  what kati wrote; with --deps, where header dependencies are too
+  build.kati/ported/           the makefiles that --port ported, and their values
   build.kati/files.txt         the list of the files that exist, as kati got it
   build.kati/lock              what a run holds while it translates: one at a time, the next one waits
   build.kati/                  has ninja's own log too. It is named after FILE: .kati for .ninja
@@ -44,6 +45,14 @@ which files are watched:
   itself makes isn't listed, unless it was there when the list was first made. The list of git and
   of find has the files of the folders outside this one that rules name, as ../inc of ../inc/h.h.
 
+any GNU makefile:
+  --port does what kati-port --write does, with copies of the makefiles in build.kati/ported/, and
+  takes --builtin and --deps as given. It ports again when a makefile changes, or a file that a value comes
+  from; make is needed for that alone. Where kati's commands differ from make's, that is told.
+  What $(wildcard ..) gave is found again at each translation, here and in a kati-values.mk that
+  kati-port --write wrote; what $(shell ..) gave is asked for again when a file or folder that the
+  command names has changed.
+
 header dependencies:
   --deps gives each statement whose command has -MD or -MMD the file that the compiler writes: that
   of -MF, or the one named after the output. So ninja makes again what includes a changed header.
@@ -55,6 +64,7 @@ environment:
 
 examples:
   kati-build                             builds the first target
+  kati-build --port                      the same by a makefile that kati doesn't take as it is
   kati-build all CC=clang                builds `all` by clang
   kati-build --deps 'CFLAGS=-O2 -MMD'    with header dependencies, which the compiler writes for -MMD
   kati-build --builtin -- -j4 -v         with make's usual rules; ninja runs four jobs, shows commands
@@ -74,9 +84,12 @@ exit status:
 def parser():
     """The command line of kati-build."""
     made = words.Parser(prog="kati-build", description=ABOUT, epilog=MORE, hint="; ninja's own stand after --",
-                        usage="kati-build [--files-from git|find|FILE] [--deps] [--builtin] [-o FILE] [--no-ninja]\n"
-                              "                  [--compile-commands] [--kati PROGRAM] [--kati-asked PROGRAM]\n"
-                              "                  [KATI WORDS] [-- NINJA WORDS]")
+                        usage="kati-build [--port] [--files-from git|find|FILE] [--deps] [--builtin] [-o FILE]\n"
+                              "                  [--no-ninja] [--compile-commands] [--kati PROGRAM]\n"
+                              "                  [--kati-asked PROGRAM] [KATI WORDS] [-- NINJA WORDS]")
+    made.add_argument("--port", action="store_true",
+                      help="builds by any GNU makefile: what kati refuses is ported in FILE's folder, and the makefile "
+                           "stays as it is; see below")
     words.add_files_from(made)
     made.add_argument("--deps", action="store_true", help="header dependencies, see below")
     words.add_builtin(made)
@@ -111,6 +124,7 @@ class Build:
         self.translated = os.path.join(self.room, sources.TRANSLATED)
         self.list = os.path.join(self.room, "files.txt")
         refuse_words(asked, self.output)
+        self.values_from = []
         self.program = translating.find_asked(asked.kati_asked)
 
     def makefile(self):
@@ -124,7 +138,7 @@ class Build:
         found = [sys.executable or "python3", "-S", tool, "--no-ninja", "-o", self.output]
         found += ["--files-from", asked.files_from, "--kati", self.translator.kati]
         found += ["--kati-asked", self.program] if self.program else []
-        found += [word for word, is_on in (("--deps", asked.deps), ("--builtin", asked.builtin),
+        found += [word for word, is_on in (("--port", asked.port), ("--deps", asked.deps), ("--builtin", asked.builtin),
                                            ("--compile-commands", asked.compile_commands)) if is_on]
         found += ["-f", asked.makefile] if asked.makefile is not None else []
         found += ["--depth", str(asked.depth)] if asked.depth is not None else []
@@ -139,12 +153,27 @@ class Build:
     def names_asked(self):
         """What the translation asks for; None where only a guess can tell. kati's list and its makefile for --builtin
         are no sources."""
+        if self.asked.port:
+            return self.translator.asked(self.program)
         if includes.includes_nothing(self.makefiles()):
             return self.makefiles()
         found = self.translator.asked(self.program)
         own = {self.translator.list, self.translator.makefile if self.asked.builtin else None}
         own.update(os.path.join(self.room, one) for one in (translating.MACROS, translating.RULES))
-        return None if found is None else [name for name in found if name not in own]
+        return None if found is None else [*(name for name in found if name not in own), *self.values_from]
+
+    def new_translator(self):
+        """kati with its words: by ported makefiles where they are asked for, else by those that are here, with the
+        values that kati-port wrote brought up."""
+        # What ports, and what knows of values, takes time to load.
+        if self.asked.port:
+            from .ported_build import PortedTranslator
+            return PortedTranslator(self.asked, self.room)
+        if os.path.isfile(translating.VALUES):
+            from . import kept_values
+            kept_values.keep_true(self.asked, self.room)
+            self.values_from = kept_values.watched()
+        return translating.Translator(self.asked, self.room)
 
     def translate(self):
         """Makes the translation and the file that ninja reads, alone in the folder; answers the status."""
@@ -152,7 +181,7 @@ class Build:
             say(TOOL, f"waits for another run that has {os.path.join(self.room, one_at_a_time.NAME)}")
         with one_at_a_time.held(self.room, say_waiting) as is_first:
             try:
-                self.translator = translating.Translator(self.asked, self.room)
+                self.translator = self.new_translator()
                 return self.translate_alone()
             finally:
                 self.tidy(is_first)
@@ -237,4 +266,8 @@ def main(line):
     """Runs the command on the words of its command line, and answers its exit status."""
     at = line.index("--") if "--" in line else len(line)
     asked = parser().parse_intermixed_args(line[:at])
+    if asked.port:
+        asked.builtin = asked.deps = True
+        # The makefile that make would read.
+        asked.makefile = asked.makefile or ("GNUmakefile" if os.path.isfile("GNUmakefile") else None)
     return ending(TOOL, build, asked, line[at + 1:])

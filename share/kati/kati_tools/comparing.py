@@ -1,4 +1,5 @@
 """The command kati-compare: the commands that make would run beside those of kati's Ninja file."""
+import re
 import tempfile
 from collections import Counter
 
@@ -57,6 +58,9 @@ exit status:
   70  a fault of the tool itself; 130 where it is interrupted"""
 
 
+EXPORTED = re.compile(r'(?:\w+="(?:\\.|[^"\\])*" )+')
+
+
 def parser():
     """The command line of kati-compare."""
     made = words.Parser(prog="kati-compare", description=ABOUT, epilog=MORE,
@@ -82,10 +86,11 @@ def unwrapped(command):
 
 
 def shell_of(commands):
-    """What kati has for $(SHELL): the words before the flags of the first piece."""
+    """What kati has for $(SHELL): the words before the flags of the first piece, without the variables that
+    kati-port puts there."""
     for command in commands:
         for piece in shell_text.pieces(command) or []:
-            return piece.shell.split(" -")[0]
+            return EXPORTED.sub("", piece.shell).split(" -")[0]
     return "/bin/sh"
 
 

@@ -78,6 +78,33 @@ def references(text):
     return found
 
 
+class Reference:
+    """Where a reference stands in a text, and the references in it."""
+
+    def __init__(self, start, end, inner):
+        self.start, self.end, self.inner = start, end, inner
+
+
+def nested_references(text, base=0):
+    """The references of a text as a forest; `base` is where the text begins in the one that is meant."""
+    found, at = [], text.find("$")
+    while 0 <= at < len(text) - 1:
+        end = end_of_reference(text, at)
+        if text[at + 1] != "$":
+            inner = nested_references(text[at + 2:end - 1], base + at + 2) if text[at + 1] in CLOSING else []
+            found.append(Reference(base + at, base + end, inner))
+        at = text.find("$", end)
+    return found
+
+
+def named_by(reference):
+    """The names of the macros that a reference may mean: its own, and the one that it calls."""
+    if len(reference) == 2:
+        return [reference[1]]
+    found = re.match(r"\$[({](?:(?:call|value)[ \t]+)?([^ \t:,(){}$]+)", reference)
+    return [found.group(1)] if found else []
+
+
 def find_outside(text, marks):
     """Where the first of these marks stands outside references and not behind a backslash; -1 where none does."""
     at = 0
@@ -115,6 +142,17 @@ def assignment(text):
     return found and (found.group(1), found.group(2), found.group(3).strip())
 
 
+def defined_name(text):
+    """The name in a `define` line, after the words that may stand before it."""
+    rest = re.sub(r"^[ \t]*((export|override|private)[ \t]+)*define[ \t]+", "", text)
+    return re.sub(r"[ \t]*([:+?!]*=)?[ \t]*$", "", rest).strip()
+
+
+def without_words_before(text):
+    """An assignment without the words that may stand before it."""
+    return re.sub(r"^[ \t]*((export|override|private|unexport)[ \t]+)+", "", text)
+
+
 class Rule:
     """The parts of a rule line: targets, colon, what stands after it, and the recipe on the line, None where there
     is none."""
@@ -129,7 +167,7 @@ class Rule:
         self.is_double, self.is_group = rest.startswith(":"), targets.endswith("&")
         self.rest = rest[1:] if self.is_double else rest
         self.targets = words(targets[:-1] if self.is_group else targets)
-        self.specific = assignment(re.sub(r"^[ \t]*((export|override|private)[ \t]+)*", "", self.rest))
+        self.specific = assignment(without_words_before(self.rest))
         second = find_outside(self.rest, ":")
         self.pattern = None if second < 0 else self.rest[:second].strip()
         self.needs = words(self.rest[second + 1:])

@@ -3,13 +3,16 @@ import argparse
 import tempfile
 from collections import Counter
 
-from . import branches, files, leaning, macro_values, scanning, translating, words
+from . import branches, files, leaning, macro_values, scanning, translating, words, write_command
 from .programs import Stop, ending, write_text
 
 TOOL = "kati-port"
 
 ABOUT = """\
-Tells everything in makefiles, and in the files that they include by a plain name, that kati refuses
+With --write, rewrites a makefile and its includes until kati takes them; make does with them what
+it did before.
+
+Without it, tells everything in makefiles, and in the files that they include by a plain name, that kati refuses
 or that would silently mean something else: FILE:LINE, the form, the number of the fault
 (docs/LANGUAGE.md) and one line of advice. Then come a line that counts them, and the first fault of
 kati itself.
@@ -19,7 +22,15 @@ itself says counts. What stands under `ifdef MAKE_VERSION` is for make alone: GN
 macro by itself, and kati hasn't."""
 
 MORE = """\
-what is told:
+what --write does:
+  It runs kati, mends the line that its fault names, and so on, so that only what kati meets is
+  changed. What kati refuses stands under `ifdef MAKE_VERSION`, what kati gets in the `else` of it.
+  A call that asks the machine, as $(shell uname), becomes a macro of kati-values.mk, which is the
+  call for make, and for kati the value that make gave. make is asked in a copy of this folder.
+  The report says what was done, that make's commands are as before, and whether kati's are make's.
+  Where nothing is known to mend, no file is changed, and the fault is told.
+
+what is told without it:
   [Enn]       kati refuses the form by this fault, if it meets it: a macro that nothing uses does no
               harm. [Enn, not taken] stands in a branch that kati doesn't take, as it told of each up to
               its first fault; it isn't counted, and may be met with other words
@@ -31,6 +42,9 @@ what is told:
               includes that make makes
 
 examples:
+  kati-port --write Makefile         makes kati take it
+  kati-port --write --diff Makefile all CC=gcc   the change that this would be, for these words
+  kati-port --values                 makes kati-values.mk anew
   kati-port Makefile                 what stands in the way
   kati-port --builtin src/Makefile   the same for kati-build --builtin
   kati-port Makefile CC=gcc          the same, where CC is given to kati
@@ -38,19 +52,29 @@ examples:
   kati-port --macros Makefile | xargs kati-build all       hands these words to kati-build
 
 exit status:
-  0   nothing that counts is in the way, and kati takes the makefile; --macros: the words are printed
-  1   something was told
+  0   nothing that counts is in the way, and kati takes the makefile; --macros: the words are printed;
+      --write: the makefile is ported; --values: the file has what make tells now
+  1   something was told; --write: kati doesn't take the makefile, and no file was changed
   3   a file can't be read, or a program isn't there; --macros: make has a fault, or the copy can't be
       made
   64  wrong usage
-  70  a fault of the tool itself; 130 where it is interrupted"""
+  70  a fault of the tool itself; 130 where it is interrupted, and no file was changed"""
 
 
 def parser():
     """The command line of kati-port."""
     made = words.Parser(prog="kati-port", description=ABOUT, epilog=MORE,
                         usage="kati-port [--macros] [--builtin] [--files-from git|find|FILE] [--kati PROGRAM]\n"
-                              "                 MAKEFILE.. [NAME=VALUE]..")
+                              "                 MAKEFILE.. [NAME=VALUE]..\n"
+                              "       kati-port --write [--diff] [--files-from ..] [--kati PROGRAM]\n"
+                              "                 MAKEFILE [GOAL|NAME=VALUE]..\n"
+                              "       kati-port --values [MAKEFILE] [GOAL|NAME=VALUE]..")
+    made.add_argument("--write", action="store_true",
+                      help="rewrites the makefile and its includes until kati takes them, for these goals and macros, "
+                           "with make's usual macros and rules as kati-build --builtin has them")
+    made.add_argument("--diff", action="store_true", help="with --write: shows the change, and writes nothing")
+    made.add_argument("--values", action="store_true",
+                      help="asks make again for the values of kati-values.mk, and writes the file anew")
     made.add_argument("--macros", action="store_true",
                       help="asks `make -pn`, in a copy of this folder, from as far up as the makefiles name ../, for "
                            "the values of macros that come from $(shell ..) and $(wildcard ..), and prints them as "
@@ -58,8 +82,8 @@ def parser():
     words.add_builtin(made)
     words.add_files_from(made)
     words.add_kati(made)
-    made.add_argument("words", nargs="+", metavar="MAKEFILE|NAME=VALUE",
-                      help="a makefile; a macro that is given to kati")
+    made.add_argument("words", nargs="*", metavar="MAKEFILE|GOAL|NAME=VALUE",
+                      help="a makefile; a goal; a macro that is given to kati")
     return made
 
 
@@ -127,6 +151,10 @@ def ask_macros(makefile, macros):
 
 def run_port(asked):
     """Answers the exit status."""
+    if asked.write or asked.diff:
+        return write_command.run(asked)
+    if asked.values:
+        return write_command.run_values(asked)
     macros, makefiles = words.macros_of(asked.words), words.goals_of(asked.words)
     if not makefiles:
         raise Stop("name a makefile", words.WRONG_USAGE)

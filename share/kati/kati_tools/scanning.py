@@ -198,7 +198,7 @@ class Scan:
             self.condition(line, word, text)
         elif word == "define":
             self.open, self.depth = None, 1
-            self.assigned.update(re.sub(r"[ \t]*([:+?!]*=)?[ \t]*$", "", text.strip()[len(word):]).split())
+            self.assigned.update(makefile_text.defined_name(text).split())
         elif word in makefile_text.INCLUDES:
             self.open = None
             return self.include(line, word, text)

@@ -8,6 +8,10 @@ STOPS = set("();<>|&")
 SPECIAL = re.compile(r"""[();<>|&'"\\]""")
 
 
+# What stands before a quote: what double quotes hold isn't it.
+BEFORE_QUOTE = re.compile(r"""(?:[^'"\\]|\\.|"(?:\\.|[^"\\])*")*(?=')""")
+
+
 class Piece:
     """A piece of a recipe: the words before its quotes, which are the shell and its flags, and its text."""
 
@@ -28,7 +32,7 @@ def pieces(command):
     found, at = [], 0
     try:
         while True:
-            start = command.index("'", at)
+            start = BEFORE_QUOTE.match(command, at).end()
             end = quoted_end(command, start)
             shell = command[at:start]
             is_ignored = shell.startswith("{ ")
@@ -42,7 +46,7 @@ def pieces(command):
             if not command.startswith(AND, at):
                 return None
             at += len(AND)
-    except ValueError:
+    except (ValueError, AttributeError):
         return None
 
 

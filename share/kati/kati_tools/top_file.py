@@ -45,7 +45,9 @@ def watched(asked, listing, made, output):
     """The names that the translation depends on, each once: files that are there, and folders; none that the build
     makes as a folder, of what it makes by `normal` names."""
     names = [name if os.path.lexists(name) else files.nearest_folder(name) for name in asked]
-    found = dict.fromkeys(os.path.normpath(name) for name in [*names, *listing.watched, *listing.folders])
+    # Two slashes at the beginning, which Python keeps, are one for Ninja.
+    found = dict.fromkeys(re.sub("^//+", "/", os.path.normpath(name))
+                          for name in [*names, *listing.watched, *listing.folders])
     return [name for name in found if name != os.path.normpath(output) and not (name in made and os.path.isdir(name))]
 
 

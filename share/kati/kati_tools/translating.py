@@ -7,6 +7,8 @@ from .programs import SHARE, Stop, find, find_kati, run, say
 from .words import WRONG_USAGE, macros_of
 
 MACROS, RULES = "builtin-macros.mk", "builtin-rules.mk"
+# What kati-port writes beside a makefile.
+VALUES = "kati-values.mk"
 # What is told by a list with what the build makes may change what the build makes; it doesn't go on for ever.
 ROUNDS = 4
 
@@ -78,7 +80,8 @@ class Translator:
     def __init__(self, asked, room):
         refuse_passing(asked.makefile)
         self.kati = find_kati(asked.kati)
-        self.room = room
+        # The folder that kati runs in, where it isn't this one.
+        self.room, self.folder = room, None
         self.makefile = with_builtin(asked.makefile, room) if asked.builtin else asked.makefile
         self.list = os.path.join(room, "files.txt.new")
         self.options = ["--depth", str(asked.depth)] if asked.depth is not None else []
@@ -92,7 +95,7 @@ class Translator:
     def with_list(self, names):
         """The translation by this list."""
         sources.write_list(names, self.list)
-        return Translation(*run(self.command(self.kati)), names)
+        return Translation(*run(self.command(self.kati), cwd=self.folder), names)
 
     def translate(self, listing, made=(), before=()):
         """The translation by the files of a listing, but for what the build makes and `before` doesn't name.
@@ -114,7 +117,7 @@ class Translator:
     def check(self, path):
         """kati's status where it is asked by --check whether a file says what the makefile says, by the list of the
         last translation; and its words."""
-        status, _, said = run(self.command(self.kati, "--check", path))
+        status, _, said = run(self.command(self.kati, "--check", os.path.abspath(path)), cwd=self.folder)
         return status, said
 
     def asked(self, program):
@@ -123,7 +126,7 @@ class Translator:
         if program is None:
             return None
         sources.write_list([], self.list)
-        status, out, _ = run(self.command(program))
+        status, out, _ = run(self.command(program), cwd=self.folder)
         return [name for name in out.split("\n") if name] if status == 0 else None
 
 

@@ -1,0 +1,133 @@
+"""Calls that kati refuses become macros of kati-values.mk: what is frozen, and under which name."""
+import re
+
+from . import frozen_values, makefile_text, scanning
+from .make_probes import AUTOMATIC, EVAL, NUMBERED, bound_names, is_in, key_of
+
+SHELL_CALL = re.compile(r"\$[({]shell[ \t]+(.*)[)}]$", re.DOTALL)
+WILDCARD_CALL = re.compile(r"\$[({]wildcard[ \t]+(.*)[)}]$", re.DOTALL)
+
+
+def joined(text):
+    """A text of several lines in one, as make reads it in an assignment."""
+    return makefile_text.Line(1, text).joined
+
+
+def is_free(line, span):
+    """Whether a reference holds nothing that a `call` or a loop binds."""
+    text = line.text[span[0]:span[1]]
+    return not EVAL.match(text) and not is_in(NUMBERED, text) and not any(
+        names_macro(text, name) for name in bound_names(line.text, span))
+
+
+def names_macro(text, name):
+    """Whether a text refers to a macro by its plain name."""
+    return any(name in makefile_text.named_by(one) for one in makefile_text.references(text))
+
+
+def wanted_name(line, text):
+    """The name that a macro for a part of a line is to have."""
+    name = (line.assignment() or ("",))[0]
+    if not re.fullmatch(r"\w+", name):
+        function = scanning.FUNCTION.match(text)
+        name = function.group(1) if function else "value"
+    return f"V_{name}"
+
+
+class Freezer:
+    """Freezes the refused calls of lines, by what the probes told."""
+
+    def __init__(self, port):
+        self.port = port
+
+    def picked(self, call):
+        """The innermost reference round a call, itself included, that has one value, and the value; None where none
+        has."""
+        probes, line = self.port.probes, call.line
+        for span in call.chain:
+            text = line.text[span[0]:span[1]]
+            if EVAL.match(text):
+                return None
+            told = probes.told(line, span)
+            if is_free(line, span) and len(told) == 1:
+                return span, told[0]
+            if is_free(line, span) and not told and not is_in(AUTOMATIC, text):
+                # make never asked for it here, as in a recipe that the goals don't need.
+                return span, self.port.run.value(joined(text)) or ""
+        return None
+
+    def line(self, line):
+        """Freezes all refused calls of a line; answers whether it could."""
+        calls = self.port.probes.of(line)
+        if not calls or line.edits:
+            return False
+        edits = {}
+        for call in calls:
+            found = self.picked(call)
+            if found and "\n" not in found[1]:
+                (start, end), value = found
+                text = joined(line.text[start:end])
+                edits[start, end] = self.reference(line, text, value)
+            elif not self.by_shell(call, edits) and not self.by_table(call, edits):
+                return False
+        line.edits = edits
+        for call in calls:
+            self.port.tell("frozen", call.kind)
+        return True
+
+    def reference(self, line, makes, value):
+        """A reference to a macro that is this text for make and this value for kati."""
+        return f"$({self.port.values.add(wanted_name(line, makes), makes, value, joined(makes))})"
+
+    def by_shell(self, call, edits):
+        """A call of `shell` in a recipe that has several values: for kati the recipe's own shell does it."""
+        found = SHELL_CALL.match(call.text())
+        start, end = call.chain[0]
+        is_quoted = call.line.text[:start].count("'") % 2 == 1
+        if not found or not call.line.is_tab or is_quoted or is_in(NUMBERED, call.text()):
+            return False
+        makes = joined(call.text())
+        command = joined(found.group(1)).strip()
+        name = self.port.values.add("V_shell", makes, f"$$({command})", "for the recipe's shell", True)
+        edits[start, end] = f"$({name})"
+        return True
+
+    def by_table(self, call, edits):
+        """A call that depends on an argument, a loop or the target has a value for each."""
+        line, span = call.line, call.chain[0]
+        table, key = self.port.probes.table(line, span), key_of(line, span)
+        if table is None or not key or not scanning.FUNCTION.match(call.text()):
+            return False
+        makes = joined(call.text())
+        name = self.port.values.add(wanted_name(line, makes), makes, None, "by what it depends on", True)
+        value = next(one for one in self.port.values.all if one.name == name)
+        value.katis, value.table = f"$({name}_{key})", {f"{name}_{one}": told for one, told in table.items()}
+        edits[span] = f"$({name})"
+        return True
+
+    def settle_sources(self):
+        """Says of each value where it came from in such a way that it can be had again."""
+        values = self.port.values.all
+        arguments = [frozen_argument(one.makes) for one in values]
+        told = iter(self.port.run.values([one for one in arguments if one is not None]))
+        for one, argument in zip(values, arguments):
+            asked = None if argument is None else next(told)
+            if asked is not None:
+                self.settle(one, asked.strip())
+
+    def settle(self, value, asked):
+        """The same for one value, of which the call's argument expands to `asked`."""
+        if WILDCARD_CALL.match(value.makes) and not set(asked) & set("$()\n"):
+            if frozen_values.fitting(asked) == value.katis.strip():
+                value.source = f"$(wildcard {asked})"
+            return
+        named = frozen_values.files_of_command(asked)
+        if named and "\n" not in asked:
+            sums = ", ".join(f"{name} {frozen_values.sum_of(name)}" for name in named)
+            value.source = f"$(shell {asked}) reads {sums}"
+
+
+def frozen_argument(text):
+    """What stands behind the function's name in a call of `shell` or `wildcard`; None of another text."""
+    found = SHELL_CALL.match(text) or WILDCARD_CALL.match(text)
+    return found.group(1) if found and not is_in(AUTOMATIC, text) and not is_in(NUMBERED, text) else None

@@ -1,0 +1,147 @@
+"""kati-values.mk: macros that are make's own call for make, and for kati the value that make gave.
+
+Each value of kati's stands below a comment that says where it came from, so that it can be had again:
+
+- `# $(wildcard src/*.c)`: the files that fit, which the tools find by themselves;
+- `# $(shell cat version.txt) reads version.txt 1c291ca3`: what make was told while a file had this sum;
+- `# $(shell uname)`, and all else: what make was told when the file was written."""
+import glob
+import hashlib
+import os
+import re
+
+from . import files, ported_text, translating
+from .programs import bytes_of
+
+NAME = translating.VALUES
+TITLE = "# Written by kati-port, anew by kati-port --values: what make asks the machine for, and what it was told.\n"
+RUN = "tells of the run"
+HIDING = f"MAKEFILE_LIST := $(filter-out {NAME},$(MAKEFILE_LIST))"
+READS = re.compile(r"# \$\(shell .* reads (.*)")
+ENTRY = re.compile(r"# (.*)\n(\S+) (:?=) ?(.*)\n")
+WILDCARD = re.compile(r"\$\(wildcard ([^$()]*)\)$")
+
+
+def escaped(value):
+    """A value as an immediate assignment has it."""
+    value = value.replace("$", "$$").replace("#", "\\#")
+    # Blanks at the beginning of a value would be dropped, a backslash at its end would go on, and blanks there are
+    # hard to see.
+    value = re.sub(r"^(?=[ \t])", "$()", value)
+    return value + "$()" if value.endswith(("\\", " ", "\t")) else value
+
+
+def sum_of(name):
+    """What tells a file, or the names in a folder, from what it was, in short."""
+    if os.path.isdir(name):
+        text = "\n".join(sorted(os.path.join(at, one) for at, _, names in os.walk(name) for one in names))
+    else:
+        text = files.read(name) if os.path.isfile(name) else None
+    return "none" if text is None else hashlib.sha256(bytes_of(text)).hexdigest()[:8]
+
+
+def files_of_command(command):
+    """The files and folders that the words of a shell's command name, with git's own for git. The folder itself isn't
+    one: a build changes it."""
+    words = dict.fromkeys(re.split(r"[\s;|&()<>`'\"=$,]+", command))
+    found = [word for word in words if os.path.exists(word) and not os.path.isabs(word)
+             and os.path.normpath(word).strip("./")]
+    if "git" in words:
+        found += [name for name in (".git/HEAD", ".git/packed-refs") if os.path.isfile(name)]
+    return found
+
+
+def fitting(patterns):
+    """What make's `wildcard` gives for patterns."""
+    found = []
+    for pattern in patterns.split():
+        # A name that begins with a dot fits only a pattern that does; glob has it so too.
+        names = glob.glob(pattern) if set(pattern) & set("*?[") else [pattern] * os.path.lexists(pattern)
+        found += sorted(names, key=bytes_of)
+    return " ".join(found)
+
+
+def assigned(name, operator, text):
+    """The line of an assignment."""
+    return f"{name} {operator} {text}" if text else f"{name} {operator}"
+
+
+class Value:
+    """A macro of the file: make's text, kati's value, and what it came from. A deferred one is text that kati expands
+    where it stands, and may have a table of values by their names."""
+
+    def __init__(self, name, makes, katis, source, is_deferred=False):
+        self.name, self.makes, self.katis, self.source, self.is_deferred = name, makes, katis, source, is_deferred
+        self.table = {}
+
+    def lines(self):
+        """What stands of it in kati's branch."""
+        text = self.katis if self.is_deferred else escaped(self.katis)
+        operator = "=" if self.is_deferred else ":="
+        return [f"# {self.source}", assigned(self.name, operator, text),
+                *(assigned(name, ":=", escaped(value)) for name, value in self.table.items())]
+
+
+class Values:
+    """The macros of the file, in the order in which they came; `kept` is the file as it stood, if it did."""
+
+    def __init__(self, kept=None):
+        self.all, self.kept, self.taken = [], kept, ""
+
+    def add(self, wanted, makes, katis, source, is_deferred=False):
+        """The name of a macro for these two texts: the wanted one, or one with a number where that is taken."""
+        number, name = 1, wanted
+        for one in self.all:
+            if (one.makes, one.katis, one.is_deferred) == (makes, katis, is_deferred) and not one.table:
+                return one.name
+        while name in {one.name for one in self.all} or re.search(rf"\b{re.escape(name)}\b", self.taken):
+            number += 1
+            name = f"{wanted}_{number}"
+        self.all.append(Value(name, makes, katis, source, is_deferred))
+        return name
+
+    def head(self, text):
+        """What make needs at the beginning of a makefile with this text, where another makefile may include it."""
+        named = [one for one in self.all if f"$({one.name})" in text]
+        return [ported_text.MAKES_ALONE, *(f"{one.name} = {one.makes}" for one in named), "endif"] if named else []
+
+    def text(self, run, hides_itself):
+        """The text of the file; `run` has what tells of the run. Where makefiles ask for the list of makefiles, this
+        one isn't in it."""
+        kept = self.kept.entries if self.kept else []
+        lines = [ported_text.MAKES_ALONE, *(self.kept.makes_lines if self.kept else [])]
+        lines += [f"{one.name} = {one.makes}" for one in self.all]
+        lines += [HIDING] if hides_itself and HIDING not in lines else []
+        lines += ["else", *(line for one in [*kept, *self.all] for line in one.lines())]
+        told = {name: value for name, value in run.items() if name not in {one.name for one in kept}}
+        lines += [line for name, value in told.items() for line in (f"# {RUN}", assigned(name, ":=", escaped(value)))]
+        return TITLE + "\n".join([*lines, "endif", ""])
+
+
+def renewed(text):
+    """The text of such a file with the names that its wildcards fit now."""
+    def again(found):
+        wildcard = WILDCARD.fullmatch(found.group(1))
+        if not wildcard or found.group(3) != ":=":
+            return found.group()
+        value = escaped(fitting(wildcard.group(1)))
+        return f"# {found.group(1)}\n{assigned(found.group(2), ':=', value)}\n"
+
+    return ENTRY.sub(again, text)
+
+
+def stale(text):
+    """The files that commands of the values name and that aren't what they were."""
+    pairs = [pair.rsplit(" ", 1) for line in READS.findall(text) for pair in line.split(", ")]
+    return [name for name, was in pairs if sum_of(name) != was]
+
+
+def read_by(text):
+    """The files that commands of the values name."""
+    return [pair.rsplit(" ", 1)[0] for line in READS.findall(text) for pair in line.split(", ")]
+
+
+def folders_of(text):
+    """The folders in which a wildcard of the values looks for files."""
+    lines = re.findall(r"^# \$\(wildcard ([^$()]*)\)$", text, re.MULTILINE)
+    return sorted({os.path.dirname(word) or "." for line in lines for word in line.split()})

@@ -1,0 +1,174 @@
+"""Probes: what make makes of each call that kati refuses, and of each reference round it, told in its place.
+
+`$(call kati_probe,N,CALL)` gives what CALL gives, and tells it. So one run of make tells all of them, in deferred
+macros, conditions, recipes and bodies of `define` as well, each as often as make asks for it."""
+import re
+
+from . import files, makefile_text
+from .make_run import ANSWER, END, answered
+from .scanning import FUNCTION
+
+NUMBERED = re.compile(r"\$[({]?[0-9]+[)}]?")
+AUTOMATIC = re.compile(r"\$(?:[@<^+?*|%]|[({][@<^+?*|%][DF]?[)}])")
+OF_MAKEFILES = ("$(MAKEFILE_LIST)", "${MAKEFILE_LIST}")
+CALL = re.compile(r"\$[({]call[ \t]+([^,(){}$ \t]+)[ \t]*,")
+EVAL = re.compile(r"\$[({]eval[ \t]")
+FOREACH = re.compile(r"\$[({]foreach[ \t]+([^,]+),")
+# A probe tells its number, what the value depends on, and the value.
+PROBE = f"kati_probe = $(info {ANSWER}$1 $3|$2{END})$2\n"
+
+
+def is_in(form, text):
+    """Whether a text holds a reference of this form; `$$` begins none."""
+    return form.search(text.replace("$$", "  ")) is not None
+
+
+def bound_names(text, span):
+    """The macros that each `foreach` round a reference binds."""
+    found = []
+
+    def look(references):
+        for one in references:
+            if one.start <= span[0] and span[1] <= one.end and (one.start, one.end) != span:
+                loop = FOREACH.match(text[one.start:one.end])
+                found.extend([loop.group(1).strip()] if loop else [])
+                look(one.inner)
+
+    look(makefile_text.nested_references(text))
+    return found
+
+
+def key_of(line, span):
+    """The references in a reference that tell one use of its line from another: arguments of a `call`, what a loop
+    binds, and automatic macros; as a text, empty where it means the same everywhere."""
+    text = line.text[span[0]:span[1]].replace("$$", "  ")
+    found = [one.group() for form in (NUMBERED, AUTOMATIC) for one in form.finditer(text)]
+    found += [one for one in makefile_text.references(text) for name in bound_names(line.text, span)
+              if re.fullmatch(rf"\$[({{]?{re.escape(name)}[)}}]?", one)]
+    return "-".join(dict.fromkeys(found))
+
+
+class Call:
+    """A call that kati refuses: its kind, and where it stands in its line, with the references round it, from itself
+    outwards."""
+
+    def __init__(self, line, chain, kind):
+        self.line, self.chain, self.kind = line, chain, kind
+
+    def text(self):
+        start, end = self.chain[0]
+        return self.line.text[start:end]
+
+
+def calls_in(line, kind_of):
+    """The calls of a line for which `kind_of` answers a kind; those that stand in others are the others' own."""
+    found = []
+
+    def look(references, outer):
+        for one in references:
+            span = (one.start, one.end)
+            kind = kind_of(line.text[one.start:one.end])
+            if kind:
+                found.append(Call(line, [span, *outer], kind))
+            else:
+                look(one.inner, [span, *outer])
+
+    look(makefile_text.nested_references(line.text[:line.expanded_length()]), [])
+    return found
+
+
+def refused_macros(ported):
+    """Macros whose value holds a refused call that depends on `$1`: each `call` of one counts as refused."""
+    found, is_more = {}, True
+    lines = [(name, line) for file in ported for name, line in file.definitions()
+             if is_in(NUMBERED, line.text) and not is_in(EVAL, line.text)]
+    while is_more:
+        is_more = False
+        for name, line in lines:
+            calls = [] if name in found else calls_in(line, lambda text: kind_of(text, found))
+            if calls:
+                found[name], is_more = calls[0].kind, True
+    return found
+
+
+def kind_of(reference, refused):
+    """The kind of a reference that kati refuses or that is empty for it; None of another one."""
+    if reference in OF_MAKEFILES:
+        return "MAKEFILE_LIST"
+    function = FUNCTION.match(reference)
+    if function:
+        return function.group(1)
+    called = CALL.match(reference)
+    return refused.get(called.group(1)) if called else None
+
+
+class Probes:
+    """The calls of makefiles, by their lines, and the values that make told of them."""
+
+    def __init__(self, ported):
+        refused = refused_macros(ported)
+        self.calls, self.numbers, self.values = {}, {}, {}
+        for line in (line for file in ported for line in file.lines):
+            found = [] if line.joined.lstrip().startswith("#") else calls_in(line, lambda text: kind_of(text, refused))
+            if found:
+                self.calls[line] = found
+            for call in found:
+                for span in call.chain:
+                    self.numbers.setdefault((line, *span), len(self.numbers))
+
+    def of(self, line):
+        """The refused calls of a line."""
+        return self.calls.get(line, [])
+
+    def pairs(self, line, span):
+        """What the reference at this place depends on, and its value, for each time that make asked for it."""
+        found = self.values.get(self.numbers.get((line, *span)), [])
+        return [tuple(one.split("|", 1)) for one in found]
+
+    def told(self, line, span):
+        """The values of the reference at this place, each once; none where make never asked for it."""
+        return list(dict.fromkeys(value for _, value in self.pairs(line, span)))
+
+    def table(self, line, span):
+        """The values by what they depend on; None where that doesn't settle them."""
+        found = {}
+        for key, value in self.pairs(line, span):
+            if found.setdefault(key, value) != value or not re.fullmatch(r"[\w./+@-]+", key) or "\n" in value:
+                return None
+        return found or None
+
+    def probed(self, line):
+        """The text of a line with its probes."""
+        marks = {}
+        for span in dict.fromkeys(span for call in self.of(line) for span in call.chain):
+            if not EVAL.match(line.text[span[0]:span[1]]):
+                number = self.numbers[(line, *span)]
+                # What closes comes before what opens; of two at one place the inner one closes, the outer one opens,
+                # first.
+                marks.setdefault(span[1], []).append((0, -span[0], f",{key_of(line, span)})"))
+                marks.setdefault(span[0], []).append((1, -span[1], f"$(call kati_probe,{number},"))
+        text, last = "", 0
+        for at in sorted(marks):
+            text += line.text[last:at] + "".join(mark for _, _, mark in sorted(marks[at]))
+            last = at
+        return text + line.text[last:]
+
+    def asked_again(self, line):
+        """A line that assigns by `!=`, with a probe round its command; None for another line."""
+        name, operator, value = line.assignment() or ("", "", "")
+        if operator != "!=":
+            return None
+        number = self.numbers.setdefault((line, 0, 0), len(self.numbers))
+        return f"{name} := $(call kati_probe,{number},$(shell {value}),)"
+
+    def ask(self, ported, run, room):
+        """Puts the probes into the files, asks make once, and takes them out again."""
+        for file in ported:
+            text = "\n".join(self.asked_again(line) or self.probed(line) for line in file.lines)
+            head = PROBE if file.name == run.makefile else ""
+            files.replace(file.name, (head + text).replace("\n", file.ending), room)
+        _, out, _ = run.ask()
+        self.values = answered(out)
+        for file in ported:
+            files.replace(file.name, file.before, room)
+

@@ -1,0 +1,118 @@
+"""What a port did, a line a kind, and what it is worth: whether make's commands stayed, and whether kati's are
+make's."""
+import contextlib
+from collections import Counter
+
+from . import command_lists, comparing, scanning
+from .frozen_values import NAME
+from .programs import Stop
+
+KINDS = {
+    "tab": "conditionals and other lines behind a tab: indented by spaces, for both",
+    "dependencies": "header dependencies: for make alone; kati-build --deps reads what the compiler writes",
+    "export": "exported variables: kati's shell gets them, see SHELL at the end of the makefile",
+    "override": "override: dropped for kati",
+    "private": "private: dropped for kati",
+    "undefine": "undefine: an empty value for kati",
+    "load": "load: for make alone",
+    "-load": "load: for make alone",
+    "search": "VPATH and vpath: a rule for each folder",
+    ".DEFAULT": ".DEFAULT: a rule for the names that it makes",
+    "second expansion": ".SECONDEXPANSION: each target's prerequisites as make has them",
+}
+
+
+# Advice for faults that no form of a line tells of.
+OTHERS = {
+    "E04": "make the file first, or write -include",
+    "E19": "what the text says; kati takes another branch here than make: compare the conditions before it",
+    "E27": "a goal that is only a file is no goal for kati: name another, or write a rule for it",
+    "E28": "take one of the prerequisites out: make drops it, and says so",
+    "E31": "spell the name in one way",
+    "E32": "move it out of the recipe: recipes are expanded when all macros are settled",
+    "E36": "keep one of the recipes",
+}
+
+
+def did(port):
+    """A line for each kind of what was done."""
+    frozen = [(detail, count) for (kind, detail), count in port.did.items() if kind == "frozen"]
+    if frozen:
+        details = ", ".join(f"{count} {detail}" for detail, count in frozen)
+        yield f"{sum(count for _, count in frozen)} values in {NAME}: {details}"
+    if port.of_the_run:
+        yield f"what tells of the run, in {NAME}: {' '.join(port.of_the_run)}"
+    for kind, words in KINDS.items():
+        count = sum(count for (one, _), count in port.did.items() if one == kind)
+        if count:
+            yield f"{count} x {words}"
+    needed = [one for one in port.target_macros.all if one.hit]
+    others = len(port.target_macros.all) - len(needed)
+    if others:
+        yield f"{others} target-specific macros that these goals don't need: for make alone"
+    if needed:
+        yield f"{len(needed)} target-specific macros: asked for by the target's name, at the end of the makefile"
+    if port.made:
+        yield f"made first, as make does: {' '.join(port.made)}"
+    if port.by_shell:
+        yield f"$(shell ..) writes {' '.join(port.by_shell)} while make reads the makefile; kati doesn't"
+    yield from port.notes
+
+
+def advice(port, fault):
+    """The advice for a fault: that for its line, where it is one that kati-port tells of."""
+    if fault is None:
+        return None
+    scan = scanning.Scan(word.split("=", 1)[0] for word in port.asked.macros)
+    with contextlib.suppress(Stop, RecursionError):
+        scan.file_of(fault.file.name if fault.file else port.makefile)
+    found = [one for one in scan.findings if fault.line and one.file == fault.file.name
+             and one.number == fault.line.number and one.fault() == fault.number]
+    return found[0].told() if found else OTHERS.get(fault.number)
+
+
+def without_blanks(lines):
+    """Commands without their blanks, each as often as it stands there."""
+    return Counter("".join(line.split()) for line in lines)
+
+
+def commands_of(statements):
+    """The commands that the statements hold, each without the shell round it."""
+    return [text.strip() for one in statements if one.command is not None for text in comparing.unwrapped(one.command)]
+
+
+class Comparison:
+    """make's commands before and after, and kati's, which may differ from them in blanks."""
+
+    def __init__(self, port, translation, after=None):
+        self.before, self.after = port.before[1], after or port.run.commands()
+        makes = [line.replace(port.run.noop, port.shell) for line in self.after[1]]
+        katis = commands_of(translation.statements)
+        # What makes makefiles make does before, and may say nothing of.
+        remade = commands_of([one for one in translation.statements if set(one.outputs) & port.read])
+        katis = command_lists.alone(katis, command_lists.alone([*self.after[3], *remade], makes))
+        found = command_lists.Compared(makes, comparing.besides([], translation.said), katis)
+        self.makes, self.katis = found.makes, found.katis
+        self.has_other_blanks = bool(found.in_blanks or found.makes)
+        if without_blanks(found.makes) == without_blanks(found.katis):
+            self.makes, self.katis = [], []
+
+    def is_unchanged(self):
+        """Whether make does what it did."""
+        return self.after[0] == 0 and self.after[1] == self.before
+
+    def is_same(self):
+        """Whether kati's commands are make's."""
+        return not self.makes and not self.katis
+
+    def told(self):
+        """The lines that say so."""
+        yield f"make's commands are as before: {len(self.before)}"
+        if self.is_same():
+            yield f"kati's commands are make's{', blanks aside' if self.has_other_blanks else ''}"
+            return
+        for mark, lines in (("-", self.makes), ("+", self.katis)):
+            yield from (f"{mark} {line}" for line in lines[:10])
+            if len(lines) > 10:
+                yield f"{mark} .. and {len(lines) - 10} more"
+        yield f"kati's commands differ: {len(self.makes)} of make's alone, {len(self.katis)} of kati's alone"

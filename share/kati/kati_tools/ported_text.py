@@ -1,0 +1,116 @@
+"""A makefile that is being rewritten: its logical lines, each as it was and as it is.
+
+What kati refuses stays for make. A line is mended in one of two ways: parts of it are replaced, for both programs, by
+references to macros that give each its own; or the whole line stands under `ifdef MAKE_VERSION`, and what kati gets in
+its place under `else`."""
+import re
+
+from . import makefile_text
+
+MAKES_ALONE = "ifdef MAKE_VERSION"
+KATIS_ALONE = "ifndef MAKE_VERSION"
+
+
+class PortedLine(makefile_text.Line):
+    """A logical line; `text` is the line as it was.
+
+    `edits` has what stands in the place of parts of it, by where they begin and end. Where it is wrapped, make has the
+    line and kati what `for_kati` makes of it, or nothing. What stands in `before` comes before the line. A line that
+    is gone stands in the one that took it in."""
+
+    def __init__(self, number, text, is_body):
+        super().__init__(number, text)
+        self.is_body = is_body
+        self.edits, self.before = {}, None
+        self.is_wrapped, self.for_kati, self.is_gone = False, None, False
+
+    def edited(self):
+        """The line with the outermost of its edits."""
+        text = self.text
+        for start, end in sorted(self.edits, reverse=True):
+            if not any((a, b) != (start, end) and a <= start and end <= b for a, b in self.edits):
+                text = text[:start] + self.edits[start, end] + text[end:]
+        return text
+
+    def wrap(self, for_kati=None):
+        """Keeps the line for make alone; `for_kati` makes kati's text of it, or answers None."""
+        self.is_wrapped, self.for_kati = True, for_kati
+
+    def now(self):
+        """The line as it is."""
+        text = self.edited()
+        if self.is_wrapped:
+            katis = self.for_kati(text) if self.for_kati else None
+            other = [] if katis is None else ["else", katis]
+            text = "\n".join([MAKES_ALONE, self.text, *other, "endif"])
+        return text if self.before is None else f"{self.before}\n{text}"
+
+    def indent_by_spaces(self):
+        """Puts spaces in the place of the tabs at the beginning, which both programs take alike."""
+        new = re.sub(r"^[ \t]+", lambda found: " " * len(found.group().expandtabs(8)), self.text)
+        moved = len(new) - len(self.text)
+        self.edits = {(start + moved, end + moved): text for (start, end), text in self.edits.items()}
+        self.text, self.is_tab = new, False
+        self.joined = re.sub(r"[ \t]*\\\n[ \t]*", " ", new)
+        return moved
+
+    def assignment(self):
+        """The name, operator and value of an assignment, whatever stands before it; None for another line."""
+        if self.is_body or self.is_tab:
+            return None
+        return makefile_text.assignment(makefile_text.without_words_before(makefile_text.without_comment(self.joined)))
+
+    def expanded_length(self):
+        """Up to where the line may be expanded: to its comment, where it can have one."""
+        if self.is_tab or self.is_body:
+            return len(self.text)
+        return len(makefile_text.without_comment(self.text))
+
+
+class PortedFile:
+    """A makefile as such lines, with what is put before and after them."""
+
+    def __init__(self, name, text):
+        self.name, self.before = name, text
+        self.ending = "\r\n" if "\r\n" in text and text.count("\r\n") == text.count("\n") else "\n"
+        self.head, self.tail, self.lines, depth = [], [], [], 0
+        for line in makefile_text.lines(text.replace(self.ending, "\n")):
+            words = line.joined.split()[:3]
+            is_end = depth > 0 and words[:1] == ["endef"]
+            self.lines.append(PortedLine(line.number, line.text, depth > 0 and not is_end))
+            depth += ("define" in words and is_define(words)) - is_end
+
+    def text(self):
+        """The file as it is."""
+        made = "\n".join([*self.head, *(line.now() for line in self.lines if not line.is_gone)])
+        if self.tail:
+            made = "\n".join([made.rstrip("\n"), *self.tail, ""])
+        return made.replace("\n", self.ending)
+
+    def line_at(self, number):
+        """The line that stands at this number in the file as it is; None where none does."""
+        at = 1 + sum(text.count("\n") + 1 for text in self.head)
+        for line in self.lines:
+            height = 0 if line.is_gone else line.now().count("\n") + 1
+            if at <= number < at + height:
+                return line
+            at += height
+        return None
+
+    def definitions(self):
+        """The name of a macro and a line that gives it a value, for each line of an assignment or of a `define`."""
+        name = None
+        for line in self.lines:
+            if line.is_body:
+                yield name, line
+            elif is_define(line.joined.split()[:3]):
+                name = makefile_text.defined_name(line.joined)
+            elif line.assignment():
+                yield line.assignment()[0], line
+
+
+def is_define(words):
+    """Whether a line with these first words begins a `define`."""
+    while words and words[0] in ("override", "export", "private"):
+        words = words[1:]
+    return words[:1] == ["define"] and words[1:2] not in (["="], [":="], ["+="], ["?="])

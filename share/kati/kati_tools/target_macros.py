@@ -1,0 +1,152 @@
+"""Target-specific macros: for kati one macro for all targets, which asks in a recipe for which target it is.
+
+`debug: CFLAGS += -g` becomes, at the end of the makefile,
+
+    CFLAGS = $(CFLAGS_BEFORE)$(if $(filter $(CFLAGS_TARGETS),$@), $(CFLAGS_HERE))
+
+where CFLAGS_BEFORE is what CFLAGS was up to there, unexpanded if it was deferred, CFLAGS_HERE the text of the line, and
+CFLAGS_TARGETS the targets and what is made because of them. In make what is made because of two targets has the macros
+of the one that asks for it first. Which that are is seen in kati's own graph. Where no target is needed, the line is
+for make alone, and that is all."""
+import re
+
+from . import makefile_text, mending_exports, ninja_text
+
+WORDS = re.compile(r"^[ \t]*((?:(?:export|override|private)[ \t]+)*)")
+KEEP = """\
+define {before}_KEPT
+define {before}
+$(value {macro})
+endef
+endef
+$(eval $({before}_KEPT))"""
+
+
+class TargetMacro:
+    """A line that gives a macro to targets; `order` is its place among such lines."""
+
+    def __init__(self, line, order):
+        text = makefile_text.without_comment(line.joined)
+        at = makefile_text.find_outside(text, ":")
+        rest = text[at + 1:].lstrip(":")
+        self.line, self.order, self.targets = line, order, text[:at].strip()
+        self.words = WORDS.match(rest).group(1).split()
+        found = makefile_text.assignment(rest[WORDS.match(rest).end():])
+        self.macro, self.operator, _ = found or (None, None, None)
+        # The targets of the graph that are meant, and what is made because of them; None for all commands.
+        self.hit, self.reach, self.first = set(), [], 0
+        self.names = {}
+
+    def is_private(self):
+        return "private" in self.words
+
+    def for_kati(self, text):
+        """kati's line in the place of make's: the value, as it is there; none where no target is needed."""
+        if not self.names:
+            return None
+        operator = ":=" if self.operator in (":=", "::=") else "="
+        return f"{self.names['HERE']} {operator} {value_in(text)}".rstrip(" ")
+
+    def tail(self, flavor):
+        """What kati gets at the end of the makefile; `flavor` is what make has the macro for."""
+        before, here, macro = self.names["BEFORE"], f"$({self.names['HERE']})", self.macro
+        is_kept = self.operator == "+=" or self.reach is not None
+        kept = f"{before} := $({macro})" if flavor == "simple" else KEEP.format(before=before, macro=macro)
+        if self.reach is None:
+            return [*([kept] if is_kept else []), f"{macro} = {f'$({before}) ' if self.operator == '+=' else ''}{here}"]
+        names = self.names["TARGETS"]
+        is_here = f"$(filter $({names}),$@)"
+        text = f"$({before})$(if {is_here}, {here})" if self.operator == "+=" else f"$(if {is_here},{here},$({before}))"
+        return [kept, f"{names} = {' '.join(self.reach)}", f"{macro} = {text}"]
+
+
+def value_in(text):
+    """The value in such a line."""
+    text = makefile_text.without_comment(text)
+    rest = text[makefile_text.find_outside(text, ":") + 1:].lstrip(":")
+    found = makefile_text.assignment(rest[WORDS.match(rest).end():])
+    return found[2] if found else ""
+
+
+def is_meant(name, targets):
+    """Whether one of these targets or patterns is a name."""
+    return any(re.fullmatch(re.escape(one).replace("%", ".+", 1), name) for one in targets)
+
+
+class TargetMacros:
+    """All target-specific macros of a port."""
+
+    def __init__(self, port):
+        self.port, self.all, self.is_settled, self.flavors = port, [], False, {}
+
+    def add(self, line):
+        """Takes a line that kati refuses; it is for make alone until kati's graph is known."""
+        found = TargetMacro(line, len(self.all))
+        if found.macro is None or "$" in found.macro or found.operator == "!=":
+            return False
+        self.all.append(found)
+        line.wrap(found.for_kati)
+        self.is_settled = False
+        return True
+
+    def tail(self):
+        """What kati gets at the end of the makefile."""
+        live = sorted((one for one in self.all if one.names), key=lambda one: (one.first, one.order))
+        return [text for one in live for text in one.tail(self.flavors.get(one.macro))]
+
+    def settle(self, translation):
+        """Says what each macro holds for by the graph that kati wrote; answers whether that changes the makefile."""
+        if self.is_settled or not self.all:
+            return False
+        self.is_settled = True
+        graph = Graph(translation)
+        told = self.port.run.values([text for one in self.all for text in (one.targets, f"$(flavor {one.macro})")])
+        for one, targets, flavor in zip(self.all, told[::2], told[1::2]):
+            self.flavors[one.macro] = flavor
+            names = [re.sub(r"^(\./)+", "", name) for name in (targets or "").split()]
+            # `?=` does nothing where all targets have the macro.
+            is_lost = one.operator == "?=" and flavor != "undefined"
+            one.hit = set() if is_lost else {name for name in graph.by_output if is_meant(name, names)}
+        live = [one for one in self.all if one.hit]
+        graph.walk(live)
+        for one in live:
+            self.name(one)
+            is_all = set(one.reach) >= graph.commands and graph.commands
+            one.reach = None if is_all else [name for name in one.reach if name in graph.commands]
+            if "export" in one.words:
+                mending_exports.add(self.port, one.macro)
+        return bool(live)
+
+    def name(self, one):
+        """Gives a macro's parts names that nothing else has."""
+        number = sum(other.macro == one.macro and bool(other.names) for other in self.all) + 1
+        ending = "" if number == 1 else f"_{number}"
+        one.names = {part: f"{one.macro}_{part}{ending}" for part in ("BEFORE", "HERE", "TARGETS")}
+
+
+class Graph:
+    """The graph of a translation, walked in make's order."""
+
+    def __init__(self, translation):
+        self.by_output = {name: one for one in translation.statements for name in one.outputs}
+        self.commands = {name for name, one in self.by_output.items() if one.command is not None}
+        lines = re.findall(r"^default (.*)$", translation.text, re.MULTILINE)
+        self.goals = [ninja_text.plain(name) for line in lines for name in ninja_text.NAME.findall(line)]
+
+    def walk(self, macros):
+        """Gives each macro what is made because of its targets, from the one that asks first."""
+        seen, left, number = set(), [(goal, frozenset()) for goal in reversed(self.goals)], 0
+        while left:
+            name, active = left.pop()
+            if name in seen or name not in self.by_output:
+                continue
+            seen.add(name)
+            number += 1
+            own = [one for one in macros if name in one.hit]
+            for one in own:
+                one.first = one.first or number
+            here = active | frozenset(own)
+            for one in here:
+                one.reach.append(name)
+            handed = frozenset(one for one in here if not one.is_private())
+            left += [(need, handed) for need in reversed(self.by_output[name].inputs)]

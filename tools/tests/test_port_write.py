@@ -1,0 +1,311 @@
+"""kati-port --write: each construct is ported, make does what it did, and what ninja builds is what make builds."""
+import os
+import shutil
+import signal
+import subprocess
+import time
+
+from support import TOOLS, Tree, needs
+
+# Of each construct: the files, and words that stand in the makefile or in kati-values.mk afterwards.
+CONSTRUCTS = {
+    "shell": ({"Makefile": "N := $(shell cat n.txt)\nall: ; echo $(N) > out\n", "n.txt": "7\n"},
+              ["N := $(V_N)", "V_N = $(shell cat n.txt)", "V_N := 7", "# $(shell cat n.txt) reads n.txt "]),
+    "shell in a deferred macro and a condition":
+        ({"Makefile": "U = $(shell uname -s)\nifeq ($(shell echo a),a)\nB = yes\nendif\nall: ; echo $(U) $(B) > out\n"},
+         ["U = $(V_U)", "ifeq ($(V_shell),a)"]),
+    "shell in a recipe": ({"Makefile": "all:\n\techo $(shell echo one two) $(sort b a) > out\n"}, ["echo $(V_shell)"]),
+    "shell that varies in a recipe":
+        ({"Makefile": "all: a b\na b:\n\techo $(shell echo made $@) > $@\n"}, ["V_shell = $$(echo made $@)"]),
+    "shell in a loop":
+        ({"Makefile": "N := $(foreach n,a b,$(shell echo $(n)$(n)))\nall: ; echo $(N) > out\n"},
+         ["V_N = $(foreach n,a b,$(shell echo $(n)$(n)))", "V_N := aa bb"]),
+    "shell in a macro that is called":
+        ({"Makefile": "twice = $(shell echo $(1)$(1))\nN := $(call twice,a) $(call twice,b)\nall: ; echo $(N) > out\n"},
+         ["V_N := aa", "V_N_2 := bb", "twice = $(shell echo $(1)$(1))"]),
+    "shell in a body of define":
+        ({"Makefile": "define R\n$(1): ; echo $(1) $(shell echo x) > $(1)\nendef\nall: a b\n"
+                      "$(foreach n,a b,$(eval $(call R,$(n))))\n"}, ["$(V_shell)"]),
+    "dollars and marks in values":
+        ({"Makefile": "N := $(shell printf '$$A \\043 b ')\nall: ; echo '$(N)|' > out\n"}, ["V_N := $$A \\# b $()"]),
+    "one call with two values":
+        ({"Makefile": "D = a\nM := $(wildcard $(D)/*.c)\nD = b\nN := $(wildcard $(D)/*.c)\n"
+                      "all: ; echo $(M) $(N) > out\n", "a/1.c": "", "b/2.c": ""}, ["V_M := a/1.c", "V_N := b/2.c"]),
+    "wildcard": ({"Makefile": "S = $(wildcard *.c)\nall: $(S:.c=.x)\n\tcat $^ > out\n%.x: %.c ; echo $< > $@\n",
+                  "a.c": "", "b.c": ""}, ["# $(wildcard *.c)\nV_S := a.c b.c"]),
+    "origin and flavor":
+        ({"Makefile": "ifeq ($(origin P),undefined)\nP = /usr\nendif\nall: ; echo $(P) $(flavor P) > out\n"},
+         ["ifeq ($(V_origin),undefined)"]),
+    "abspath and realpath": ({"Makefile": "T := $(realpath .)\nall: ; echo $(T) $(abspath x) > out\n"}, ["V_T := "]),
+    "!=": ({"Makefile": "N != echo 1 \\\n 2\nall: ; echo $(N) > out\n"}, ["N := $(V_N)", "V_N = $(shell echo 1 2)"]),
+    "*.c among names": ({"Makefile": "all: *.c\n\techo $^ > out\n", "a.c": "", "b.c": ""},
+                        ["all: $(V_value)", "V_value = *.c", "V_value := a.c b.c"]),
+    "*.c in a macro that rules need":
+        ({"Makefile": "S = s/*.c\nall: $(S)\n\techo $^ > out\n", "s/a.c": "", "s/b.c": ""},
+         ["S = $(V_S)", "V_S = s/*.c"]),
+    "MAKEFILE_LIST": ({"Makefile": "D := $(dir $(abspath $(lastword $(MAKEFILE_LIST))))\nall: ; echo $(D) > out\n"},
+                      ["MAKEFILE_LIST := $(filter-out kati-values.mk,$(MAKEFILE_LIST))"]),
+    "what tells of the run": ({"Makefile": "all: ; echo $(CURDIR) '$(MAKECMDGOALS)' $(HOME) > out\n"}, ["CURDIR := /"]),
+    "a target's macro that isn't needed":
+        ({"Makefile": "F = -O2\nall: ; echo $(F) > out\ndebug: F += -g\ndebug: all\n"},
+         ["ifdef MAKE_VERSION\ndebug: F += -g\nendif\n"]),
+    "a target's macro that is needed":
+        ({"Makefile": "F = -O2 $(G)\nG = 1\nall: a b c\na: F += -g,$(H)\nb: F = -O3\na b c: ; echo $(F) > $@\nH = h\n"},
+         ["ifdef MAKE_VERSION\na: F += -g,$(H)\nelse\nF_HERE = -g,$(H)\nendif\n",
+          "F = $(F_BEFORE)$(if $(filter $(F_TARGETS),$@), $(F_HERE))"]),
+    "a goal's macro": ({"Makefile": "F = -O2\nall: F += -g\nall: a b\na b: ; echo $(F) > $@\n"},
+                       ["F = $(F_BEFORE) $(F_HERE)"]),
+    "macros of targets that others need":
+        ({"Makefile": "F = 0\nall: one two\none: F = 1\ntwo: F = 2\nown: F += own\none: shared own ; echo $(F) > $@\n"
+                      "two: shared b ; echo $(F) > $@\nshared b own: ; echo $(F) > $@\n"}, []),
+    "an immediate macro of a target":
+        ({"Makefile": "X := 1\nF := '$$$$x'\nall: a b\na: F += $(X)\nb: Y := $(X)\nX := 2\n"
+                      "a b: ; echo $(F) $(Y) > $@\n"},
+         []),
+    "a pattern's macro": ({"Makefile": "F = 0\nall: a.x b\n%.x: F = x\na.x b: ; echo $(F) > $@\n"}, []),
+    "?= of a target": ({"Makefile": "F = 0\nall: a b\na: F ?= 1\nb: G ?= 2\na b: ; echo $(F) $(G) > $@\n"}, []),
+    "export of a value": ({"Makefile": "export LANG_ = a \"b\" $$c\nall: ; echo \"$$LANG_\" > out\n"},
+                          ["ifdef MAKE_VERSION\nexport LANG_ = a \"b\" $$c\nelse\nLANG_ = "]),
+    "export of names": ({"Makefile": "A = 1\nB = 2\nC = 3\nexport A B\nall: ; echo $$A $$B $$C > out\n"},
+                        ["SHELL := A=\"$(A)\" B=\"$(B)\" $(SHELL)"]),
+    "export of all": ({"Makefile": "A = 1\nB = 2\nexport\nall: ; sh x.sh $$A > out\n", "x.sh": "echo $1 $B\n"},
+                      ["SHELL := A=\"$(A)\" B=\"$(B)\" $(SHELL)"]),
+    "export to an inner make":
+        ({"Makefile": "export\nA = 1\nB = -x -y\nC = 'c'\nall: ; $(MAKE) -C sub\n",
+          "sub/Makefile": "ifdef A\nF = yes\nendif\nall: ; echo $(F) $(B) $(C) > out\n"}, []),
+    ".EXPORT_ALL_VARIABLES": ({"Makefile": ".EXPORT_ALL_VARIABLES:\nA = 1\nall: ; echo $$A > out\n"}, ["A=\"$(A)\""]),
+    "unexport": ({"Makefile": "A = 1\nexport A\nunexport A\nall: ; echo $$A > out\n"},
+                 ["ifdef MAKE_VERSION\nunexport A\nendif"]),
+    "override": ({"Makefile": "F = 1\noverride F += 2\noverride define D\na\nb\nendef\n"
+                              "all: ; echo $(F) '$(word 2,$(D))' > out\n"},
+                 ["else\nF += 2\nendif", "else\ndefine D\na\nb\nendef\nendif"]),
+    "undefine": ({"Makefile": "F = 1\nundefine F\nall: ; echo $(F) > out\n"}, ["else\nF =\nendif"]),
+    "private": ({"Makefile": "private F = 1\nall: ; echo $(F) > out\n"}, ["else\nF = 1\nendif"]),
+    "conditionals behind a tab":
+        ({"Makefile": "F = 1\n\tifeq ($(F),1)\n\tG = 2\n\telse\nG = 3\n\tendif\nall: ; echo $(G) > out\n"},
+         ["        ifeq ($(F),1)\n", "        endif\n"]),
+    "a word behind a tab": ({"Makefile": "\tinclude a.mk\nall: ; echo $(A) > out\n", "a.mk": "A = 1\n"},
+                            ["        include a.mk"]),
+    "header dependencies": ({"Makefile": "all: ; echo > out\n-include *.d\n", "x.d": "all: x.h\n", "x.h": ""},
+                            ["ifdef MAKE_VERSION\n-include *.d\nendif"]),
+    "an include that make makes":
+        ({"Makefile": "all: ; echo $(A) > out\ninclude config.mk\nconfig.mk: config.in ; sed s/@/=/ $< > $@\n",
+          "config.in": "A @ 5\n"}, []),
+    "VPATH": ({"Makefile": "VPATH = src:inc\nall: a.x b.x c\n%.x: %.c h.h\n\techo $< $^ > $@\n"
+                           "c: d.c h.h\n\techo $< $^ > $@\n",
+               "src/a.c": "", "b.c": "", "src/d.c": "", "inc/h.h": ""},
+              ["ifndef MAKE_VERSION\n%.x: src/%.c"]),
+    "vpath": ({"Makefile": "vpath %.c src\nall: a.x\n\tcat $< > out\n.SUFFIXES: .c .x\n.c.x:\n\techo $< > $@\n",
+               "src/a.c": ""}, ["ifdef MAKE_VERSION\nvpath %.c src\nendif"]),
+    ".SECONDEXPANSION":
+        ({"Makefile": "a_S = 1 2\nb_S = 3\nall: a b\n.SECONDEXPANSION:\na b: $$($$@_S)\n\techo $^ > $@\n",
+          "1": "", "2": "", "3": ""}, ["else\na: 1 2\nb: 3\na b:\nendif\n"]),
+    "a call that depends on the target":
+        ({"Makefile": "all: a b\na b: ; echo $(if $(wildcard $@.c),with,without) > $@\n", "a.c": ""},
+         ["V_wildcard = $(V_wildcard_$@)", "V_wildcard_a := a.c\nV_wildcard_b :=\n"]),
+    "a call that depends on an argument":
+        ({"Makefile": "A = a\ndefine set\n$(if $(findstring undefined,$(origin $(1))),$(eval $(1) = $(2)))\nendef\n"
+                      "$(call set,A,x)\n$(call set,B,y)\nall: ; echo $(A) $(B) > out\n"},
+         ["V_origin = $(V_origin_$(1))", "V_origin_A := file\nV_origin_B := undefined\n"]),
+    "SHELL in a recipe where something is exported":
+        ({"Makefile": "export A = 1\nall: ; '$(SHELL)' -c 'echo $$A' > out\n"}, ["'$(V_SHELL)' -c"]),
+    "names with a wildcard of several macros":
+        ({"Makefile": "D = .\nall: $(D)/d/* c ; echo $(^F) > out\n", "d/a": "", "d/b": "", "c": ""},
+         ["all: $(V_names) c", "V_names = $(D)/d/*"]),
+    "includes": ({"Makefile": "include a/b.mk\nall: ; echo $(A) $(B) > out\n",
+                  "a/b.mk": "A := $(shell echo 1)\nB = 2\n"}, []),
+    "deep nesting": ({"Makefile": "A0 = x\n" + "".join(f"A{n} = $(A{n - 1})\n" for n in range(1, 130))
+                      + "all: ; echo $(A129) > out\n"}, []),
+}
+
+# What nothing is known for: the makefile, and words that are said.
+STUCK = {
+    ".ONESHELL": (".ONESHELL:\nall:\n\tA=1\n\techo $$A\n", ["Makefile:1: ", "[E22]", "backslashes"]),
+    ".WAIT": ("all: a .WAIT b\na b: ; echo\n.WAIT: ; true\n", ["Makefile:1: ", "[E22]", "order-only"]),
+    "archive members": ("all: lib.a(a.o)\n%.o: ; touch $@\n", ["Makefile:1: ", "[E20]", "by one rule"]),
+    "a circle": ("X := $(shell echo)\nall: a\na: b ; echo\nb: a ; echo\n", ["circular: ", "[E28]", "take one of the"]),
+}
+
+
+def tree_of(top):
+    """The texts of the files in a folder, but for those of the tools and of ninja."""
+    own = ("build.ninja", ".ninja_log")
+    return {str(path.relative_to(top)): path.read_text() for path in sorted(top.rglob("*"))
+            if path.is_file() and path.name not in own and "build.kati" not in path.parts
+            and path.suffix != ".mk" and path.name != "Makefile"}
+
+
+@needs("kati", "kati-asked", "make", "ninja")
+class Writing(Tree):
+    """A tree for each construct."""
+
+    def put_all(self, files):
+        """Writes a new tree."""
+        shutil.rmtree(self.top)
+        self.top.mkdir()
+        for name, text in files.items():
+            self.put(name, text)
+
+    def makes_commands(self):
+        """What make would do from nothing."""
+        ran = self.run_in("make", "-n", "-B", "--no-print-directory")
+        self.assertEqual(ran.status, 0, ran.all)
+        return ran.out
+
+    def built_by_make(self):
+        """The files after a build by make, in a folder of the same name that is this tree afterwards."""
+        kept = self.top.with_name("kept")
+        shutil.copytree(self.top, kept)
+        ran = self.run_in("make")
+        self.assertEqual(ran.status, 0, ran.all)
+        found = tree_of(self.top)
+        shutil.rmtree(self.top)
+        kept.rename(self.top)
+        return found
+
+    def port(self, *words, status=0):
+        ran = self.tool("kati-port", "--write", "Makefile", *words)
+        self.assertEqual(ran.status, status, ran.all)
+        return ran
+
+    def test_each_construct(self):
+        for name, (files, words) in CONSTRUCTS.items():
+            with self.subTest(name):
+                self.put_all(files)
+                wanted, built = self.makes_commands(), self.built_by_make()
+                said = self.port().out
+                self.assertIn("make's commands are as before", said)
+                text = self.read("Makefile") + "".join(path.read_text() for path in self.top.glob("kati-values.mk"))
+                self.assertEqual([word for word in words if word not in text], [], text)
+                self.assertEqual(self.makes_commands(), wanted, text)
+                ran = self.tool("kati-build", "--builtin", *(["--depth", "400"] if "--depth 400" in said else []))
+                self.assertEqual(ran.status, 0, ran.all + text)
+                self.assertEqual(tree_of(self.top), built, text)
+
+    def test_where_nothing_is_known_no_file_changes(self):
+        for name, (makefile, words) in STUCK.items():
+            with self.subTest(name):
+                self.put_all({"Makefile": makefile})
+                ran = self.port(status=1)
+                self.assertEqual([word for word in words if word not in ran.said], [], ran.all)
+                self.assertEqual(self.read("Makefile"), makefile)
+                self.assertEqual([path.name for path in self.top.iterdir()], ["Makefile"])
+
+    def test_what_kati_takes_stays(self):
+        self.copy_example()
+        before = self.made()
+        self.assertIn("kati takes it as it is", self.port().out)
+        self.assertEqual(self.made(), before)
+
+    def test_a_second_port_changes_nothing(self):
+        self.put_all({"Makefile": "N := $(shell echo 1)\nexport A = 1\nall: ; echo $(N) $$A > out\n"})
+        self.port()
+        before = self.read("Makefile")
+        self.assertIn("kati takes it as it is", self.port().out)
+        self.assertEqual(self.read("Makefile"), before)
+
+    def test_diff_writes_nothing(self):
+        self.put_all({"Makefile": "N := $(shell echo 1)\nall: ; echo $(N)\n"})
+        before = self.made()
+        ran = self.port("--diff")
+        self.assertIn("-N := $(shell echo 1)\n+include kati-values.mk\n+N := $(V_N)\n", ran.out)
+        self.assertIn("+++ b/kati-values.mk\n", ran.out)
+        self.assertIn("make's commands are as before: 1\n", ran.said)
+        self.assertEqual(self.made(), before)
+
+    def test_goals_and_macros_are_those_of_the_words(self):
+        self.put_all({"Makefile": "F = 1\nall: ; echo $(F) $(shell echo all)\ndebug: F = 2\n"
+                                  "debug: ; echo $(F) $(shell echo $(X)) > out\n"})
+        self.port("debug", "X=given")
+        self.assertIn("V_shell := given\n", self.read("kati-values.mk"))
+        self.assertIn("echo $(F) $(shell echo all)", self.read("Makefile"))
+        self.assertEqual(self.tool("kati-build", "debug").status, 0)
+        self.assertEqual(self.read("out"), "2 given\n")
+
+    def test_what_shell_writes_is_told_and_not_here(self):
+        self.put_all({"Makefile": "N := $(shell echo 1 | tee n.h)\nall: n.h ; echo $(N)\n"})
+        self.assertIn("$(shell ..) writes n.h while make reads", self.port().out)
+        self.assertFalse((self.top / "n.h").exists())
+
+    def test_what_kati_and_make_do_otherwise_is_told(self):
+        self.put_all({"Makefile": "N := $(shell echo 1)\nall: ; echo $(N) $(MAKEFLAGS)\n"})
+        said = self.port().out
+        self.assertIn("- echo 1 ", said)
+        self.assertIn("+ echo 1\n", said)
+        self.assertIn("kati's commands differ: 1 of make's alone, 1 of kati's alone", said)
+
+    def test_the_forms_of_files_stay(self):
+        text = "N := $(shell echo 1)\r\nall: ; echo $(N)\r\n"
+        self.put_all({})
+        (self.top / "real.mk").write_bytes(text.encode())
+        (self.top / "real.mk").chmod(0o640)
+        (self.top / "Makefile").symlink_to("real.mk")
+        self.port()
+        self.assertTrue((self.top / "Makefile").is_symlink())
+        self.assertEqual((self.top / "real.mk").stat().st_mode & 0o777, 0o640)
+        self.assertEqual((self.top / "real.mk").read_bytes(),
+                         b"include kati-values.mk\r\nN := $(V_N)\r\nall: ; echo $(N)\r\n")
+
+    def test_makefiles_and_values_above(self):
+        self.put_all({"lib/v.h": "7\n", "mk/a.mk": "A := $(shell cat ../lib/v.h)\n",
+                      "prog/Makefile": "include ../mk/a.mk\nall: ; echo $(A) $(wildcard ../lib/*) > out\n"})
+        prog = self.top / "prog"
+        ran = subprocess.run([TOOLS / "kati-port", "--write", "Makefile"], cwd=prog, stdout=subprocess.PIPE, text=True,
+                             check=True)
+        self.assertIn("kati's commands are make's", ran.stdout)
+        self.assertEqual(self.read("mk/a.mk").split("\n")[-2], "A := $(V_A)")
+        self.assertIn("V_A := 7\n", self.read("prog/kati-values.mk"))
+        self.assertIn("V_wildcard := ../lib/v.h\n", self.read("prog/kati-values.mk"))
+
+    def test_an_include_has_makes_calls_for_others_that_read_it(self):
+        self.put_all({"a.mk": "A := $(shell echo 1)\n", "Makefile": "include a.mk\nall: ; echo $(A)\n",
+                      "other.mk": "include a.mk\nall: ; echo other $(A)\n"})
+        self.port()
+        self.assertEqual(self.run_in("make", "-n", "-f", "other.mk").out, "echo other 1\n")
+
+    def test_the_rule_of_default(self):
+        # Under -B make would make its makefile by such a rule.
+        self.put_all({"Makefile": "all: a b c\n\tcat a b > out\n.DEFAULT:\n\techo $@ > $@\nb: ; echo own > b\n",
+                      "c": ""})
+        wanted = self.built_by_make()
+        self.port()
+        self.assertIn("ifdef MAKE_VERSION\n.DEFAULT:\nelse\na:\nendif\n\techo $@ > $@\n", self.read("Makefile"))
+        self.assertEqual(self.built_by_make(), wanted)
+        self.assertEqual(self.tool("kati-build", "--builtin").status, 0)
+        self.assertEqual(tree_of(self.top), wanted)
+
+    def test_where_make_fails(self):
+        self.put_all({"Makefile": "all: absent ; echo $(shell echo)\n"})
+        self.assertIn("make itself ends with status 2: ", self.port(status=1).said)
+
+    def test_a_file_that_cant_be_written(self):
+        self.put_all({"Makefile": "include a/b.mk\nX := $(shell echo)\nall: ; echo $(X)\n", "a/b.mk": "A != echo\n"})
+        before = self.read("Makefile")
+        (self.top / "a").chmod(0o500)
+        self.addCleanup((self.top / "a").chmod, 0o700)
+        if os.access(self.top / "a", os.W_OK):
+            self.skipTest("this user may write everywhere")
+        self.port(status=3)
+        self.assertEqual(self.read("Makefile"), before)
+
+    def test_wrong_usage(self):
+        self.put_all({})
+        self.assertEqual(self.tool("kati-port", "--write").status, 64)
+        self.assertEqual(self.tool("kati-port", "--write", "A=b").status, 64)
+        self.assertEqual(self.tool("kati-port", "--write", "absent").status, 3)
+
+    def test_an_interrupt_changes_nothing(self):
+        self.put_all({"Makefile": "X := $(shell touch started; sleep 5)\nall: ; echo $(X)\n"})
+        before = self.made()
+        words = [TOOLS / "kati-port", "--write", "Makefile"]
+        process = subprocess.Popen(words, cwd=self.top, stdout=subprocess.PIPE, stderr=subprocess.STDOUT, text=True,
+                                   start_new_session=True, env={**os.environ, "TMPDIR": str(self.top.parent)})
+        end = time.monotonic() + 20
+        while not list(self.top.parent.rglob("started")) and time.monotonic() < end:
+            time.sleep(0.05)
+        os.killpg(process.pid, signal.SIGINT)
+        said = process.communicate(timeout=20)[0]
+        self.assertEqual(process.returncode, 130, said)
+        self.assertEqual(said, "kati-port: interrupted; no file was changed\n")
+        self.assertEqual(self.made(), before)
+        self.assertEqual(sorted(path.name for path in self.top.parent.iterdir()), ["tree"])
