@@ -27,7 +27,7 @@ def names_macro(text, name):
 
 def wanted_name(line, text):
     """The name that a macro for a part of a line is to have."""
-    name = (line.assignment() or ("",))[0]
+    name = re.sub(r"[-.]+", "_", (line.assignment() or ("",))[0]).strip("_")
     if not re.fullmatch(r"\w+", name):
         function = scanning.FUNCTION.match(text)
         name = function.group(1) if function else "value"
