@@ -4,6 +4,7 @@ import re
 from . import frozen_values, makefile_text, scanning
 from .make_probes import AUTOMATIC, EVAL, NUMBERED, bound_names, is_in, key_of
 
+DOUBLED = re.compile(r"(?<!\$)\$\$[({](shell|wildcard)[ \t]")
 SHELL_CALL = re.compile(r"\$[({]shell[ \t]+(.*)[)}]$", re.DOTALL)
 WILDCARD_CALL = re.compile(r"\$[({]wildcard[ \t]+(.*)[)}]$", re.DOTALL)
 
@@ -74,6 +75,18 @@ class Freezer:
         for call in calls:
             self.port.tell("frozen", call.kind)
         return True
+
+    def doubled(self, line):
+        """Freezes calls behind two dollars, which an `eval` expands; answers whether there are such."""
+        before = len(line.edits)
+        for found in [] if line.is_tab else DOUBLED.finditer(line.text[:line.expanded_length()]):
+            end = makefile_text.end_of_reference(line.text, found.start() + 1)
+            makes = joined(line.text[found.start() + 1:end]).replace("$$", "$")
+            value = None if is_in(NUMBERED, makes) or is_in(AUTOMATIC, makes) else self.port.run.value(makes)
+            if value is not None and "\n" not in value:
+                line.edits[found.start(), end] = "$" + self.reference(line, makes, value)
+                self.port.tell("frozen", found.group(1))
+        return len(line.edits) > before
 
     def reference(self, line, makes, value):
         """A reference to a macro that is this text for make and this value for kati."""

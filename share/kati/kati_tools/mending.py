@@ -33,7 +33,9 @@ def refused_function(port, fault):
     near = [fault.line, *reached(port, fault.line.now())] if fault.line else []
     if any(port.freezer.line(line) for line in near if is_meant(port, line, fault.last)):
         return True
-    return any([port.freezer.line(line) for line in port.lines() if is_meant(port, line, fault.last)])
+    if any([port.freezer.line(line) for line in port.lines() if is_meant(port, line, fault.last)]):
+        return True
+    return any([port.freezer.doubled(line) for line in port.lines() if not line.edits])
 
 
 def is_meant(port, line, function):

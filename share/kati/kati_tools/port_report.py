@@ -39,7 +39,7 @@ def did(port):
     frozen = [(detail, count) for (kind, detail), count in port.did.items() if kind == "frozen"]
     if frozen:
         details = ", ".join(f"{count} {detail}" for detail, count in frozen)
-        yield f"{sum(count for _, count in frozen)} values in {NAME}: {details}"
+        yield f"{comparing.counted(sum(count for _, count in frozen), 'value')} in {NAME}: {details}"
     if port.of_the_run:
         yield f"what tells of the run, in {NAME}: {' '.join(port.of_the_run)}"
     for kind, words in KINDS.items():
@@ -49,9 +49,10 @@ def did(port):
     needed = [one for one in port.target_macros.all if one.hit]
     others = len(port.target_macros.all) - len(needed)
     if others:
-        yield f"{others} target-specific macros that these goals don't need: for make alone"
+        yield f"{comparing.counted(others, 'target-specific macro')} that these goals don't need: for make alone"
     if needed:
-        yield f"{len(needed)} target-specific macros: asked for by the target's name, at the end of the makefile"
+        count = comparing.counted(len(needed), "target-specific macro")
+        yield f"{count} asked for by the target's name, at the end of the makefile"
     if port.made:
         yield f"made first, as make does: {' '.join(port.made)}"
     if port.by_shell:
