@@ -302,7 +302,8 @@ class Writing(Tree):
         before = self.made()
         words = [TOOLS / "kati-port", "--write", "Makefile"]
         process = subprocess.Popen(words, cwd=self.top, stdout=subprocess.PIPE, stderr=subprocess.STDOUT, text=True,
-                                   start_new_session=True, env={**os.environ, "TMPDIR": str(self.top.parent)})
+                                   start_new_session=True, env={**os.environ, "TMPDIR": str(self.top.parent)},
+                                   preexec_fn=lambda: signal.signal(signal.SIGINT, signal.SIG_DFL))
         end = time.monotonic() + 100
         while not list(self.top.parent.rglob("started")) and time.monotonic() < end:
             time.sleep(0.05)
