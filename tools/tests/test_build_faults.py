@@ -208,7 +208,6 @@ class Faults(Tree):
             self.assertNotIn("Traceback", ran.said)
             self.assertNotIn("Exception", ran.said)
 
-
     def test_whatever_is_left_is_a_line_and_a_status(self):
         self.write(Makefile="all: ; echo\n")
         begin = "def run_port(asked):\n"
@@ -236,7 +235,7 @@ class Asking(Tree):
                          ('[" deps = gcc"]', '[" command = true"]')):
             with self.subTest(new):
                 tool = planted(self.top.parent, "kati-build", old, new)
-                ran = self.run_in(tool, "--deps", "--no-ninja", "all", "X=1")
+                ran = self.run_in(tool, "--deps", "--no-ninja", "all", "X=1", KATI=str(kati()))
                 self.assertEqual(ran.status, 70, ran.all)
                 self.assertIn("what it added to kati's text would change the build, as kati --check says", ran.said)
                 self.assertTrue(ran.said.endswith("; build.ninja stays as it is\n"), ran.said)
