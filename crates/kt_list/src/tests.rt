@@ -1,5 +1,6 @@
 //! A list gives back what it was made from.
-use crate::{Names, Sequence, Shared, Text};
+use crate::{Key, Names, Rows, Sequence, Shared, ShortText, Text, narrow};
+use indexmap::IndexSet;
 use std::test::Fail;
 
 #[test]
@@ -60,6 +61,19 @@ fn holds_texts_of_any_size(rt: HostRuntime) -> Result<(), Fail> {
 }
 
 #[test]
+fn looks_texts_up_by_their_bytes(rt: HostRuntime) -> Result<(), Fail> {
+    let long = b"a text that is longer than what lies in its value".as_slice();
+    let mut texts = IndexSet::new(rt.alloc());
+    texts.insert(Text::copied(rt.alloc(), b"a")?)?;
+    texts.insert(Text::copied(rt.alloc(), long)?)?;
+    assert_eq!(rt; texts.get_index_of(Key(b"a")), Some(0));
+    assert_eq!(rt; texts.get_index_of(Key(long)), Some(1));
+    assert_eq!(rt; texts.get_index_of(Key(b"b")), None);
+    assert!(rt; Key(b"a") == Key(b"a"));
+    Ok(())
+}
+
+#[test]
 fn numbers_each_name_once(rt: HostRuntime) -> Result<(), Fail> {
     let long = b"a name that is longer than what lies in its value".as_slice();
     let mut names = Names::new(rt.alloc());
@@ -68,10 +82,10 @@ fn numbers_each_name_once(rt: HostRuntime) -> Result<(), Fail> {
     assert_eq!(rt; names.number(b"")?, 2);
     names.add(b"a")?;
     for (name, number) in [(b"b".as_slice(), 0), (long, 1), (b"", 2), (b"a", 3)] {
-        assert_eq!(rt; names.number(name)?, number);
-        assert_eq!(rt; names.number_of(name), Some(number));
-        assert_eq!(rt; names.get(number), Some(name));
-        assert!(rt; names.contains(name));
+        assert_eq!(rt; names.number(name)?, number, "of {name:?}");
+        assert_eq!(rt; names.number_of(name), Some(number), "of {name:?}");
+        assert_eq!(rt; names.get(number), Some(name), "of {name:?}");
+        assert!(rt; names.contains(name), "of {name:?}");
     }
     assert_eq!(rt; names.len(), 4);
     assert_eq!(rt; names.number_of(b"ab"), None);
@@ -80,5 +94,51 @@ fn numbers_each_name_once(rt: HostRuntime) -> Result<(), Fail> {
     assert_eq!(rt; names.as_slice().len(), 2);
     names.clear();
     assert_eq!(rt; names.number(b"a")?, 0);
+    Ok(())
+}
+
+#[test]
+fn holds_rows_of_any_size(rt: HostRuntime) -> Result<(), Fail> {
+    let mut rows = Rows::new(rt.alloc());
+    let mut moved = vec![in rt.alloc(); 5u8, 6]?;
+    rows.push(1u8)?;
+    rows.push(2)?;
+    rows.push_row(&[])?;
+    rows.append_row(&mut moved)?;
+    rows.open_row()?;
+    rows.push(7)?;
+    rows.push_row(&[8, 9])?;
+    assert!(rt; moved.is_empty());
+    assert_eq!(rt; rows.len(), 5);
+    for (place, row) in [
+        (0, [1u8, 2].as_slice()),
+        (1, [].as_slice()),
+        (2, [5, 6].as_slice()),
+        (3, [7].as_slice()),
+        (4, [8, 9].as_slice()),
+    ] {
+        assert_eq!(rt; rows.row(place), Some(row));
+    }
+    assert_eq!(rt; rows.row(5), None);
+    rows.truncate(3);
+    rows.push(4)?;
+    assert_eq!(rt; rows.len(), 3);
+    assert_eq!(rt; rows.row(2), Some([5u8, 6, 4].as_slice()));
+    Ok(())
+}
+
+#[test]
+fn holds_short_texts(rt: HostRuntime) -> Result<(), Fail> {
+    let all = b"a text of all of thirty bytes.".as_slice();
+    let text = ShortText::of(all).expect(&rt, "a short text");
+    assert_eq!(rt; text.again().as_slice(), all);
+    assert!(rt; ShortText::of(b"a text of all thirty-one bytes.").is_none());
+    Ok(())
+}
+
+#[test]
+fn narrows_numbers(rt: HostRuntime) -> Result<(), Fail> {
+    assert_eq!(rt; narrow(4_294_967_295)?, 4_294_967_295);
+    assert!(rt; narrow(4_294_967_296).is_err());
     Ok(())
 }

@@ -16,5 +16,6 @@ pub mod PatternLemmas
 pub mod PhysicalLemmas
 pub mod PlaceLemmas
 pub mod SortLemmas
+pub mod SureLemmas
 pub mod TrimLemmas
 pub mod WordLemmas

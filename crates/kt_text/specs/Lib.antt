@@ -6,5 +6,6 @@ pub mod Lines
 pub mod Functions
 pub mod Sorted
 pub mod Rows
+pub mod inner
 pub use Rattle.memchr.specs.Find
 pub use Rattle.bstr.specs.Text

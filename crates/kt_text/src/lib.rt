@@ -16,6 +16,7 @@ mod pattern;
 mod physical;
 mod separators;
 mod sort_key;
+mod word_ends;
 mod word_runs;
 
 pub use blanks::{is_blank, trim_end, trim_start};

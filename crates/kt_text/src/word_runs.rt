@@ -6,6 +6,7 @@ ghost use Rattle.bstr.specs.Text.{TakesFirstRef};
 ghost use Rattle.kt_text.specs.Words.{is_separator, words_of};
 
 use crate::separators::is_separator;
+use crate::word_ends::word_end;
 use std::marker::Model;
 
 /// The words of a text, in order.
@@ -69,13 +70,4 @@ fn word_byte_place(text: &[u8]) -> Option<usize>
     ensures { result ≡ position (λ byte. not (is_separator byte)) text.now }
 {
     text.iter().position(|byte| !is_separator(*byte))
-}
-
-// How many bytes stand before the first separator.
-fn word_end(text: &[u8]) -> usize
-    ensures value { result ≡ position_or_len is_separator text.now }
-    ensures bound { result ≤ length text.now }
-{
-    // Words are short: a loop is quicker than a search by wide registers.
-    text.iter().take_while(|byte| !is_separator(**byte)).count()
 }

@@ -1,0 +1,6 @@
+use Rattle.std.proofs.Common.{leb, arith, w8}
+use Rattle.std.proofs.lemmas.Simd.{bitmask_splat}
+use Rattle.kt_text.proofs.word_ends.low_bytes.Goals as goal
+
+pub returns : goal.returns
+returns c = bitmask_splat w8 leb c.args.block 16 32 c.fits-block.0 (omega arith)
