@@ -5,6 +5,7 @@ use Rattle.std.specs.List.{prefix_len}
 use Rattle.std.proofs.lemmas.Bool.{cases_Bool, cases_order, false≢true}
 use Rattle.std.proofs.lemmas.List.{drop-drop, get_or-drop, length-drop}
 use Rattle.std.proofs.lemmas.List.Sums.{prefix_len_passes, prefix_len_stops}
+use Rattle.std.proofs.lemmas.Option.{none-some, same_Some}
 use Rattle.kt_text.specs.Words.{Text, is_blank}
 use Rattle.kt_syntax.specs.declared.form.Operator.{Operator}
 use Rattle.kt_syntax.specs.Mask.{mask_of}
@@ -100,12 +101,9 @@ record Found (place : ℕ) (mask text : List ℕ) (end : ℕ) : Type 0 where
   pub at : end ≡ place + size
   pub is : IsName text mask 0 size
 
-some-same : (a b : ℕ) → Some a ≡ Some b → a ≡ b
-some-same a b e = cc
-
 name_sound : (place end : ℕ) (mask text : List ℕ) → name_end place mask text ≡ Some end → Found place mask text end
 name_sound place end [] text e =
-    let same : place ≡ end = some-same place end (sym (end-last place text) ∙ e) in
+    let same : place ≡ end = same_Some place end (sym (end-last place text) ∙ e) in
     record {
       size = 0;
       at = omega arith;
@@ -113,13 +111,13 @@ name_sound place end [] text e =
     }
 name_sound place end (symbol ∷ mask) text e =
     ⊎_elim (λ h.
-    let same : place ≡ end = some-same place end (sym (end-here place symbol mask text h) ∙ e) in
+    let same : place ≡ end = same_Some place end (sym (end-here place symbol mask text h) ∙ e) in
     record {
       size = 0;
       at = omega arith;
       is = record { order = omega arith; within = omega arith; goes_on = λ k low high. absurd (omega arith); ends = λ room. h };
     })
-    (λ h. ⊎_elim (λ c. absurd (let none = sym (end-none place symbol mask text h c) ∙ e in none_some end none))
+    (λ h. ⊎_elim (λ c. absurd (let none = sym (end-none place symbol mask text h c) ∙ e in none-some end none))
     (λ c.
     let later = name_sound (place + 1) end mask (drop 1 text) (sym (end-later place symbol mask text h c) ∙ e) in
     let at = later.at in
@@ -127,8 +125,8 @@ name_sound place end (symbol ∷ mask) text e =
     (cases_Bool (symbol == 58)))
     (cases_Bool (ends_name symbol text))
   where
-    none_some : (n : ℕ) → None ≡ Some n → ⊥
-    none_some n e = cc
+    none-some : (n : ℕ) → None ≡ Some n → ⊥
+    none-some n e = cc
 
 -- the same from a place on
 front : (text mask : List ℕ) (begin size : ℕ) → begin ≤ length mask → IsName (drop begin text) (drop begin mask) 0 size → IsName text mask begin (begin + size)
@@ -207,9 +205,6 @@ blanks_only mask begin end are =
     known = blanks_are mask begin
 
 -- where the parts that are computed come from
-none_some : {A : Type 0} (x : A) → None ≡ Some x → ⊥
-none_some x e = cc
-
 at_none : (text : Text) (name place : ℕ) (found : Option (Operator × ℕ)) → found ≡ None → parts_at text name place found ≡ None
 at_none text name place found e = rw e refl
 
@@ -235,9 +230,9 @@ complete text mask begin parts is =
 
 sound_at : (text : Text) (mask : List ℕ) (begin name : ℕ) (parts : Parts) (found : Option (Operator × ℕ)) → IsName text mask begin name
     → operator_of (drop (past_blanks name mask) text) ≡ found → parts_at text name (past_blanks name mask) found ≡ Some parts → IsAssignment text mask begin parts
-sound_at text mask begin name parts None is o e = absurd (none_some parts e)
+sound_at text mask begin name parts None is o e = absurd (none-some parts e)
 sound_at text mask begin name parts (Some found) is o e =
-    subst (λ (p : Parts). IsAssignment text mask begin p) (same_parts _ parts e) (record {
+    subst (λ (p : Parts). IsAssignment text mask begin p) (same_Some _ parts e) (record {
       place = past_blanks name mask;
       size = found.1;
       named = is;
@@ -245,13 +240,10 @@ sound_at text mask begin name parts (Some found) is o e =
       found = o;
       valued = blanks_are (mask_of text) (past_blanks name mask + found.1);
     })
-  where
-    same_parts : (a b : Parts) → Some a ≡ Some b → a ≡ b
-    same_parts a b e = cc
 
 sound_after : (text : Text) (mask : List ℕ) (begin : ℕ) (parts : Parts) (named : Option ℕ) → begin ≤ length mask → name_end begin (drop begin mask) (drop begin text) ≡ named
     → parts_after text mask named ≡ Some parts → IsAssignment text mask begin parts
-sound_after text mask begin parts None low n e = absurd (none_some parts e)
+sound_after text mask begin parts None low n e = absurd (none-some parts e)
 sound_after text mask begin parts (Some name) low n e =
     let found = name_sound begin name (drop begin mask) (drop begin text) n in
     sound_at text mask begin name parts (operator_of (drop (past_blanks name mask) text))
@@ -263,12 +255,9 @@ sound text mask begin parts low e = sound_after text mask begin parts (name_end 
 
 by_parts : (text : Text) (mask : List ℕ) (begin : ℕ) (found : Option Parts) → begin ≤ length mask → assignment_parts text mask begin ≡ found
     → MatchOption found ((parts : Parts) → ¬ IsAssignment text mask begin parts) (IsOnlyAssignment text mask begin)
-by_parts text mask begin None low e = λ parts is. none_some parts (sym e ∙ complete text mask begin parts is)
+by_parts text mask begin None low e = λ parts is. none-some parts (sym e ∙ complete text mask begin parts is)
 by_parts text mask begin (Some parts) low e =
-    record { is = sound text mask begin parts low e; only = λ others is. same_parts others parts (sym (complete text mask begin others is) ∙ e) }
-  where
-    same_parts : (a b : Parts) → Some a ≡ Some b → a ≡ b
-    same_parts a b e = cc
+    record { is = sound text mask begin parts low e; only = λ others is. same_Some others parts (sym (complete text mask begin others is) ∙ e) }
 
 pub assignment_law : (text : Text) (mask : List ℕ) (begin : ℕ) → begin ≤ length mask
     → MatchOption (assignment_parts text mask begin) ((parts : Parts) → ¬ IsAssignment text mask begin parts) (IsOnlyAssignment text mask begin)

@@ -1,7 +1,10 @@
 -- Where a reference is closed.
 use Rattle.std.proofs.Common.{◌≡◌, ◌≢◌, ◌==◌, ◌≤◌, ◌<◌, ◌-◌, ◌+◌, ℕ, zero, suc, Bool, true, false, [], ◌∷◌, ◌++◌, Option, Some, None, length, take, drop, refl, sym, ap, subst, ◌∙◌, arith, filter, ⊎_elim, add-zero, zero-add}
-use Rattle.std.proofs.lemmas.Bool.{cases_Bool, false_from_ne_true, eqb-true, eq-eqb, false≢true}
+use Rattle.std.proofs.lemmas.Bool.{cases_Bool, false_from_ne_true, eqb-true, eq-eqb}
 use Rattle.std.proofs.lemmas.List.Sums.{length-filter}
+use Rattle.std.proofs.lemmas.Option.{same_Some}
+use Rattle.kt_list.proofs.general.Places.{take_nil}
+use Rattle.kt_list.proofs.general.Numbers.{above_zero, sum_suc}
 use Rattle.kt_text.specs.Words.{Text}
 use Rattle.kt_syntax.specs.Terms.{count_of, IsBalanced, IsUnclosed, closing}
 
@@ -55,10 +58,6 @@ count_no mark byte text h =
 pub count_nil : (mark : ℕ) → count_of mark [] ≡ 0
 unfolding count_of
 count_nil mark = refl
-
-above_zero : (n : ℕ) → (n == 0) ≡ false → 0 < n
-above_zero zero h = absurd (false≢true (sym h))
-above_zero (suc n) h = omega arith
 
 not_zero : (n : ℕ) → 0 < n → (n == 0) ≡ false
 not_zero n h = false_from_ne_true (n == 0) (λ e. let z = eqb-true n 0 e in absurd (omega arith))
@@ -146,18 +145,8 @@ pub record Found (opener closer depth : ℕ) (text : Text) (size : ℕ) : Type 0
   pub cut : text ≡ take size text ++ closer ∷ drop (suc size) text
   pub closes : Closes opener closer depth (take size text)
 
-some_same : (a b : ℕ) → Some a ≡ Some b → a ≡ b
-some_same a b e = cc
-
 none_some : {P : Type 0} (a : ℕ) → None ≡ Some a → P
 none_some a e = absurd (cc e)
-
-further : (at place size : ℕ) → place ≡ (at + 1) + size → place ≡ at + suc size
-further at place size e = omega arith
-
-take_nil : (n : ℕ) → take {A = ℕ} n [] ≡ []
-take_nil zero = refl
-take_nil (suc n) = refl
 
 nil_front : (opener closer depth n : ℕ) → count_of closer (take {A = ℕ} n []) ≤ depth + count_of opener (take {A = ℕ} n [])
 nil_front opener closer depth n = let a = count_nil closer in rw (take_nil n) (omega arith)
@@ -173,7 +162,7 @@ module _ (opener closer : ℕ) (ne : opener ≢ closer) where
       let deeper = closing_sound text (at + 1) (depth + 1) place (sym (closing-open opener closer at depth byte text h) ∙ e) in
       let f = deeper.2 in (
         suc deeper.0,
-        further at place deeper.0 deeper.1,
+        sum_suc at place deeper.0 deeper.1,
         record {
           within = let w = f.within in omega arith;
           cut = ap (λ t. byte ∷ t) f.cut;
@@ -181,7 +170,7 @@ module _ (opener closer : ℕ) (ne : opener ≢ closer) where
         },
       ))
       (λ h. ⊎_elim (λ k. ⊎_elim (λ z.
-      let same = some_same at place (sym (closing-end opener closer at depth byte text h k (eqb-true depth 0 z)) ∙ e) in (
+      let same = same_Some at place (sym (closing-end opener closer at depth byte text h k (eqb-true depth 0 z)) ∙ e) in (
         0,
         omega arith,
         record {
@@ -197,7 +186,7 @@ module _ (opener closer : ℕ) (ne : opener ≢ closer) where
       let deeper = closing_sound text (at + 1) (depth - 1) place (sym (closing-close opener closer at depth byte text h k z) ∙ e) in
       let f = deeper.2 in (
         suc deeper.0,
-        further at place deeper.0 deeper.1,
+        sum_suc at place deeper.0 deeper.1,
         record {
           within = let w = f.within in omega arith;
           cut = ap (λ t. byte ∷ t) f.cut;
@@ -209,7 +198,7 @@ module _ (opener closer : ℕ) (ne : opener ≢ closer) where
       let deeper = closing_sound text (at + 1) depth place (sym (closing-other opener closer at depth byte text h k) ∙ e) in
       let f = deeper.2 in (
         suc deeper.0,
-        further at place deeper.0 deeper.1,
+        sum_suc at place deeper.0 deeper.1,
         record {
           within = let w = f.within in omega arith;
           cut = ap (λ t. byte ∷ t) f.cut;

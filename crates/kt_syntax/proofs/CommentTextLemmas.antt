@@ -1,14 +1,14 @@
 -- What is left of a text without its comment, cut by cut.
 use Rattle.std.proofs.Common.{◌≡◌, ◌≢◌, ◌⊎◌, ◌≤◌, ◌+◌, ◌/◌, ◌%◌, ◌==◌, ℕ, zero, suc, Bool, true, false, not, List, [], ◌∷◌, ◌++◌, length, drop, if◌then◌else◌, refl, sym, ap, subst, ◌∙◌, arith, append_assoc, append-nil, length-append, zero-add, inl, inr, ⊎_elim}
-use Rattle.std.proofs.lemmas.Bool.{and_parts, cases_Bool, eq-eqb, eqb-true, false≢true, ne_eqb}
+use Rattle.std.proofs.lemmas.Bool.{and_parts, cases_Bool, eq-eqb, eqb-true, false≢true, ne_eqb, not-true}
 use Rattle.std.proofs.lemmas.List.{nil_from_length}
 use Rattle.std.specs.Prelude.{slice_index}
+use Rattle.kt_list.proofs.general.Numbers.{one_more_odd, suc_sum}
 use Rattle.kt_text.specs.Words.{Text}
 use Rattle.kt_syntax.specs.Mask.{goes_odd, mask_byte, mask_from, mask_of, more_masked}
 use Rattle.kt_syntax.specs.Kinds.{before_comment, comment_place}
 use Rattle.kt_syntax.specs.Comments.{backslashes, uncommented, uncommented_of}
 use Rattle.kt_syntax.specs.CommentTexts.{CommentLaw, IsFirstSign, Uncomments, has_no_sign, signed}
-use Rattle.kt_syntax.proofs.MaskRuns.{one_more_odd}
 
 -- ---- symbols and bytes
 
@@ -98,11 +98,7 @@ run_more run text = let n : run + 1 ≡ suc run = omega arith in ap (λ k. backs
 -- ---- one symbol
 
 sign_free : (symbol : ℕ) (mask : List ℕ) → has_no_sign (symbol ∷ mask) ≡ true → ((symbol == 35) ≡ false) × (has_no_sign mask ≡ true)
-sign_free symbol mask h = let parts = and_parts (not (symbol == 35)) (has_no_sign mask) h in (not_so (symbol == 35) parts.0, parts.1)
-  where
-    not_so : (b : Bool) → not b ≡ true → b ≡ false
-    not_so true e = absurd (false≢true e)
-    not_so false e = refl
+sign_free symbol mask h = let parts = and_parts (not (symbol == 35)) (has_no_sign mask) h in (not-true (symbol == 35) parts.0, parts.1)
 
 at_backslash : (run symbol byte : ℕ) (mask : List ℕ) (text : Text) → (symbol == 92) ≡ true → uncommented run (symbol ∷ mask) (byte ∷ text) ≡ uncommented (run + 1) mask text
 unfolding uncommented
@@ -204,9 +200,6 @@ text_leads run (symbol ∷ before) (byte ∷ front) mask text s n e =
     ∙ ap (λ t. backslashes run ++ (byte ∷ t)) (text_leads 0 before front mask text s.2 free.1 (subst (λ r. EndsOther r before) none e)))
     (cases_Bool (symbol == 92))
 
-shift : (a b : ℕ) → suc (a + b) ≡ suc a + b
-shift a b = omega arith
-
 nothing_before : (mask : List ℕ) → before_comment (odd_run 0) mask ≡ 0 + before_comment false mask
 unfolding odd_run
 nothing_before mask = sym (zero-add (before_comment false mask))
@@ -218,7 +211,7 @@ place_leads run [] mask n e = ap (λ r. before_comment (odd_run r) mask) e ∙ n
 place_leads run (symbol ∷ before) mask n e =
     let free = sign_free symbol before n in
     place_goes (odd_run run) symbol (before ++ mask) free.0 ∙ ap (λ o. suc (before_comment o (before ++ mask))) (odd_next run symbol)
-    ∙ ap suc (place_leads (run_next run symbol) before mask free.1 e) ∙ shift (length before) (before_comment false mask)
+    ∙ ap suc (place_leads (run_next run symbol) before mask free.1 e) ∙ suc_sum (length before) (before_comment false mask)
 
 -- a run
 text_runs : (run more : ℕ) (mask : List ℕ) (text : Text) → uncommented run (backslashes more ++ mask) (backslashes more ++ text) ≡ uncommented (run + more) mask text
@@ -235,7 +228,7 @@ place_runs run (suc more) mask =
     let same : run + 1 + more ≡ run + suc more = omega arith in
     place_goes (odd_run run) 92 (backslashes more ++ mask) refl ∙ ap (λ o. suc (before_comment o (backslashes more ++ mask))) (odd_next run 92)
     ∙ ap suc (place_runs (run + 1) more mask) ∙ ap (λ r. suc (more + before_comment (odd_run r) mask)) same
-    ∙ shift more (before_comment (odd_run (run + suc more)) mask)
+    ∙ suc_sum more (before_comment (odd_run (run + suc more)) mask)
 
 -- ---- the first number sign
 

@@ -1,13 +1,17 @@
 -- Heads of rule lines from the places of their parts.
 use Rattle.std.proofs.Common.{◌≡◌, ◌≤◌, ◌<◌, ◌-◌, ◌+◌, ℕ, zero, suc, true, false, length, take, drop, refl, sym, ap, ◌∙◌, arith, Option, Some, None}
-use Rattle.std.proofs.lemmas.Bool.{eq-eqb, eqb-true, false_from_ne_true}
+use Rattle.std.proofs.lemmas.Bool.{eq-eqb, eqb-true, false_from_ne_true, or_left, or_right}
 use Rattle.kt_text.specs.Words.{Text}
 use Rattle.kt_syntax.specs.Mask.{mask_of}
-use Rattle.std.specs.Prelude.{option_map, is_some, ◌==◌}
+use Rattle.std.specs.Prelude.{is_some, ◌==◌, ◌||◌}
+use Rattle.memchr.specs.Find.{IsFirstByte, is_byte, is_byte3}
 use Rattle.std.proofs.lemmas.List.{take_rest}
+use Rattle.kt_list.proofs.general.Numbers.{less_one}
 use Rattle.kt_syntax.specs.Kinds.{Parts, assignment_parts, comment_place, past_blanks}
-use Rattle.kt_syntax.specs.Heads.{after_modifier, after_modifiers, found_or, head_end, colon_place, after_colon, assigns_after, is_target_specific, head_text, first_recipe, rule_texts}
+use Rattle.kt_syntax.specs.Heads.{after_modifier, after_modifiers, found_or, head_end, colon_place, after_colon, assigns_after, is_target_specific, head_text, first_recipe, parts_with, rule_texts}
 use Rattle.kt_syntax.proofs.Masking.{length-front}
+use Rattle.kt_syntax.proofs.SymbolLemmas.{no_comment, no_semicolon, none_of, not_found, nowhere_any}
+use Rattle.kt_syntax.proofs.Unsigned.{unsigned_is_unspecific}
 
 -- one more word
 pub modifiers_next : (most next from : ℕ) (text mask : Text) → 0 < most → Some next ≡ after_modifier text mask from
@@ -15,19 +19,12 @@ pub modifiers_next : (most next from : ℕ) (text mask : Text) → 0 < most → 
 unfolding after_modifiers
 modifiers_next zero next from text mask some e = absurd (omega arith)
 modifiers_next (suc most) next from text mask some e =
-    ap (λ n. after_modifiers n text mask next) (less most) ∙ ap (found_or from (λ end. after_modifiers most text mask end)) e
-  where
-    less : (n : ℕ) → suc n - 1 ≡ n
-    less n = omega arith
+    ap (λ n. after_modifiers n text mask next) (less_one most) ∙ ap (found_or from (λ end. after_modifiers most text mask end)) e
 
 pub modifiers_end : (most from : ℕ) (text mask : Text) → None ≡ after_modifier text mask from → after_modifiers most text mask from ≡ from
 unfolding after_modifiers
 modifiers_end zero from text mask e = refl
 modifiers_end (suc most) from text mask e = ap (found_or from (λ end. after_modifiers most text mask end)) (sym e)
-
-pub is_some-map : {A B : Type 0} (f : A → B) (o : Option A) → is_some (option_map f o) ≡ is_some o
-is_some-map f None = refl
-is_some-map f (Some x) = refl
 
 pub specific_found : (text : Text) (end colon after from place : ℕ) (parts : Option Parts) → end ≤ length text → Some colon ≡ colon_place 0 0 (take end (mask_of text))
     → after ≡ after_colon (take end (mask_of text)) colon → from ≡ after_modifiers end text (take end (mask_of text)) after
@@ -42,18 +39,15 @@ specific_found text end colon after from place parts within c a f p e =
     ∙ ap (λ x. is_some (assignment_parts text mask (past_blanks (after_modifiers (length mask) text mask x) mask))) a
     ∙ ap (assigns_after text mask) c
 
-pub texts_none : (line text : Text) (end : ℕ) → end ≡ head_end text → is_target_specific text (take end (mask_of text)) ≡ true → None ≡ rule_texts line text
-unfolding rule_texts
-texts_none line text end e h = let here = ap (λ x. is_target_specific text (take x (mask_of text))) (sym e) ∙ h in sym (rw here refl)
+pub texts_none : (text : Text) (recipe : Option Text) (end : ℕ) → end ≡ head_end text → is_target_specific text (take end (mask_of text)) ≡ true
+    → None ≡ parts_with text recipe
+texts_none text recipe end e h = let here = ap (λ x. is_target_specific text (take x (mask_of text))) (sym e) ∙ h in sym (rw here refl)
 
-pub texts_some : (line text head : Text) (recipe : Option Text) (end : ℕ) → end ≡ head_end text → is_target_specific text (take end (mask_of text)) ≡ false
-    → head ≡ head_text text → recipe ≡ first_recipe line → Some (record { head = head; recipe = recipe }) ≡ rule_texts line text
-unfolding rule_texts
-texts_some line text head recipe end e h t r =
+pub texts_some : (text head : Text) (recipe : Option Text) (end : ℕ) → end ≡ head_end text → is_target_specific text (take end (mask_of text)) ≡ false
+    → head ≡ head_text text → Some (record { head = head; recipe = recipe }) ≡ parts_with text recipe
+texts_some text head recipe end e h t =
     let here = ap (λ x. is_target_specific text (take x (mask_of text))) (sym e) ∙ h in
-    ap (λ (x : Text). Some (record { head = x; recipe = recipe })) t
-    ∙ ap (λ (x : Option Text). Some (record { head = head_text text; recipe = x })) r
-    ∙ sym (rw here refl)
+    ap (λ (x : Text). Some (record { head = x; recipe = recipe })) t ∙ sym (rw here refl)
 
 pub recipe_none : (line : Text) (end comment : ℕ) → end ≡ head_end line → comment ≡ comment_place line → end ≡ comment → None ≡ first_recipe line
 unfolding first_recipe
@@ -69,3 +63,21 @@ recipe_some line end comment recipe e c other r =
     false_from_ne_true (head_end line == comment_place line) (λ k. other (e ∙ eqb-true (head_end line) (comment_place line) k ∙ sym c)) in
     let begins : recipe ≡ past_blanks (head_end line + 1) (mask_of line) = r ∙ ap (λ x. past_blanks (x + 1) (mask_of line)) e in
     ap (λ (x : Text). Some x) (take_rest line recipe ∙ ap (λ x. drop x line) begins) ∙ sym (rw at refl)
+
+pub texts_told : (line text : Text) (recipe : Option Text) → recipe ≡ first_recipe line → parts_with text recipe ≡ rule_texts line text
+unfolding rule_texts
+texts_told line text recipe e = ap (parts_with text) e
+
+-- a text without the bytes that cut a line is its own head
+pub uncut_parts : (text : Text) → IsFirstByte (is_byte3 35 59 61) text None → Some (record { head = text; recipe = None }) ≡ rule_texts text text
+unfolding rule_texts head_text
+uncut_parts text none =
+    let no_sign = none_of (is_byte 35) _ text (λ byte is. or_left (byte == 35 || byte == 59) (byte == 61) (or_left (byte == 35) (byte == 59) is)) none in
+    let no_semi = none_of (is_byte 59) _ text (λ byte is. or_left (byte == 35 || byte == 59) (byte == 61) (or_right (byte == 35) (byte == 59) is)) none in
+    let no_equals = none_of (is_byte 61) _ text (λ byte is. or_right (byte == 35 || byte == 59) (byte == 61) is) none in
+    let comment : length text ≡ comment_place text = no_comment text (not_found 35 text no_sign) in
+    let end : length text ≡ head_end text = no_semicolon text (length text) (not_found 59 text no_semi) comment (omega arith) in
+    let whole : (head_end text == comment_place text) ≡ true = eq-eqb (head_end text) (comment_place text) (sym end ∙ comment) in
+    let unspecific = sym (unsigned_is_unspecific text (take (head_end text) (mask_of text)) (nowhere_any 61 text (not_found 61 text no_equals))) in
+    texts_some text text None (head_end text) refl unspecific (sym (rw whole refl))
+    ∙ ap (parts_with text) (recipe_none text (length text) (length text) end comment refl)

@@ -1,7 +1,7 @@
 -- Lines that begin with a name or a target: assignments, and rule lines by their first word.
-use Rattle.std.proofs.Common.{◌≡◌, ◌==◌, ◌||◌, ◌+◌, ◌-◌, ◌≤◌, ◌<◌, ◌⊎◌, inl, inr, ℕ, zero, suc, Bool, true, false, List, [], ◌∷◌, ◌++◌, Option, Some, None, length, take, drop, refl, sym, ap, subst, ◌∙◌, arith, ⊎_elim, true≢false, take-append-drop, length-take-le, drop-drop}
+use Rattle.std.proofs.Common.{◌≡◌, ◌==◌, ◌||◌, ◌+◌, ◌-◌, ◌≤◌, ◌<◌, ℕ, zero, suc, Bool, true, false, List, [], ◌∷◌, ◌++◌, Option, Some, None, length, take, drop, refl, sym, ap, subst, ◌∙◌, arith, ⊎_elim, true≢false, take-append-drop, length-take-le, drop-drop}
 use Rattle.std.proofs.Math.Seq.{drop-append-add, take-append-add}
-use Rattle.std.proofs.lemmas.Bool.{and_parts, cases_Bool, eqb-true, false_from_ne_true, or_parts}
+use Rattle.std.proofs.lemmas.Bool.{and_parts, cases_Bool, eqb-true, false_from_ne_true, or_cases, or_parts}
 use Rattle.std.proofs.lemmas.Slice.Eq.{bytes_eq-Decides}
 use Rattle.std.specs.List.{list_all, list_any, position_or_len, prefix_len, slice_range, starts_with}
 use Rattle.std.specs.Str.{bytes_eq}
@@ -17,10 +17,6 @@ use Rattle.kt_syntax.specs.inner.Leading.{IsQuietWord, begins_colon, begins_slas
 use Rattle.kt_syntax.specs.inner.OwnRuns.{begins_operator, is_mark}
 
 -- ---- the bytes of operators
-
-either : (a b : Bool) → (a || b) ≡ true → (a ≡ true) ⊎ (b ≡ true)
-either true b h = inl refl
-either false b h = inr h
 
 -- a byte that operators begin with
 record IsSign (byte : ℕ) : Type 0 where
@@ -40,13 +36,13 @@ a_sign byte h =
     ⊎_elim (λ first.
     ⊎_elim (sign_of 61 byte (record { own = refl; solid = refl; outside = refl; slash = refl }))
     (sign_of 58 byte (record { own = refl; solid = refl; outside = refl; slash = refl }))
-    (either (byte == 61) (byte == 58) first))
+    (or_cases (byte == 61) (byte == 58) first))
     (sign_of 63 byte (record { own = refl; solid = refl; outside = refl; slash = refl }))
-    (either (byte == 61 || byte == 58) (byte == 63) sooner))
+    (or_cases (byte == 61 || byte == 58) (byte == 63) sooner))
     (sign_of 43 byte (record { own = refl; solid = refl; outside = refl; slash = refl }))
-    (either (byte == 61 || byte == 58 || byte == 63) (byte == 43) before))
+    (or_cases (byte == 61 || byte == 58 || byte == 63) (byte == 43) before))
     (sign_of 33 byte (record { own = refl; solid = refl; outside = refl; slash = refl }))
-    (either (byte == 61 || byte == 58 || byte == 63 || byte == 43) (byte == 33) h)
+    (or_cases (byte == 61 || byte == 58 || byte == 63 || byte == 43) (byte == 33) h)
 
 -- the first byte of an operator
 first_sign : (byte : ℕ) (text : Text) (found : Operator × ℕ) → operator_of (byte ∷ text) ≡ Some found → IsSign byte

@@ -1,13 +1,14 @@
 -- Lines that begin with a word of blocks: their symbols, and their kind.
 use Rattle.std.proofs.Common.{◌≡◌, ◌==◌, ◌&&◌, ◌+◌, ◌-◌, ◌<◌, ℕ, zero, suc, Bool, true, false, not, List, [], ◌∷◌, ◌++◌, Option, Some, None, length, take, drop, refl, sym, ap, ◌∙◌, arith, zero-add, ⊎_elim, true≢false, take-append-drop}
 use Rattle.std.proofs.Math.Seq.{take-append_seam, take-append-add, drop-append_seam, drop-append-add}
-use Rattle.std.proofs.lemmas.Bool.{and_parts, cases_Bool, eqb-true, false_from_ne_true, or_parts}
+use Rattle.std.proofs.lemmas.Bool.{and_parts, cases_Bool, eqb-true, false_from_ne_true, not-true, not_from_false, or_parts}
 use Rattle.std.specs.List.{list_all, prefix_len, slice_range}
 use Rattle.std.specs.Prelude.{is_some}
+use Rattle.kt_list.proofs.general.Places.{take_nil}
 use Rattle.kt_text.specs.Words.{Text, is_blank, trimmed_start}
 use Rattle.kt_syntax.specs.declared.form.Directive.{Directive}
 use Rattle.kt_syntax.specs.declared.form.Directive.TheVariants.{Ifdef, Ifndef, Ifeq, Ifneq, Else, Endif, Define, Endef, Include, OptionalInclude}
-use Rattle.kt_syntax.proofs.Masking.{mask_from-nil, take_nil}
+use Rattle.kt_syntax.proofs.Masking.{mask_from-nil}
 use Rattle.kt_syntax.proofs.OwnRuns.{name_goes_on, no_operator}
 use Rattle.kt_syntax.proofs.OwnSymbols.{own_byte, same_symbol}
 use Rattle.kt_syntax.specs.Kinds.{Parts, assignment_parts, before_comment, block_word, comment_place, directive, directive_of, kind_by_parts, kind_by_word, kind_of, kind_within, name_end, operator_of, parts_after, parts_at, past_blanks, past_word, worded}
@@ -34,13 +35,6 @@ is_calm byte = not (byte == 35) && not (byte == 92)
 abbrev pub is_solid : ℕ → Bool
 is_solid byte = not (is_blank byte)
 
-pub no_longer : (b : Bool) → not b ≡ true → b ≡ false
-no_longer false h = refl
-no_longer true h = absurd (true≢false (sym h))
-
-negated : (b : Bool) → b ≡ false → not b ≡ true
-negated b h = rw h refl
-
 pub record IsQuiet (byte : ℕ) : Type 0 where
   pub name : ends_own_name byte ≡ false
   pub own : is_own byte ≡ true
@@ -49,7 +43,7 @@ pub record IsQuiet (byte : ℕ) : Type 0 where
 
 pub quiet : (byte : ℕ) → is_quiet byte ≡ true → IsQuiet byte
 quiet byte h =
-    let both = or_parts (ends_own_name byte) (byte == 35) (no_longer (is_loud byte) h) in
+    let both = or_parts (ends_own_name byte) (byte == 35) (not-true (is_loud byte) h) in
     let name : ends_own_name byte ≡ false = both.0 in
     let word = or_parts (ends_own_word byte) (begins_operator byte) name in
     let mark = or_parts (is_blank byte) (is_mark byte) word.0 in
@@ -57,9 +51,9 @@ quiet byte h =
     let sign : (byte == 35) ≡ false = both.1 in
     record {
       name = name;
-      own = negated (is_mark byte) mark.1;
+      own = not_from_false (is_mark byte) mark.1;
       calm = rw (sign, slash.1) refl;
-      solid = negated (is_blank byte) mark.0;
+      solid = not_from_false (is_blank byte) mark.0;
     }
 
 -- what holds of each quiet byte holds of all of a quiet text
@@ -102,7 +96,7 @@ pub own_over : (symbol : ℕ) (front tail : Text) → list_all is_own front ≡ 
 own_over symbol [] tail h = same_symbol symbol 0 tail
 own_over symbol (byte ∷ front) tail h =
     let both = and_parts (is_own byte) (list_all is_own front) h in
-    own_byte symbol byte (front ++ tail) (no_longer (is_mark byte) both.0) ∙ ap (λ (mask : List ℕ). byte ∷ mask) (own_over byte front tail both.1)
+    own_byte symbol byte (front ++ tail) (not-true (is_mark byte) both.0) ∙ ap (λ (mask : List ℕ). byte ∷ mask) (own_over byte front tail both.1)
 
 comment_over : (front : Text) (mask : List ℕ) → list_all is_calm front ≡ true → before_comment false (front ++ mask) ≡ length front + before_comment false mask
 unfolding before_comment
@@ -111,7 +105,7 @@ comment_over (byte ∷ front) mask h =
     let both = and_parts (is_calm byte) (list_all is_calm front) h in
     let calm = and_parts (not (byte == 35)) (not (byte == 92)) both.0 in
     let later = comment_over front mask both.1 in
-    rw (no_longer (byte == 35) calm.0, no_longer (byte == 92) calm.1) (omega arith)
+    rw (not-true (byte == 35) calm.0, not-true (byte == 92) calm.1) (omega arith)
 
 pub name_over : (place : ℕ) (front : Text) (mask : List ℕ) (text : Text) → list_all is_quiet front ≡ true
     → name_end place (front ++ mask) (front ++ text) ≡ name_end (place + length front) mask text
@@ -207,7 +201,7 @@ ends_there : (count : ℕ) (after : Text) → is_apart after ≡ true → prefix
 ends_there count [] h = ap (λ (mask : List ℕ). prefix_len is_solid mask) (ap (take count) (mask_from-nil 0 0 false) ∙ take_nil count)
 ends_there zero (byte ∷ after) h = refl
 ends_there (suc count) (byte ∷ after) h =
-    ap (λ (mask : List ℕ). prefix_len is_solid (take (suc count) mask)) (own_byte 0 byte after (no_longer (is_mark byte) (blank_own byte h))) ∙ rw h refl
+    ap (λ (mask : List ℕ). prefix_len is_solid (take (suc count) mask)) (own_byte 0 byte after (not-true (is_mark byte) (blank_own byte h))) ∙ rw h refl
 
 word_led : (word after : Text) → list_all is_quiet word ≡ true → is_apart after ≡ true
     → past_word 0 (word ++ take (left_before after) (mask_from 0 0 false after)) ≡ length word
@@ -226,7 +220,7 @@ unfolding name_end
 name_led count place [] h = ap (λ (mask : List ℕ). name_end place mask []) (ap (take count) (mask_from-nil 0 0 false) ∙ take_nil count)
 name_led zero place (byte ∷ after) h = refl
 name_led (suc count) place (byte ∷ after) h =
-    ap (λ (mask : List ℕ). name_end place (take (suc count) mask) (byte ∷ after)) (own_byte 0 byte after (no_longer (is_mark byte) (blank_own byte h))) ∙ rw h refl
+    ap (λ (mask : List ℕ). name_end place (take (suc count) mask) (byte ∷ after)) (own_byte 0 byte after (not-true (is_mark byte) (blank_own byte h))) ∙ rw h refl
 
 -- ---- blanks after the word
 
@@ -291,7 +285,7 @@ kind_by tab (first ∷ others) after parts h some p =
     let word : Text = first ∷ others in
     let text : Text = word ++ after in
     let mask : List ℕ = symbols_of word after in
-    let solid : is_blank first ≡ false = no_longer (is_blank first) (quiet first (and_parts (is_quiet first) (list_all is_quiet others) h).0).solid in
+    let solid : is_blank first ≡ false = not-true (is_blank first) (quiet first (and_parts (is_quiet first) (list_all is_quiet others) h).0).solid in
     let begin : past_blanks 0 mask ≡ 0 = rw solid refl in
     let more : (0 == length mask) ≡ false = false_from_ne_true (0 == length mask) (λ e. absurd (let none = eqb-true 0 (length mask) e in omega arith)) in
     ap (λ (m : List ℕ). kind_within tab text m (past_blanks 0 m)) (front_led word after h)

@@ -1,6 +1,8 @@
 pub mod AssignmentLemmas
+pub mod BlankLemmas
 pub mod Closing
 pub mod CommentTextLemmas
+pub mod CondensedBegins
 pub mod CondensedLines
 pub mod HeadLemmas
 pub mod Kinding
@@ -13,6 +15,7 @@ pub mod ModifierLemmas
 pub mod ModifierPlaces
 pub mod NestingLemmas
 pub mod OneSplicing
+pub mod OwnPlaces
 pub mod OwnRuns
 pub mod OwnSymbols
 pub mod ReadingOn

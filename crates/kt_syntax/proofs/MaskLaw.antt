@@ -1,6 +1,6 @@
 -- The mask that is computed is that of the line's terms.
 use Rattle.std.proofs.Common.{◌≡◌, ◌==◌, ◌≤◌, ◌<◌, ◌-◌, ◌+◌, not, ℕ, zero, suc, Bool, true, false, List, [], ◌∷◌, ◌++◌, length, take, drop, get_or, replicate, refl, sym, ap, subst, ◌∙◌, arith, ⊎_elim, ◌⊎◌, inl, inr, length-drop, length-take-le, add-zero, append_assoc}
-use Rattle.std.proofs.lemmas.Bool.{cases_Bool, eqb-true, eq-eqb, false_from_ne_true, false≢true, and_parts}
+use Rattle.std.proofs.lemmas.Bool.{and_parts, cases_Bool, cases_lt, eq-eqb, eqb-true, false_from_ne_true, false≢true}
 use Rattle.std.proofs.lemmas.List.{drop_more, drop_at, drop-drop, get_or-drop}
 use Rattle.std.specs.Prelude.{nat_eq, slice_index}
 use Rattle.std.specs.List.{starts_with}
@@ -14,7 +14,7 @@ use Rattle.kt_syntax.specs.Masked.{IsContinued, IsSymbol, IsMasked, IsMaskOf, Ma
 use Rattle.kt_syntax.proofs.Masking.{mask_from-nil, length-mask_of}
 use Rattle.kt_syntax.proofs.Runs.{run, run_within, run_ends, no_dollar}
 use Rattle.kt_syntax.proofs.Splitting.{first_sound, only_splitting}
-use Rattle.kt_syntax.proofs.MaskRuns.{at_most_or_less, less_or_more, zero_or_more, odd_at, odd-next, unit, at_start, after_start, continued_within, Fresh, fresh_start, earlier, fresh_next, fresh_past, mask_at, takes, Run, nothing, alike, joined}
+use Rattle.kt_syntax.proofs.MaskRuns.{at_most_or_less, zero_or_more, odd_at, odd-next, unit, at_start, after_start, continued_within, Fresh, fresh_start, earlier, fresh_next, fresh_past, mask_at, takes, Run, nothing, alike, joined}
 
 -- ---- a literal
 
@@ -137,7 +137,7 @@ not_covered : (line : Text) (place at byte : ℕ) → (c : IsContinued line plac
 not_covered line place at byte c l m e a b d =
     ⊎_elim (λ h. ⊎_elim (λ x. b (sym e ∙ x)) (λ x. d (sym e ∙ x)) (after_start line place at c h (let t = c.to in omega arith)))
     (λ h. let same : at ≡ c.start = omega arith in a (sym e ∙ ap (λ n. get_or line n 0) same ∙ at_start line place c))
-    (less_or_more c.start at)
+    (cases_lt c.start at)
 
 -- how a term that begins with a dollar ends: with a byte of no continuation, or the line's end, or it is a dollar with one byte
 -- that stands for itself or with a whole continuation
@@ -203,7 +203,7 @@ overlaps line place (reference Byte body) spelled rest r c l m =
     let ends : unit_length kept (drop c.start line) ≡ unit_length kept (drop (place + 1) line) = ap (λ n. unit_length kept (drop n line)) here in
     let t = c.to in
     omega arith)
-    (less_or_more (place + 1) c.start)
+    (cases_lt (place + 1) c.start)
 overlaps line place (reference Parentheses body) spelled rest r c l m =
     let size : length spelled ≡ 3 + length body = ap length r.is.0 ∙ marked body 40 41 in
     let last = last_mark line body rest place 40 41 (r.is_spelled ∙ ap (λ (t : Text). t ++ rest) r.is.0) in
@@ -227,7 +227,7 @@ fresh_after line place piece spelled rest r some c =
     let same : place ≡ c.start = omega arith in
     let never : 36 ≡ 92 = sym r.begins ∙ ap (λ n. get_or line n 0) same ∙ at_start line (place + length spelled) c in
     absurd (omega arith))
-    (less_or_more place c.start))
+    (cases_lt place c.start))
     (at_most_or_less (place + length spelled) c.start)
 
 -- a term that begins with a dollar is no literal with bytes
@@ -366,7 +366,7 @@ masked_up_to (suc fuel) line place enough within fresh =
     let run : Run line (is_outside (first_term kept byte tail).0) place (suc (first_term kept byte tail).1) (mask_at line place) = first_run line place h fresh in
     term_masked line place byte tail h here run (masked_up_to fuel line (place + suc (first_term kept byte tail).1) (omega arith) (omega arith) run.fresh))
     (λ h. masked_end line place (omega arith))
-    (less_or_more place (length line))
+    (cases_lt place (length line))
 
 some_mask : (line : Text) → Masked line 0
 some_mask line = masked_up_to (length line) line 0 (omega arith) (omega arith) (fresh_start line)
@@ -378,9 +378,9 @@ continuation_here : (line : Text) (place at : ℕ) → at ≤ place → IsContin
 continuation_here line place at l =
     ⊎_elim (λ h. ⊎_elim (λ g. ⊎_elim (λ u. inl (record { start = at; odd = h; unit = u; from = l; to = g }))
     (λ u. inr (λ c e. let some = subst (λ n. 1 < unit_length kept (drop n line)) e c.unit in omega arith))
-    (less_or_more 1 (unit_length kept (drop at line))))
+    (cases_lt 1 (unit_length kept (drop at line))))
     (λ g. inr (λ c e. let to = subst (λ n. place < n + unit_length kept (drop n line)) e c.to in omega arith))
-    (less_or_more place (at + unit_length kept (drop at line))))
+    (cases_lt place (at + unit_length kept (drop at line))))
     (λ h. inr (λ c e. false≢true (sym h ∙ ap (λ n. odd_at line (n + 1)) (sym e) ∙ c.odd)))
     (cases_Bool (odd_at line (at + 1)))
 
@@ -389,7 +389,7 @@ continuation_from zero line place at e = inr (λ c l. let f = c.from in omega ar
 continuation_from (suc n) line place at e =
     ⊎_elim inl
     (λ none. ⊎_elim inl
-    (λ later. inr (λ c l. ⊎_elim (λ h. later c (omega arith)) (λ h. none c (omega arith)) (less_or_more at c.start)))
+    (λ later. inr (λ c l. ⊎_elim (λ h. later c (omega arith)) (λ h. none c (omega arith)) (cases_lt at c.start)))
     (continuation_from n line place (at + 1) (omega arith)))
     (continuation_here line place at (omega arith))
 
@@ -428,7 +428,7 @@ same_symbols (piece ∷ pieces) line place mask other a b k l =
     sym (get_or-drop n mask (k - n) 0 ∙ ap (slice_index mask) here)
     ∙ same_symbols pieces line (place + n) (drop n mask) (drop n other) a.5 later (k - n) (omega arith)
     ∙ get_or-drop n other (k - n) 0 ∙ ap (slice_index other) here)
-    (less_or_more k n)
+    (cases_lt k n)
 
 splitting_of : (pieces : List Token) (line : Text) (place : ℕ) (mask : List ℕ) → IsMasked line place pieces mask → IsSplittingIn kept (drop place line) pieces
 splitting_of [] line place mask a = drop_all place line (let end = a.0 in omega arith)

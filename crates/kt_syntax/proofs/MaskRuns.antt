@@ -1,12 +1,13 @@
 -- Places of a line, the continuations round them, and runs of symbols of its mask.
-use Rattle.std.proofs.Common.{◌≡◌, ◌==◌, ◌≤◌, ◌<◌, ◌-◌, ◌+◌, ◌%◌, not, ℕ, zero, suc, Bool, true, false, List, [], ◌∷◌, ◌++◌, length, take, drop, get_or, replicate, refl, sym, ap, subst, ◌∙◌, arith, ⊎_elim, ◌⊎◌, inl, inr, length-drop, add-zero}
-use Rattle.std.proofs.lemmas.Bool.{cases_Bool, eqb-true, eq-eqb, false_from_ne_true, false≢true}
+use Rattle.std.proofs.Common.{◌≡◌, ◌==◌, ◌≤◌, ◌<◌, ◌-◌, ◌+◌, ◌%◌, ℕ, zero, suc, Bool, true, false, List, [], ◌∷◌, ◌++◌, length, take, drop, get_or, replicate, refl, sym, ap, subst, ◌∙◌, arith, ⊎_elim, ◌⊎◌, inl, inr, length-drop, add-zero}
+use Rattle.std.proofs.lemmas.Bool.{cases_Bool, cases_lt}
 use Rattle.std.proofs.lemmas.Bool.Decides.{Decides-eqb}
 use Rattle.std.proofs.lemmas.List.{drop_more, drop_at, drop-drop, get_or-drop, get_or-replicate, get_or_append_left, length-replicate}
 use Rattle.std.proofs.lemmas.List.Sums.{suffix_len-take_yes, suffix_len-take_no}
 use Rattle.std.proofs.lemmas.Slice.Eq.{starts_is}
 use Rattle.std.specs.Prelude.{nat_eq, slice_index}
 use Rattle.std.specs.List.{starts_with, suffix_len}
+use Rattle.kt_list.proofs.general.Numbers.{one_more_odd}
 use Rattle.kt_text.specs.Words.{Text}
 use Rattle.kt_text.specs.Lines.{is_continued_text}
 use Rattle.kt_syntax.specs.Terms.{kept, unit_length}
@@ -21,9 +22,6 @@ at_most_or_less zero b = inl (omega arith)
 at_most_or_less (suc a) zero = inr (omega arith)
 at_most_or_less (suc a) (suc b) = ⊎_elim (λ h. inl (omega arith)) (λ h. inr (omega arith)) (at_most_or_less a b)
 
-pub less_or_more : (a b : ℕ) → (a < b) ⊎ (b ≤ a)
-less_or_more a b = ⊎_elim (λ h. inr h) (λ h. inl h) (at_most_or_less b a)
-
 pub zero_or_more : (n : ℕ) → (n ≡ 0) ⊎ (0 < n)
 zero_or_more zero = inl refl
 zero_or_more (suc n) = inr (omega arith)
@@ -32,12 +30,6 @@ zero_or_more (suc n) = inr (omega arith)
 
 abbrev pub odd_at : Text → ℕ → Bool
 odd_at line place = is_continued_text (take place line)
-
-pub one_more_odd : (n : ℕ) → ((1 + n) % 2 == 1) ≡ not (n % 2 == 1)
-one_more_odd n =
-    ⊎_elim (λ h. let e = eqb-true (n % 2) 1 h in rw h (false_from_ne_true ((1 + n) % 2 == 1) (λ k. let o = eqb-true ((1 + n) % 2) 1 k in omega arith)))
-    (λ h. rw h (eq-eqb ((1 + n) % 2) 1 (let z : (n % 2 ≡ 1 → ⊥) = (λ e. false≢true (sym h ∙ eq-eqb (n % 2) 1 e)) in omega arith)))
-    (cases_Bool (n % 2 == 1))
 
 pub odd-next : (line : Text) (place byte : ℕ) → place < length line → get_or line place 0 ≡ byte → odd_at line (place + 1) ≡ goes_odd (odd_at line place) byte
 odd-next line place byte l e =
@@ -242,7 +234,7 @@ joined line outside place first second mask a b =
           ap (λ m. slice_index m (k - first)) (sym a.rest) ∙ get_or-drop first mask (k - first) 0 ∙ ap (slice_index mask) here in
           subst (IsSymbol line outside (place + k)) same
           (subst (λ p. IsSymbol line outside p (slice_index (mask_at line (place + first)) (k - first))) there (b.symbols (k - first) (omega arith))))
-          (less_or_more k first);
+          (cases_lt k first);
       rest = sym (drop-drop second first mask) ∙ ap (drop second) a.rest ∙ b.rest ∙ ap (mask_at line) later;
       fresh = subst (Fresh line) later b.fresh;
     }

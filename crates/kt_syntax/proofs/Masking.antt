@@ -7,6 +7,8 @@ use Rattle.std.proofs.lemmas.Slice.Eq.{starts_is}
 use Rattle.std.specs.Prelude.{nat_eq, slice_index}
 use Rattle.std.specs.List.{starts_with}
 use Rattle.std.specs.Iterator.{YieldsFirst}
+use Rattle.kt_list.proofs.general.Numbers.{less_one}
+use Rattle.kt_list.proofs.general.Places.{take_nil}
 use Rattle.kt_text.specs.Words.{Text, is_blank}
 use Rattle.kt_syntax.specs.Kinds.{past_blanks}
 use Rattle.kt_syntax.specs.Terms.{kept, dropped, after_dollar}
@@ -17,20 +19,13 @@ unfolding mask_from
 mask_from-nil zero symbol odd = refl
 mask_from-nil (suc skip) symbol odd = refl
 
-pub take_nil : (n : ℕ) → take {A = ℕ} n [] ≡ []
-take_nil zero = refl
-take_nil (suc n) = refl
-
 pub mask_ends : (left skip symbol : ℕ) (odd : Bool) (text : Text) → length text ≡ 0 → take left (mask_from skip symbol odd text) ≡ []
 mask_ends left skip symbol odd [] e = ap (take left) (mask_from-nil skip symbol odd) ∙ take_nil left
 mask_ends left skip symbol odd (byte ∷ text) e = absurd (omega arith)
 
 pub take_first : (left symbol : ℕ) (before after : List ℕ) → 0 < left → before ≡ symbol ∷ after → take left before ≡ symbol ∷ take (left - 1) after
 take_first zero symbol before after some e = absurd (omega arith)
-take_first (suc left) symbol before after some e = ap (take (suc left)) e ∙ ap (λ n. symbol ∷ take n after) (less left)
-  where
-    less : (n : ℕ) → n ≡ suc n - 1
-    less n = omega arith
+take_first (suc left) symbol before after some e = ap (take (suc left)) e ∙ ap (λ n. symbol ∷ take n after) (sym (less_one left))
 
 pub length-mask_from : (skip symbol : ℕ) (odd : Bool) (text : Text) → length (mask_from skip symbol odd text) ≡ length text
 unfolding mask_from
@@ -47,10 +42,7 @@ pub step-inside : (skip symbol : ℕ) (odd : Bool) (byte : ℕ) (text : Text) �
     → mask_from skip symbol odd (byte ∷ text) ≡ symbol ∷ mask_from (skip - 1) symbol (goes_odd odd byte) text
 unfolding mask_from
 step-inside zero symbol odd byte text some = absurd (omega arith)
-step-inside (suc skip) symbol odd byte text some = ap (λ n. symbol ∷ mask_from n symbol (goes_odd odd byte) text) (less skip)
-  where
-    less : (n : ℕ) → n ≡ suc n - 1
-    less n = omega arith
+step-inside (suc skip) symbol odd byte text some = ap (λ n. symbol ∷ mask_from n symbol (goes_odd odd byte) text) (sym (less_one skip))
 
 pub step-outside : (skip symbol : ℕ) (odd : Bool) (byte : ℕ) (text : Text) (more first : ℕ) → skip ≡ 0 → more ≡ more_masked odd byte text → first ≡ mask_byte byte more
     → mask_from skip symbol odd (byte ∷ text) ≡ first ∷ mask_from more first (goes_odd odd byte) text

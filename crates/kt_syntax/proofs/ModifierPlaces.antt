@@ -1,10 +1,11 @@
 -- The place after the words that may stand before a target-specific macro, by the places of those words.
-use Rattle.std.proofs.Common.{◌≡◌, ◌≤◌, ◌<◌, ◌-◌, ◌+◌, ◌&&◌, ℕ, zero, suc, Bool, true, false, not, if◌then◌else◌, List, [], ◌∷◌, length, drop, take, refl, sym, ap, subst, ◌∙◌, arith, Option, Some, None, ⊎_elim, unwrap_or}
-use Rattle.std.proofs.lemmas.Bool.{and_parts, cases_Bool, cases_order, false≢true, lt-ltb, ltb-true}
+use Rattle.std.proofs.Common.{◌≡◌, ◌≤◌, ◌<◌, ◌-◌, ◌+◌, ◌&&◌, ℕ, zero, suc, Bool, true, false, not, if◌then◌else◌, List, [], ◌∷◌, length, drop, take, refl, sym, ap, subst, ◌∙◌, arith, Option, Some, None, ⊎_elim}
+use Rattle.std.proofs.lemmas.Bool.{and_parts, cases_Bool, cases_order, false≢true, lt-ltb, ltb-true, not-false, not-true}
 use Rattle.std.proofs.lemmas.List.{get_or-drop, length-drop}
 use Rattle.std.proofs.lemmas.List.Sums.{prefix_len_passes, prefix_len_stops}
 use Rattle.std.specs.Prelude.{nat_lt, slice_index}
 use Rattle.std.specs.List.{prefix_len, slice_range}
+use Rattle.std.proofs.lemmas.Option.{same_Some}
 use Rattle.kt_text.specs.Words.{Text, is_blank}
 use Rattle.kt_syntax.specs.Kinds.{past_blanks, past_word}
 use Rattle.kt_syntax.specs.Heads.{after_modifier, after_modifiers, found_or, is_modifier, modifier_at}
@@ -16,26 +17,18 @@ use Rattle.kt_syntax.proofs.AssignmentLemmas.{blanks_are, blanks_only}
 abbrev is_inner : ℕ → Bool
 is_inner symbol = not (is_blank symbol)
 
-not_false : (b : Bool) → not b ≡ true → b ≡ false
-not_false true h = absurd (false≢true h)
-not_false false h = refl
-
-not_true : (b : Bool) → not b ≡ false → b ≡ true
-not_true true h = refl
-not_true false h = absurd (false≢true (sym h))
-
 word_inner : (mask : List ℕ) (begin k : ℕ) → begin ≤ k → k < past_word begin mask → is_blank (slice_index mask k) ≡ false
 word_inner mask begin k low high =
     let at : begin + (k - begin) ≡ k = omega arith in
     let passes = prefix_len_passes is_inner (drop begin mask) (k - begin) 0 (omega arith) in
-    not_false (is_blank (slice_index mask k))
+    not-true (is_blank (slice_index mask k))
     (subst (λ m. is_inner (slice_index mask m) ≡ true) at (sym (ap is_inner (get_or-drop begin mask (k - begin) 0)) ∙ passes))
 
 word_stops : (mask : List ℕ) (begin : ℕ) → past_word begin mask < length mask → is_blank (slice_index mask (past_word begin mask)) ≡ true
 word_stops mask begin room =
     let size = length-drop begin mask in
     let n : ℕ = prefix_len is_inner (drop begin mask) in
-    not_true (is_blank (slice_index mask (past_word begin mask)))
+    not-false (is_blank (slice_index mask (past_word begin mask)))
     (sym (ap is_inner (get_or-drop begin mask n 0)) ∙ prefix_len_stops is_inner (drop begin mask) 0 (omega (arith, size, room)))
 
 word_only : (mask : List ℕ) (begin end : ℕ) → begin ≤ end → ((k : ℕ) → begin ≤ k → k < end → is_blank (slice_index mask k) ≡ false) → end < length mask
@@ -49,9 +42,6 @@ word_only mask begin end order inner within ends =
 
 -- ---- one word
 
-some_same : (first second : ℕ) → Some first ≡ Some second → first ≡ second
-some_same first second e = ap (λ o. unwrap_or o first) e
-
 none_some : (x : ℕ) → None ≡ Some x → ⊥
 none_some x e = cc
 
@@ -63,7 +53,7 @@ modifier_is text mask from end e =
     let gap = blanks_are mask from in
     ⊎_elim
     (λ h.
-    let same : stop ≡ end = some_same stop end (sym (ap (λ b. if b then Some stop else None) h) ∙ e) in
+    let same : stop ≡ end = same_Some stop end (sym (ap (λ b. if b then Some stop else None) h) ∙ e) in
     let parts = and_parts (is_modifier (slice_range text begin stop)) (nat_lt stop (length mask)) h in
     let room : stop < length mask = ltb-true stop (length mask) parts.1 in
     subst (IsModifier text mask from) same

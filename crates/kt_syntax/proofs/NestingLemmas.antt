@@ -1,7 +1,7 @@
 -- One line more in the passes over the lines of a text.
-use Rattle.std.proofs.Common.{◌≡◌, ◌≤◌, ◌<◌, ◌+◌, ℕ, zero, suc, arith, List, [], ◌∷◌, ◌++◌, drop, length, Option, Some, None, refl, sym, ap, ◌∙◌, append_assoc, append-nil, get_or, add-one}
+use Rattle.std.proofs.Common.{◌≡◌, ◌≤◌, ◌<◌, ◌+◌, ℕ, zero, suc, arith, List, [], ◌∷◌, ◌++◌, drop, length, reverse, Option, Some, None, refl, sym, ap, ◌∙◌, append_assoc, append-nil, get_or, add-one}
 use Rattle.std.proofs.Math.Seq.{drop-cons}
-use Rattle.std.proofs.lemmas.List.{drop_all}
+use Rattle.std.proofs.lemmas.List.{drop_all, reverse-append}
 use Rattle.kt_text.specs.declared.line.Line.{Line}
 use Rattle.kt_syntax.specs.declared.part.OpenDefine.{OpenDefine}
 use Rattle.kt_syntax.specs.declared.part.OpenConditional.{OpenConditional}
@@ -81,10 +81,11 @@ depth-after None (innermost ∷ outer) role.Endif number = omega arith
 
 -- a line more is placed, from the end
 pub steps_more : (place : ℕ) (found : Part) (lines : List Part) (ahead : Ahead) (step : Step) (steps : List Step)
-    → ahead ≡ ahead_of (place + 1) lines → step ≡ step_of ahead found → steps ≡ steps_from (place + 1) lines
-    → step ∷ steps ≡ steps_from place (found ∷ lines)
+    → ahead ≡ ahead_of (place + 1) lines → step ≡ step_of ahead found → steps ≡ reverse (steps_from (place + 1) lines)
+    → steps ++ step ∷ [] ≡ reverse (steps_from place (found ∷ lines))
 unfolding steps_from
-steps_more place found lines ahead step steps a s r = rw (s, r, a) refl
+steps_more place found lines ahead step steps a s r =
+    rw (s, r, a) (sym (reverse-append (step_of (ahead_of (place + 1) lines) found ∷ []) (steps_from (place + 1) lines)))
 
 pub ahead_more : (place : ℕ) (found : Part) (lines : List Part) (ahead next : Ahead)
     → ahead ≡ ahead_of (place + 1) lines → next ≡ places_after ahead found place → next ≡ ahead_of place (found ∷ lines)

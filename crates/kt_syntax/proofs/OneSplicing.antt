@@ -1,6 +1,6 @@
 -- The text of a recipe line is spliced in one way alone: what is done at its first newline leaves no choice.
 use Rattle.std.proofs.Common.{◌≡◌, ◌⊎◌, ◌≤◌, ◌-◌, ◌==◌, ◌||◌, ◌&&◌, ℕ, zero, suc, Bool, true, false, not, List, [], ◌∷◌, ◌++◌, length, drop, refl, sym, ap, subst, ◌∙◌, arith, append_assoc, append-nil, length-append, inl, inr, ⊎_elim}
-use Rattle.std.proofs.lemmas.Bool.{and_parts, cases_Bool, eq-eqb, eqb-true, false≢true, ne_eqb}
+use Rattle.std.proofs.lemmas.Bool.{and_from, and_parts, cases_Bool, eq-eqb, eqb-true, false≢true, ne_eqb, or_parts}
 use Rattle.std.proofs.lemmas.Bool.Decides.{Decides-eqb}
 use Rattle.std.proofs.lemmas.Grind.{flat_map-append}
 use Rattle.std.proofs.lemmas.Slice.Eq.{starts_is}
@@ -94,17 +94,13 @@ begins_so mask one text h =
       within = λ e. eqb-true (slice_index mask (length (spelled one) - 1)) inside (inside_so (is_continuation one) (slice_index mask (length (spelled one) - 1) == inside) parts.1 e);
     }
 
-both_true : (a b : Bool) → a ≡ true → b ≡ true → (a && b) ≡ true
-both_true true b e f = f
-both_true false b e f = absurd (false≢true e)
-
 outside_or : (a b : Bool) → (a ≡ true → b ≡ true) → (not a || b) ≡ true
 outside_or true b h = h refl
 outside_or false b h = refl
 
 begins_not : (mask : List ℕ) (one : Spacing) (text rest : Text) → begins_with mask one text ≡ false → (is_continuation one ≡ true → IsInside mask one) → text ≡ spelled one ++ rest → ⊥
 begins_not mask one text rest h within e =
-    false≢true (sym h ∙ both_true (starts_with nat_eq text (spelled one)) (not (is_continuation one) || (slice_index mask (length (spelled one) - 1) == inside))
+    false≢true (sym h ∙ and_from (starts_with nat_eq text (spelled one)) (not (is_continuation one) || (slice_index mask (length (spelled one) - 1) == inside))
     ((starts_is Decides-eqb text (spelled one) (starts_with nat_eq text (spelled one)) refl).1 rest e)
     (outside_or (is_continuation one) (slice_index mask (length (spelled one) - 1) == inside) (λ c. eq-eqb (slice_index mask (length (spelled one) - 1)) inside (within c))))
 
@@ -157,15 +153,11 @@ begun_inner (suc fuel) mask text small =
 
 -- ---- the run round the first newline
 
-no_first : (a b : Bool) → (a || b) ≡ false → (a ≡ false) × (b ≡ false)
-no_first true b h = absurd (false≢true (sym h))
-no_first false b h = (refl, h)
-
 are_inside : (mask : List ℕ) (blanks : List Spacing) (one : Spacing) (others : List Spacing) → list_any is_continuation blanks ≡ false → IsInside (drop (length (spelling blanks)) mask) one
     → AreInside (drop (length (spelling blanks ++ spelled one)) mask) others → AreInside mask (blanks ++ one ∷ others)
 are_inside mask [] one others none is are = ((λ c. is), are)
 are_inside mask (blank ∷ blanks) one others none is are =
-    let parts = no_first (is_continuation blank) (list_any is_continuation blanks) none in (
+    let parts = or_parts (is_continuation blank) (list_any is_continuation blanks) none in (
       (λ c. absurd (false≢true (sym parts.0 ∙ c))),
       are_inside (drop (length (spelled blank)) mask) blanks one others parts.1
           (subst (λ (m : List ℕ). IsInside m one) (drop_both (spelled blank) (spelling blanks) mask) is)

@@ -12,14 +12,14 @@ use Rattle.kt_syntax.specs.Kinds.{name_end, operator_of, past_blanks, past_word}
 use Rattle.kt_syntax.specs.Mask.{inside, mask_byte, mask_from, mask_of, more_masked}
 use Rattle.kt_syntax.specs.inner.OwnRuns.{begins_operator, ends_own_name, ends_own_word, is_mark}
 
-prefix_yes : (test : ℕ → Bool) (byte : ℕ) (bytes : List ℕ) → test byte ≡ true → prefix_len test (byte ∷ bytes) ≡ suc (prefix_len test bytes)
+pub prefix_yes : (test : ℕ → Bool) (byte : ℕ) (bytes : List ℕ) → test byte ≡ true → prefix_len test (byte ∷ bytes) ≡ suc (prefix_len test bytes)
 prefix_yes test byte bytes h = rw h (omega arith)
 
-prefix_no : (test : ℕ → Bool) (byte : ℕ) (bytes : List ℕ) → test byte ≡ false → prefix_len test (byte ∷ bytes) ≡ 0
+pub prefix_no : (test : ℕ → Bool) (byte : ℕ) (bytes : List ℕ) → test byte ≡ false → prefix_len test (byte ∷ bytes) ≡ 0
 prefix_no test byte bytes h = rw h refl
 
 -- a blank is no mark
-blank_unmarked : (byte : ℕ) → is_blank byte ≡ true → is_mark byte ≡ false
+pub blank_unmarked : (byte : ℕ) → is_blank byte ≡ true → is_mark byte ≡ false
 unfolding is_blank
 blank_unmarked byte h =
     ⊎_elim (λ (space : (byte == 32) ≡ true). rw (eqb-true byte 32 space) refl)

@@ -2,9 +2,11 @@
 use Rattle.std.proofs.Common.{◌≡◌, ◌==◌, ◌≤◌, ◌-◌, ℕ, zero, suc, Bool, true, false, List, [], ◌∷◌, ◌++◌, length, take, drop, refl, sym, ap, ◌∙◌, arith, ⊎_elim, length-take-le}
 use Rattle.std.proofs.lemmas.Bool.{cases_Bool, or_parts}
 use Rattle.std.proofs.Math.Seq.{drop-append_seam}
+use Rattle.std.proofs.lemmas.List.{take_rest}
 use Rattle.std.specs.List.{position_or_len}
+use Rattle.kt_list.proofs.general.Places.{take_nil}
 use Rattle.kt_text.specs.Words.{Text}
-use Rattle.kt_syntax.proofs.Masking.{step-outside, take_nil}
+use Rattle.kt_syntax.proofs.Masking.{step-outside}
 use Rattle.kt_syntax.specs.Mask.{mask_from, mask_of, more_masked, goes_odd}
 use Rattle.kt_syntax.specs.inner.OwnRuns.{is_mark}
 
@@ -61,3 +63,12 @@ after_own text most end size e within =
     let past : drop size (take size text ++ tail) ≡ tail =
     ap (λ n. drop n (take size text ++ tail)) (sym sizes) ∙ drop-append_seam (take size text) tail in
     sym (drop_take size end (mask_from 0 0 false text) ∙ ap (take (end - size)) (ap (drop size) (own_front size most 0 text (omega arith)) ∙ past))
+
+-- the same of a walk that nothing reaches into
+pub own_passed : (text : Text) (most left own skip symbol : ℕ) (odd : Bool) → skip ≡ 0 → odd ≡ false → own ≡ position_or_len is_mark (take most text) → own ≤ length text
+    → take (left - own) (mask_from skip symbol odd (take (length text - own) (drop own text))) ≡ drop own (take left (mask_from skip symbol odd text))
+unfolding mask_of
+own_passed text most left own skip symbol odd none even is within =
+    rw (none, even, take_rest text own)
+    (ap (take (left - own)) (same_symbol symbol 0 (drop own text)) ∙ after_own text most left own is within
+    ∙ sym (ap (λ (mask : List ℕ). drop own (take left mask)) (same_symbol symbol 0 text)))

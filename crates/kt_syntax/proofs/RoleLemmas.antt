@@ -1,12 +1,20 @@
 -- Roles of lines by their first words alone.
-use Rattle.std.proofs.Common.{◌≡◌, ◌==◌, ◌||◌, ◌-◌, ℕ, zero, suc, List, [], ◌∷◌, Bool, true, false, true≢false, Option, None, Some, length, take, drop, codes, zero-add, arith, refl, sym, ap, ◌∙◌, ⊎_elim}
-use Rattle.std.proofs.lemmas.Bool.{cases_Bool}
+use Rattle.std.proofs.Common.{◌≡◌, ◌==◌, ◌||◌, ◌-◌, ℕ, zero, suc, List, [], ◌∷◌, Bool, true, false, Option, None, Some, length, take, drop, codes, zero-add, refl, sym, ap, ◌∙◌, ⊎_elim}
+use Rattle.std.proofs.lemmas.Bool.{cases_Bool, eqb-true}
 use Rattle.std.specs.List.{prefix_len}
 use Rattle.std.specs.List.{slice_range}
 use Rattle.std.specs.Str.{bytes_eq}
-use Rattle.kt_text.specs.Words.{Text, is_blank}
+use Rattle.kt_list.proofs.general.Booleans.{or_first, or_second}
+use Rattle.kt_text.proofs.CondensedLemmas.{without_newline}
+use Rattle.kt_text.proofs.PlaceLemmas.{drop-prefix_len}
+use Rattle.kt_text.specs.Words.{Text, is_blank, trimmed_start}
 use Rattle.kt_text.specs.Lines.{condensed_of}
 use Rattle.kt_syntax.specs.declared.role.Role.TheVariants.{Ordinary}
+use Rattle.kt_list.proofs.general.Places.{take_nil}
+use Rattle.kt_syntax.proofs.CondensedBegins.{begins_alike}
+use Rattle.kt_syntax.proofs.Masking.{mask_from-nil}
+use Rattle.kt_syntax.proofs.OwnRuns.{blank_unmarked, prefix_no, prefix_yes}
+use Rattle.kt_syntax.proofs.OwnSymbols.{own_byte}
 use Rattle.kt_syntax.specs.Mask.{mask_byte, mask_from, mask_of, more_masked}
 use Rattle.kt_syntax.specs.Kinds.{Parts, before_comment, block_word, comment_place, directive_of, include_word, is_refused_word, kind_by_parts, kind_by_word, kind_of, kind_within, assignment_parts, line_kind, past_blanks, past_word, worded}
 use Rattle.kt_syntax.specs.Roles.{may_open, role_by_word, role_of}
@@ -65,18 +73,12 @@ word_role text none =
 
 -- ---- the first byte of a line
 
-or_left : (a b : Bool) → (a || b) ≡ false → a ≡ false
-or_left false b h = refl
-or_left true b h = absurd (true≢false h)
-
-or_right : (a b : Bool) → (a || b) ≡ false → b ≡ false
-or_right false b h = h
-or_right true b h = absurd (true≢false h)
-
 -- a byte that none of them is
 record IsNone (byte : ℕ) : Type 0 where
   pub blank : is_blank byte ≡ false
   pub backslash : (byte == 92) ≡ false
+  pub newline : (byte == 10) ≡ false
+  pub return : (byte == 13) ≡ false
   pub d : (byte == 100) ≡ false
   pub e : (byte == 101) ≡ false
   pub i : (byte == 105) ≡ false
@@ -84,15 +86,19 @@ record IsNone (byte : ℕ) : Type 0 where
 none_of : (byte : ℕ) (text : Text) → may_open (byte ∷ text) ≡ false → IsNone byte
 unfolding is_blank
 none_of byte text h =
-    let before_i = or_left _ (byte == 105) h in
-    let before_e = or_left _ (byte == 101) before_i in
-    let before_d = or_left _ (byte == 100) before_e in
+    let before_i = or_first _ (byte == 105) h in
+    let before_e = or_first _ (byte == 101) before_i in
+    let before_d = or_first _ (byte == 100) before_e in
+    let before_return = or_first _ (byte == 13) before_d in
+    let before_newline = or_first _ (byte == 10) before_return in
     record {
-      blank = or_left _ (byte == 92) before_d;
-      backslash = or_right _ (byte == 92) before_d;
-      d = or_right _ (byte == 100) before_e;
-      e = or_right _ (byte == 101) before_i;
-      i = or_right _ (byte == 105) h;
+      blank = or_first _ (byte == 92) before_newline;
+      backslash = or_second _ (byte == 92) before_newline;
+      newline = or_second _ (byte == 10) before_return;
+      return = or_second _ (byte == 13) before_d;
+      d = or_second _ (byte == 100) before_e;
+      e = or_second _ (byte == 101) before_i;
+      i = or_second _ (byte == 105) h;
     }
 
 front_blanks : (count symbol : ℕ) (mask : List ℕ) → is_blank symbol ≡ false → prefix_len is_blank (take count (symbol ∷ mask)) ≡ 0
@@ -104,30 +110,70 @@ unfolding more_masked is_blank
 first_other byte text none =
     ⊎_elim (λ (h : (byte == 36) ≡ true). rw h refl) (λ (h : (byte == 36) ≡ false). rw (h, none.backslash) none.blank) (cases_Bool (byte == 36))
 
-begins_there : (byte : ℕ) (text : Text) → IsNone byte → past_blanks 0 (take (comment_place (byte ∷ text)) (mask_of (byte ∷ text))) ≡ 0
-unfolding mask_of mask_from
-begins_there byte text none =
-    zero-add _ ∙ front_blanks (comment_place (byte ∷ text)) (mask_byte byte (more_masked false byte text)) _ (first_other byte text none)
-
 no_word_taken : (count byte : ℕ) (text : Text) → IsNone byte → block_word (take count (byte ∷ text)) ≡ None
 unfolding block_word
 no_word_taken zero byte text none = refl
 no_word_taken (suc count) byte text none = rw (none.i, none.e, none.d) refl
 
-no_word : (count byte : ℕ) (text : Text) → IsNone byte → block_word (slice_range (byte ∷ text) 0 count) ≡ None
-no_word count byte text none =
-    ap (λ n. block_word (take n (byte ∷ text))) (let all : count - 0 ≡ count = omega arith in all) ∙ no_word_taken count byte text none
+no_word_in_nothing : (size : ℕ) → block_word (take size []) ≡ None
+unfolding block_word
+no_word_in_nothing size = ap block_word (take_nil size)
+
+no_blank_word : (size byte : ℕ) (text : Text) → is_blank byte ≡ true → block_word (take size (byte ∷ text)) ≡ None
+unfolding block_word is_blank
+no_blank_word zero byte text h = refl
+no_blank_word (suc size) byte text h =
+    ⊎_elim (λ (space : (byte == 32) ≡ true). rw (eqb-true byte 32 space) refl)
+    (λ (other : (byte == 32) ≡ false). let tab : (byte == 9) ≡ true = rw other at h in rw (eqb-true byte 9 tab) refl)
+    (cases_Bool (byte == 32))
+
+opens_here : (byte : ℕ) (text : Text) → is_blank byte ≡ false → may_open (trimmed_start (byte ∷ text)) ≡ may_open (byte ∷ text)
+opens_here byte text solid = ap (λ n. may_open (drop n (byte ∷ text))) (prefix_no is_blank byte text solid)
+
+opens_later : (byte : ℕ) (text : Text) → is_blank byte ≡ true → may_open (trimmed_start (byte ∷ text)) ≡ may_open (trimmed_start text)
+opens_later byte text blank = ap may_open (drop-prefix_len is_blank byte text blank)
+
+-- nor has a text behind the blanks among its first symbols
+no_word : (count symbol size : ℕ) (text : Text) → may_open (trimmed_start text) ≡ false
+    → block_word (take size (drop (prefix_len is_blank (take count (mask_from 0 symbol false text))) text)) ≡ None
+unfolding mask_from
+no_word count symbol size [] h =
+    ap (λ (mask : List ℕ). block_word (take size (drop (prefix_len is_blank mask) []))) (ap (take count) (mask_from-nil 0 symbol false) ∙ take_nil count)
+    ∙ no_word_in_nothing size
+no_word zero symbol size (byte ∷ text) h =
+    ⊎_elim (λ (blank : is_blank byte ≡ true). no_blank_word size byte text blank)
+    (λ (solid : is_blank byte ≡ false). no_word_taken size byte text (none_of byte text (sym (opens_here byte text solid) ∙ h)))
+    (cases_Bool (is_blank byte))
+no_word (suc count) symbol size (byte ∷ text) h =
+    ⊎_elim (λ (blank : is_blank byte ≡ true).
+    let rest = mask_from 0 byte false text in
+    ap (λ (mask : List ℕ). block_word (take size (drop (prefix_len is_blank (take (suc count) mask)) (byte ∷ text)))) (own_byte symbol byte text (blank_unmarked byte blank))
+    ∙ ap (λ n. block_word (take size (drop n (byte ∷ text)))) (prefix_yes is_blank byte (take count rest) blank)
+    ∙ no_word count byte size text (sym (opens_later byte text blank) ∙ h))
+    (λ (solid : is_blank byte ≡ false).
+    let none = none_of byte text (sym (opens_here byte text solid) ∙ h) in
+    ap (λ n. block_word (take size (drop n (byte ∷ text)))) (front_blanks (suc count) (mask_byte byte (more_masked false byte text)) _ (first_other byte text none))
+    ∙ no_word_taken size byte text none)
+    (cases_Bool (is_blank byte))
 
 empty_role : Ordinary ≡ role_of (kind_of [] false)
 unfolding line_word block_word before_comment mask_of mask_from
 empty_role = word_role [] refl
 
--- a line that begins otherwise has no word of blocks
-pub first_role : (text : Text) → may_open text ≡ false → Ordinary ≡ role_of (kind_of text false)
-unfolding line_word
-first_role [] h = empty_role
-first_role (byte ∷ text) h =
-    let none = none_of byte text h in
-    let mask = take (comment_place (byte ∷ text)) (mask_of (byte ∷ text)) in
-    word_role (byte ∷ text)
-    (sym (ap (λ x. block_word (slice_range (byte ∷ text) x (past_word x mask))) (begins_there byte text none) ∙ no_word (past_word 0 mask) byte text none))
+-- a text that begins otherwise behind its blanks has no word of blocks
+pub text_role : (text : Text) → may_open (trimmed_start text) ≡ false → Ordinary ≡ role_of (kind_of text false)
+unfolding line_word mask_of
+text_role text h =
+    let mask = take (comment_place text) (mask_of text) in
+    let run = prefix_len is_blank mask in
+    let end = past_word (past_blanks 0 mask) mask in
+    word_role text
+    (sym (ap (λ x. block_word (slice_range text x end)) (zero-add run) ∙ no_word (comment_place text) 0 (end - run) text h))
+
+-- nor has a line
+pub first_role : (line : Text) → may_open line ≡ false → Ordinary ≡ role_of (line_kind line false)
+first_role [] h = empty_role ∙ ap (λ text. role_of (kind_of text false)) (sym (without_newline [] refl))
+first_role (byte ∷ line) h =
+    let none = none_of byte line h in
+    let begun = begins_alike byte line (record { blank = none.blank; backslash = none.backslash; newline = none.newline; return = none.return }) in
+    text_role (byte ∷ begun.0) (opens_here byte begun.0 none.blank ∙ h) ∙ ap (λ text. role_of (kind_of text false)) (sym begun.1)

@@ -1,9 +1,10 @@
 -- The first semicolon of a line is that of its condensed text.
 use Rattle.std.proofs.Common.{◌≡◌, ◌<◌, ◌≤◌, ◌+◌, ◌&&◌, ℕ, zero, suc, Bool, true, false, not, List, [], ◌∷◌, ◌++◌, length, take, drop, refl, sym, ap, subst, ◌∙◌, arith, append_assoc, zero-add, take-append-drop, ⊎_elim}
-use Rattle.std.proofs.lemmas.Bool.{and_parts, cases_Bool, false_from_ne_true, false≢true}
+use Rattle.std.proofs.lemmas.Bool.{and_parts, cases_Bool, false_from_ne_true, false≢true, not-true}
 use Rattle.std.proofs.lemmas.List.{nil_from_length, take-append-le}
 use Rattle.std.proofs.Math.Seq.{take-append-add, take-length}
 use Rattle.std.specs.List.{list_any}
+use Rattle.kt_list.proofs.general.Numbers.{suc_sum}
 use Rattle.kt_text.specs.Words.{Text}
 use Rattle.kt_text.specs.Lines.{condensed_of}
 use Rattle.kt_text.specs.Condensing.{IsGap, IsNewline, Spacing, is_continuation, spelled, space, tab, continuation, returned}
@@ -29,10 +30,6 @@ is_clear : State → Text → Bool
 is_clear state [] = true
 is_clear state (byte ∷ text) = not (stops state byte) && is_clear (next state byte) text
 
-not_stopped : (b : Bool) → not b ≡ true → b ≡ false
-not_stopped true h = absurd (false≢true h)
-not_stopped false h = refl
-
 stop_here : (a b : Bool) → (not a && b) ≡ false → a ≡ false → b ≡ false
 stop_here a b h e = sym (ap (λ x. not x && b) e) ∙ h
 
@@ -40,17 +37,14 @@ nothing_ahead : (found : Stop) → found ≡ ahead 0 found
 nothing_ahead found = ap (λ n. (n, found.1)) (sym (zero-add found.0))
 
 one_ahead : (n : ℕ) (found : Stop) → later (ahead n found) ≡ ahead (suc n) found
-one_ahead n found = ap (λ k. (k, found.1)) (sum n found.0)
-  where
-    sum : (a b : ℕ) → suc (a + b) ≡ suc a + b
-    sum a b = omega arith
+one_ahead n found = ap (λ k. (k, found.1)) (suc_sum n found.0)
 
 passed : (state : State) (front rest : Text) → is_clear state front ≡ true → found_at state (front ++ rest) ≡ ahead (length front) (found_at (go state front) rest)
 unfolding is_clear go
 passed state [] rest h = nothing_ahead (found_at state rest)
 passed state (byte ∷ front) rest h =
     let parts = and_parts (not (stops state byte)) (is_clear (next state byte) front) h in
-    at-no state byte (front ++ rest) (not_stopped (stops state byte) parts.0) ∙ ap later (passed (next state byte) front rest parts.1)
+    at-no state byte (front ++ rest) (not-true (stops state byte) parts.0) ∙ ap later (passed (next state byte) front rest parts.1)
     ∙ one_ahead (length front) (found_at (go (next state byte) front) rest)
 
 -- or at which the search stops

@@ -1,13 +1,13 @@
 -- The first colon and the begin of the comment are found.
 use Rattle.std.proofs.Common.{◌≡◌, ◌==◌, ◌≤◌, ◌<◌, ◌-◌, ◌+◌, not, ◌&&◌, ℕ, zero, suc, Bool, true, false, List, [], ◌∷◌, length, drop, Option, Some, None, refl, sym, ap, subst, ◌∙◌, arith, ⊎_elim, length-drop, add-zero}
-use Rattle.std.proofs.lemmas.Bool.{cases_Bool, eqb-true, eq-eqb, false_from_ne_true, false≢true, and_parts}
+use Rattle.std.proofs.lemmas.Bool.{and_parts, cases_Bool, cases_lt, eq-eqb, eqb-true, false_from_ne_true, false≢true, not-true}
 use Rattle.std.proofs.lemmas.List.{drop-drop, get_or-drop}
 use Rattle.std.specs.Prelude.{slice_index, MatchOption}
 use Rattle.kt_syntax.specs.Mask.{goes_odd}
 use Rattle.kt_syntax.specs.Kinds.{before_comment}
 use Rattle.kt_syntax.specs.Heads.{colon_place}
 use Rattle.kt_syntax.specs.Signs.{BeginsComment, IsCommentPlace, IsColon, IsFirstColon, SignLaw}
-use Rattle.kt_syntax.proofs.MaskRuns.{less_or_more, odd_at, odd-next}
+use Rattle.kt_syntax.proofs.MaskRuns.{odd_at, odd-next}
 
 -- the symbol at a place, and what follows it
 at_place : (whole mask : List ℕ) (place symbol : ℕ) → drop place whole ≡ symbol ∷ mask → slice_index whole place ≡ symbol
@@ -24,7 +24,7 @@ ended whole place e = let size = length-drop place whole in let none = ap length
 
 -- what holds before a place and at it holds before the next
 one_more : (P : ℕ → Type 0) (place : ℕ) → ((k : ℕ) → k < place → P k) → P place → (k : ℕ) → k < place + 1 → P k
-one_more P place before here k l = ⊎_elim (λ h. before k h) (λ h. subst P (let same : place ≡ k = omega arith in same) here) (less_or_more k place)
+one_more P place before here k l = ⊎_elim (λ h. before k h) (λ h. subst P (let same : place ≡ k = omega arith in same) here) (cases_lt k place)
 
 -- ---- the comment
 
@@ -40,10 +40,6 @@ pub comment-nil : (odd : Bool) → before_comment odd [] ≡ 0
 unfolding before_comment
 comment-nil odd = refl
 
-even_from : (odd : Bool) → not odd ≡ true → odd ≡ false
-even_from true h = absurd (false≢true h)
-even_from false h = refl
-
 comment_from : (mask whole : List ℕ) (place : ℕ) → drop place whole ≡ mask → place ≤ length whole → ((k : ℕ) → k < place → ¬ BeginsComment whole k)
     → IsCommentPlace whole (place + before_comment (odd_at whole place) mask)
 comment_from [] whole place e low before =
@@ -56,7 +52,7 @@ comment_from (symbol ∷ mask) whole place e low before =
     ⊎_elim (λ h.
     let parts = and_parts (symbol == 35) (not odd) h in
     subst (IsCommentPlace whole) (sym (ap (λ n. place + n) (comment-yes odd symbol mask h) ∙ add-zero place))
-    (record { bound = low; begins = λ l. record { is = at_place whole mask place symbol e ∙ eqb-true symbol 35 parts.0; even = even_from odd parts.1 }; first = before }))
+    (record { bound = low; begins = λ l. record { is = at_place whole mask place symbol e ∙ eqb-true symbol 35 parts.0; even = not-true odd parts.1 }; first = before }))
     (λ h.
     let next : odd_at whole (place + 1) ≡ goes_odd odd symbol = odd-next whole place symbol room (at_place whole mask place symbol e) in
     let here : ¬ BeginsComment whole place = λ b.
@@ -111,7 +107,7 @@ colon_from [] whole place previous e before none =
     let nothing : slice_index whole k ≡ 0 = sym (get_or-drop place whole (k - place) 0 ∙ ap (slice_index whole) here) ∙ ap (λ m. slice_index m (k - place)) e in
     let never : 0 ≡ 58 = sym nothing ∙ c.is in
     omega arith)
-    (less_or_more k place))
+    (cases_lt k place))
 colon_from (symbol ∷ mask) whole place previous e before none =
     let here = at_place whole mask place symbol e in
     ⊎_elim (λ h.

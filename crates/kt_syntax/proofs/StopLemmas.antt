@@ -1,6 +1,6 @@
 -- Where the first semicolon or the comment of a line stands, found by its bytes alone.
 use Rattle.std.proofs.Common.{◌≡◌, ◌≤◌, ◌-◌, ◌+◌, ◌==◌, ℕ, zero, suc, Bool, true, false, not, List, [], ◌∷◌, length, drop, if◌then◌else◌, Option, Some, None, option_map, refl, sym, ap, subst, ◌∙◌, arith, ⊎_elim}
-use Rattle.std.proofs.lemmas.Bool.{and_parts, cases_Bool, eqb-true, false≢true}
+use Rattle.std.proofs.lemmas.Bool.{and_parts, cases_Bool, eqb-true, not-true}
 use Rattle.std.proofs.lemmas.Bool.Decides.{Decides-eqb}
 use Rattle.std.proofs.lemmas.List.{nil_from_length}
 use Rattle.std.proofs.lemmas.Slice.Eq.{starts_is}
@@ -386,10 +386,6 @@ backslash_step fuel same told symbol text small =
     (cases_Bool (starts_with nat_eq text (13 ∷ 10 ∷ []))))
     (cases_Bool (starts_with nat_eq text (10 ∷ [])))
 
-not_so : (odd : Bool) → not odd ≡ true → odd ≡ false
-not_so true h = absurd (false≢true h)
-not_so false h = refl
-
 dollar_masked : (fuel : ℕ) → Same fuel → (told odd : Bool) (symbol : ℕ) (text : Text) → length text ≤ fuel → OutsideSame told odd symbol (36 ∷ text)
 dollar_masked fuel same told odd symbol text small =
     let more : ℕ = (after_dollar kept text).1 in
@@ -404,7 +400,7 @@ outside_step fuel same told odd symbol byte text small =
     (λ g.
     let parts = and_parts (byte == 92) (not odd) g in
     subst (λ b. OutsideSame told odd symbol (b ∷ text)) (sym (eqb-true byte 92 parts.0))
-    (subst (λ o. OutsideSame told o symbol (92 ∷ text)) (sym (not_so odd parts.1)) (backslash_step fuel same told symbol text small)))
+    (subst (λ o. OutsideSame told o symbol (92 ∷ text)) (sym (not-true odd parts.1)) (backslash_step fuel same told symbol text small)))
     (λ g. own_byte told odd symbol byte text h (more_other odd byte text h g) (same.outside (goes_odd told byte) (goes_odd odd byte) byte text small))
     (cases_Bool (goes_odd odd byte)))
     (cases_Bool (byte == 36))

@@ -2,6 +2,7 @@
 use Rattle.std.proofs.Common.{◌≡◌, ◌<◌, ◌+◌, ◌==◌, ◌&&◌, ◌||◌, ℕ, suc, Bool, true, false, not, List, [], ◌∷◌, take, if◌then◌else◌, refl, sym, ap, subst, ◌∙◌, arith, ⊎_elim}
 use Rattle.std.proofs.lemmas.Bool.{cases_Bool, eqb-true, false≢true}
 use Rattle.std.specs.List.{position_or_len}
+use Rattle.kt_list.proofs.general.Booleans.{and_first}
 use Rattle.kt_syntax.specs.Mask.{goes_odd}
 use Rattle.kt_syntax.specs.Kinds.{before_comment}
 use Rattle.kt_syntax.proofs.SignLemmas.{comment-nil, comment-no, comment-yes}
@@ -44,10 +45,6 @@ pub record IsFound (odd : Bool) (mask : List ℕ) (found : Stop) : Type 0 where
   pub semicolon : found.1 ≡ true → found.0 < before_comment odd mask
   pub none : found.1 ≡ false → found.0 ≡ before_comment odd mask
 
-is_sign : (a b : Bool) → (a && b) ≡ true → a ≡ true
-is_sign true b h = refl
-is_sign false b h = h
-
 no_place : (symbol : ℕ) (mask : List ℕ) (n : ℕ) → (symbol == 59) ≡ true → position_or_len (λ s. s == 59) (symbol ∷ take n mask) ≡ 0
 no_place symbol mask n g = rw g refl
 
@@ -65,7 +62,7 @@ found_stop odd (symbol ∷ mask) =
     ⊎_elim
     (λ h.
     let at = comment-yes odd symbol mask h in
-    let sign : (symbol == 59) ≡ false = ap (λ b. b == 59) (eqb-true symbol 35 (is_sign (symbol == 35) (not odd) h)) in
+    let sign : (symbol == 59) ≡ false = ap (λ b. b == 59) (eqb-true symbol 35 (and_first (symbol == 35) (not odd) h)) in
     let here = stop-yes odd symbol mask (ap (λ b. b || symbol == 59) h) in
     subst (IsFound odd (symbol ∷ mask)) (sym (here ∙ ap (λ b. (0, b)) sign))
     (record {

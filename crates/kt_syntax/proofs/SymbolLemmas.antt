@@ -78,6 +78,15 @@ absent_rest sought byte text absent =
     let place : position_or_len (λ b. b == sought) (byte ∷ text) ≡ suc (position_or_len (λ b. b == sought) text) = rw other (omega arith) in
     omega arith
 
+pub nowhere_any : (sought : ℕ) (text : Text) → IsAbsent sought text → list_any (λ b. b == sought) text ≡ false
+nowhere_any sought [] absent = refl
+nowhere_any sought (byte ∷ text) absent = rw (absent_first sought byte text absent) (nowhere_any sought text (absent_rest sought byte text absent))
+
+-- where none of many bytes stands, one of them doesn't
+pub none_of : (test others : ℕ → Bool) (text : Text) → ((byte : ℕ) → test byte ≡ true → others byte ≡ true) → IsFirstByte others text None
+    → IsFirstByte test text None
+none_of test others text among none = λ k low within is. none k low within (among _ is)
+
 not_shown : (sought symbol byte : ℕ) → (32 == sought) ≡ false → (256 == sought) ≡ false → IsShown symbol byte → (byte == sought) ≡ false → (symbol == sought) ≡ false
 not_shown sought symbol byte space reference shown other =
     ⊎_elim (λ (e : symbol ≡ byte). rw e other) (⊎_elim (λ (e : symbol ≡ 32). rw e space) (λ (e : symbol ≡ inside). rw e reference)) shown

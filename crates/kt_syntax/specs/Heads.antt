@@ -81,11 +81,15 @@ unfoldable pub first_recipe : Text → Option Text
 first_recipe line = if head_end line == comment_place line then None
     else Some (drop (past_blanks (head_end line + 1) (mask_of line)) line)
 
--- the parts of a rule line with this text, or none where it assigns a target-specific macro
-unfoldable pub rule_texts : Text → Text → Option RuleTexts
-rule_texts line text =
+-- the parts of a rule line with this text and first recipe line, or none where it assigns a target-specific macro
+abbrev pub parts_with : Text → Option Text → Option RuleTexts
+parts_with text recipe =
     if is_target_specific text (take (head_end text) (mask_of text)) then None
-    else Some (record { head = head_text text; recipe = first_recipe line })
+    else Some (record { head = head_text text; recipe = recipe })
+
+-- those of a rule line with this text
+unfoldable pub rule_texts : Text → Text → Option RuleTexts
+rule_texts line text = parts_with text (first_recipe line)
 
 -- those of a line as it stands in the file
 abbrev pub line_parts : Text → Option RuleTexts

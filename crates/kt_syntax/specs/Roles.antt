@@ -14,11 +14,12 @@ use Rattle.kt_syntax.specs.Mask.{mask_of}
 use Rattle.kt_syntax.specs.Kinds.{Kind, blank, assignment, directive, refused, rule, block_word, comment_place}
 use Rattle.kt_syntax.specs.Kinds.{line_kind, past_word}
 
--- whether a line begins with a blank, with a backslash, which may be that of a continuation, or with a letter that
--- words of blocks begin with
+-- whether a line begins with a blank, with a backslash, which may be that of a continuation, with a byte of a line's
+-- end, or with a letter that words of blocks begin with
 abbrev pub may_open : Text → Bool
 may_open [] = false
-may_open (byte ∷ text) = byte == 32 || byte == 9 || byte == 92 || byte == 100 || byte == 101 || byte == 105
+may_open (byte ∷ text) = byte == 32 || byte == 9 || byte == 92 || byte == 10 || byte == 13 || byte == 100 || byte == 101
+    || byte == 105
 
 -- the first word of a text that begins with no blank, before its comment
 unfoldable pub first_word : Text → Text

@@ -4,6 +4,7 @@ ghost use Rattle.std.specs.Cow.{cow_slice_items};
 ghost use Rattle.kt_syntax.specs.Comments.{backslashes, plain_of, uncommented_of};
 
 use crate::mask::Mask;
+use crate::own::own_sign_place;
 use kt_text::{has_byte, joined};
 use memchr::memchr;
 use std::alloc::{AllocError, Global};
@@ -29,9 +30,19 @@ fn uncommented<'a>(alloc: Global, text: &'a [u8]) -> Result<CowSlice<'a, u8>, Al
     ensures { IfOk result (λ plain. cow_slice_items plain ≡ uncommented_of text.now) }
 {
     if has_byte(text, b'#') {
-        return Ok(CowSlice::Owned(without_comment(alloc, text)?));
+        return uncommented_by_sign(alloc, text);
     }
     Ok(CowSlice::Borrowed(text))
+}
+
+// The same for a text with a number sign.
+fn uncommented_by_sign<'a>(alloc: Global, text: &'a [u8]) -> Result<CowSlice<'a, u8>, AllocError>
+    ensures { IfOk result (λ plain. cow_slice_items plain ≡ uncommented_of text.now) }
+{
+    match own_sign_place(text) {
+        Some(place) => Ok(CowSlice::Borrowed(&text[..place])),
+        None => Ok(CowSlice::Owned(without_comment(alloc, text)?)),
+    }
 }
 
 // The same for a text that is owned.
@@ -44,7 +55,7 @@ fn without_its_comment(alloc: Global, text: Vec<u8>) -> Result<Vec<u8>, AllocErr
     }
 }
 
-// The same for a text with a number sign.
+// The same by the symbols of the text.
 #[tactic(auto, unfolding(crate::specs::Comments::uncommented_of))]
 fn without_comment(alloc: Global, text: &[u8]) -> Result<Vec<u8>, AllocError>
     ensures { IfOk result (λ plain. plain.items ≡ uncommented_of text.now) }

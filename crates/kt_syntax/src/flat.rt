@@ -5,7 +5,6 @@ ghost use Rattle.kt_syntax.specs.Reading.{AreReadable, IsAhead, ReadsOn};
 use crate::part::Missing;
 use crate::short_step::ShortStep;
 use crate::step::Step;
-use std::collections::VecDeque;
 use std::marker::Model;
 
 /// The blocks of a text: a step for each of its lines, and the end that is missing, if one is.
@@ -14,7 +13,7 @@ use std::marker::Model;
 /// the steps stand for by `tree_of`.
 #[derive(Debug, Drop)]
 pub struct Blocks {
-    steps: VecDeque<ShortStep>,
+    steps: Vec<ShortStep>,
     missing: Option<Missing>,
 }
 
@@ -31,7 +30,7 @@ impl Model for Blocks {
 }
 
 impl Blocks {
-    pub(crate) fn new(steps: VecDeque<ShortStep>, missing: Option<Missing>) -> Blocks
+    pub(crate) fn new(steps: Vec<ShortStep>, missing: Option<Missing>) -> Blocks
         requires { AreReadable steps.items }
         ensures { result ≡ record { steps = steps.items; missing = missing } }
     {

@@ -4,16 +4,19 @@ ghost use Rattle.std.specs.Prelude.{MatchOption};
 ghost use Rattle.std.specs.List.{position_or_len};
 ghost use Rattle.kt_syntax.specs.Kinds.{comment_place};
 ghost use Rattle.kt_syntax.specs.Heads.{after_colon, after_modifiers, colon_place, first_recipe, head_end, head_text};
-ghost use Rattle.kt_syntax.specs.Heads.{is_modifier, is_target_specific, line_parts, texts_view};
+ghost use Rattle.kt_syntax.specs.Heads.{is_modifier, is_target_specific, line_parts, parts_with, rule_texts};
+ghost use Rattle.kt_syntax.specs.Heads.{texts_view};
 ghost use Rattle.kt_syntax.specs.Mask.{mask_of};
 ghost use Rattle.kt_syntax.specs.inner.Places.{first_symbols};
 
 use crate::kind::{assignment, is_word};
 use crate::line_text::LineText;
 use crate::mask::Mask;
+use crate::own::own_place;
 use crate::places::{comment_place, is_blank, past_blanks, past_line_blanks};
 use crate::symbol::Symbol;
 use kt_text::has_byte;
+use memchr::memchr3;
 use thiserror::Error;
 
 /// The parts of a rule line.
@@ -39,15 +42,65 @@ pub struct TargetSpecific;
 pub fn rule_parts<'t>(line: &'t LineText<'_>) -> Result<RuleParts<'t>, TargetSpecific>
     ensures { texts_view result ≡ line_parts line.now }
 {
-    let text = line.text();
+    match line.own_text() {
+        Some(text) => own_parts(text),
+        None => condensed_parts(line.text(), first_recipe(line.line())),
+    }
+}
+
+// Those of a line that is its own text. Most hold none of the bytes that cut a line.
+fn own_parts(text: &[u8]) -> Result<RuleParts<'_>, TargetSpecific>
+    ensures { texts_view result ≡ rule_texts text.now text.now }
+{
+    match memchr3(b'#', b';', b'=', text) {
+        None => Ok(RuleParts {
+            head: text,
+            recipe: None,
+        }),
+        Some(_) => own_parts_by_signs(text),
+    }
+}
+
+// The same by the places of those bytes.
+fn own_parts_by_signs(text: &[u8]) -> Result<RuleParts<'_>, TargetSpecific>
+    ensures { texts_view result ≡ rule_texts text.now text.now }
+{
     let comment = comment_place(text);
     let end = head_end(text, comment);
+    let recipe = recipe_at(text, comment, end);
+    parts_at(text, comment, end, recipe)
+}
+
+// Those of a line with this text and recipe.
+fn condensed_parts<'t>(
+    text: &'t [u8],
+    recipe: Option<&'t [u8]>,
+) -> Result<RuleParts<'t>, TargetSpecific>
+    ensures { texts_view result ≡ parts_with text.now (option_map (λ found. found.now) recipe.entry) }
+{
+    let comment = comment_place(text);
+    let end = head_end(text, comment);
+    parts_at(text, comment, end, recipe)
+}
+
+// The same, where the head ends at a place.
+fn parts_at<'t>(
+    text: &'t [u8],
+    comment: usize,
+    end: usize,
+    recipe: Option<&'t [u8]>,
+) -> Result<RuleParts<'t>, TargetSpecific>
+    requires before { comment ≡ comment_place text.now }
+    requires end { end ≡ head_end text.now }
+    requires within { end ≤ length text.now }
+    ensures { texts_view result ≡ parts_with text.now (option_map (λ found. found.now) recipe.entry) }
+{
     if is_target_specific(text, end) {
         return Err(TargetSpecific);
     }
     Ok(RuleParts {
         head: head_text(text, comment, end),
-        recipe: first_recipe(line.line()),
+        recipe,
     })
 }
 
@@ -72,6 +125,17 @@ fn first_recipe(line: &[u8]) -> Option<&[u8]>
 {
     let comment = comment_place(line);
     let end = head_end(line, comment);
+    recipe_at(line, comment, end)
+}
+
+// The same, where the head ends at a place.
+fn recipe_at(line: &[u8], comment: usize, end: usize) -> Option<&[u8]>
+    requires before { comment ≡ comment_place line.now }
+    requires end { end ≡ head_end line.now }
+    requires order { end ≤ comment }
+    requires within { comment ≤ length line.now }
+    ensures { option_map (λ recipe. recipe.now) result ≡ first_recipe line.now }
+{
     if end == comment {
         return None;
     }
@@ -95,6 +159,20 @@ fn head_end(text: &[u8], comment: usize) -> usize
 // The same for a line with a semicolon, which may stand in a reference or in the comment.
 #[tactic(auto, unfolding(crate::specs::Heads::head_end))]
 fn semicolon_place(text: &[u8], comment: usize) -> usize
+    requires before { comment ≡ comment_place text.now }
+    requires within { comment ≤ length text.now }
+    ensures value { result ≡ head_end text.now }
+    ensures bound { result ≤ comment }
+{
+    match own_place(text, b';', comment) {
+        Some(place) => place,
+        None => masked_semicolon(text, comment),
+    }
+}
+
+// The same by the symbols of the line.
+#[tactic(auto, unfolding(crate::specs::Heads::head_end))]
+fn masked_semicolon(text: &[u8], comment: usize) -> usize
     requires before { comment ≡ comment_place text.now }
     requires within { comment ≤ length text.now }
     ensures value { result ≡ head_end text.now }

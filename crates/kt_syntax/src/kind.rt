@@ -5,7 +5,7 @@ ghost use Rattle.std.specs.Str.{bytes_eq};
 ghost use Rattle.kt_syntax.specs.Kinds.{assignment_parts, block_word, directive_of, ends_name, include_word};
 ghost use Rattle.kt_syntax.specs.Kinds.{is_refused_word, kind_by_word, kind_of, kind_view, name_end, operator_of};
 ghost use Rattle.kt_syntax.specs.Kinds.{line_kind, worded};
-ghost use Rattle.kt_syntax.specs.inner.Leading.{may_be_word};
+ghost use Rattle.kt_syntax.specs.inner.Leading.{begins_comment, may_be_word};
 ghost use Rattle.kt_syntax.specs.Mask.{mask_of};
 ghost use Rattle.kt_syntax.specs.inner.Places.{ArePartsAt, IsBetween, StandsWithin, first_symbols};
 
@@ -34,10 +34,20 @@ pub fn classify<'t>(line: &'t LineText<'_>, tab: bool) -> Form<'t>
 pub fn classify_text(text: &[u8], tab: bool) -> Form<'_>
     ensures { kind_view result ≡ kind_of text.now tab }
 {
+    if begins_comment(text) {
+        return Form::Blank;
+    }
     match leading_directive(text) {
         Some((word, rest)) if !tab => Form::Directive(word, rest),
         _ => other_kind(text, tab),
     }
+}
+
+// Whether nothing stands before the comment, not even a blank.
+fn begins_comment(text: &[u8]) -> bool
+    ensures { result ≡ begins_comment text.now }
+{
+    matches!(text, [] | [b'#', ..])
 }
 
 // The same, where the line's begin doesn't tell that it is a directive of blocks.

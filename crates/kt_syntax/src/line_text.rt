@@ -1,5 +1,5 @@
 //! Lines as they stand in their file, with their continuations condensed.
-ghost use Rattle.std.specs.Prelude.{◌≡◌, IfOk};
+ghost use Rattle.std.specs.Prelude.{◌≡◌, IfOk, IfSome};
 ghost use Rattle.kt_text.specs.Lines.{condensed_of};
 
 use kt_text::{condensed, has_byte};
@@ -54,6 +54,17 @@ impl<'a> LineText<'a> {
         ensures { result.now ≡ self.now }
     {
         self.line
+    }
+
+    // The line, where it is its own text.
+    pub(crate) fn own_text(&self) -> Option<&[u8]>
+        ensures value { IfSome result (λ text. text.now ≡ self.now) }
+        ensures own { IfSome result (λ text. condensed_of self.now ≡ self.now) }
+    {
+        match &self.condensed {
+            None => Some(self.line),
+            Some(_) => None,
+        }
     }
 
     /// Its text.

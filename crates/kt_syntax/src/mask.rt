@@ -64,10 +64,40 @@ impl<'a> Mask<'a> {
         ensures symbol { result ≡ slice_index self.old count }
         ensures rest { self.new ≡ drop (count + 1) self.old }
     {
-        for _place in 0..count {
-            let _ = self.next();
+        let mut place = 0;
+        while place < count {
+            place += self.pass(count - place);
         }
         self.next().unwrap_or(Symbol::of(0))
+    }
+
+    // Takes one symbol, or more, up to a number of them, and returns how many.
+    fn pass(&mut self, most: usize) -> usize
+        requires { 0 < most }
+        ensures rest { self.new ≡ drop result self.old }
+        ensures some { 0 < result }
+        ensures bound { result ≤ most }
+    {
+        let own = self.pass_own(most);
+        if own > 0 {
+            return own;
+        }
+        let _ = self.next();
+        1
+    }
+
+    // Takes the symbols, up to a number of them, that are bytes of their own, without a look at each.
+    fn pass_own(&mut self, most: usize) -> usize
+        ensures rest { self.new ≡ drop result self.old }
+        ensures bound { result ≤ most }
+    {
+        if self.skip > 0 || self.odd {
+            return 0;
+        }
+        let own = own_length(self.rest, most.min(self.left));
+        self.rest = &self.rest[own..];
+        self.left -= own;
+        own
     }
 }
 

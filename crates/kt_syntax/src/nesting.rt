@@ -1,5 +1,5 @@
 //! The blocks of a text found, by one pass over its lines and one back over their parts.
-ghost use Rattle.std.specs.Prelude.{◌≡◌, length, IfOk};
+ghost use Rattle.std.specs.Prelude.{◌≡◌, length, reverse, IfOk};
 ghost use Rattle.kt_text.specs.Lines.{AreInOrder};
 ghost use Rattle.kt_syntax.specs.Blocks.{blocks_of, tree_of};
 ghost use Rattle.kt_syntax.specs.Grammar.{IsTreeOf};
@@ -15,7 +15,6 @@ use crate::short_step::ShortStep;
 use crate::step::Places;
 use kt_text::{Line, Mark};
 use std::alloc::{AllocError, Global};
-use std::collections::VecDeque;
 
 /// The blocks of a text with these lines, which are its own, as `logical_lines` gives them.
 ///
@@ -66,7 +65,7 @@ fn parts(
     ensures parts { IfOk result (λ found. found.0.items ≡ parts_of (heads_of text.now lines.now)) }
     ensures missing { IfOk result (λ found. found.1 ≡ missing_end (heads_of text.now lines.now)) }
 {
-    let mut parts = Vec::new(alloc);
+    let mut parts = Vec::with_capacity(alloc, lines.len())?;
     let mut scan = Scan::new(alloc);
     for line in lines {
         let head = head_of(alloc, text, &line.line())?;
@@ -77,14 +76,23 @@ fn parts(
 }
 
 // The steps of lines with these parts.
-fn steps(alloc: Global, mut parts: Vec<Part>) -> Result<VecDeque<ShortStep>, AllocError>
+fn steps(alloc: Global, parts: Vec<Part>) -> Result<Vec<ShortStep>, AllocError>
     ensures { IfOk result (λ steps. steps.items ≡ steps_from 0 parts.items) }
 {
-    let mut steps = VecDeque::new(alloc);
+    let mut steps = steps_from_last(alloc, parts)?;
+    steps.reverse();
+    Ok(steps)
+}
+
+// The same from the last line to the first.
+fn steps_from_last(alloc: Global, mut parts: Vec<Part>) -> Result<Vec<ShortStep>, AllocError>
+    ensures { IfOk result (λ steps. steps.items ≡ reverse (steps_from 0 parts.items)) }
+{
+    let mut steps = Vec::with_capacity(alloc, parts.len())?;
     let mut places = Places::at_end(alloc, parts.len());
     while let Some(part) = parts.pop() {
         let step = places.step(part, parts.len())?;
-        steps.push_front(ShortStep::of(step)?)?;
+        steps.push(ShortStep::of(step)?)?;
     }
     Ok(steps)
 }

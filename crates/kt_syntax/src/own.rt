@@ -1,14 +1,16 @@
 //! Bytes that are their own symbols, as nearly all bytes are where a walk over a line begins: they are taken in runs.
-ghost use Rattle.std.specs.Prelude.{◌≡◌, ◌≤◌, drop, false, length, slice_index, take, IfSome};
+ghost use Rattle.std.specs.Prelude.{◌≡◌, ◌≤◌, ◌==◌, drop, false, length, slice_index, take, IfSome};
 ghost use Rattle.std.specs.List.{position_or_len, prefix_len};
 ghost use Rattle.kt_text.specs.Words.{is_blank};
-ghost use Rattle.kt_syntax.specs.Kinds.{name_end, past_blanks, past_word};
+ghost use Rattle.kt_syntax.specs.Comments.{uncommented_of};
+ghost use Rattle.kt_syntax.specs.Kinds.{comment_place, name_end, past_blanks, past_word};
 ghost use Rattle.kt_syntax.specs.Mask.{mask_of};
 ghost use Rattle.kt_syntax.specs.inner.OwnRuns.{ends_own_name, ends_own_word, is_mark};
 ghost use Rattle.kt_syntax.specs.inner.Places.{IsBetween, first_symbols};
 
 use crate::mask::own_length;
 use kt_text::is_blank;
+use memchr::memchr;
 
 // The first place from a place on where no blank stands, or the end; `None` where that takes a look at symbols.
 #[tactic(auto, using(crate::proofs::OwnRuns::blanks_passed))]
@@ -61,6 +63,43 @@ pub(crate) fn past_own_name(text: &[u8], begin: usize, end: usize) -> usize
         return begin;
     }
     begin + name_run(&text[begin..end])
+}
+
+// The first place up to an end where a byte stands outside references, or that end; `None` where that takes a look at
+// symbols.
+pub(crate) fn own_place(text: &[u8], byte: u8, end: usize) -> Option<usize>
+    requires unmarked { is_mark byte ≡ false }
+    requires within { end ≤ length text.now }
+    ensures value { IfSome result (λ place. place
+        ≡ position_or_len (λ symbol. symbol == byte) (first_symbols end text.now)) }
+    ensures bound { IfSome result (λ place. place ≤ end) }
+{
+    let place = first_place(byte, &text[..end]);
+    if has_mark(text, place) {
+        return None;
+    }
+    Some(place)
+}
+
+// Where the comment of a line begins, or the line's end; `None` where that takes a look at symbols.
+pub(crate) fn own_sign_place(text: &[u8]) -> Option<usize>
+    ensures value { IfSome result (λ place. place ≡ comment_place text.now) }
+    ensures kept { IfSome result (λ place. take place text.now ≡ uncommented_of text.now) }
+    ensures bound { IfSome result (λ place. place ≤ length text.now) }
+{
+    let place = first_place(b'#', text);
+    if has_mark(text, place) {
+        return None;
+    }
+    Some(place)
+}
+
+// The first place where a byte stands, or the text's end.
+fn first_place(byte: u8, text: &[u8]) -> usize
+    ensures value { result ≡ position_or_len (λ other. other == byte) text.now }
+    ensures bound { result ≤ length text.now }
+{
+    memchr(byte, text).unwrap_or(text.len())
 }
 
 // Whether a dollar or a backslash stands before a place of a line.

@@ -7,7 +7,7 @@ ghost use Rattle.kt_syntax.specs.Mask.{mask_of};
 ghost use Rattle.kt_syntax.specs.inner.Places.{IsBetween, first_symbols};
 
 use crate::mask::Mask;
-use crate::own::{past_own_blanks, past_own_word};
+use crate::own::{own_sign_place, past_own_blanks, past_own_word};
 use crate::symbol::Symbol;
 use kt_text::has_byte;
 
@@ -23,8 +23,19 @@ pub(crate) fn comment_place(text: &[u8]) -> usize
 }
 
 // The same for a line with a number sign, which may be quoted or stand in a reference.
-#[tactic(auto, unfolding(crate::specs::Kinds::before_comment))]
 fn sign_place(text: &[u8]) -> usize
+    ensures value { result ≡ comment_place text.now }
+    ensures bound { result ≤ length text.now }
+{
+    match own_sign_place(text) {
+        Some(place) => place,
+        None => masked_sign_place(text),
+    }
+}
+
+// The same by the symbols of the line.
+#[tactic(auto, unfolding(crate::specs::Kinds::before_comment))]
+fn masked_sign_place(text: &[u8]) -> usize
     ensures value { result ≡ comment_place text.now }
     ensures bound { result ≤ length text.now }
 {

@@ -9,7 +9,7 @@ use crate::form::{Directive, Form};
 use crate::kind::{block_word, classify_text};
 use crate::leading::leading_block_word;
 use crate::places::{comment_place, past_word};
-use kt_text::{Line, joined};
+use kt_text::{Line, joined, trim_start};
 use std::alloc::{AllocError, Global};
 
 /// What a line is to the blocks round it.
@@ -55,22 +55,26 @@ fn line_text<'a>(text: &'a [u8], line: &Line) -> &'a [u8]
     &text[line.span.start..line.span.end]
 }
 
-// The role of a line. One that begins with a tab has none, whatever stands on it.
+// The role of a line. One that begins with a tab has none, whatever stands on it, and few others begin as those do
+// that have one.
 fn line_role(alloc: Global, line: &[u8], tab: bool) -> Result<Role, AllocError>
     ensures { IfOk result (λ role. role ≡ role_of (line_kind line.now tab)) }
 {
     if tab {
         return Ok(Role::Ordinary);
     }
+    if !may_open(line) {
+        return Ok(Role::Ordinary);
+    }
     let text = joined(alloc, line)?;
     Ok(role_of(text.as_slice()))
 }
 
-// The role of a line that begins with no tab. Few have one, and only those are classified here.
+// The role of a text that begins with no tab. Behind its blanks it begins as the whole line has to.
 fn role_of(text: &[u8]) -> Role
     ensures { result ≡ role_of (kind_of text.now false) }
 {
-    if !may_open(text) {
+    if !may_open(trim_start(text)) {
         return Role::Ordinary;
     }
     classified_role(text)
@@ -78,15 +82,21 @@ fn role_of(text: &[u8]) -> Role
 
 // Whether a line begins with a blank, with what may stand for one, or as the words of conditionals
 // and `define` and their ends do.
-fn may_open(text: &[u8]) -> bool
-    ensures { result ≡ may_open text.now }
+fn may_open(line: &[u8]) -> bool
+    ensures { result ≡ may_open line.now }
 {
-    match text {
-        [first, ..] => matches!(*first, b' ' | b'\t' | b'\\' | b'd' | b'e' | b'i'),
+    match line {
+        [first, ..] => {
+            matches!(
+                *first,
+                b' ' | b'\t' | b'\\' | b'\n' | b'\r' | b'd' | b'e' | b'i'
+            )
+        }
         [] => false,
     }
 }
 
+// The same by the kind of the text.
 #[tactic(auto, unfolding(crate::specs::Roles::role_of))]
 fn classified_role(text: &[u8]) -> Role
     ensures { result ≡ role_of (kind_of text.now false) }

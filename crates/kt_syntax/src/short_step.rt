@@ -4,6 +4,7 @@ ghost use Rattle.kt_syntax.specs.inner.ShortSteps.{step_with};
 
 use crate::part::Part;
 use crate::step::Step;
+use kt_list::narrow;
 use std::alloc::AllocError;
 use std::marker::Model;
 
@@ -75,13 +76,4 @@ impl ShortStep {
             Part::Stray(stray) => Step::Stray(stray),
         }
     }
-}
-
-fn narrow(place: usize) -> Result<u32, AllocError>
-    ensures { IfOk result (λ narrowed. narrowed ≡ place) }
-{
-    if place > 4_294_967_295 {
-        return Err(AllocError);
-    }
-    Ok(place as u32)
 }

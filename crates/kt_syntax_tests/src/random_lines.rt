@@ -238,9 +238,9 @@ fn tells_random_lines(rt: HostRuntime) -> Result<(), Fail> {
         let tab = seed % 5 == 0;
         let (kind, first, second) = plainly(&line, tab);
         let (found_kind, found_first, found_second) = told(classify_text(&line.text, tab), first);
-        assert_eq!(rt; found_kind, kind);
-        assert_eq!(rt; found_first, first);
-        assert_eq!(rt; found_second, second);
+        assert_eq!(rt; found_kind, kind, "of {seed}");
+        assert_eq!(rt; found_first, first, "of {seed}");
+        assert_eq!(rt; found_second, second, "of {seed}");
     }
     Ok(())
 }

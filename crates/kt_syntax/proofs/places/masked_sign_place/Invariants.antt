@@ -1,6 +1,6 @@
 use Rattle.std.proofs.Common.{◌≡◌, ◌+◌, length}
 use Rattle.kt_syntax.specs.Kinds.{before_comment, comment_place}
-use Rattle.kt_syntax.proofs.places.sign_place.Given as goal
+use Rattle.kt_syntax.proofs.places.masked_sign_place.Given as goal
 
 abbrev pub invariant-loop-symbol : goal.invariant-loop-symbol
 invariant-loop-symbol l = record {

@@ -1,7 +1,7 @@
 use Rattle.std.proofs.Common.{◌≡◌, ◌+◌, ◌==◌, length}
 use Rattle.std.specs.List.{position_or_len}
 use Rattle.kt_syntax.specs.Heads.{head_end}
-use Rattle.kt_syntax.proofs.heads.semicolon_place.Given as goal
+use Rattle.kt_syntax.proofs.heads.masked_semicolon.Given as goal
 
 abbrev pub invariant-loop-symbol : goal.invariant-loop-symbol
 invariant-loop-symbol l = record {

@@ -1,0 +1,5 @@
+use Rattle.kt_syntax.proofs.HeadLemmas.{uncut_parts}
+use Rattle.kt_syntax.proofs.heads.own_parts.Goals as goal
+
+pub returns-in-None : goal.returns-in-None
+returns-in-None c = uncut_parts c.args.text.now c.in-None.ensures
