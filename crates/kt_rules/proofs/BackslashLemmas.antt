@@ -1,8 +1,8 @@
 -- Texts without a backslash, in which nothing is quoted, and texts without a colon, which aren't cut.
-use Rattle.std.proofs.Common.{◌≡◌, ℕ, suc, ◌+◌, ◌<◌, ◌≤◌, Bool, false, [], ◌∷◌, Option, None, Some, length, refl, sym, ◌∙◌, ap, arith, true≢false, get_or, take, drop}
+use Rattle.std.proofs.Common.{◌≡◌, ℕ, zero, suc, ◌+◌, ◌-◌, ◌<◌, ◌≤◌, Bool, false, [], ◌∷◌, Option, None, Some, length, refl, sym, ◌∙◌, ap, arith, true≢false, get_or, take, drop}
 use Rattle.std.specs.Prelude.{◌==◌, if◌then◌else◌}
 use Rattle.std.specs.List.{list_any, position_or_len}
-use Rattle.std.proofs.lemmas.Bool.{eq-eqb, le-ltb, or_parts}
+use Rattle.std.proofs.lemmas.Bool.{eq-eqb, eqb-true, false_from_ne_true, le-ltb, ne_eqb, or_parts}
 use Rattle.std.proofs.lemmas.List.Folds.{list_any_at}
 use Rattle.memchr.specs.Find.{IsFirstByte, OccursAt, is_byte}
 use Rattle.kt_text.specs.Words.{Text}
@@ -11,10 +11,10 @@ use Rattle.kt_text.proofs.MatchLemmas.{list_any-place}
 use Rattle.kt_text.proofs.PlaceLemmas.{first_byte_place, occurs_found}
 use Rattle.kt_rules.specs.declared.cutting.Cut.TheVariants.{Colon}
 use Rattle.kt_rules.specs.Names.{cut_place, name_of, unquoted, without_dots}
+use Rattle.kt_rules.specs.Cuts.{ends_in_backslash}
 use Rattle.kt_rules.specs.RuleLine.{colon_cut}
-
-abbrev is_backslash : ℕ → Bool
-is_backslash byte = byte == 92
+use Rattle.kt_rules.specs.inner.Telling.{is_backslash}
+use Rattle.kt_list.proofs.general.Numbers.{less_one}
 
 one_stays : (byte : ℕ) (text : Text) → is_backslash byte ≡ false → unquoted (byte ∷ text) ≡ byte ∷ unquoted text
 unfolding unquoted
@@ -58,11 +58,47 @@ not_found text found =
 at_end : (place size : ℕ) (cut : Option (Text × Text)) → place ≡ size → (if place == size then None else cut) ≡ None
 at_end place size cut h = rw (eq-eqb place size h) refl
 
-pub no_colon : (text : Text) → IsFirstByte (is_byte 58) text None → colon_cut text ≡ None
+pub never_colon : (text : Text) → list_any (is_byte 58) text ≡ false → colon_cut text ≡ None
 unfolding colon_cut
-no_colon text found =
+never_colon text none =
     let place = cut_place Colon false text in
-    at_end place (length text) (Some (take place text, drop (place + 1) text)) (never_cut false text (not_found text found))
+    at_end place (length text) (Some (take place text, drop (place + 1) text)) (never_cut false text none)
+
+pub no_colon : (text : Text) → IsFirstByte (is_byte 58) text None → colon_cut text ≡ None
+no_colon text found = never_colon text (not_found text found)
+
+-- whether a text ends in a backslash up to a place, by the byte before it
+last_tells : (past : Bool) (text : Text) (n : ℕ) → n < length text → ends_in_backslash past (take (suc n) text) ≡ (get_or text n 0 == 92)
+last_tells past [] n within = absurd (omega (arith, within))
+last_tells past (byte ∷ text) zero within = refl
+last_tells past (byte ∷ text) (suc n) within = last_tells (byte == 92) text n (omega (arith, within))
+
+pub marked_at : (text : Text) (place : ℕ) → 0 < place → place ≤ length text
+    → ends_in_backslash false (take place text) ≡ (get_or text (place - 1) 0 == 92)
+marked_at text zero some within = absurd (omega (arith, some))
+marked_at text (suc n) some within = last_tells false text n (omega (arith, within)) ∙ ap (λ (k : ℕ). get_or text k 0 == 92) (sym (less_one n))
+
+-- a text is cut at its first colon, unless a backslash stands before that
+cut_first : (past : Bool) (text : Text) (n : ℕ) → n < length text → ((k : ℕ) → k < n → (get_or text k 0 == 58) ≡ false)
+    → get_or text n 0 ≡ 58 → ends_in_backslash past (take n text) ≡ false → cut_place Colon past text ≡ n
+unfolding cut_place
+cut_first past [] n within before is plain = absurd (omega (arith, within))
+cut_first past (byte ∷ text) zero within before is plain = rw (is, plain) refl
+cut_first past (byte ∷ text) (suc n) within before is plain =
+    uncut past byte text (before 0 (omega arith))
+    ∙ ap suc (cut_first (byte == 92) text n (omega (arith, within)) (λ k l. before (suc k) (omega (arith, l))) is plain)
+
+not_at_end : (place size : ℕ) (cut : Text × Text) → place < size → (if place == size then None else Some cut) ≡ Some cut
+not_at_end place size cut within = rw (ne_eqb place size (λ e. absurd (omega (arith, e, within)))) refl
+
+pub first_colon : (text : Text) (place : ℕ) → IsFirstByte (is_byte 58) text (Some place) → ends_in_backslash false (take place text) ≡ false
+    → colon_cut text ≡ Some (take place text, drop (place + 1) text)
+unfolding colon_cut
+first_colon text place found plain =
+    let within : place < length text = found.0.high in
+    let at : cut_place Colon false text ≡ place =
+    cut_first false text place within (λ k l. false_from_ne_true _ (found.0.before k (omega arith) l)) (eqb-true _ _ found.1) plain in
+    rw at (not_at_end place (length text) (take place text, drop (place + 1) text) within)
 
 -- a word without a backslash spells itself
 pub names_itself : (word : Text) → list_any is_backslash word ≡ false → name_of word ≡ without_dots word

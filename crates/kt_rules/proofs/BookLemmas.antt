@@ -3,12 +3,14 @@ use Rattle.std.proofs.Common.{◌≡◌, ℕ, ◌+◌, Bool, true, false, cond, 
 use Rattle.std.specs.Option.{option_map, option_and_then, option_or, option_map_or}
 use Rattle.std.specs.List.{flat_map, cons_option, list_any}
 use Rattle.std.specs.Str.{bytes_eq}
-use Rattle.std.proofs.lemmas.List.{append-nil}
+use Rattle.std.proofs.lemmas.Bool.{or_parts}
+use Rattle.std.proofs.lemmas.List.{append-nil, length_push}
 use Rattle.std.proofs.lemmas.List.Elements.{filter-append}
 use Rattle.std.proofs.lemmas.List.Folds.{list_any-append}
 use Rattle.std.proofs.lemmas.List.Quantifiers.{all_pairs_push}
 use Rattle.std.proofs.lemmas.Grind.{flat_map-append, fold-append}
 use Rattle.std.proofs.lemmas.Slice.Eq.{bytes_eq-Decides}
+use Rattle.kt_list.proofs.general.Booleans.{or_nothing}
 use Rattle.kt_text.specs.Words.{Text}
 use Rattle.kt_rules.specs.declared.entry.Target.{Target}
 use Rattle.kt_rules.specs.declared.book.spot.Spot.{Spot}
@@ -20,7 +22,7 @@ use Rattle.kt_rules.specs.Names.{is_among, with_name}
 use Rattle.kt_rules.specs.Suffixes.{suffixes_of, suffixes_after, start_suffixes}
 use Rattle.kt_rules.specs.Book.{AreApart, GroupsStandAlone, is_made, made_targets, target_rules, rules_of, recipes_of, has_recipe, is_double, is_group, phony_of, is_phony, xor, differ_in_colons, is_beside_group, both_colons_in, beside_group_in, two_recipes_in, refusal_of}
 use Rattle.kt_rules.specs.Slots.{spots_at, rules_in, slot_rule, target_rule, spot_rule, found, first_of, spot_at, target_spots, spots_from, spots_for, AreBefore, AreIn, GrewIn, GotSpots, GotRecipes, AreAlike, IsIndexOf, IsKept}
-use Rattle.kt_rules.proofs.FindLemmas.{find_none, or_split, some_none}
+use Rattle.kt_rules.proofs.FindLemmas.{find_none, some_none}
 use Rattle.kt_rules.proofs.GroupLemmas.{apart_last}
 use Rattle.kt_rules.proofs.NoteLemmas.{names_after}
 use Rattle.kt_rules.proofs.SlotLemmas.{rules_in-none, rules_in-some, found-before, found-in_none, found-append, before_more, before_in, before_append, in_spots_from, first_target, put_last, slot_last}
@@ -100,13 +102,10 @@ found-for slots rule name false = refl
 
 -- ---- what an index finds
 
-longer : {A : Type 0} (xs : List A) (x : A) → length (xs ++ x ∷ []) ≡ length xs + 1
-longer xs x = length-append xs (x ∷ [])
-
 before_new : (slots : List (Option Rule)) (slot : Option Rule) (spots more : List Spot) → AreBefore (length slots) spots → AreIn (length slots) more
     → AreBefore (length (slots ++ slot ∷ [])) (spots ++ more)
 before_new slots slot spots more h k =
-    rw (longer slots slot) (before_append (length slots + 1) spots more (before_more (length slots) spots h) (before_in (length slots) more k))
+    rw (length_push slots slot) (before_append (length slots + 1) spots more (before_more (length slots) spots h) (before_in (length slots) more k))
 
 -- an entry that isn't added leaves what an index finds, whatever was noted
 pub tells_none : (slots : List (Option Rule)) (old new : Notes) (rules : Text → List (Rule × Target))
@@ -149,10 +148,6 @@ tells_more slots rule old new first later b told got is = record {
 
 -- ---- rules that are alike
 
-pub or_false : (b : Bool) → (b || false) ≡ b
-or_false true = refl
-or_false false = refl
-
 or_same : (b : Bool) → (b || b) ≡ b
 or_same true = refl
 or_same false = refl
@@ -174,7 +169,7 @@ xor_split false false r h = (refl, h)
 
 all_same : {A : Type 0} (f : Bool → Bool) (test : A → Bool) (t : Bool) (xs : List A) → list_any (λ y. xor (test y) t) xs ≡ false
     → (f t || list_any (λ y. f (test y)) xs) ≡ f t
-all_same f test t [] h = or_false (f t)
+all_same f test t [] h = or_nothing (f t)
 all_same f test t (y ∷ ys) h =
     let one = xor_split (test y) t (list_any (λ z. xor (test z) t) ys) h in
     ap (λ c. f t || (f c || list_any (λ z. f (test z)) ys)) one.0
@@ -243,7 +238,7 @@ beside_alike true test [] h = refl
 beside_alike true test (x ∷ xs) h = absurd (true≢false h)
 beside_alike false test [] h = refl
 beside_alike false test (x ∷ xs) h =
-    let one = or_split (test x) (list_any (λ y. test y) xs) h in
+    let one = or_parts (test x) (list_any (λ y. test y) xs) h in
     ap (λ c. xor c false || list_any (λ y. xor (test y) false) xs) one.0 ∙ beside_alike false test xs one.1
 
 groups_more : (rules : List Rule) (rule : Rule) (name : Text) (b : Bool) → is_some rule.recipe ≡ b
@@ -286,14 +281,14 @@ among_with names name other = by (is_among names name) refl
     known e true f =
         let there : is_among names other ≡ true = ap (is_among names) ((bytes_eq-Decides other name).0 f) ∙ e in
         there ∙ sym (ap (λ c. c || true) there)
-    known e false f = sym (or_false (is_among names other))
+    known e false f = sym (or_nothing (is_among names other))
 
     by : (b : Bool) → is_among names name ≡ b → is_among (if b then names else names ++ name ∷ []) other ≡ (is_among names other || bytes_eq other name)
     by true e = known e (bytes_eq other name) refl
-    by false e = list_any-append (bytes_eq other) names (name ∷ []) ∙ ap (λ c. is_among names other || c) (or_false (bytes_eq other name))
+    by false e = list_any-append (bytes_eq other) names (name ∷ []) ∙ ap (λ c. is_among names other || c) (or_nothing (bytes_eq other name))
 
 pub among_fold : (names added : List Text) (other : Text) → is_among (fold with_name names added) other ≡ (is_among names other || is_among added other)
-among_fold names [] other = sym (or_false (is_among names other))
+among_fold names [] other = sym (or_nothing (is_among names other))
 among_fold names (name ∷ added) other =
     among_fold (with_name names name) added other
     ∙ ap (λ c. c || is_among added other) (among_with names name other)

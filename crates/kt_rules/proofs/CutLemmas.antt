@@ -4,6 +4,8 @@ use Rattle.std.specs.Prelude.{◌==◌, ◌&&◌, ◌||◌, flat_map, option_map
 use Rattle.std.specs.List.{list_all}
 use Rattle.std.proofs.lemmas.Bool.{eqb-true, eq-eqb}
 use Rattle.std.proofs.lemmas.List.{append_assoc}
+use Rattle.kt_list.proofs.general.Places.{head_is, none_in, tail_is}
+use Rattle.kt_list.proofs.general.Booleans.{and_nothing}
 use Rattle.kt_text.specs.Words.{Text}
 use Rattle.kt_rules.specs.declared.cutting.Cut.TheVariants.{Colon}
 use Rattle.kt_rules.specs.Names.{cuts, cut_place, after_dots}
@@ -86,16 +88,6 @@ colon_quoted : (before : Bool) (byte : ℕ) → cuts Colon before byte ≡ false
 colon_quoted true byte h e = refl
 colon_quoted false byte h e = absurd (true≢false (rw e at h))
 
-none_in : {A : Type 0} (x : A) (front back : List A) → [] ≡ front ++ x ∷ back → ⊥
-none_in x [] back h = cc
-none_in x (y ∷ front) back h = cc
-
-head_is : {A : Type 0} (x y : A) (xs ys : List A) → x ∷ xs ≡ y ∷ ys → x ≡ y
-head_is x y xs ys h = cc
-
-tail_is : {A : Type 0} (x y : A) (xs ys : List A) → x ∷ xs ≡ y ∷ ys → xs ≡ ys
-tail_is x y xs ys h = cc
-
 -- a byte that doesn't cut, before a text of quoted colons
 quoted_more : (before : Bool) (byte : ℕ) (text : Text) → cuts Colon before byte ≡ false → HasQuotedColons (byte == 92) text → HasQuotedColons before (byte ∷ text)
 quoted_more before byte text h rest [] back e = colon_quoted before byte h (head_is byte 58 text back e)
@@ -151,10 +143,6 @@ record LeftBehind (past : Bool) (name left : Text) : Type 0 where
   are_slashes : list_all (list_all is_slash) slashes ≡ true
   no_dot_slash : begins_with_dot_slash left ≡ false
   no_slash : ((past || is_some_text slashes) && begins_with_slash left) ≡ false
-
-and_false : (a : Bool) → (a && false) ≡ false
-and_false true = refl
-and_false false = refl
 
 or_false : (a b : Bool) → ((a || false) && b) ≡ (a && b)
 or_false true b = refl
@@ -214,7 +202,7 @@ bare_left past name d s = record {
 
 left_one : (past : Bool) (byte : ℕ) (b : Bool) → (past && byte == 47) ≡ b → LeftBehind past (byte ∷ []) (if b then [] else byte ∷ [])
 left_one past byte true h = slash_more past byte [] [] h (bare_left true [] refl refl)
-left_one past byte false h = bare_left past (byte ∷ []) (and_false (byte == 46)) h
+left_one past byte false h = bare_left past (byte ∷ []) (and_nothing (byte == 46)) h
 
 left_more : (past : Bool) (byte next : ℕ) (text : Text) (b c : Bool) → (past && byte == 47) ≡ b → (byte == 46 && next == 47) ≡ c
     → LeftBehind true (next ∷ text) (after_dots true (next ∷ text)) → LeftBehind true text (after_dots true text)
@@ -225,7 +213,7 @@ left_more past byte next text false false h g one two = bare_left past (byte ∷
 
 left_after : (past : Bool) (name : Text) → LeftBehind past name (after_dots past name)
 unfolding after_dots
-left_after past [] = bare_left past [] refl (and_false past)
+left_after past [] = bare_left past [] refl (and_nothing past)
 left_after past (byte ∷ []) = left_one past byte (past && byte == 47) refl
 left_after past (byte ∷ next ∷ text) =
     left_more past byte next text (past && byte == 47) (byte == 46 && next == 47) refl refl (left_after true (next ∷ text)) (left_after true text)

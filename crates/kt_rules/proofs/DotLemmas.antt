@@ -5,6 +5,7 @@ use Rattle.std.specs.List.{prefix_len}
 use Rattle.std.specs.Cmp.Lexicographic.{pointwise}
 use Rattle.std.proofs.lemmas.Bool.{cases_Bool, false≢true}
 use Rattle.std.proofs.lemmas.List.{take_rest}
+use Rattle.kt_list.proofs.general.Booleans.{and_nothing}
 use Rattle.kt_text.proofs.PlaceLemmas.{drop-prefix_len}
 use Rattle.kt_text.specs.Words.{Text}
 use Rattle.kt_rules.specs.Names.{after_dots}
@@ -22,16 +23,11 @@ no_dots [] h = refl
 no_dots (byte ∷ []) h = refl
 no_dots (byte ∷ next ∷ text) h = rw (both (byte == 46) (next == 47) false h) refl
 
--- a last test that fails decides
-false_right : (a : Bool) → (a && false) ≡ false
-false_right true = refl
-false_right false = refl
-
 -- a leading `./` is removed with the slashes after it
 pub one_dot : (name : Text) → pointwise nat_eq (take 2 name) (46 ∷ 47 ∷ []) ≡ true → after_dots false name ≡ after_dots true (drop 2 name)
 unfolding after_dots
 one_dot [] h = absurd (false≢true h)
-one_dot (byte ∷ []) h = absurd (false≢true (sym (false_right (byte == 46)) ∙ h))
+one_dot (byte ∷ []) h = absurd (false≢true (sym (and_nothing (byte == 46)) ∙ h))
 one_dot (byte ∷ next ∷ text) h = rw (both (byte == 46) (next == 47) true h) refl
 
 -- leading slashes are removed

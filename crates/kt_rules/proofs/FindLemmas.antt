@@ -58,10 +58,6 @@ filter_left made test f left rest x is = ap (λ ys. map f (filter test (filter m
     by true false g = ap (λ c. map f (cond c (x ∷ filter test (filter made rest)) (filter test (filter made rest)))) g
     by false b g = refl
 
-pub or_split : (a b : Bool) → (a || b) ≡ false → (a ≡ false) × (b ≡ false)
-or_split true b h = absurd (true≢false h)
-or_split false b h = (refl, h)
-
 pub some_none : {A : Type 0} (x : A) → Some x ≡ None → ⊥
 some_none x h = cc
 

@@ -1,18 +1,21 @@
 -- Explicit rules and goals, rule by rule.
 use Rattle.std.proofs.Common.{◌≡◌, Bool, true, false, cond, not, ◌&&◌, ◌||◌, if◌then◌else◌, List, [], ◌∷◌, ◌++◌, filter, find, Option, Some, None, refl, sym, ap, ◌∙◌, is_some}
-use Rattle.std.proofs.lemmas.Bool.{false≢true}
+use Rattle.std.proofs.lemmas.Bool.{false≢true, or_parts}
 use Rattle.std.specs.Option.{option_map, option_or, option_map_or}
-use Rattle.std.specs.List.{filter_map, flat_map, cons_option, list_any}
+use Rattle.std.specs.List.{All, filter_map, flat_map, cons_option, list_any}
+use Rattle.std.specs.Str.{bytes_eq}
+use Rattle.std.proofs.lemmas.List.Elements.{All-append, All-filter, All-head, All-map, All-nil, All-tail, All-weaker}
+use Rattle.std.proofs.lemmas.List.Folds.{list_any_none}
 use Rattle.kt_text.specs.Words.{Text}
+use Rattle.kt_rules.specs.declared.entry.Kind.{Kind}
 use Rattle.kt_rules.specs.declared.entry.Target.{Target}
 use Rattle.kt_rules.specs.declared.book.spot.Spot.{Spot}
 use Rattle.kt_rules.specs.inner.Lists.{Notes}
 use Rattle.kt_rules.specs.Entry.{Rule}
 use Rattle.kt_rules.specs.inner.SuffixCuts.{is_bare_at}
 use Rattle.kt_rules.specs.Suffixes.{is_bare, suffix_patterns, suffixes_of}
-use Rattle.kt_rules.specs.Book.{goal_in, is_goal, first_goal_by, target_rules, explicit_rules, rules_of, recipes_of, is_double, is_group, xor, differ_in_colons, is_beside_group}
+use Rattle.kt_rules.specs.Book.{goal_in, has_recipe, is_goal, made_targets, first_goal_by, target_rules, explicit_rules, rules_of, recipes_of, is_double, is_group, xor, differ_in_colons, is_beside_group}
 use Rattle.kt_rules.specs.Slots.{spots_at, rules_in, found, first_of, first_found, spot_rule, unless, explicit_left, IsKept}
-use Rattle.kt_rules.proofs.FindLemmas.{or_split}
 use Rattle.kt_rules.proofs.BookLemmas.{alike_first}
 
 goal_step : {A B : Type 0} (f : A → B) (x : A) (both one other : Option A) (b : Bool) → option_map f both ≡ option_or (option_map f one) (option_map f other)
@@ -58,6 +61,41 @@ pub explicit_found : (skips : Bool) (slots : List (Option Rule)) (spots : List S
 unfolding explicit_left found
 explicit_found skips slots spots = filter_unless (λ made. is_bare made && skips) (spot_rule slots) spots
 
+-- the rules of a target are among all
+made_are : (test : Kind → Bool) (rules : List Rule) → All (λ rule. test rule.kind ≡ false) rules
+    → All (λ (made : Rule × Target). test made.0.kind ≡ false) (flat_map target_rules rules)
+made_are test [] none = All-nil (λ (made : Rule × Target). test made.0.kind ≡ false)
+made_are test (rule ∷ rules) none =
+    let is_other = λ (made : Rule × Target). test made.0.kind ≡ false in
+    let own = All-head (λ (one : Rule). test one.kind ≡ false) rule rules none in
+    All-append is_other (target_rules rule) (flat_map target_rules rules)
+    (All-map is_other (λ (target : Target). (rule, target)) (made_targets rule) (λ k d within. own))
+    (made_are test rules (All-tail (λ (one : Rule). test one.kind ≡ false) rule rules none))
+
+rules_are : (test : Kind → Bool) (rules : List Rule) (name : Text) → All (λ rule. test rule.kind ≡ false) rules
+    → All (λ (made : Rule × Target). test made.0.kind ≡ false) (rules_of rules name)
+unfolding rules_of
+rules_are test rules name none =
+    All-filter (λ (made : Rule × Target). bytes_eq name made.1.name) (λ (made : Rule × Target). test made.0.kind ≡ false) (flat_map target_rules rules) (made_are test rules none)
+
+-- where no rule has two colons, none differs from one that has one
+pub none_differs : (rules : List Rule) (rule : Rule) (name : Text) → is_double rule.kind ≡ false → All (λ one. is_double one.kind ≡ false) rules
+    → list_any (differ_in_colons rule) (rules_of rules name) ≡ false
+none_differs rules rule name own none =
+    list_any_none (differ_in_colons rule) (rules_of rules name)
+    (All-weaker (λ (made : Rule × Target). is_double made.0.kind ≡ false) (λ made. differ_in_colons rule made ≡ false)
+    (λ made other. λ j. xor (other j) (own j)) (rules_of rules name) (rules_are is_double rules name none))
+
+-- where there is no group, none of two rules is one
+pub none_beside : (rules : List Rule) (rule : Rule) (name : Text) → is_group rule.kind ≡ false → All (λ one. is_group one.kind ≡ false) rules
+    → list_any (is_beside_group rule) (recipes_of rules name) ≡ false
+unfolding recipes_of
+none_beside rules rule name own none =
+    list_any_none (is_beside_group rule) (recipes_of rules name)
+    (All-weaker (λ (made : Rule × Target). is_group made.0.kind ≡ false) (λ made. is_beside_group rule made ≡ false)
+    (λ made other. λ j. own j || other j) (recipes_of rules name)
+    (All-filter has_recipe (λ (made : Rule × Target). is_group made.0.kind ≡ false) (rules_of rules name) (rules_are is_group rules name none)))
+
 module _ (slots : List (Option Rule)) (targets recipes : Notes) (phony suffixes : List Text) (kept : IsKept slots targets recipes phony suffixes)
     (rules : List Rule) (view : rules_in slots ≡ rules) (rule : Rule) (name : Text) (first : Option (Rule × Target)) where
   -- the first rule of a target decides how many colons its rules have
@@ -98,7 +136,7 @@ none_bare : (skips : Bool) (rules : List (Rule × Target)) → list_any is_bare 
 none_bare skips [] h = refl
 none_bare skips (made ∷ rules) h =
     keep_one made rules (filter (λ (other : Rule × Target). not (is_bare other && false)) rules) (filter (λ (other : Rule × Target). not (is_bare other && skips)) rules) skips
-    (is_bare made) (list_any is_bare rules) refl h (none_bare skips rules (or_split (is_bare made) (list_any is_bare rules) h).1)
+    (is_bare made) (list_any is_bare rules) refl h (none_bare skips rules (or_parts (is_bare made) (list_any is_bare rules) h).1)
 
 guarded : (skips any : Bool) (rules : List (Rule × Target)) → list_any is_bare rules ≡ any
     → filter (λ made. not (is_bare made && (any && skips))) rules ≡ filter (λ made. not (is_bare made && skips)) rules

@@ -1,5 +1,6 @@
 -- Groups share no target with other rules that have a recipe.
 use Rattle.std.proofs.Common.{◌≡◌, ℕ, zero, suc, ◌<◌, Bool, true, false, cond, ◌||◌, if◌then◌else◌, List, [], ◌∷◌, length, map, filter, find, get_or, None, refl, sym, ap, ◌∙◌, arith, is_some}
+use Rattle.std.proofs.lemmas.Bool.{or_parts}
 use Rattle.std.specs.List.{flat_map, list_any}
 use Rattle.std.specs.Str.{bytes_eq}
 use Rattle.std.proofs.lemmas.List.Elements.{filter-append}
@@ -8,7 +9,7 @@ use Rattle.kt_text.specs.Words.{Text}
 use Rattle.kt_rules.specs.declared.entry.Target.{Target}
 use Rattle.kt_rules.specs.Entry.{Rule}
 use Rattle.kt_rules.specs.Book.{AreApart, beside_group_in, has_recipe, is_beside_group, is_group, made_targets, makes, recipes_of, rules_of, target_rules, two_recipes_in}
-use Rattle.kt_rules.proofs.FindLemmas.{find_none, or_split}
+use Rattle.kt_rules.proofs.FindLemmas.{find_none}
 
 -- if none passes a test, none passes a stricter one
 none_left : (test other : Target → Bool) → ((target : Target) → test target ≡ false → other target ≡ false) → (targets : List Target)
@@ -54,11 +55,11 @@ not_made later name [] k d h r g e = absurd (omega arith)
 not_made later name (rule ∷ rules) zero d h r g e =
     let both = sym (any_recipe (is_beside_group later) name rule rules) ∙ e in
     sym (beside_made later rule name (made_targets rule) r g)
-    ∙ (or_split (list_any (is_beside_group later) (own_recipes rule name (made_targets rule))) (list_any (is_beside_group later) (recipes_of rules name)) both).0
+    ∙ (or_parts (list_any (is_beside_group later) (own_recipes rule name (made_targets rule))) (list_any (is_beside_group later) (recipes_of rules name)) both).0
 not_made later name (rule ∷ rules) (suc k) d h r g e =
     let both = sym (any_recipe (is_beside_group later) name rule rules) ∙ e in
     not_made later name rules k d (omega arith) r g
-    (or_split (list_any (is_beside_group later) (own_recipes rule name (made_targets rule))) (list_any (is_beside_group later) (recipes_of rules name)) both).1
+    (or_parts (list_any (is_beside_group later) (own_recipes rule name (made_targets rule))) (list_any (is_beside_group later) (recipes_of rules name)) both).1
 
 -- a rule that gives no target a second recipe beside a group is apart from all before it
 pub apart_last : (rules : List Rule) (last : Rule) → two_recipes_in rules last ≡ None → (k : ℕ) (d : Rule) → k < length rules → AreApart (get_or rules k d) last

@@ -1,14 +1,17 @@
 -- The words of a head: each text is cut into words and separators, in one way.
-use Rattle.std.proofs.Common.{◌≡◌, ℕ, suc, ◌-◌, Bool, true, false, List, [], ◌∷◌, ◌++◌, length, take, map, filter, flat_map, All, refl, sym, ap, subst, ◌∙◌, true≢false, arith, ⊎_elim, ◌⊎◌, inl, inr, append_assoc, append-nil}
+use Rattle.std.proofs.Common.{◌≡◌, ℕ, suc, Bool, true, false, List, [], ◌∷◌, ◌++◌, length, take, map, filter, flat_map, All, refl, sym, ap, subst, ◌∙◌, true≢false, arith, ⊎_elim, ◌⊎◌, inl, inr, append_assoc, append-nil}
 use Rattle.std.specs.Prelude.{◌==◌}
 use Rattle.std.specs.List.{onto_first}
-use Rattle.std.proofs.lemmas.List.Elements.{All-cons, All-nil}
+use Rattle.std.proofs.lemmas.List.Elements.{All-cons, All-head, All-nil, All-tail}
+use Rattle.kt_list.proofs.general.Numbers.{less_one}
+use Rattle.kt_list.proofs.general.Places.{none_in}
+use Rattle.kt_list.proofs.general.Booleans.{and_nothing}
 use Rattle.kt_text.specs.Words.{Text, is_nonempty, is_separator}
 use Rattle.kt_rules.specs.declared.cutting.Cut.TheVariants.{Separator}
 use Rattle.kt_rules.specs.Names.{pieces_of, written_words}
 use Rattle.kt_rules.specs.Cuts.{ends_in_backslash}
 use Rattle.kt_rules.specs.HeadWords.{separates, HoldsNoSeparator, Part, part_text, part_word, IsPart, HasGap, AreApart, AreWords, WrittenWordsLaw}
-use Rattle.kt_rules.proofs.PartLemmas.{right_false, AreSeparators, QuotesNone, first_is, others_are, one_more_is, none_in, all_head, all_tail, no_backslash, cuts_is, is_one, not_quoted, separates_too, holds_less, holds_none, holds_more}
+use Rattle.kt_rules.proofs.PartLemmas.{AreSeparators, QuotesNone, first_is, others_are, one_more_is, no_backslash, cuts_is, is_one, not_quoted, separates_too, holds_less, holds_none, holds_more}
 
 -- a word ends at the first byte that separates
 word_ends : (before : Bool) (word rest : Text) (byte : ℕ) → HoldsNoSeparator before word
@@ -65,20 +68,17 @@ one_word word (byte ∷ gap) rest some holds gaps q end =
     ∙ word_kept word (pieces_of Separator false (gap ++ rest)) some
     ∙ ap (λ (words : List Text). word ∷ words) (gap_skipped gap rest (others_are byte gap gaps))
 
-less_one : (n : ℕ) → suc n - 1 ≡ n
-less_one n = omega arith
-
 -- the gaps of parts, without the first, and with one more
 apart_first : (part next : Part) (parts : List Part) → AreApart (part ∷ next ∷ parts) → HasGap part
 apart_first part next parts h =
-    all_head HasGap part (take (length parts) (next ∷ parts))
+    All-head HasGap part (take (length parts) (next ∷ parts))
     (subst (λ n. All HasGap (take n (part ∷ next ∷ parts))) (less_one (suc (length parts))) h)
 
 apart_less : (part next : Part) (parts : List Part) → AreApart (part ∷ next ∷ parts)
     → AreApart (next ∷ parts)
 apart_less part next parts h =
     subst (λ n. All HasGap (take n (next ∷ parts))) (sym (less_one (length parts)))
-    (all_tail HasGap part (take (length parts) (next ∷ parts))
+    (All-tail HasGap part (take (length parts) (next ∷ parts))
     (subst (λ n. All HasGap (take n (part ∷ next ∷ parts))) (less_one (suc (length parts))) h))
 
 apart_more : (part : Part) (parts : List Part) → Goes part.gap parts → AreApart parts
@@ -96,15 +96,15 @@ words_of_parts : (parts : List Part) → All IsPart parts → AreApart parts
 unfolding written_words pieces_of
 words_of_parts [] each apart = refl
 words_of_parts (part ∷ []) each apart =
-    let one = all_head IsPart part [] each in
+    let one = All-head IsPart part [] each in
     one_word part.word part.gap [] one.some one.whole one.past.separators one.past.unquoted (inr refl)
 words_of_parts (part ∷ next ∷ parts) each apart =
-    let one = all_head IsPart part (next ∷ parts) each in
+    let one = All-head IsPart part (next ∷ parts) each in
     one_word part.word part.gap (flat_map part_text (next ∷ parts))
     one.some one.whole one.past.separators one.past.unquoted
     (inl (apart_first part next parts apart))
     ∙ ap (λ (words : List Text). part.word ∷ words)
-    (words_of_parts (next ∷ parts) (all_tail IsPart part (next ∷ parts) each) (apart_less part next parts apart))
+    (words_of_parts (next ∷ parts) (All-tail IsPart part (next ∷ parts) each) (apart_less part next parts apart))
 
 are_written : (text leading : Text) (parts : List Part) → text ≡ leading ++ flat_map part_text parts
     → AreSeparators leading
@@ -192,7 +192,7 @@ cut_up before [] = record {
   together = refl;
   holds = holds_none before;
   separators = refl;
-  unquoted = right_false before;
+  unquoted = and_nothing before;
   each = All-nil IsPart;
   apart = λ k d within. absurd (omega (arith, within));
   between = inr refl;

@@ -1,13 +1,16 @@
-mod BackslashLemmas
+pub mod BackslashLemmas
 mod WrittenLemmas
 mod DotLemmas
 mod ReadingLemmas
-mod NeedsLemmas
+pub mod NeedsLemmas
+pub mod PlainLemmas
 mod TestingLemmas
 pub mod IndexLemmas
 pub mod NameSetLemmas
 mod SpecialLemmas
+pub mod NoneLemmas
 pub mod RefusedLemmas
+pub mod SignLemmas
 pub mod SlotLemmas
 pub mod FindLemmas
 pub mod NoteLemmas

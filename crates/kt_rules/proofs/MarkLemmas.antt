@@ -7,11 +7,12 @@ use Rattle.std.proofs.lemmas.List.Folds.{list_any-append}
 use Rattle.std.proofs.lemmas.Slice.Eq.{bytes_eq-Decides}
 use Rattle.kt_list.specs.Names.{place_of}
 use Rattle.kt_list.proofs.NameLemmas.{number_found}
+use Rattle.kt_list.proofs.general.Booleans.{or_nothing}
 use Rattle.kt_text.specs.Words.{Text}
 use Rattle.kt_rules.specs.declared.book.book_names.Marks.{Marks}
 use Rattle.kt_rules.specs.Names.{is_among, with_name}
 use Rattle.kt_rules.specs.inner.Marks.{is_marked, mark_at}
-use Rattle.kt_rules.proofs.BookLemmas.{among_with, or_assoc, or_false}
+use Rattle.kt_rules.proofs.BookLemmas.{among_with, or_assoc}
 use Rattle.kt_rules.proofs.NoteLemmas.{no_two, same_place}
 
 -- ---- one name more
@@ -52,12 +53,12 @@ number_marked names old new name number at within put same other = by (place_of 
     at_number m false e =
         ap (λ (marks : List Bool). get_or marks m false) put
         ∙ get_or-set_other old.numbers.items number m true false (λ one. no_two (nat_eq m number) (eq-eqb m number one) e _)
-        ∙ sym (or_false (get_or old.numbers.items m false))
+        ∙ sym (or_nothing (get_or old.numbers.items m false))
 
     by : (found : Option ℕ) → place_of names other ≡ found → mark_at new other found ≡ (mark_at old other found || bytes_eq other name)
     by None absent =
         ap (λ others. is_among others other) same
-        ∙ sym (or_false (is_among old.others other))
+        ∙ sym (or_nothing (is_among old.others other))
         ∙ sym (ap (λ b. is_among old.others other || b) (none (bytes_eq other name) refl absent))
     by (Some m) found =
         at_number m (nat_eq m number) refl
@@ -72,7 +73,7 @@ other_marked names old new name at same put other = by (place_of names other) re
     by None absent = ap (λ others. is_among others other) put ∙ among_with old.others name other
     by (Some m) found =
         ap (λ (marks : List Bool). get_or marks m false) same
-        ∙ sym (or_false (get_or old.numbers.items m false))
+        ∙ sym (or_nothing (get_or old.numbers.items m false))
         ∙ sym (ap (λ b. get_or old.numbers.items m false || b) (apart_none names name other m (bytes_eq other name) refl at found))
 
 -- ---- names of a list
@@ -99,12 +100,12 @@ pub marked_one : (names all left rest : List Text) (one : Text) (old now new : M
     → ((name : Text) → is_marked names new name ≡ (is_marked names now name || bytes_eq name one))
     → IsMarkedFrom names all left old now → IsMarkedFrom names all rest old new
 marked_one names all left rest one old now new is step before =
-    marked_step names all left (one ∷ []) rest old now new is (λ name. step name ∙ ap (λ b. is_marked names now name || b) (sym (or_false (bytes_eq name one)))) before
+    marked_step names all left (one ∷ []) rest old now new is (λ name. step name ∙ ap (λ b. is_marked names now name || b) (sym (or_nothing (bytes_eq name one)))) before
 
 pub marked_end : (names all left : List Text) (old now : Marks) → left ≡ [] → IsMarkedFrom names all left old now
     → (name : Text) → is_marked names now name ≡ (is_marked names old name || is_among all name)
 marked_end names all left old now none before = λ name.
-    sym (or_false (is_marked names now name)) ∙ sym (ap (λ list. is_marked names now name || is_among list name) none) ∙ before name
+    sym (or_nothing (is_marked names now name)) ∙ sym (ap (λ list. is_marked names now name || is_among list name) none) ∙ before name
 
 -- two lists, one after the other
 pub marked_both : (names first second : List Text) (old now new : Marks)
@@ -118,7 +119,7 @@ marked_both names first second old now new one two = λ name.
 
 -- nothing is marked
 pub marked_none : (names : List Text) (marks : Marks) (name : Text) → is_marked names marks name ≡ (is_marked names marks name || is_among [] name)
-marked_none names marks name = sym (or_false (is_marked names marks name))
+marked_none names marks name = sym (or_nothing (is_marked names marks name))
 
 -- ---- no marks
 

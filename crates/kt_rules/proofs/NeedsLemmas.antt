@@ -8,40 +8,41 @@ use Rattle.kt_rules.specs.declared.entry.Needs.{Needs}
 use Rattle.kt_rules.specs.Names.{name_of}
 use Rattle.kt_rules.specs.RuleLine.{is_bar, needs_of}
 
--- the prerequisites that words add to those read so far, whether `|` was read or not
-unfoldable pub needs_from : Bool → List Text → List Text → List Text → Needs
-needs_from past before after [] = record { prerequisites = before; order_only = after }
-needs_from true before after (word ∷ words) = needs_from true before (after ++ name_of word ∷ []) words
-needs_from false before after (word ∷ words) =
-    if is_bar word then needs_from true before after words else needs_from false (before ++ name_of word ∷ []) after words
+-- the prerequisites that words add to those read so far, whether `|` was read or not; `name` gives a word's name
+unfoldable pub needs_from : (Text → Text) → Bool → List Text → List Text → List Text → Needs
+needs_from name past before after [] = record { prerequisites = before; order_only = after }
+needs_from name true before after (word ∷ words) = needs_from name true before (after ++ name word ∷ []) words
+needs_from name false before after (word ∷ words) =
+    if is_bar word then needs_from name true before after words else needs_from name false (before ++ name word ∷ []) after words
 
--- after `|` all are order-only
-after_all : (before after words : List Text) → needs_from true before after words ≡ record { prerequisites = before; order_only = after ++ map name_of words }
-unfolding needs_from
-after_all before after [] = ap (λ l. record { prerequisites = before; order_only = l }) (sym (append-nil after))
-after_all before after (word ∷ words) =
-    after_all before (after ++ name_of word ∷ []) words
-    ∙ ap (λ l. record { prerequisites = before; order_only = l }) (append_assoc after (name_of word ∷ []) (map name_of words))
+module _ (name : Text → Text) where
+  -- after `|` all are order-only
+  after_all : (before after words : List Text) → needs_from name true before after words ≡ record { prerequisites = before; order_only = after ++ map name words }
+  unfolding needs_from
+  after_all before after [] = ap (λ l. record { prerequisites = before; order_only = l }) (sym (append-nil after))
+  after_all before after (word ∷ words) =
+      after_all before (after ++ name word ∷ []) words
+      ∙ ap (λ l. record { prerequisites = before; order_only = l }) (append_assoc after (name word ∷ []) (map name words))
 
--- a word that isn't `|` is before it
-before-cons : (word : Text) (words : List Text) → is_bar word ≡ false → before_first is_bar (word ∷ words) ≡ word ∷ before_first is_bar words
-before-cons word words h = rw h (grind arith)
+  -- a word that isn't `|` is before it
+  before-cons : (word : Text) (words : List Text) → is_bar word ≡ false → before_first is_bar (word ∷ words) ≡ word ∷ before_first is_bar words
+  before-cons word words h = rw h (grind arith)
 
--- and not after it
-after-cons : (word : Text) (words : List Text) → is_bar word ≡ false → after_first is_bar (word ∷ words) ≡ after_first is_bar words
-after-cons word words h = rw h (grind arith)
+  -- and not after it
+  after-cons : (word : Text) (words : List Text) → is_bar word ≡ false → after_first is_bar (word ∷ words) ≡ after_first is_bar words
+  after-cons word words h = rw h (grind arith)
 
--- before `|` was read
-before_all : (before words : List Text) → needs_from false before [] words ≡ record { prerequisites = before ++ map name_of (before_first is_bar words); order_only = map name_of (after_first is_bar words) }
-unfolding needs_from
-before_all before [] = ap (λ l. record { prerequisites = l; order_only = [] }) (sym (append-nil before))
-before_all before (word ∷ words) =
-    ⊎_elim (λ h. rw h (after_all before [] words ∙ ap (λ l. record { prerequisites = l; order_only = map name_of words }) (sym (append-nil before))))
-    (λ h. rw (before-cons word words h, after-cons word words h) (rw h (before_all (before ++ name_of word ∷ []) words
-    ∙ ap (λ l. record { prerequisites = l; order_only = map name_of (after_first is_bar words) }) (append_assoc before (name_of word ∷ []) (map name_of (before_first is_bar words))))))
-    (cases_Bool (is_bar word))
+  -- before `|` was read
+  pub before_all : (before words : List Text) → needs_from name false before [] words ≡ record { prerequisites = before ++ map name (before_first is_bar words); order_only = map name (after_first is_bar words) }
+  unfolding needs_from
+  before_all before [] = ap (λ l. record { prerequisites = l; order_only = [] }) (sym (append-nil before))
+  before_all before (word ∷ words) =
+      ⊎_elim (λ h. rw h (after_all before [] words ∙ ap (λ l. record { prerequisites = l; order_only = map name words }) (sym (append-nil before))))
+      (λ h. rw (before-cons word words h, after-cons word words h) (rw h (before_all (before ++ name word ∷ []) words
+      ∙ ap (λ l. record { prerequisites = l; order_only = map name (after_first is_bar words) }) (append_assoc before (name word ∷ []) (map name (before_first is_bar words))))))
+      (cases_Bool (is_bar word))
 
 -- read from the start, they are the prerequisites of the words
-pub needs_from_start : (words : List Text) → needs_from false [] [] words ≡ needs_of words
+pub needs_from_start : (words : List Text) → needs_from name_of false [] [] words ≡ needs_of words
 unfolding needs_of
-needs_from_start words = before_all [] words
+needs_from_start words = before_all name_of [] words

@@ -6,13 +6,15 @@ use Rattle.std.proofs.lemmas.Bool.{eqb-true}
 use Rattle.std.proofs.lemmas.List.{get_or-append_right}
 use Rattle.std.proofs.lemmas.List.Sums.{suffix_len_is, AllPass-from_list_all}
 use Rattle.std.proofs.Math.Seq.{get_or-append_seam, take-append_seam}
+use Rattle.kt_list.proofs.general.Places.{head_is, none_in, tail_is}
+use Rattle.kt_list.proofs.general.Booleans.{and_first, and_nothing, and_second}
 use Rattle.kt_text.proofs.CuttingLemmas.{last_of}
 use Rattle.kt_text.proofs.PlaceLemmas.{drop-prefix_len}
 use Rattle.kt_text.specs.Words.{Text, is_separator, stripped_start}
 use Rattle.kt_rules.specs.Names.{end_place, without_outer_separators}
 use Rattle.kt_rules.specs.Cuts.{ends_in_backslash}
 use Rattle.kt_rules.specs.HeadWords.{separates, begins_with_space, BeginsWithNone, EndsWithNone, IsMiddle, OuterLaw}
-use Rattle.kt_rules.proofs.PartLemmas.{right_false, and_left, and_right, AreSeparators, QuotesNone, first_is, others_are, one_more_is, none_in, head_is, tail_is, is_one, not_quoted}
+use Rattle.kt_rules.proofs.PartLemmas.{AreSeparators, QuotesNone, first_is, others_are, one_more_is, is_one, not_quoted}
 
 take_none : (n : ℕ) → take {A = ℕ} n [] ≡ []
 take_none zero = refl
@@ -150,8 +152,8 @@ end_separator : (front back : Text) (byte : ℕ) → (ends_in_backslash false fr
     → EndsThere (ending front byte) back
 end_separator front back byte both all =
     subst (λ (n : ℕ). EndsThere (ending front n) back)
-    (sym (eqb-true byte 32 (and_right (ends_in_backslash false front) (byte == 32) both)))
-    (end_space front back (and_left (ends_in_backslash false front) (byte == 32) both) all)
+    (sym (eqb-true byte 32 (and_second (ends_in_backslash false front) (byte == 32) both)))
+    (end_space front back (and_first (ends_in_backslash false front) (byte == 32) both) all)
 
 end_of : (front back : Text) (byte : ℕ) → separates (ends_in_backslash false front) byte ≡ false → AreSeparators back
     → (byte == 92 && begins_with_space back) ≡ false → EndsThere (ending front byte) back
@@ -289,7 +291,7 @@ ended_of before [] = record {
   trailing = [];
   together = refl;
   separators = refl;
-  unquoted = right_false before;
+  unquoted = and_nothing before;
   end = λ front byte e. absurd (none_in byte front [] e);
 }
 ended_of before (byte ∷ text) =

@@ -1,48 +1,15 @@
--- What separates the words of a head, and lists that begin or end with an element.
-use Rattle.std.proofs.Common.{◌≡◌, ℕ, suc, Bool, true, false, not, List, [], ◌∷◌, ◌++◌, All, refl, sym, ap, ◌∙◌, true≢false, arith}
+-- What separates the words of a head.
+use Rattle.std.proofs.Common.{◌≡◌, ℕ, Bool, true, false, not, [], ◌∷◌, ◌++◌, refl, sym, ap, ◌∙◌, true≢false}
 use Rattle.std.specs.Prelude.{◌==◌, ◌&&◌, ◌||◌}
-use Rattle.std.proofs.lemmas.Bool.{eqb-true}
+use Rattle.std.proofs.lemmas.Bool.{and_from, eqb-true, not-true}
 use Rattle.std.specs.List.{list_all}
+use Rattle.kt_list.proofs.general.Places.{head_is, none_in, tail_is}
+use Rattle.kt_list.proofs.general.Booleans.{and_first, and_second}
 use Rattle.kt_text.specs.Words.{Text, is_separator}
 use Rattle.kt_rules.specs.declared.cutting.Cut.TheVariants.{Separator}
 use Rattle.kt_rules.specs.Names.{cuts, is_quotable}
 use Rattle.kt_rules.specs.Cuts.{ends_in_backslash}
 use Rattle.kt_rules.specs.HeadWords.{separates, HoldsNoSeparator, begins_with_space}
-
-pub and_left : (a b : Bool) → (a && b) ≡ true → a ≡ true
-and_left true b h = refl
-and_left false b h = absurd (true≢false (sym h))
-
-pub and_right : (a b : Bool) → (a && b) ≡ true → b ≡ true
-and_right true b h = h
-and_right false b h = absurd (true≢false (sym h))
-
-pub both_true : (a b : Bool) → a ≡ true → b ≡ true → (a && b) ≡ true
-both_true a b e f = rw e f
-
-pub right_false : (a : Bool) → (a && false) ≡ false
-right_false true = refl
-right_false false = refl
-
-pub no_true : (a : Bool) → not a ≡ true → a ≡ false
-no_true true h = absurd (true≢false (sym h))
-no_true false h = refl
-
-pub none_in : {A : Type 0} (x : A) (front back : List A) → [] ≡ front ++ x ∷ back → ⊥
-none_in x [] back h = cc
-none_in x (y ∷ front) back h = cc
-
-pub head_is : {A : Type 0} (x y : A) (xs ys : List A) → x ∷ xs ≡ y ∷ ys → x ≡ y
-head_is x y xs ys h = cc
-
-pub tail_is : {A : Type 0} (x y : A) (xs ys : List A) → x ∷ xs ≡ y ∷ ys → xs ≡ ys
-tail_is x y xs ys h = cc
-
-pub all_head : {A : Type 0} (P : A → Type 0) (x : A) (xs : List A) → All P (x ∷ xs) → P x
-all_head P x xs h = h 0 x (omega arith)
-
-pub all_tail : {A : Type 0} (P : A → Type 0) (x : A) (xs : List A) → All P (x ∷ xs) → All P xs
-all_tail P x xs h = λ k d within. h (suc k) d (omega (arith, within))
 
 abbrev pub AreSeparators : Text → Type 0
 AreSeparators text = list_all is_separator text ≡ true
@@ -52,13 +19,13 @@ abbrev pub QuotesNone : Bool → Text → Text → Type 0
 QuotesNone before text past = (ends_in_backslash before text && begins_with_space past) ≡ false
 
 pub first_is : (byte : ℕ) (text : Text) → AreSeparators (byte ∷ text) → is_separator byte ≡ true
-first_is byte text h = and_left (is_separator byte) (list_all is_separator text) h
+first_is byte text h = and_first (is_separator byte) (list_all is_separator text) h
 
 pub others_are : (byte : ℕ) (text : Text) → AreSeparators (byte ∷ text) → AreSeparators text
-others_are byte text h = and_right (is_separator byte) (list_all is_separator text) h
+others_are byte text h = and_second (is_separator byte) (list_all is_separator text) h
 
 pub one_more_is : (byte : ℕ) (text : Text) → is_separator byte ≡ true → AreSeparators text → AreSeparators (byte ∷ text)
-one_more_is byte text h all = both_true (is_separator byte) (list_all is_separator text) h all
+one_more_is byte text h all = and_from (is_separator byte) (list_all is_separator text) h all
 
 -- a separator that can be quoted is a space
 space_only : (byte : ℕ) → is_separator byte ≡ true → is_quotable byte ≡ (byte == 32)
@@ -93,14 +60,14 @@ cuts_is past byte = by (is_separator byte) refl
 
 -- what a byte that separates is
 pub is_one : (past : Bool) (byte : ℕ) → separates past byte ≡ true → is_separator byte ≡ true
-is_one past byte h = and_left (is_separator byte) (not (past && byte == 32)) h
+is_one past byte h = and_first (is_separator byte) (not (past && byte == 32)) h
 
 pub not_quoted : (past : Bool) (byte : ℕ) → separates past byte ≡ true → (past && byte == 32) ≡ false
-not_quoted past byte h = no_true (past && byte == 32) (and_right (is_separator byte) (not (past && byte == 32)) h)
+not_quoted past byte h = not-true (past && byte == 32) (and_second (is_separator byte) (not (past && byte == 32)) h)
 
 pub separates_too : (past : Bool) (byte : ℕ) → is_separator byte ≡ true → (past && byte == 32) ≡ false
     → separates past byte ≡ true
-separates_too past byte h q = both_true (is_separator byte) (not (past && byte == 32)) h (ap not q)
+separates_too past byte h q = and_from (is_separator byte) (not (past && byte == 32)) h (ap not q)
 
 -- a text that holds none, without its first byte, and with one more
 pub holds_less : (before : Bool) (byte : ℕ) (text : Text) → HoldsNoSeparator before (byte ∷ text)

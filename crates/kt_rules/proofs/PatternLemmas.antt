@@ -1,5 +1,6 @@
 -- Pattern rules, target by target, and those that are kept.
 use Rattle.std.proofs.Common.{◌≡◌, ℕ, Bool, true, false, cond, not, ◌&&◌, ◌||◌, if◌then◌else◌, List, [], ◌∷◌, ◌++◌, map, filter, reverse, Option, Some, None, Vec, Global, refl, sym, ap, ◌∙◌, is_some, true≢false}
+use Rattle.std.proofs.lemmas.Bool.{and_parts}
 use Rattle.std.specs.Option.{option_to_list}
 use Rattle.std.specs.List.{filter_map, flat_map, cons_option, list_any}
 use Rattle.std.proofs.lemmas.List.{append-nil, append_assoc, reverse-append}
@@ -9,7 +10,10 @@ use Rattle.std.specs.Str.{bytes_eq}
 use Rattle.std.specs.Cmp.Lexicographic.{pointwise}
 use Rattle.std.specs.Cmp.Derive.Mapped.{pointwise-map}
 use Rattle.std.proofs.lemmas.Cmp.{lists_equiv, nat_list_eq_equiv}
+use Rattle.std.proofs.lemmas.Bool.{and_parts}
+use Rattle.kt_list.proofs.general.Booleans.{or_swap}
 use Rattle.indexmap.specs.IndexSet.{insert_key}
+use Rattle.kt_list.proofs.general.Booleans.{or_swap}
 use Rattle.kt_text.specs.Words.{Text}
 use Rattle.kt_rules.specs.declared.entry.Target.{Target}
 use Rattle.kt_rules.specs.Entry.{Rule}
@@ -104,10 +108,6 @@ any_same key [] = refl
 any_same key (other ∷ keys) =
     ap (λ b. b || list_any (keys_equal key) keys) (keys_same key other) ∙ ap (λ b. keys_eq key other || b) (any_same key keys)
 
-and_split : (a b : Bool) → (a && b) ≡ true → (a ≡ true) × (b ≡ true)
-and_split true b h = (refl, h)
-and_split false b h = absurd (true≢false (sym h))
-
 names_congr : (names x y : List Text) → names_eq x y ≡ true → names_eq names x ≡ names_eq names y
 names_congr names x y h =
     (lists_equiv nat_list_eq_equiv).symm names x ∙ (lists_equiv nat_list_eq_equiv).congr x y names h ∙ (lists_equiv nat_list_eq_equiv).symm y names
@@ -115,8 +115,8 @@ names_congr names x y h =
 -- equal keys have the names of the same rules
 has_congr : (rule : Rule) (x y : PatternKey) → keys_eq x y ≡ true → has_repeated rule x ≡ has_repeated rule y
 has_congr rule x y h =
-    let one = and_split (names_eq (held x.targets.items) (held y.targets.items)) _ h in
-    let two = and_split (names_eq (held x.prerequisites.items) (held y.prerequisites.items)) _ one.1 in
+    let one = and_parts (names_eq (held x.targets.items) (held y.targets.items)) _ h in
+    let two = and_parts (names_eq (held x.prerequisites.items) (held y.prerequisites.items)) _ one.1 in
     ap (λ b. b && (names_eq rule.needs.prerequisites (held x.prerequisites.items) && names_eq rule.needs.order_only (held x.order_only.items)))
     (names_congr (target_names rule) (held x.targets.items) (held y.targets.items) one.0)
     ∙ ap (λ b. names_eq (target_names rule) (held y.targets.items) && (b && names_eq rule.needs.order_only (held x.order_only.items)))
@@ -127,12 +127,6 @@ has_congr rule x y h =
 or_twice : (a b : Bool) → (a || (a || b)) ≡ (a || b)
 or_twice true b = refl
 or_twice false b = refl
-
-or_swap : (a b c : Bool) → (a || (b || c)) ≡ (b || (a || c))
-or_swap true true c = refl
-or_swap true false c = refl
-or_swap false true c = refl
-or_swap false false c = refl
 
 -- a key that is among others adds nothing
 absorbed : (rule : Rule) (key : PatternKey) (keys : List PatternKey) → list_any (keys_eq key) keys ≡ true

@@ -2,12 +2,13 @@
 use Rattle.std.proofs.Common.{◌≡◌, ℕ, Bool, true, false, List, [], ◌∷◌, ◌++◌, flat_map, All, refl, sym, ap, ◌∙◌, true≢false}
 use Rattle.std.specs.Prelude.{◌==◌, ◌&&◌}
 use Rattle.std.specs.List.{list_all}
-use Rattle.std.proofs.lemmas.Bool.{eqb-true}
-use Rattle.std.proofs.lemmas.List.Elements.{All-cons, All-nil}
+use Rattle.std.proofs.lemmas.Bool.{and_from, eqb-true}
+use Rattle.std.proofs.lemmas.List.Elements.{All-cons, All-head, All-nil, All-tail}
+use Rattle.kt_list.proofs.general.Places.{head_is, none_in, tail_is}
+use Rattle.kt_list.proofs.general.Booleans.{and_first, and_nothing, and_second}
 use Rattle.kt_text.specs.Words.{Text}
 use Rattle.kt_rules.specs.Names.{is_quotable, begins_quotable, unquoted}
 use Rattle.kt_rules.specs.HeadWords.{HoldsNoQuote, quoted_text, piece_text, IsUnquoted, UnquotedLaw}
-use Rattle.kt_rules.proofs.PartLemmas.{right_false, and_left, and_right, both_true, none_in, head_is, tail_is, all_head, all_tail}
 
 -- a text that holds no backslash that quotes, without its first byte
 holds_less : (byte : ℕ) (text : Text) → HoldsNoQuote (byte ∷ text) → HoldsNoQuote text
@@ -16,7 +17,7 @@ holds_less byte text h = λ front back other e. h (byte ∷ front) back other (a
 -- its first byte quotes none, whatever comes after the text
 first_stays : (byte : ℕ) (text rest : Text) → HoldsNoQuote (byte ∷ text) → begins_quotable rest ≡ false
     → (byte == 92 && begins_quotable (text ++ rest)) ≡ false
-first_stays byte [] rest h r = rw r (right_false (byte == 92))
+first_stays byte [] rest h r = rw r (and_nothing (byte == 92))
 first_stays byte (next ∷ text) rest h r = by (byte == 92) refl
   where
     by : (a : Bool) → byte == 92 ≡ a → (a && is_quotable next) ≡ false
@@ -59,14 +60,14 @@ pieces_stay : (first : Text) (pieces : List Text) → list_all begins_quotable p
     → All HoldsNoQuote (first ∷ pieces)
     → unquoted (first ++ flat_map quoted_text pieces) ≡ first ++ flat_map piece_text pieces
 unfolding unquoted
-pieces_stay first [] q h = piece_stays first [] (all_head HoldsNoQuote first [] h) refl
+pieces_stay first [] q h = piece_stays first [] (All-head HoldsNoQuote first [] h) refl
 pieces_stay first (piece ∷ pieces) q h =
-    let begins = and_left (begins_quotable piece) (list_all begins_quotable pieces) q in
-    let others = and_right (begins_quotable piece) (list_all begins_quotable pieces) q in
-    piece_stays first (flat_map quoted_text (piece ∷ pieces)) (all_head HoldsNoQuote first (piece ∷ pieces) h) refl
+    let begins = and_first (begins_quotable piece) (list_all begins_quotable pieces) q in
+    let others = and_second (begins_quotable piece) (list_all begins_quotable pieces) q in
+    piece_stays first (flat_map quoted_text (piece ∷ pieces)) (All-head HoldsNoQuote first (piece ∷ pieces) h) refl
     ∙ ap (λ (xs : Text). first ++ xs)
     (one_quoted piece (flat_map quoted_text pieces) begins
-    ∙ pieces_stay piece pieces others (all_tail HoldsNoQuote first (piece ∷ pieces) h))
+    ∙ pieces_stay piece pieces others (All-tail HoldsNoQuote first (piece ∷ pieces) h))
 
 -- a text as pieces after backslashes
 record InPieces (text : Text) : Type 0 where
@@ -103,13 +104,13 @@ begins_first (byte ∷ first) pieces h = h
 pieces_more : (byte : ℕ) (text : Text) → InPieces text → (b : Bool) → (byte == 92 && begins_quotable text) ≡ b
     → InPieces (byte ∷ text)
 pieces_more byte text rest true h =
-    let slash : byte ≡ 92 = eqb-true byte 92 (and_left (byte == 92) (begins_quotable text) h) in
-    let begins : begins_quotable text ≡ true = and_right (byte == 92) (begins_quotable text) h in
+    let slash : byte ≡ 92 = eqb-true byte 92 (and_first (byte == 92) (begins_quotable text) h) in
+    let begins : begins_quotable text ≡ true = and_second (byte == 92) (begins_quotable text) h in
     record {
       first = [];
       pieces = rest.first ∷ rest.pieces;
       together = ap (λ n. n ∷ text) slash ∙ ap (λ (xs : Text). 92 ∷ xs) rest.together;
-      quoted = both_true (begins_quotable rest.first) (list_all begins_quotable rest.pieces)
+      quoted = and_from (begins_quotable rest.first) (list_all begins_quotable rest.pieces)
           (begins_first rest.first rest.pieces (ap begins_quotable (sym rest.together) ∙ begins)) rest.quoted;
       no_first = holds_none;
       no_other = All-cons HoldsNoQuote rest.first rest.pieces rest.no_first rest.no_other;

@@ -1,7 +1,10 @@
 -- The rule of a line, from the results of the steps that read it.
-use Rattle.std.proofs.Common.{◌≡◌, Bool, true, false, length, refl, sym, ◌∙◌, ap}
+use Rattle.std.proofs.Common.{◌≡◌, ℕ, Bool, true, false, List, [], ◌∷◌, length, filter, refl, sym, ◌∙◌, ap, ⊎_elim}
 use Rattle.std.specs.Prelude.{◌==◌, if◌then◌else◌, Option, Some, None, Result, Ok, Err}
-use Rattle.kt_text.specs.Words.{Text, words_of}
+use Rattle.std.specs.List.{list_all, onto_first, slice_split}
+use Rattle.std.proofs.lemmas.Bool.{cases_Bool}
+use Rattle.kt_text.specs.Words.{Text, is_nonempty, is_separator, words_of}
+use Rattle.kt_text.proofs.WordLemmas.{words_of-nil, words_of-skip}
 use Rattle.kt_rules.specs.declared.fault.RuleFault.{RuleFault}
 use Rattle.kt_rules.specs.declared.fault.RuleFault.TheVariants.{Memory, Refused}
 use Rattle.kt_rules.specs.declared.line.Line.{Line}
@@ -9,6 +12,21 @@ use Rattle.kt_rules.specs.declared.place.Place.{Place}
 use Rattle.kt_rules.specs.Refusals.{Refusal, Fault, Answers, ReportsFault, fault_at}
 use Rattle.kt_rules.specs.RuleLine.{Head, head_of, line_of, line_refusal}
 use Rattle.kt_rules.specs.Entry.{Rule, empty_line, is_nil, read_line, rule_of, rule_with}
+
+-- a text of which each byte is a separator has no word
+some_first : (byte : ℕ) (parts : List Text) → is_nil (filter is_nonempty (onto_first byte parts)) ≡ false
+some_first byte [] = refl
+some_first byte (part ∷ parts) = refl
+
+word_begun : (byte : ℕ) (text : Text) → is_separator byte ≡ false → is_nil (words_of (byte ∷ text)) ≡ false
+unfolding words_of
+word_begun byte text h = rw h (some_first byte (slice_split is_separator text))
+
+pub blank_words : (text : Text) → list_all is_separator text ≡ is_nil (words_of text)
+blank_words [] = sym (ap is_nil words_of-nil)
+blank_words (byte ∷ text) =
+    ⊎_elim (λ h. rw h (blank_words text) ∙ ap is_nil (sym (words_of-skip byte text h))) (λ h. rw h refl ∙ sym (word_begun byte text h))
+    (cases_Bool (is_separator byte))
 
 -- a reported fault is the expected result
 pub told_fault : {A : Type 0} (told : RuleFault) (fault : Fault) (expected : Result A Fault)

@@ -1,5 +1,5 @@
 -- A name without a telling byte is accepted.
-use Rattle.std.proofs.Common.{◌≡◌, ◌==◌, ◌||◌, ◌-◌, ◌<◌, ◌≤◌, ℕ, zero, suc, Bool, false, [], ◌∷◌, length, drop, refl, sym, ap, ◌∙◌, arith}
+use Rattle.std.proofs.Common.{◌≡◌, ◌==◌, ◌||◌, ◌-◌, ◌<◌, ◌≤◌, ℕ, false, [], ◌∷◌, length, drop, refl, sym, ap, ◌∙◌, arith}
 use Rattle.std.proofs.lemmas.Bool.{ne_eqb, or_parts}
 use Rattle.std.proofs.Math.Bool.{or-false}
 use Rattle.std.specs.Prelude.{nat_eq}
@@ -8,25 +8,18 @@ use Rattle.std.specs.List.{list_any, starts_with}
 use Rattle.kt_text.specs.Words.{Text}
 use Rattle.kt_text.proofs.PlaceLemmas.{differ_turned}
 use Rattle.kt_rules.proofs.BackslashLemmas.{quotes_no_percent}
+use Rattle.kt_rules.proofs.NoneLemmas.{none_left, none_of_fewer}
 use Rattle.kt_rules.specs.Names.{is_member, is_refused_name, is_wildcard}
 use Rattle.kt_rules.specs.inner.Telling.{is_telling, tells_early}
 
--- a test that only telling bytes pass fails for a text without one
-fewer : (test : ℕ → Bool) (text : Text) → ((byte : ℕ) → is_telling byte ≡ false → test byte ≡ false) → list_any is_telling text ≡ false
-    → list_any test text ≡ false
-fewer test [] implies none = refl
-fewer test (byte ∷ text) implies none =
-    let parts = or_parts (is_telling byte) (list_any is_telling text) none in
-    rw (implies byte parts.0, fewer test text implies parts.1) refl
-
 -- a byte that isn't a telling byte is none of them
-record IsNoneOf (byte : ℕ) : Type 0 where
+pub record IsNoneOf (byte : ℕ) : Type 0 where
   wildcard : is_wildcard byte ≡ false
-  backslash : (byte == 92) ≡ false
+  pub backslash : (byte == 92) ≡ false
   tilde : (byte == 126) ≡ false
   closing : (byte == 41) ≡ false
 
-none_of : (byte : ℕ) → is_telling byte ≡ false → IsNoneOf byte
+pub none_of : (byte : ℕ) → is_telling byte ≡ false → IsNoneOf byte
 none_of byte none =
     let last = or_parts (tells_early byte) (byte == 126) none in
     let later = or_parts (is_wildcard byte || byte == 92) (byte == 41) last.0 in
@@ -60,11 +53,6 @@ begins_otherwise byte [] none = refl
 begins_otherwise byte (first ∷ text) none =
     rw (differ_turned first byte (or_parts (first == byte) (list_any (λ b. b == byte) text) none).0) refl
 
-stays_absent : (count byte : ℕ) (text : Text) → list_any (λ b. b == byte) text ≡ false → list_any (λ b. b == byte) (drop count text) ≡ false
-stays_absent zero byte text none = none
-stays_absent (suc count) byte [] none = none
-stays_absent (suc count) byte (first ∷ text) none = stays_absent count byte text (or_parts (first == byte) (list_any (λ b. b == byte) text) none).1
-
 tilde_first : (text : Text) → list_any (λ b. b == 126) text ≡ false → starts_with nat_eq text (126 ∷ []) ≡ false
 tilde_first [] none = refl
 tilde_first (first ∷ text) none =
@@ -72,14 +60,14 @@ tilde_first (first ∷ text) none =
 
 no_member : (text : Text) → list_any (λ b. b == 41) text ≡ false → is_member text ≡ false
 unfolding is_member
-no_member text none = rw (begins_otherwise 41 (drop (length text - 1) text) (stays_absent (length text - 1) 41 text none)) refl
+no_member text none = rw (begins_otherwise 41 (drop (length text - 1) text) (none_left (λ b. b == 41) (length text - 1) text none)) refl
 
 pub plain_name_taken : (name : Text) → list_any is_telling name ≡ false → is_refused_name name ≡ false
 unfolding is_refused_name
 plain_name_taken name none =
     rw (
-      fewer is_wildcard name (λ byte quiet. (none_of byte quiet).wildcard) none,
-      quotes_no_percent name (fewer (λ b. b == 92) name (λ byte quiet. (none_of byte quiet).backslash) none),
-      tilde_first name (fewer (λ b. b == 126) name (λ byte quiet. (none_of byte quiet).tilde) none),
-      no_member name (fewer (λ b. b == 41) name (λ byte quiet. (none_of byte quiet).closing) none),
+      none_of_fewer is_telling is_wildcard name (λ byte quiet. (none_of byte quiet).wildcard) none,
+      quotes_no_percent name (none_of_fewer is_telling (λ b. b == 92) name (λ byte quiet. (none_of byte quiet).backslash) none),
+      tilde_first name (none_of_fewer is_telling (λ b. b == 126) name (λ byte quiet. (none_of byte quiet).tilde) none),
+      no_member name (none_of_fewer is_telling (λ b. b == 41) name (λ byte quiet. (none_of byte quiet).closing) none),
     ) refl

@@ -4,13 +4,14 @@ use Rattle.std.specs.Prelude.{◌≢◌, min, nat_eq, nat_lt, if◌then◌else�
 use Rattle.std.specs.Option.{option_and_then}
 use Rattle.std.specs.List.{ends_with, position_from, position_or_len, range_with_len}
 use Rattle.std.specs.Cmp.Lexicographic.{pointwise, as_long, nat_list_eq_equiv, unequal}
-use Rattle.std.proofs.lemmas.Bool.{ltb-true, ltb-false, lt-ltb, eqb-true, eq-eqb}
+use Rattle.std.proofs.lemmas.Bool.{eq-eqb, eqb-true, lt-ltb, ltb-false, ltb-true, or_left, or_right}
 use Rattle.std.proofs.lemmas.Option.{IfSome_then, slice_get_past}
 use Rattle.std.proofs.lemmas.Iterator.Adapters.{position_from-zero}
 use Rattle.std.specs.Prelude.{Result, Ok, Err, OnOk, OnErr}
 use Rattle.std.proofs.lemmas.Grind.{fold-append}
 use Rattle.std.proofs.lemmas.List.{drop_more, drop_all, length-drop, length-take-le}
 use Rattle.std.proofs.lemmas.List.Folds as folds
+use Rattle.kt_list.proofs.general.Booleans.{and_first}
 use Rattle.kt_text.specs.Words.{Text}
 use Rattle.kt_rules.specs.Names.{is_among, with_name}
 use Rattle.kt_rules.specs.inner.SuffixCuts.{HaveLengths, KeepLengths, cut_after, earlier, end_of_length, first_cut, first_end, goes_on, is_number, lengths_with, with_number}
@@ -18,14 +19,6 @@ use Rattle.kt_rules.specs.declared.entry.Needs.{Needs}
 use Rattle.kt_rules.specs.Suffixes.{all_needs, is_cut_at, suffix_cut}
 
 -- ---- lengths
-
-or_left : (a b : Bool) → a ≡ true → (a || b) ≡ true
-or_left true b h = refl
-or_left false b h = absurd (true≢false (sym h))
-
-or_right : (a b : Bool) → b ≡ true → (a || b) ≡ true
-or_right true b h = refl
-or_right false b h = h
 
 or_either : (P : Type 0) (a b : Bool) → (a || b) ≡ true → (a ≡ true → P) → (b ≡ true → P) → P
 or_either P true b h one two = one refl
@@ -287,10 +280,6 @@ one_found test (suc many) from only a b t h =
     first_or_later from only (find test (range_with_len (from + 1) many)) (test from) (h from (omega arith))
     (λ e. one_found test many (from + 1) only (later test from only t a e) (omega arith) t (λ place low. h place (omega arith)))
 
-and_true : (a b : Bool) → (a && b) ≡ true → a ≡ true
-and_true true b h = refl
-and_true false b h = h
-
 -- ---- names cut into two suffixes
 
 from_zero : (place many : ℕ) → place < 0 + many → place < many
@@ -356,7 +345,7 @@ cut_after_is suffixes name front = by (nat_lt front (length name)) (is_cut_at su
     here cut t c = ap (λ b. b && is_cut_at suffixes name front) (eq-eqb front front refl) ∙ c ∙ t
 
     at_front : (place : ℕ) → (nat_eq place front && is_cut_at suffixes name place) ≡ true → place ≡ front
-    at_front place h = eqb-true place front (and_true (nat_eq place front) (is_cut_at suffixes name place) h)
+    at_front place h = eqb-true place front (and_first (nat_eq place front) (is_cut_at suffixes name place) h)
 
     nowhere : (front < length name → is_cut_at suffixes name front ≡ false) → (place : ℕ) → place < length name → (b : Bool) → nat_eq place front ≡ b → (b && is_cut_at suffixes name place) ≡ false
     nowhere none place low true e =

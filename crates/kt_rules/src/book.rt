@@ -1,5 +1,6 @@
 //! The rules of a makefile, as a list of entries.
-ghost use Rattle.std.specs.Prelude.{◌≡◌, ◌++◌, ◌∷◌, [], All, IfOk, OnErr, OnOk, None, find, flat_map, nat_eq, option_map};
+ghost use Rattle.std.specs.Prelude.{◌≡◌, ◌++◌, ◌∷◌, [], All, IfOk, None, OnErr, OnOk, find, flat_map, nat_eq};
+ghost use Rattle.std.specs.Prelude.{option_map};
 ghost use Rattle.std.specs.List.{Contains, ends_with};
 ghost use Rattle.kt_rules.specs.Book.{GroupsStandAlone, added, explicit_rules, first_goal_of, is_explicit, is_phony};
 ghost use Rattle.kt_rules.specs.Book.{override_messages, patterns_of, refusal_of};
@@ -15,6 +16,7 @@ mod explicit;
 mod few;
 mod goal;
 mod held_rule;
+mod kinds;
 mod lists;
 mod matching;
 mod noting;

@@ -1,9 +1,10 @@
 //! The tests that the names of a rule line must pass.
-ghost use Rattle.std.specs.Prelude.{◌≡◌, ◌||◌, None, find, if◌then◌else◌, map, not, option_map};
+ghost use Rattle.std.specs.Prelude.{◌≡◌, ◌||◌, None, false, find, if◌then◌else◌, map, not, option_map};
 ghost use Rattle.std.specs.List.{list_all, list_any};
 ghost use Rattle.std.specs.Option.{option_or};
 ghost use Rattle.kt_text.specs.Match.{has_percent};
 ghost use Rattle.kt_rules.specs.Names.{is_among, is_refused_name, is_special, is_without_effect, wait_name};
+ghost use Rattle.kt_rules.specs.inner.Telling.{Tells};
 ghost use Rattle.kt_rules.specs.RuleLine.{first_refusal, fits, is_bad_group, line_refusal, mixes_patterns};
 ghost use Rattle.kt_rules.specs.RuleLine.{name_refusal, option_list, refusal_in, target_refusal, tested_needs};
 
@@ -14,17 +15,19 @@ use crate::refusal::Refusal;
 use crate::refused::{
     WAIT, are_same, is_refused_name, is_refused_target, is_special, is_without_effect,
 };
+use crate::signs::Signs;
 use kt_text::{has_percent, match_pattern};
 
 // The refusal of the first test that fails.
 #[tactic(auto, unfolding(crate::specs::RuleLine::line_refusal, crate::specs::RuleLine::first_refusal))]
-pub(crate) fn line_refusal(line: &Line) -> Option<Refusal<'_>>
+pub(crate) fn line_refusal(line: &Line, signs: Signs) -> Option<Refusal<'_>>
+    requires { Tells signs line.now }
     ensures { refusal_in result ≡ line_refusal line.now }
 {
-    if let Some(name) = name_refusal(line) {
+    if let Some(name) = name_refusal(line, signs.telling) {
         return Some(Refusal::RefusedName(name));
     }
-    if mixes_patterns(line) {
+    if mixes_patterns(line, signs.percent) {
         return Some(Refusal::MissingSeparator);
     }
     if is_bad_group(line) {
@@ -40,8 +43,17 @@ pub(crate) fn line_refusal(line: &Line) -> Option<Refusal<'_>>
 }
 
 // The first name that is refused.
+fn name_refusal(line: &Line, telling: bool) -> Option<&[u8]>
+    requires { telling ≡ false → name_refusal line.now ≡ None }
+    ensures { option_map (λ name. name.now) result ≡ name_refusal line.now }
+{
+    if telling { refused_name(line) } else { None }
+}
+
+// The same, name by name.
 #[tactic(auto, using(crate::proofs::TestingLemmas::search_steps), unfolding(crate::specs::RuleLine::name_refusal))]
-fn name_refusal(line: &Line) -> Option<&[u8]>
+#[inline(never)]
+fn refused_name(line: &Line) -> Option<&[u8]>
     ensures { option_map (λ name. name.now) result ≡ name_refusal line.now }
 {
     if let Some(name) = refused_among(line.targets.as_slice()) {
@@ -98,10 +110,12 @@ fn all_without_effect(targets: &[Name]) -> bool
 
 // Whether a target has a percent sign in a static pattern rule or beside a target without one.
 #[tactic(auto, unfolding(crate::specs::RuleLine::mixes_patterns))]
-fn mixes_patterns(line: &Line) -> bool
+fn mixes_patterns(line: &Line, percent: bool) -> bool
+    requires { percent ≡ false → list_any has_percent line.now.targets ≡ false }
     ensures { result ≡ mixes_patterns line.now }
 {
-    any_percent(line.targets.as_slice())
+    percent
+        && any_percent(line.targets.as_slice())
         && (line.pattern.is_some() || !all_percent(line.targets.as_slice()))
 }
 

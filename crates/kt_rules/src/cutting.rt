@@ -1,9 +1,10 @@
 //! Cuts texts at colons and separators that aren't quoted.
-ghost use Rattle.std.specs.Prelude.{◌≡◌, ◌≤◌, false, length, option_map};
+ghost use Rattle.std.specs.Prelude.{◌≡◌, ◌≤◌, false, length, option_map, take};
+ghost use Rattle.kt_rules.specs.Cuts.{ends_in_backslash};
 ghost use Rattle.kt_rules.specs.Names.{cut_place, is_cut, is_quotable};
 ghost use Rattle.kt_rules.specs.RuleLine.{colon_cut};
 
-use kt_text::is_separator;
+use kt_text::{has_byte, is_separator};
 use memchr::memchr;
 
 /// What a text is cut at, unless a backslash is directly before it.
@@ -15,14 +16,36 @@ pub(crate) enum Cut {
     Separator,
 }
 
-// The text before the first unquoted colon, and the text after it. The text after a separator mostly has no colon.
+// The text before the first unquoted colon, and the text after it. The first colon is mostly unquoted.
 pub(crate) fn colon_cut(text: &[u8]) -> Option<(&[u8], &[u8])>
     ensures { option_map (λ cut. (cut.0.now, cut.1.now)) result ≡ colon_cut text.now }
 {
     match memchr(b':', text) {
         None => None,
-        Some(_) => unquoted_colon_cut(text),
+        Some(place) if is_marked(text, place) => unquoted_colon_cut(text),
+        Some(place) => Some((&text[..place], &text[place + 1..])),
     }
+}
+
+// The same for the text after a separator, which mostly has no colon.
+#[tactic(auto, using(crate::proofs::BackslashLemmas::never_colon))]
+pub(crate) fn later_cut(text: &[u8]) -> Option<(&[u8], &[u8])>
+    ensures { option_map (λ cut. (cut.0.now, cut.1.now)) result ≡ colon_cut text.now }
+{
+    if has_byte(text, b':') {
+        colon_cut(text)
+    } else {
+        None
+    }
+}
+
+// Whether a backslash stands directly before a place.
+#[tactic(auto, using(crate::proofs::BackslashLemmas::marked_at))]
+fn is_marked(text: &[u8], place: usize) -> bool
+    requires { place ≤ length text.now }
+    ensures { result ≡ ends_in_backslash false (take place text.now) }
+{
+    place > 0 && text[place - 1] == b'\\'
 }
 
 // The same, byte by byte.

@@ -4,7 +4,7 @@ ghost use Rattle.kt_rules.specs.Names.{written_words};
 ghost use Rattle.kt_rules.specs.RuleLine.{after_double, colon_cut, group_head, group_targets, head_after, head_of};
 ghost use Rattle.kt_rules.specs.RuleLine.{head_round, heads_view, pattern_word};
 
-use crate::cutting::colon_cut;
+use crate::cutting::{colon_cut, later_cut};
 use crate::refusal::Refusal;
 use crate::written::{first_word, without_outer_separators};
 use kt_text::has_percent;
@@ -81,7 +81,7 @@ fn after_double(after: &[u8]) -> Option<&[u8]>
 fn group_head<'a>(targets: &'a [u8], rest: &'a [u8]) -> Result<Head<'a>, Refusal<'a>>
     ensures { heads_view result ≡ group_head targets.now rest.now }
 {
-    if colon_cut(rest).is_some() {
+    if later_cut(rest).is_some() {
         return Err(Refusal::BadGroup);
     }
     Ok(Head {
@@ -100,7 +100,7 @@ fn head_after<'a>(
 ) -> Result<Head<'a>, Refusal<'a>>
     ensures { heads_view result ≡ head_after separator targets.now rest.now (colon_cut rest.now) }
 {
-    let Some((part, needs)) = colon_cut(rest) else {
+    let Some((part, needs)) = later_cut(rest) else {
         return Ok(Head {
             separator,
             targets,
@@ -108,7 +108,7 @@ fn head_after<'a>(
             needs: rest,
         });
     };
-    if colon_cut(needs).is_some() {
+    if later_cut(needs).is_some() {
         return Err(Refusal::MissingSeparator);
     }
     match pattern_word(part) {

@@ -5,6 +5,7 @@ ghost use Rattle.kt_rules.specs.Indexes.{noted_at};
 
 use crate::entry::Name;
 use indexmap::IndexMap;
+use kt_list::Key;
 use std::alloc::{AllocError, Global};
 
 /// A list of items at each name, in the order in which they were noted.
@@ -29,7 +30,7 @@ impl<T: Copy> Index<T> {
     pub fn noted(&self, name: &[u8]) -> &[T]
         ensures { result.now ≡ noted_at self.now name.now }
     {
-        match self.lists.get(name) {
+        match self.lists.get(Key(name)) {
             Some(noted) => noted.as_slice(),
             None => &[],
         }

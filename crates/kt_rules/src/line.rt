@@ -1,18 +1,24 @@
 //! The names of a rule line.
-ghost use Rattle.std.specs.Prelude.{◌≡◌, ◌≤◌, ◌∷◌, [], length, map, option_map, IfOk, IfSome};
+ghost use Rattle.std.specs.Prelude.{◌≡◌, ◌∷◌, [], false, map, option_map, IfOk, IfSome};
 ghost use Rattle.kt_rules.specs.Names.{name_of, without_repeats, written_words};
 ghost use Rattle.kt_rules.specs.Entry.{empty_line};
+ghost use Rattle.std.specs.List.{list_any};
+ghost use Rattle.kt_rules.specs.inner.Telling.{is_backslash, signs_of};
 ghost use Rattle.kt_rules.specs.RuleLine.{head_view, is_bar, line_of, needs_of};
 
 use crate::entry::{Name, Needs};
 use crate::head::{Head, Separator};
-use crate::name::named;
+use crate::name::{named, without_dots};
 use crate::refused::are_same;
+use crate::signs::Signs;
 use crate::written::first_word;
 use indexmap::IndexSet;
 use kt_list::Sequence;
-use memchr::memchr_iter;
+use kt_text::words;
 use std::alloc::{AllocError, Global};
+
+// How many bytes of text a name is expected to take. Room for more names is made as they come.
+const NAME_SIZE: usize = 16;
 
 /// The names of a head, unquoted and without leading `./`.
 #[derive(Drop)]
@@ -39,25 +45,28 @@ impl Line {
     }
 
     /// The names of a head.
-    pub(crate) fn of(alloc: Global, head: &Head<'_>) -> Result<Line, AllocError>
+    pub(crate) fn of(alloc: Global, head: &Head<'_>, signs: Signs) -> Result<Line, AllocError>
+        requires { signs ≡ signs_of (head_view head.now) }
         ensures { IfOk result (λ line. line ≡ line_of (head_view head.now)) }
     {
         Ok(Line {
             separator: head.separator,
-            targets: targets(alloc, head.targets)?,
+            targets: targets(alloc, head.targets, signs.telling)?,
             pattern: pattern(alloc, head.pattern)?,
-            needs: needs(alloc, head.needs)?,
+            needs: needs(alloc, head.needs, signs.telling)?,
         })
     }
 }
 
 // The names of words, each at its first place. Most lines have one target.
-fn targets(alloc: Global, text: &[u8]) -> Result<Sequence<Name>, AllocError>
+fn targets(alloc: Global, text: &[u8], quotes: bool) -> Result<Sequence<Name>, AllocError>
+    requires { quotes ≡ false → list_any is_backslash text.now ≡ false }
     ensures { IfOk result (λ names. names ≡ without_repeats (map name_of (written_words text.now))) }
 {
     match only_word(text) {
         Some(word) => one_target(alloc, word),
-        None => several_targets(alloc, text),
+        None if quotes => several_targets(alloc, text),
+        None => plain_targets(alloc, text),
     }
 }
 
@@ -82,6 +91,7 @@ fn one_target(alloc: Global, word: &[u8]) -> Result<Sequence<Name>, AllocError>
 }
 
 #[tactic(auto, unfolding(crate::specs::Names::without_repeats))]
+#[inline(never)]
 fn several_targets(alloc: Global, text: &[u8]) -> Result<Sequence<Name>, AllocError>
     ensures { IfOk result (λ names. names ≡ without_repeats (map name_of (written_words text.now))) }
 {
@@ -90,6 +100,21 @@ fn several_targets(alloc: Global, text: &[u8]) -> Result<Sequence<Name>, AllocEr
     while let Some((word, after)) = first_word(rest) {
         names.insert(named(alloc, word)?)?;
         rest = after;
+    }
+    let list: Vec<Name> = names.into_iter().collect(alloc)?;
+    Ok(Sequence::from(list))
+}
+
+// The same for a text without a backslash.
+#[tactic(auto, using(crate::proofs::PlainLemmas::plain_names), unfolding(crate::specs::Names::without_repeats))]
+#[inline(never)]
+fn plain_targets(alloc: Global, text: &[u8]) -> Result<Sequence<Name>, AllocError>
+    requires { list_any is_backslash text.now ≡ false }
+    ensures { IfOk result (λ names. names ≡ without_repeats (map name_of (written_words text.now))) }
+{
+    let mut names: IndexSet<Name> = IndexSet::new(alloc);
+    for word in words(text) {
+        names.insert(Name::copied(alloc, without_dots(word))?)?;
     }
     let list: Vec<Name> = names.into_iter().collect(alloc)?;
     Ok(Sequence::from(list))
@@ -105,13 +130,25 @@ fn pattern(alloc: Global, word: Option<&[u8]>) -> Result<Option<Name>, AllocErro
     }
 }
 
-// The names of prerequisites; those after the first word `|` are order-only.
-#[tactic(auto, using(crate::proofs::NeedsLemmas::needs_from_start), unfolding(crate::proofs::NeedsLemmas::needs_from))]
-fn needs(alloc: Global, text: &[u8]) -> Result<Needs, AllocError>
+// The names of prerequisites. Few texts have a backslash.
+fn needs(alloc: Global, text: &[u8], quotes: bool) -> Result<Needs, AllocError>
+    requires { quotes ≡ false → list_any is_backslash text.now ≡ false }
     ensures { IfOk result (λ needs. needs ≡ needs_of (written_words text.now)) }
 {
-    // Most words have one space before them, so counting spaces reserves room for as many names as there are.
-    let mut prerequisites = Vec::with_capacity(alloc, spaces(text))?;
+    if quotes {
+        quoted_needs(alloc, text)
+    } else {
+        plain_needs(alloc, text)
+    }
+}
+
+// The names of prerequisites; those after the first word `|` are order-only.
+#[tactic(auto, using(crate::proofs::NeedsLemmas::needs_from_start), unfolding(crate::proofs::NeedsLemmas::needs_from))]
+#[inline(never)]
+fn quoted_needs(alloc: Global, text: &[u8]) -> Result<Needs, AllocError>
+    ensures { IfOk result (λ needs. needs ≡ needs_of (written_words text.now)) }
+{
+    let mut prerequisites = Vec::with_capacity(alloc, text.len() / NAME_SIZE)?;
     let mut order_only = Vec::new(alloc);
     let mut after_bar = false;
     let mut rest = text;
@@ -131,10 +168,28 @@ fn needs(alloc: Global, text: &[u8]) -> Result<Needs, AllocError>
     })
 }
 
-fn spaces(text: &[u8]) -> usize
-    ensures { result ≤ length text.now }
+// The same for a text without a backslash.
+#[tactic(auto, using(crate::proofs::PlainLemmas::plain_needs_from), unfolding(crate::proofs::NeedsLemmas::needs_from))]
+fn plain_needs(alloc: Global, text: &[u8]) -> Result<Needs, AllocError>
+    requires { list_any is_backslash text.now ≡ false }
+    ensures { IfOk result (λ needs. needs ≡ needs_of (written_words text.now)) }
 {
-    memchr_iter(b' ', text).count()
+    let mut prerequisites = Vec::with_capacity(alloc, text.len() / NAME_SIZE)?;
+    let mut order_only = Vec::new(alloc);
+    let mut after_bar = false;
+    for word in words(text) {
+        if after_bar {
+            order_only.push(Name::copied(alloc, without_dots(word))?)?;
+        } else if is_bar(word) {
+            after_bar = true;
+        } else {
+            prerequisites.push(Name::copied(alloc, without_dots(word))?)?;
+        }
+    }
+    Ok(Needs {
+        prerequisites: Sequence::from(prerequisites),
+        order_only: Sequence::from(order_only),
+    })
 }
 
 #[tactic(auto, unfolding(crate::specs::RuleLine::is_bar))]

@@ -1,6 +1,8 @@
 //! Reads rule lines as entries.
-ghost use Rattle.std.specs.Prelude.{◌≡◌, option_map, IfOk};
-ghost use Rattle.kt_text.specs.Words.{words_of};
+ghost use Rattle.std.specs.Prelude.{◌≡◌, false, option_map, IfOk};
+ghost use Rattle.std.specs.List.{list_all, list_any};
+ghost use Rattle.kt_text.specs.Match.{has_percent};
+ghost use Rattle.kt_text.specs.Words.{is_separator, words_of};
 ghost use Rattle.kt_rules.specs.Refusals.{Answers};
 ghost use Rattle.kt_rules.specs.Entry.{is_nil, kind_of, recipe_of, rule_of, rule_with};
 
@@ -10,9 +12,10 @@ use crate::fault::RuleFault;
 use crate::head::{Separator, cut_head};
 use crate::line::Line;
 use crate::place::Place;
+use crate::signs::Signs;
 use crate::static_pattern::StaticPattern;
 use kt_list::Sequence;
-use kt_text::words;
+use kt_text::is_separator;
 use std::alloc::{AllocError, Global};
 
 /// The entry of a rule line.
@@ -34,39 +37,50 @@ pub fn read_rule(
     ensures { Answers result (rule_of text.now recipe place) }
 {
     if is_blank(text) {
-        return Ok(entry(alloc, Line::empty(alloc), recipe, place)?);
+        return Ok(entry(alloc, Line::empty(alloc), false, recipe, place)?);
     }
     let head = match cut_head(text) {
         Ok(head) => head,
         Err(refusal) => return Err(refusal.at(alloc, place)),
     };
-    let line = Line::of(alloc, &head)?;
-    if let Some(refusal) = line_refusal(&line) {
+    let signs = Signs::of(&head);
+    let line = Line::of(alloc, &head, signs)?;
+    if let Some(refusal) = line_refusal(&line, signs) {
         return Err(refusal.at(alloc, place));
     }
     if line.targets.as_slice().is_empty() {
-        return Ok(entry(alloc, Line::empty(alloc), recipe, place)?);
+        return Ok(entry(alloc, Line::empty(alloc), false, recipe, place)?);
     }
-    Ok(entry(alloc, line, recipe, place)?)
+    Ok(entry(alloc, line, signs.percent, recipe, place)?)
 }
 
 // Whether the text has no word.
+#[tactic(auto, using(crate::proofs::ReadingLemmas::blank_words))]
 fn is_blank(text: &[u8]) -> bool
     ensures { result ≡ is_nil (words_of text.now) }
 {
-    words(text).next().is_none()
+    has_separators_only(text)
 }
 
-// The entry of a line.
+fn has_separators_only(text: &[u8]) -> bool
+    ensures { result ≡ list_all is_separator text.now }
+{
+    text.iter().all(|byte| is_separator(*byte))
+}
+
+// The entry of a line, given whether its targets may have a percent sign.
 fn entry(
     alloc: Global,
     line: Line,
+    percent: bool,
     recipe: Option<Sequence<u8>>,
     place: Place,
 ) -> Result<Entry, AllocError>
+    requires { percent ≡ false → list_any has_percent line.targets ≡ false }
     ensures { IfOk result (λ entry. entry ≡ rule_with line recipe place) }
 {
-    let kind = kind_of(line.separator, any_percent(line.targets.as_slice()));
+    let has_percent = percent && any_percent(line.targets.as_slice());
+    let kind = kind_of(line.separator, has_percent);
     let recipe = recipe_of(alloc, recipe, &place)?;
     let Line {
         separator: _,

@@ -21,7 +21,7 @@ pub(crate) fn is_refused_name(name: &[u8]) -> bool
     has_telling_byte(name) && is_refused(name)
 }
 
-fn has_telling_byte(name: &[u8]) -> bool
+pub(crate) fn has_telling_byte(name: &[u8]) -> bool
     ensures { result ≡ list_any is_telling name.now }
 {
     // Names are short: a loop is faster than `any`, which tests bytes in groups.

@@ -49,7 +49,7 @@ fn numbers_each_fault(rt: HostRuntime) -> Result<(), Fail> {
         if next == 25 {
             next = 26;
         }
-        assert_eq!(rt; kind.number(), next);
+        assert_eq!(rt; kind.number(), next, "of {kind:?}");
         next += 1;
     }
     assert_eq!(rt; next, 37);

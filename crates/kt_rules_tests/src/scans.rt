@@ -31,7 +31,11 @@ fn numbers_names_as_the_plain_way(rt: HostRuntime) -> Result<(), Fail> {
         for _ in 0..random.below(12) {
             let name = random.text(rt.alloc(), NAMES, 3);
             let number = names.number(name.as_slice())?;
-            assert_eq!(rt; number, plain_way::number(&mut wanted, name));
+            assert_eq!(rt;
+                number,
+                plain_way::number(&mut wanted, name),
+                "of {wanted:?}"
+            );
         }
         assert!(rt; names.as_slice() == wanted.as_slice(), "{wanted:?}");
     }

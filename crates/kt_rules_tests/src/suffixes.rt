@@ -53,7 +53,12 @@ fn agrees_with_a_plain_loop(rt: HostRuntime) -> Result<(), Fail> {
             for _ in 0..20 {
                 let name = random_name(alloc, b"", &mut random);
                 let expected = plain_suffix(book.suffixes(), name.as_slice());
-                assert_eq!(rt; book.suffix_of(name.as_slice()), expected);
+                assert_eq!(rt;
+                    book.suffix_of(name.as_slice()),
+                    expected,
+                    "of {:?}",
+                    name.as_slice()
+                );
             }
         }
     }

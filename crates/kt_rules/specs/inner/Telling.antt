@@ -1,7 +1,15 @@
--- The bytes of which each refused name has one (kati's own).
-use Rattle.std.specs.Prelude.{ℕ, Bool, false, ◌==◌, ◌||◌, [], ◌∷◌}
+-- The bytes that tell of the names of a rule line (kati's own).
+use Rattle.std.specs.Prelude.{◌≡◌, ℕ, Bool, false, ◌==◌, ◌||◌, [], ◌∷◌, None}
+use Rattle.std.specs.List.{list_any}
 use Rattle.kt_text.specs.Words.{Text}
+use Rattle.kt_text.specs.Match.{has_percent}
+use Rattle.kt_rules.specs.declared.line.Line.{Line}
+use Rattle.kt_rules.specs.declared.signs.Signs.{Signs}
 use Rattle.kt_rules.specs.Names.{is_wildcard}
+use Rattle.kt_rules.specs.RuleLine.{Head, name_refusal, option_list}
+
+abbrev pub is_backslash : ℕ → Bool
+is_backslash byte = byte == 92
 
 -- a byte of a file name pattern, a backslash or a closing parenthesis
 abbrev pub tells_early : ℕ → Bool
@@ -15,3 +23,17 @@ is_telling byte = tells_early byte || byte == 126
 abbrev pub begins_with_dot : Text → Bool
 begins_with_dot [] = false
 begins_with_dot (byte ∷ name) = byte == 46
+
+-- whether a text of a head has a telling byte, and whether that of its targets has a percent sign
+abbrev pub signs_of : Head → Signs
+signs_of head = record {
+  telling =
+      list_any is_telling head.targets
+      || (list_any is_telling head.needs || list_any (list_any is_telling) (option_list head.pattern));
+  percent = has_percent head.targets;
+}
+
+-- without the signs no name of a line is refused, and no target has a percent sign
+pub record Tells (signs : Signs) (line : Line) : Type 0 where
+  pub names : signs.telling ≡ false → name_refusal line ≡ None
+  pub targets : signs.percent ≡ false → list_any has_percent line.targets ≡ false

@@ -3,29 +3,15 @@ use crate::entry::Kind;
 use crate::place::Place;
 use crate::static_pattern::StaticPattern;
 
-/// A rule line whose names are held as numbers in a list: the targets first, then the prerequisites, then the
-/// order-only prerequisites.
+/// What a rule line says beside its names and the lines of its recipe, which are rows of the book.
 #[derive(Drop)]
 pub(crate) struct HeldRule {
     pub(crate) kind: Kind,
-    pub(crate) span: Span,
-    pub(crate) pattern: StaticPattern,
-    pub(crate) recipe: Option<LineSpan>,
-    pub(crate) place: Place,
-}
-
-/// The places of a rule's numbers in a list.
-#[derive(Clone, Copy)]
-pub(crate) struct Span {
+    // A recipe without lines is one, too.
+    pub(crate) has_recipe: bool,
+    // How many of its names are targets, and how many prerequisites; the others are order-only prerequisites.
     pub(crate) targets: u32,
     pub(crate) prerequisites: u32,
-    pub(crate) order_only: u32,
-    pub(crate) end: u32,
-}
-
-/// The places of a recipe's lines in a list. An empty recipe has them, too.
-#[derive(Clone, Copy)]
-pub(crate) struct LineSpan {
-    pub(crate) start: u32,
-    pub(crate) end: u32,
+    pub(crate) pattern: StaticPattern,
+    pub(crate) place: Place,
 }

@@ -83,29 +83,38 @@ impl Book {
         is_made(entry.kind(), target.name) && self.has_group(entry, target.name)
     }
 
-    // Whether a target has rules with the other number of colons. Its first rule decides: all have the same number.
+    // Whether a target has rules with the other number of colons. Its first rule decides: all have the same number. Where
+    // no rule has two, it isn't looked up.
     fn has_other_colons(&self, entry: &Entry, name: &[u8]) -> bool
         ensures { result ≡ list_any (differ_in_colons entry.now) (rules_of self.now name.now) }
     {
+        let kind = entry.kind();
+        if !is_double(kind) && !self.rules.may_have_double() {
+            return false;
+        }
         match first_rule(
             &self.rules,
             spots_of(&self.rules, &self.spots.targets, name),
         ) {
-            Some(rule) => differ_in_colons(entry.kind(), rule.entry.kind()),
+            Some(rule) => differ_in_colons(kind, rule.entry.kind()),
             None => false,
         }
     }
 
     // Whether a target has a recipe, and one of the two is a group's. Its first rule with one decides: if one is a
-    // group, all are.
+    // group, all are. Where there is no group, it isn't looked up.
     fn has_group(&self, entry: &Entry, name: &[u8]) -> bool
         ensures { result ≡ list_any (is_beside_group entry.now) (recipes_of self.now name.now) }
     {
+        let kind = entry.kind();
+        if !is_group(kind) && !self.rules.may_have_group() {
+            return false;
+        }
         match first_rule(
             &self.rules,
             spots_of(&self.rules, &self.spots.recipes, name),
         ) {
-            Some(rule) => either_is_group(entry.kind(), rule.entry.kind()),
+            Some(rule) => either_is_group(kind, rule.entry.kind()),
             None => false,
         }
     }

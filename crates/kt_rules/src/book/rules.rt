@@ -1,19 +1,21 @@
 //! The rules of a book, which stores each name once.
-ghost use Rattle.std.specs.Prelude.{◌≡◌, ◌++◌, ◌∷◌, [], ◌<◌, All, flat_map, length, option_map, set, slice_range, IfOk};
-ghost use Rattle.std.specs.Prelude.{IfSome, IsTrue, OnErr, OnOk, Some, None};
+ghost use Rattle.std.specs.Prelude.{◌≡◌, ◌++◌, ◌∷◌, [], ◌<◌, All, drop, flat_map, get_or, length, option_map, set, take};
+ghost use Rattle.std.specs.Prelude.{ℕ, IfSome, IsTrue, List, None, false, OnErr, OnOk, Some, unwrap_or};
 ghost use Rattle.std.specs.List.{Contains};
 ghost use Rattle.kt_list.specs.Names.{place_of};
-ghost use Rattle.kt_rules.specs.inner.Held.{AreBelow, GotLines, GotNames, GotNumbers, Grew, IsHeldAt, IsNoted, IsSpan};
-ghost use Rattle.kt_rules.specs.inner.Held.{IsWithin, recipe_at, rule_held};
+ghost use Rattle.kt_text.specs.Words.{Text};
+ghost use Rattle.kt_rules.specs.Book.{is_double, is_group};
+ghost use Rattle.kt_rules.specs.inner.Held.{AreBelow, GotNames, GotRow, HasOneMore, rule_held};
 ghost use Rattle.kt_rules.specs.Known.{names_in};
 ghost use Rattle.kt_rules.specs.Slots.{rules_in, slot_rule};
+ghost use Rattle.kt_rules.specs.Suffixes.{all_needs};
 ghost use Rattle.kt_rules.specs.Targets.{entry_view};
 
 use super::book_rule::BookRule;
-use super::held_rule::{HeldRule, LineSpan, Span};
+use super::held_rule::HeldRule;
+use super::kinds::Kinds;
 use crate::entry::{Entry, Name, Needs, RecipeLine};
-use crate::narrow::narrow;
-use kt_list::Names;
+use kt_list::{Names, Rows, narrow};
 use std::alloc::{AllocError, Global};
 use std::marker::Model;
 
@@ -21,11 +23,13 @@ use std::marker::Model;
 #[derive(Drop)]
 pub(crate) struct Rules {
     names: Names,
-    // The numbers of the names of all rules, one rule after another.
-    numbers: Vec<u32>,
-    // The lines of all recipes, one recipe after another.
-    lines: Vec<RecipeLine>,
+    // For each slot, the numbers of a rule's names: the targets first, then the prerequisites, then the order-only ones.
+    numbers: Rows<u32>,
+    // For each slot, the lines of a rule's recipe.
+    lines: Rows<RecipeLine>,
     slots: Vec<Option<HeldRule>>,
+    // Of the rules in the slots, and maybe of some that were taken out again.
+    kinds: Kinds,
 }
 
 impl Model for Rules {
@@ -36,10 +40,10 @@ impl Model for Rules {
 
     ghost Value = { List Text × List (Option Rule) };
 
-    ghost view = { λ rules.
-        (rules.names, slots_held rules.names rules.numbers.items rules.lines.items rules.slots.items) };
+    ghost view = { λ rules. (rules.names, slots_held rules.names rules.numbers rules.lines rules.slots.items) };
 
-    ghost invariant = { λ rules. AreHeld rules.names rules.numbers.items rules.lines.items rules.slots.items };
+    ghost invariant = { λ rules. AreHeld rules.names rules.numbers rules.lines rules.slots.items
+        rules.kinds };
 }
 
 impl Rules {
@@ -49,9 +53,10 @@ impl Rules {
     {
         Rules {
             names: Names::new(alloc),
-            numbers: Vec::new(alloc),
-            lines: Vec::new(alloc),
+            numbers: Rows::new(alloc),
+            lines: Rows::new(alloc),
             slots: Vec::new(alloc),
+            kinds: Kinds::none(),
         }
     }
 
@@ -96,6 +101,20 @@ impl Rules {
         }
     }
 
+    /// Whether there may be rules with two colons.
+    pub(crate) fn may_have_double(&self) -> bool
+        ensures { result ≡ false → All (λ rule. is_double rule.kind ≡ false) (rules_in self.now.1) }
+    {
+        self.kinds.double
+    }
+
+    /// Whether there may be groups.
+    pub(crate) fn may_have_group(&self) -> bool
+        ensures { result ≡ false → All (λ rule. is_group rule.kind ≡ false) (rules_in self.now.1) }
+    {
+        self.kinds.group
+    }
+
     /// The rule in a slot.
     pub(crate) fn get(&self, place: usize) -> Option<BookRule<'_>>
         ensures told { option_map entry_view result ≡ slot_rule self.now.1 place }
@@ -108,15 +127,16 @@ impl Rules {
         match slot {
             Some(held) => Some(rule_of(
                 &self.names,
-                self.numbers.as_slice(),
-                self.lines.as_slice(),
+                row_at(&self.numbers, place),
+                row_at(&self.lines, place),
                 held,
             )),
             None => None,
         }
     }
 
-    /// Adds a rule in a new slot. If memory runs out, some of its names and the lines of its recipe may be added.
+    /// Adds a rule in a new slot. If memory runs out, some of its names may be added. A number beyond 4,294,967,295 is
+    /// refused as if memory were.
     pub(crate) fn push(&mut self, entry: Entry) -> Result<(), AllocError>
         ensures pushed { OnOk result (self.new.1 ≡ self.old.1 ++ Some entry ∷ []) }
         ensures refused { OnErr result (self.new.1 ≡ self.old.1) }
@@ -131,20 +151,25 @@ impl Rules {
             recipe,
             place,
         } = entry;
-        let recipe = hold_recipe(&mut self.lines, recipe)?;
-        let span = note_all(
+        let held = HeldRule {
+            kind,
+            has_recipe: recipe.is_some(),
+            targets: narrow(targets.as_slice().len())?,
+            prerequisites: narrow(needs.prerequisites.as_slice().len())?,
+            pattern,
+            place,
+        };
+        self.slots.reserve(1)?;
+        add_rows(
             &mut self.names,
             &mut self.numbers,
+            &mut self.lines,
             targets.as_slice(),
             &needs,
-        )?;
-        self.slots.push(Some(HeldRule {
-            kind,
-            span,
-            pattern,
             recipe,
-            place,
-        }))?;
+        )?;
+        self.slots.push_reserved(Some(held));
+        self.kinds = self.kinds.with(kind);
         Ok(())
     }
 
@@ -158,124 +183,143 @@ impl Rules {
     }
 }
 
-// A held rule with its parts of the numbers and of the lines.
+// The row at a place, or none of its items.
+fn row_at<T>(rows: &Rows<T>, place: usize) -> &[T]
+    ensures { result.now ≡ get_or rows.now place [] }
+{
+    match rows.row(place) {
+        Some(row) => row,
+        None => &[],
+    }
+}
+
+// A held rule with its numbers and lines.
 fn rule_of<'a>(
     names: &'a Names,
     numbers: &'a [u32],
     lines: &'a [RecipeLine],
     held: &'a HeldRule,
 ) -> BookRule<'a>
-    requires span { IsSpan (length numbers.now) held.now.span }
-    requires lines { IsWithin (length lines.now) held.now.recipe }
+    requires below { AreBelow (length names.now) numbers.now }
     ensures told { entry_view result ≡ rule_held names.now numbers.now lines.now held.now }
     ensures names { result.names.now ≡ names.now }
-    ensures targets { result.targets.now
-        ≡ slice_range numbers.now held.now.span.targets held.now.span.prerequisites }
-    ensures prerequisites { result.prerequisites.now
-        ≡ slice_range numbers.now held.now.span.prerequisites held.now.span.order_only }
-    ensures order_only { result.order_only.now
-        ≡ slice_range numbers.now held.now.span.order_only held.now.span.end }
+    ensures below { AreBelow (length names.now) result.targets.now }
+    ensures needs_below { AreBelow (length names.now) result.prerequisites.now }
+    ensures orders_below { AreBelow (length names.now) result.order_only.now }
 {
-    let span = held.span;
+    let (targets, needs) = cut(numbers, held.targets);
+    let (prerequisites, order_only) = cut(needs, held.prerequisites);
     BookRule {
         names,
-        targets: &numbers[span.targets as usize..span.prerequisites as usize],
-        prerequisites: &numbers[span.prerequisites as usize..span.order_only as usize],
-        order_only: &numbers[span.order_only as usize..span.end as usize],
-        recipe: recipe_at(lines, held.recipe),
+        targets,
+        prerequisites,
+        order_only,
+        recipe: if held.has_recipe { Some(lines) } else { None },
         held,
     }
 }
 
-// The lines of a held recipe.
-fn recipe_at(lines: &[RecipeLine], held: Option<LineSpan>) -> Option<&[RecipeLine]>
-    requires { IsWithin (length lines.now) held }
-    ensures { option_map (λ recipe. recipe.now) result ≡ recipe_at lines.now held }
+// The first numbers, and the others.
+fn cut(numbers: &[u32], count: u32) -> (&[u32], &[u32])
+    ensures first { result.0.now ≡ take count numbers.now }
+    ensures others { result.1.now ≡ drop count numbers.now }
 {
-    match held {
-        Some(span) => Some(&lines[span.start as usize..span.end as usize]),
-        None => None,
+    let count = count as usize;
+    if count < numbers.len() {
+        numbers.split_at(count)
+    } else {
+        (numbers, &[])
     }
 }
 
-// Moves the lines of a recipe to the end of a list, and returns their places. If memory runs out, they may be there.
-fn hold_recipe(
-    lines: &mut Vec<RecipeLine>,
-    recipe: Option<Vec<RecipeLine>>,
-) -> Result<Option<LineSpan>, AllocError>
-    ensures within { IfOk result (λ held. IsWithin (length lines.new.items) held) }
-    ensures held { IfOk result (λ held. recipe_at lines.new.items held ≡ option_map (λ own. own.items) recipe) }
-    ensures grown { GotLines lines.old.items lines.new.items }
-{
-    match recipe {
-        Some(mut own) => Ok(Some(hold_lines(lines, &mut own)?)),
-        None => Ok(None),
-    }
-}
-
-fn hold_lines(
-    lines: &mut Vec<RecipeLine>,
-    own: &mut Vec<RecipeLine>,
-) -> Result<LineSpan, AllocError>
-    ensures held { IfOk result (λ span. IsHeldAt lines.new.items own.old.items span) }
-    ensures grown { GotLines lines.old.items lines.new.items }
-{
-    let start = lines.len();
-    lines.append(own)?;
-    line_span(start, lines.len())
-}
-
-fn line_span(start: usize, end: usize) -> Result<LineSpan, AllocError>
-    ensures { IfOk result (λ span. (span.start ≡ start) × (span.end ≡ end)) }
-{
-    Ok(LineSpan {
-        start: narrow(start)?,
-        end: narrow(end)?,
-    })
-}
-
-// Adds the numbers of a rule's names, and returns their places. If memory runs out, some may be added. A number or a
-// place beyond 4,294,967,295 is refused as if memory were.
-fn note_all(
+// Adds a row with the numbers of a rule's names, and one with the lines of its recipe. If memory runs out, only names
+// may be added.
+fn add_rows(
     names: &mut Names,
-    numbers: &mut Vec<u32>,
+    numbers: &mut Rows<u32>,
+    lines: &mut Rows<RecipeLine>,
     targets: &[Name],
     needs: &Needs,
-) -> Result<Span, AllocError>
-    ensures noted { IfOk result (IsNoted names.new numbers.new.items targets.now needs.now) }
-    ensures grown { Grew names.old numbers.old.items names.new numbers.new.items }
+    recipe: Option<Vec<RecipeLine>>,
+) -> Result<(), AllocError>
+    ensures numbered { OnOk result (GotRow names.new numbers.old numbers.new (targets.now ++ all_needs needs.now)) }
+    ensures lined { OnOk result (lines.new ≡ lines.old
+        ++ unwrap_or (option_map (λ own. own.items) recipe) [] ∷ []) }
+    ensures numbers_refused { OnErr result (numbers.new ≡ numbers.old) }
+    ensures lines_refused { OnErr result (lines.new ≡ lines.old) }
+    ensures grown { GotNames names.old names.new }
 {
-    let start = numbers.len();
+    let rows = numbers.len();
+    add_numbers(names, numbers, targets, needs)?;
+    match add_lines(lines, recipe) {
+        Ok(()) => Ok(()),
+        Err(refused) => {
+            numbers.truncate(rows);
+            Err(refused)
+        }
+    }
+}
+
+// Adds a row with the lines of a recipe.
+fn add_lines(
+    lines: &mut Rows<RecipeLine>,
+    recipe: Option<Vec<RecipeLine>>,
+) -> Result<(), AllocError>
+    ensures added { OnOk result (lines.new ≡ lines.old ++ unwrap_or (option_map (λ own. own.items) recipe) [] ∷ []) }
+    ensures refused { OnErr result (lines.new ≡ lines.old) }
+{
+    match recipe {
+        Some(mut own) => lines.append_row(&mut own),
+        None => lines.open_row(),
+    }
+}
+
+// Adds a row with the numbers of a rule's names. If memory runs out, only names may be added.
+fn add_numbers(
+    names: &mut Names,
+    numbers: &mut Rows<u32>,
+    targets: &[Name],
+    needs: &Needs,
+) -> Result<(), AllocError>
+    ensures added { OnOk result (GotRow names.new numbers.old numbers.new (targets.now ++ all_needs needs.now)) }
+    ensures refused { OnErr result (numbers.new ≡ numbers.old) }
+    ensures grown { GotNames names.old names.new }
+{
+    let count = numbers.len();
+    numbers.open_row()?;
+    match note_all(names, numbers, targets, needs) {
+        Ok(()) => Ok(()),
+        Err(refused) => {
+            numbers.truncate(count);
+            Err(refused)
+        }
+    }
+}
+
+// Adds the numbers of a rule's names to the last row. If memory runs out, some may be added.
+fn note_all(
+    names: &mut Names,
+    numbers: &mut Rows<u32>,
+    targets: &[Name],
+    needs: &Needs,
+) -> Result<(), AllocError>
+    ensures noted { OnOk result ((front : List (List ℕ)) → GotRow names.old front numbers.old []
+        → GotRow names.new front numbers.new (targets.now ++ all_needs needs.now)) }
+    ensures kept { (front : List (List ℕ)) → HasOneMore front numbers.old → HasOneMore front numbers.new }
+    ensures grown { GotNames names.old names.new }
+{
     note_names(names, numbers, targets)?;
-    let prerequisites = numbers.len();
     note_names(names, numbers, needs.prerequisites.as_slice())?;
-    let order_only = numbers.len();
     note_names(names, numbers, needs.order_only.as_slice())?;
-    span_of(start, prerequisites, order_only, numbers.len())
+    Ok(())
 }
 
-// The places of a rule's numbers.
-fn span_of(
-    targets: usize,
-    prerequisites: usize,
-    order_only: usize,
-    end: usize,
-) -> Result<Span, AllocError>
-    ensures { IfOk result (λ span. (span.targets ≡ targets) × (span.prerequisites ≡ prerequisites)
-        × (span.order_only ≡ order_only) × (span.end ≡ end)) }
-{
-    Ok(Span {
-        targets: narrow(targets)?,
-        prerequisites: narrow(prerequisites)?,
-        order_only: narrow(order_only)?,
-        end: narrow(end)?,
-    })
-}
-
-// Adds the numbers of names. If memory runs out, some may be added.
-fn note_names(names: &mut Names, numbers: &mut Vec<u32>, list: &[Name]) -> Result<(), AllocError>
-    ensures noted { OnOk result (GotNumbers names.new numbers.old.items numbers.new.items list.now) }
-    ensures grown { Grew names.old numbers.old.items names.new numbers.new.items }
+// Adds the numbers of names to the last row. If memory runs out, some may be added.
+fn note_names(names: &mut Names, numbers: &mut Rows<u32>, list: &[Name]) -> Result<(), AllocError>
+    ensures noted { OnOk result ((front : List (List ℕ)) (before : List Text)
+        → GotRow names.old front numbers.old before → GotRow names.new front numbers.new (before ++ list.now)) }
+    ensures kept { (front : List (List ℕ)) → HasOneMore front numbers.old → HasOneMore front numbers.new }
+    ensures grown { GotNames names.old names.new }
 {
     for name in list {
         note_name(names, numbers, name.as_slice())?;
@@ -283,9 +327,11 @@ fn note_names(names: &mut Names, numbers: &mut Vec<u32>, list: &[Name]) -> Resul
     Ok(())
 }
 
-fn note_name(names: &mut Names, numbers: &mut Vec<u32>, name: &[u8]) -> Result<(), AllocError>
-    ensures noted { OnOk result (GotNumbers names.new numbers.old.items numbers.new.items (name.now ∷ [])) }
-    ensures grown { Grew names.old numbers.old.items names.new numbers.new.items }
+fn note_name(names: &mut Names, numbers: &mut Rows<u32>, name: &[u8]) -> Result<(), AllocError>
+    ensures noted { OnOk result ((front : List (List ℕ)) (before : List Text)
+        → GotRow names.old front numbers.old before → GotRow names.new front numbers.new (before ++ name.now ∷ [])) }
+    ensures kept { (front : List (List ℕ)) → HasOneMore front numbers.old → HasOneMore front numbers.new }
+    ensures grown { GotNames names.old names.new }
 {
     let number = names.number(name)?;
     numbers.push(narrow(number)?)?;

@@ -2,7 +2,7 @@
 ghost use Rattle.std.specs.Prelude.{◌≡◌, IfOk};
 ghost use Rattle.kt_rules.specs.Slots.{spot_at};
 
-use crate::narrow::narrow;
+use kt_list::narrow;
 use std::alloc::AllocError;
 
 /// A target of an entry: the entry's place and the target's place in it.

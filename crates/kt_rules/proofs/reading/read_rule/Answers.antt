@@ -1,6 +1,8 @@
 use Rattle.std.proofs.Common.{true, false, sym, ◌∙◌, refl, arith}
 use Rattle.std.proofs.lemmas.Bool.Decides.{nat_tests}
 use Rattle.kt_rules.proofs.ReadingLemmas.{told_fault, blank_rule, head_fault, line_fault, line_rule}
+use Rattle.kt_rules.proofs.SignLemmas.{signs_tell}
+use Rattle.kt_rules.specs.RuleLine.{head_view}
 use Rattle.kt_rules.proofs.reading.read_rule.Goals as goal
 
 pub returns-then-is_blank : goal.returns-then-is_blank
@@ -30,3 +32,11 @@ returns c =
     line_rule c.args.text.now c.args.recipe c.args.place _ c.in_ok-line.line c.in_ok-line.line _ false
     (sym c.is_blank.ensures ∙ c.if-is_blank.false) c.in-Ok.ensures c.in_ok-line.ensures c.in_default.ensures
     (grind (arith, nat_tests)) refl c.in_ok-entry-3.ensures
+
+pub line_refusal-requires : goal.line_refusal-requires
+line_refusal-requires c =
+    signs_tell (head_view c.in-Ok.head) c.of-signs.result c.in_ok-line.line c.of-signs.ensures c.in_ok-line.ensures
+
+pub entry-requires-2 : goal.entry-requires-2
+entry-requires-2 c =
+    (signs_tell (head_view c.in-Ok.head) c.of-signs.result c.in_ok-line.line c.of-signs.ensures c.in_ok-line.ensures).targets

@@ -1,16 +1,24 @@
-use Rattle.std.proofs.Common.{◌∙◌, ◌||◌, Some, ap}
+use Rattle.std.proofs.Common.{◌∙◌, ◌||◌, Some, ap, false, subst, sym, ◌≡◌}
 use Rattle.kt_rules.specs.declared.entry.Kind.{Kind}
+use Rattle.std.specs.List.{All}
+use Rattle.kt_rules.specs.Entry.{Rule}
 use Rattle.kt_rules.specs.Book.{is_group}
 use Rattle.kt_rules.specs.Slots.{first_found, rule_view}
-use Rattle.kt_rules.proofs.GoalLemmas.{group_by_first}
+use Rattle.kt_rules.proofs.GoalLemmas.{group_by_first, none_beside}
 use Rattle.kt_rules.proofs.book.Book.has_group.Goals as goal
 
 pub returns-in-Some : goal.returns-in-Some
 returns-in-Some c =
     let rules = c.self.inside.rules in
     c.either_is_group.ensures
-    ∙ ap (λ (kind : Kind). is_group c.kind.result || is_group kind) c.kind-in-Some.ensures
-    ∙ ap (λ (kind : Kind). is_group kind || is_group (rule_view c.in-Some.rule).0.kind) c.kind.ensures
+    ∙ ap (λ (kind : Kind). is_group c.kind-kind.result || is_group kind) c.kind.ensures
+    ∙ ap (λ (kind : Kind). is_group kind || is_group (rule_view c.in-Some.rule).0.kind) c.kind-kind.ensures
     ∙ group_by_first rules.1 (rules.0, c.self.inside.spots.targets) (rules.0, c.self.inside.spots.recipes) c.self.inside.phony c.self.inside.suffixes c.self.invariant.kept
     c.args.self.now c.self.view_is c.args.entry.now c.args.name.now (Some (rule_view c.in-Some.rule))
     (c.in-Some.ensures ∙ ap (first_found rules.1) c.spots_of.ensures)
+
+pub returns-then-not-may_have_group : goal.returns-then-not-may_have_group
+returns-then-not-may_have_group c =
+    let own = sym (ap is_group c.kind-kind.ensures) ∙ sym c.is_group.ensures ∙ c.if-not-is_group.true in
+    let none = subst (All (λ (rule : Rule). is_group rule.kind ≡ false)) c.self.view_is (c.may_have_group.ensures c.if-not-may_have_group.true) in
+    sym (none_beside c.args.self.now c.args.entry.now c.args.name.now own none)

@@ -1,16 +1,24 @@
-use Rattle.std.proofs.Common.{◌∙◌, Some, ap}
+use Rattle.std.proofs.Common.{◌∙◌, Some, ap, false, subst, sym, ◌≡◌}
 use Rattle.kt_rules.specs.declared.entry.Kind.{Kind}
+use Rattle.std.specs.List.{All}
+use Rattle.kt_rules.specs.Entry.{Rule}
 use Rattle.kt_rules.specs.Book.{is_double, xor}
 use Rattle.kt_rules.specs.Slots.{first_found, rule_view}
-use Rattle.kt_rules.proofs.GoalLemmas.{colons_by_first}
+use Rattle.kt_rules.proofs.GoalLemmas.{colons_by_first, none_differs}
 use Rattle.kt_rules.proofs.book.Book.has_other_colons.Goals as goal
 
 pub returns-in-Some : goal.returns-in-Some
 returns-in-Some c =
     let rules = c.self.inside.rules in
     c.differ_in_colons.ensures
-    ∙ ap (λ (kind : Kind). xor (is_double kind) (is_double c.kind.result)) c.kind-in-Some.ensures
-    ∙ ap (λ (kind : Kind). xor (is_double (rule_view c.in-Some.rule).0.kind) (is_double kind)) c.kind.ensures
+    ∙ ap (λ (kind : Kind). xor (is_double kind) (is_double c.kind-kind.result)) c.kind.ensures
+    ∙ ap (λ (kind : Kind). xor (is_double (rule_view c.in-Some.rule).0.kind) (is_double kind)) c.kind-kind.ensures
     ∙ colons_by_first rules.1 (rules.0, c.self.inside.spots.targets) (rules.0, c.self.inside.spots.recipes) c.self.inside.phony c.self.inside.suffixes c.self.invariant.kept
     c.args.self.now c.self.view_is c.args.entry.now c.args.name.now (Some (rule_view c.in-Some.rule))
     (c.in-Some.ensures ∙ ap (first_found rules.1) c.spots_of.ensures)
+
+pub returns-then-not-may_have_double : goal.returns-then-not-may_have_double
+returns-then-not-may_have_double c =
+    let own = sym (ap is_double c.kind-kind.ensures) ∙ sym c.is_double.ensures ∙ c.if-not-is_double.true in
+    let none = subst (All (λ (rule : Rule). is_double rule.kind ≡ false)) c.self.view_is (c.may_have_double.ensures c.if-not-may_have_double.true) in
+    sym (none_differs c.args.self.now c.args.entry.now c.args.name.now own none)

@@ -2,6 +2,7 @@ use Rattle.std.proofs.Common.{◌≡◌, ◌∙◌, ◌&&◌, ◌++◌, ◌∷�
 use Rattle.std.specs.Borrow.{Bor}
 use Rattle.std.proofs.lemmas.Option.{slice_get-get_or}
 use Rattle.std.proofs.lemmas.Result.{on_err_weaker, on_ok_weaker}
+use Rattle.kt_list.proofs.general.Places.{is_some-map}
 use Rattle.kt_text.specs.Words.{Text}
 use Rattle.kt_rules.specs.declared.entry.Kind.{Kind}
 use Rattle.kt_rules.specs.declared.entry.RecipeLine.{RecipeLine}
@@ -12,10 +13,6 @@ use Rattle.kt_rules.specs.inner.Held.{numbered_target}
 use Rattle.kt_rules.specs.inner.Lists.{list_at}
 use Rattle.kt_rules.proofs.NoteLemmas.{grew_at_names, target_noted}
 use Rattle.kt_rules.proofs.book.noting.note_target.Goals as goal
-
-is_some-map : {A B : Type 0} (f : A → B) (o : Option A) → is_some (option_map f o) ≡ is_some o
-is_some-map f None = refl
-is_some-map f (Some x) = refl
 
 pub returns-clause-targets_noted : goal.returns-clause-targets_noted
 returns-clause-targets_noted c =

@@ -4,7 +4,6 @@ use Rattle.kt_rules.specs.Entry.{target_of}
 use Rattle.kt_rules.specs.Slots.{GrewIn}
 use Rattle.kt_rules.specs.Targets.{entry_view, line_needs}
 use Rattle.kt_rules.specs.inner.Held.{numbered_target}
-use Rattle.kt_rules.proofs.HeldLemmas.{below_at}
 use Rattle.kt_rules.proofs.NoteLemmas.{grew_both, grew_none, grew_target, noted_end, noted_start, noted_step, target_end, target_left}
 use Rattle.kt_text.proofs.BegunLemmas.{on_err}
 use Rattle.kt_rules.proofs.book.noting.note_targets.Goals as goal
@@ -29,7 +28,7 @@ loop-position-init c =
     }
 
 pub note_target-requires : goal.note_target-requires
-note_target-requires c = below_at (length c.args.rule.names.now) c.args.rule.targets.now c.loop-position.position 0 c.requires c.loop-position-test.true
+note_target-requires c = c.requires c.loop-position.position 0 c.loop-position-test.true
 
 pub returns-in_err-note_target-clause-targets_refused : goal.returns-in_err-note_target-clause-targets_refused
 returns-in_err-note_target-clause-targets_refused c =

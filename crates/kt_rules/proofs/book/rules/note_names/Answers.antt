@@ -1,36 +1,30 @@
-use Rattle.std.proofs.Common.{◌≡◌, ◌∙◌, ◌∷◌, ◌+◌, drop, refl, sym, ap}
-use Rattle.std.proofs.lemmas.List.{drop_all, drop_more}
+use Rattle.std.proofs.Common.{◌≡◌, ◌∙◌, ◌++◌, ◌∷◌, ◌+◌, List, [], ap, subst, sym, take}
+use Rattle.std.proofs.lemmas.List.{append_assoc, take_all, take_more}
 use Rattle.kt_text.specs.Words.{Text}
-use Rattle.kt_rules.proofs.HeldLemmas.{grew_twice, none_grew, noted_all, noted_none, noted_one}
+use Rattle.kt_rules.specs.inner.Held.{GotRow}
+use Rattle.kt_rules.proofs.HeldLemmas.{got_twice}
 use Rattle.kt_rules.proofs.book.rules.note_names.Goals as goal
-
-pub loop-name-init : goal.loop-name-init
-loop-name-init c = record {
-  noted = noted_none c.args.names.now c.args.numbers.now.items c.args.list.now c.args.list.now refl;
-  grown = none_grew c.args.names.now c.args.names.now c.args.numbers.now.items c.args.numbers.now.items refl refl;
-}
-
-pub returns-in_err-note_name-clause-grown : goal.returns-in_err-note_name-clause-grown
-returns-in_err-note_name-clause-grown c =
-    grew_twice c.args.names.now c.loop-name.names c.note_name.new.names c.args.numbers.now.items c.loop-name.numbers.items c.note_name.new.numbers.items
-    c.loop-name.invariant.grown c.in_err-note_name.ensures.grown
 
 pub loop-name-preserved : goal.loop-name-preserved
 loop-name-preserved c =
     let list = c.args.list.now in
     let i = c.loop-name.name-index in
+    let done = take i list in
     let name = c.as_slice.result.now in
-    let first : drop i list ≡ name ∷ drop (i + 1) list
-    = drop_more list i c.name-item.result c.loop-name-test.true ∙ ap (λ (one : Text). one ∷ drop (i + 1) list) (sym c.name-item.is ∙ sym c.as_slice.ensures) in
+    let more : done ++ name ∷ [] ≡ take (i + 1) list
+    = ap (λ (one : Text). done ++ one ∷ []) (c.as_slice.ensures ∙ c.name-item.is) ∙ sym (take_more list i c.name-item.result c.loop-name-test.true) in
+    let step = c.in_ok-note_name.ensures in
     record {
-      noted = noted_one c.args.names.now c.loop-name.names c.note_name.new.names c.args.numbers.now.items c.loop-name.numbers.items c.note_name.new.numbers.items
-          list (drop i list) (drop (i + 1) list) name first c.loop-name.invariant.grown c.loop-name.invariant.noted
-          c.in_ok-note_name.ensures.grown c.in_ok-note_name.ensures.noted;
-      grown = grew_twice c.args.names.now c.loop-name.names c.note_name.new.names c.args.numbers.now.items c.loop-name.numbers.items c.note_name.new.numbers.items
-          c.loop-name.invariant.grown c.in_ok-note_name.ensures.grown;
+      noted = λ front before got.
+          subst (GotRow c.note_name.new.names front c.note_name.new.numbers)
+          (append_assoc before done (name ∷ []) ∙ ap (λ (names : List Text). before ++ names) more)
+          (step.noted front (before ++ done) (c.loop-name.invariant.noted front before got));
+      kept = λ front one. step.kept front (c.loop-name.invariant.kept front one);
+      grown = got_twice c.args.names.now c.loop-name.names c.note_name.new.names c.loop-name.invariant.grown step.grown;
     }
 
 pub returns-clause-noted : goal.returns-clause-noted
-returns-clause-noted c =
-    noted_all c.loop-name.names c.args.numbers.now.items c.loop-name.numbers.items c.args.list.now (drop c.loop-name.name-index c.args.list.now)
-    (drop_all c.loop-name.name-index c.args.list.now c.loop-name-test.false) c.loop-name.invariant.noted
+returns-clause-noted c = λ front before got.
+    subst (GotRow c.loop-name.names front c.loop-name.numbers)
+    (ap (λ (names : List Text). before ++ names) (take_all c.loop-name.name-index c.args.list.now c.loop-name-test.false))
+    (c.loop-name.invariant.noted front before got)

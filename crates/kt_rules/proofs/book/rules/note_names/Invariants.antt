@@ -1,10 +1,12 @@
-use Rattle.std.proofs.Common.{drop}
-use Rattle.kt_rules.specs.inner.Held.{Grew}
-use Rattle.kt_rules.proofs.HeldLemmas.{IsNotedTo}
+use Rattle.std.proofs.Common.{List, ◌++◌, take, ℕ}
+use Rattle.kt_text.specs.Words.{Text}
+use Rattle.kt_rules.specs.inner.Held.{GotNames, GotRow, HasOneMore}
 use Rattle.kt_rules.proofs.book.rules.note_names.Given as goal
 
 abbrev pub invariant-loop-name : goal.invariant-loop-name
 invariant-loop-name l = record {
-  noted : IsNotedTo l.names l.fn.numbers.items l.numbers.items l.list (drop l.name-index l.list);
-  grown : Grew l.fn.names l.fn.numbers.items l.names l.numbers.items;
+  noted : (front : List (List ℕ)) (before : List Text) → GotRow l.fn.names front l.fn.numbers before
+      → GotRow l.names front l.numbers (before ++ take l.name-index l.list);
+  kept : (front : List (List ℕ)) → HasOneMore front l.fn.numbers → HasOneMore front l.numbers;
+  grown : GotNames l.fn.names l.names;
 }

@@ -6,7 +6,6 @@ use Rattle.std.proofs.lemmas.Option.{slice_get-get_or}
 use Rattle.kt_list.specs.Names.{place_of}
 use Rattle.kt_rules.specs.declared.book.book_names.Marks.{Marks}
 use Rattle.kt_rules.specs.Targets.{names_at}
-use Rattle.kt_rules.proofs.HeldLemmas.{below_at}
 use Rattle.kt_rules.proofs.MarkLemmas.{marked_one, number_marked}
 use Rattle.kt_rules.proofs.NoteLemmas.{place_at}
 use Rattle.kt_rules.proofs.book.book_names.Marks.mark_numbers.Goals as goal
@@ -15,7 +14,7 @@ pub index_mut-requires : goal.index_mut-requires
 index_mut-requires c =
     let i = c.loop-number.number-index in
     let number = get_or c.args.numbers.now i 0 in
-    let at : number < length c.args.names.now = below_at (length c.args.names.now) c.args.numbers.now i 0 c.requires.below c.loop-number-test.true in
+    let at : number < length c.args.names.now = c.requires.below i 0 c.loop-number-test.true in
     omega (arith, at, c.loop-number.invariant.many, c.requires.count, c.loop-number.self.numbers.ok.0)
 
 pub loop-number-preserved : goal.loop-number-preserved
@@ -27,7 +26,7 @@ loop-number-preserved c =
     let one = get_or names number [] in
     let now = c.loop-number.self in
     let new : Marks = record { alloc = now.alloc; numbers = with_item now.numbers number true; others = now.others } in
-    let below : number < length names = below_at (length names) numbers i 0 c.requires.below c.loop-number-test.true in
+    let below : number < length names = c.requires.below i 0 c.loop-number-test.true in
     let within : number < length now.numbers.items = subst (λ n. number < n) (sym (c.loop-number.invariant.many ∙ c.requires.count)) below in
     let at : place_of names one ≡ Some number = place_at names one number c.as_slice-names.ensures.differ (slice_get-get_or names number [] below) in
     let first : names_at names (drop i numbers) ≡ one ∷ names_at names (drop (i + 1) numbers) = ap (names_at names) (drop_more numbers i 0 c.loop-number-test.true) in

@@ -1,16 +1,24 @@
-use Rattle.std.proofs.Common.{◌∙◌, List, Option, None, set, refl, ap}
+use Rattle.std.proofs.Common.{◌≡◌, ◌∙◌, List, Option, None, length, set, sym, ap, arith}
 use Rattle.kt_text.specs.Words.{Text}
 use Rattle.kt_rules.specs.Entry.{Rule}
-use Rattle.kt_rules.proofs.HeldLemmas.{emptied_held, emptied_slots}
+use Rattle.kt_rules.proofs.HeldLemmas.{emptied_held, slots_emptied, slots_many}
 use Rattle.kt_rules.proofs.book.rules.Rules.empty.Goals as goal
 
-pub invariant_of-self : goal.invariant_of-self
-invariant_of-self c =
+pub index_mut-requires : goal.index_mut-requires
+index_mut-requires c =
     let held = c.self.inside in
-    emptied_held held.names held.numbers.items held.lines.items held.slots.items (set held.slots.items c.args.place None) c.args.place c.self.invariant refl
+    let many : length c.args.self.now.1 ≡ length held.slots.items =
+    sym (ap (λ (both : List Text × List (Option Rule)). length both.1) c.self.view_is)
+    ∙ slots_many held.names held.numbers held.lines held.slots.items c.self.invariant.many_rows c.self.invariant.many_recipes in
+    omega (arith, c.requires, many, held.slots.ok.0)
 
 pub returns-clause-emptied : goal.returns-clause-emptied
 returns-clause-emptied c =
     let held = c.self.inside in
-    emptied_slots held.names held.numbers.items held.lines.items held.slots.items (set held.slots.items c.args.place None) c.args.place refl
+    slots_emptied held.names held.numbers held.lines held.slots.items c.args.place
     ∙ ap (λ (both : List Text × List (Option Rule)). set both.1 c.args.place None) c.self.view_is
+
+pub invariant_of-self : goal.invariant_of-self
+invariant_of-self c =
+    let held = c.self.inside in
+    emptied_held held.names held.numbers held.lines held.slots.items held.kinds c.args.place c.self.invariant

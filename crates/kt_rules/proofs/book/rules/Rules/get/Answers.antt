@@ -1,28 +1,39 @@
-use Rattle.std.proofs.Common.{◌≡◌, ◌∙◌, ℕ, List, Option, length, slice_range, sym, ap, subst}
-use Rattle.kt_text.specs.Words.{Text}
-use Rattle.kt_rules.specs.Entry.{Rule}
-use Rattle.kt_rules.specs.inner.Held.{AreBelow}
-use Rattle.kt_rules.proofs.HeldLemmas.{below_part}
+use Rattle.std.proofs.Common.{◌≡◌, ◌∙◌, ℕ, List, Option, Some, None, get_or, option_map, [], slice_get, sym, ap}
+use Rattle.std.proofs.lemmas.Option.{slice_get-get_or, slice_get_past}
+use Rattle.kt_rules.specs.declared.book.held_rule.HeldRule.{HeldRule}
+use Rattle.kt_rules.specs.declared.entry.RecipeLine.{RecipeLine}
+use Rattle.kt_rules.specs.Targets.{entry_view}
+use Rattle.kt_rules.specs.inner.Held.{rule_held}
+use Rattle.kt_rules.proofs.HeldLemmas.{slot_told}
 use Rattle.kt_rules.proofs.book.rules.Rules.get.Goals as goal
 
--- a part of the numbers, as the rules have it
-part : (names : List Text) (held numbers list : List ℕ) (slots : List (Option Rule)) (told : List Text × List (Option Rule)) (start end : ℕ)
-    → (names, slots) ≡ told → numbers ≡ held → list ≡ slice_range numbers start end → AreBelow (length names) held → AreBelow (length told.0) list
-part names held numbers list slots told start end view same is below =
-    subst (λ (both : List Text × List (Option Rule)). AreBelow (length both.0) list) view
-    (subst (AreBelow (length names)) (sym (is ∙ ap (λ (all : List ℕ). slice_range all start end) same)) (below_part (length names) held start end below))
+pub returns-in_err-slot-clause-told : goal.returns-in_err-slot-clause-told
+returns-in_err-slot-clause-told c =
+    let held = c.self.inside in
+    let found = c.in_err-slot.ensures.lookup in
+    let at : slice_get held.slots.items c.args.place ≡ None =
+    sym (ap (λ (slots : List (Option HeldRule)). slice_get slots c.args.place) c.deref.ensures.value)
+    ∙ slice_get_past c.deref.result.now c.args.place found.3 in
+    ap (option_map entry_view) c.from_residual.ensures
+    ∙ sym (slot_told c.args.self.now held.names held.numbers held.lines held.slots.items held.kinds c.args.place None c.self.view_is c.self.invariant at)
 
-pub returns-in-Some-clause-below : goal.returns-in-Some-clause-below
-returns-in-Some-clause-below c =
-    part c.self.inside.names c.self.inside.numbers.items c.as_slice.result.now c.rule_of.result.targets.now _ c.args.self.now _ _
-    c.self.view_is c.as_slice.ensures.value c.rule_of.ensures.targets c.self.invariant.below
+pub returns-in-None-clause-told : goal.returns-in-None-clause-told
+returns-in-None-clause-told c =
+    let held = c.self.inside in
+    let found = c.in_ok-slot.ensures.lookup in
+    let at : slice_get held.slots.items c.args.place ≡ Some None =
+    sym (ap (λ (slots : List (Option HeldRule)). slice_get slots c.args.place) c.deref.ensures.value)
+    ∙ slice_get-get_or c.deref.result.now c.args.place None found.3.0 ∙ ap Some (sym (found.3.1 None) ∙ c.in-None.is) in
+    sym (slot_told c.args.self.now held.names held.numbers held.lines held.slots.items held.kinds c.args.place (Some None) c.self.view_is c.self.invariant at)
 
-pub returns-in-Some-clause-needs_below : goal.returns-in-Some-clause-needs_below
-returns-in-Some-clause-needs_below c =
-    part c.self.inside.names c.self.inside.numbers.items c.as_slice.result.now c.rule_of.result.prerequisites.now _ c.args.self.now _ _
-    c.self.view_is c.as_slice.ensures.value c.rule_of.ensures.prerequisites c.self.invariant.below
-
-pub returns-in-Some-clause-orders_below : goal.returns-in-Some-clause-orders_below
-returns-in-Some-clause-orders_below c =
-    part c.self.inside.names c.self.inside.numbers.items c.as_slice.result.now c.rule_of.result.order_only.now _ c.args.self.now _ _
-    c.self.view_is c.as_slice.ensures.value c.rule_of.ensures.order_only c.self.invariant.below
+pub returns-in-Some-clause-told : goal.returns-in-Some-clause-told
+returns-in-Some-clause-told c =
+    let held = c.self.inside in
+    let found = c.in_ok-slot.ensures.lookup in
+    let at : slice_get held.slots.items c.args.place ≡ Some (Some c.in-Some.held) =
+    sym (ap (λ (slots : List (Option HeldRule)). slice_get slots c.args.place) c.deref.ensures.value)
+    ∙ slice_get-get_or c.deref.result.now c.args.place None found.3.0 ∙ ap Some (sym (found.3.1 None) ∙ c.in-Some.is) in
+    ap Some (c.rule_of.ensures.told
+    ∙ ap (λ (numbers : List ℕ). rule_held held.names numbers c.row_at-in-Some.result.now c.in-Some.held) c.row_at.ensures
+    ∙ ap (λ (lines : List RecipeLine). rule_held held.names (get_or held.numbers c.args.place []) lines c.in-Some.held) c.row_at-in-Some.ensures)
+    ∙ sym (slot_told c.args.self.now held.names held.numbers held.lines held.slots.items held.kinds c.args.place (Some (Some c.in-Some.held)) c.self.view_is c.self.invariant at)

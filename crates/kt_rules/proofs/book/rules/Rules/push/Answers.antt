@@ -1,86 +1,65 @@
-use Rattle.std.proofs.Common.{◌∙◌, ◌++◌, ◌∷◌, [], List, Option, Some, option_map, subst, sym, ap}
+use Rattle.std.proofs.Common.{◌∙◌, ◌++◌, ◌∷◌, [], List, Option, Some, length, option_map, refl, unwrap_or, sym, ap}
+use Rattle.kt_list.proofs.general.Places.{is_some-map}
 use Rattle.kt_text.specs.Words.{Text}
 use Rattle.kt_text.proofs.BegunLemmas.{on_err}
 use Rattle.kt_rules.specs.declared.book.held_rule.HeldRule.{HeldRule}
-use Rattle.kt_rules.specs.Entry.{Rule, rule_by}
-use Rattle.kt_rules.specs.inner.Held.{AreHeld, slots_held}
-use Rattle.kt_rules.proofs.HeldLemmas.{grown_held, grown_slots, lined_held, lined_slots, noted_rule, pushed_held, pushed_slots}
+use Rattle.kt_rules.specs.Entry.{Rule}
+use Rattle.kt_rules.specs.Suffixes.{all_needs}
+use Rattle.kt_rules.specs.inner.Held.{slots_held}
+use Rattle.kt_rules.proofs.HeldLemmas.{grown_slots, pushed_held, pushed_rule}
 use Rattle.kt_rules.proofs.book.rules.Rules.push.Goals as goal
 
-pub invariant_of-self : goal.invariant_of-self
-invariant_of-self c =
+pub returns-in_err-add_rows-clause-refused : goal.returns-in_err-add_rows-clause-refused
+returns-in_err-add_rows-clause-refused c =
     let held = c.self.inside in
-    lined_held held.names held.numbers.items held.lines.items c.hold_recipe.new.lines.items held.slots.items c.hold_recipe.ensures.grown c.self.invariant
-
-pub returns-in_err-recipe-clause-refused : goal.returns-in_err-recipe-clause-refused
-returns-in_err-recipe-clause-refused c =
-    let held = c.self.inside in
-    on_err c.from_residual.result
-    (lined_slots held.names held.numbers.items held.lines.items c.hold_recipe.new.lines.items held.slots.items c.hold_recipe.ensures.grown c.self.invariant
-    ∙ ap (λ (both : List Text × List (Option Rule)). both.1) c.self.view_is)
-
-pub invariant_of-self-in_err-span : goal.invariant_of-self-in_err-span
-invariant_of-self-in_err-span c =
-    let held = c.self.inside in
-    let new = c.note_all.new in
-    let lines = c.hold_recipe.new.lines.items in
-    grown_held held.names new.names held.numbers.items new.numbers.items lines held.slots.items c.note_all.ensures.grown
-    (lined_held held.names held.numbers.items held.lines.items lines held.slots.items c.hold_recipe.ensures.grown c.self.invariant)
-
-pub returns-in_err-span-clause-refused : goal.returns-in_err-span-clause-refused
-returns-in_err-span-clause-refused c =
-    let held = c.self.inside in
-    let new = c.note_all.new in
-    let lines = c.hold_recipe.new.lines.items in
-    on_err c.from_residual-in_err-span.result
-    (grown_slots held.names new.names held.numbers.items new.numbers.items lines held.slots.items c.note_all.ensures.grown
-    (lined_held held.names held.numbers.items held.lines.items lines held.slots.items c.hold_recipe.ensures.grown c.self.invariant)
-    ∙ lined_slots held.names held.numbers.items held.lines.items lines held.slots.items c.hold_recipe.ensures.grown c.self.invariant
-    ∙ ap (λ (both : List Text × List (Option Rule)). both.1) c.self.view_is)
-
-pub invariant_of-self-in_err-push : goal.invariant_of-self-in_err-push
-invariant_of-self-in_err-push c =
-    let held = c.self.inside in
-    let new = c.note_all.new in
-    let lines = c.hold_recipe.new.lines.items in
-    subst (AreHeld new.names new.numbers.items lines) (sym c.in_err-push.ensures.items)
-    (grown_held held.names new.names held.numbers.items new.numbers.items lines held.slots.items c.note_all.ensures.grown
-    (lined_held held.names held.numbers.items held.lines.items lines held.slots.items c.hold_recipe.ensures.grown c.self.invariant))
-
-pub returns-in_err-push-clause-refused : goal.returns-in_err-push-clause-refused
-returns-in_err-push-clause-refused c =
-    let held = c.self.inside in
-    let new = c.note_all.new in
-    let lines = c.hold_recipe.new.lines.items in
-    on_err c.from_residual-in_err-push.result
-    (ap (slots_held new.names new.numbers.items lines) c.in_err-push.ensures.items
-    ∙ grown_slots held.names new.names held.numbers.items new.numbers.items lines held.slots.items c.note_all.ensures.grown
-    (lined_held held.names held.numbers.items held.lines.items lines held.slots.items c.hold_recipe.ensures.grown c.self.invariant)
-    ∙ lined_slots held.names held.numbers.items held.lines.items lines held.slots.items c.hold_recipe.ensures.grown c.self.invariant
+    let new = c.add_rows.new in
+    let refused = c.in_err-add_rows.ensures in
+    on_err c.from_residual-in_err-add_rows.result
+    ((λ j. slots_held new.names (refused.numbers_refused j) (refused.lines_refused j) (c.in_ok-reserve.ensures.items j))
+    ∙ grown_slots held.names new.names held.numbers held.lines held.slots.items held.kinds refused.grown c.self.invariant
     ∙ ap (λ (both : List Text × List (Option Rule)). both.1) c.self.view_is)
 
 pub invariant_of-self-2 : goal.invariant_of-self-2
 invariant_of-self-2 c =
     let held = c.self.inside in
-    let new = c.note_all.new in
-    let lines = c.hold_recipe.new.lines.items in
-    pushed_held held.names new.names held.numbers.items new.numbers.items lines held.slots.items c.note_all.ensures.grown
-    (lined_held held.names held.numbers.items held.lines.items lines held.slots.items c.hold_recipe.ensures.grown c.self.invariant)
-    _ c.push.new.self.items c.in_ok-push.ensures.items c.in_ok-span.ensures.noted.is_span c.in_ok-recipe.ensures.within
+    let entry = c.entry.inside in
+    let new = c.add_rows.new in
+    let added = c.in_ok-add_rows.ensures in
+    let lines = unwrap_or (option_map (λ own. own.items) entry.recipe) [] in
+    let rule : HeldRule = record {
+      kind = entry.kind;
+      has_recipe = c.is_some.result;
+      targets = c.in_ok-narrow.field-0;
+      prerequisites = c.in_ok-narrow-2.field-0;
+      pattern = entry.pattern;
+      place = entry.place;
+    } in
+    pushed_held held.names new.names held.numbers new.numbers held.lines new.lines held.slots.items c.push_reserved.new.self.items held.kinds lines rule
+    (c.as_slice-3.result.now ++ all_needs entry.needs) added.grown c.self.invariant added.numbered added.lined
+    (c.push_reserved.ensures.items ∙ ap (λ (slots : List (Option HeldRule)). slots ++ Some rule ∷ []) c.in_ok-reserve.ensures.items)
+    c.with-self-inside.result c.with-self-inside.ensures.kept c.with-self-inside.ensures.added
 
 pub returns-clause-pushed : goal.returns-clause-pushed
 returns-clause-pushed c =
     let held = c.self.inside in
-    let new = c.note_all.new in
-    let lines = c.hold_recipe.new.lines.items in
     let entry = c.entry.inside in
-    let rule : HeldRule = record { kind = entry.kind; span = c.in_ok-span.span; pattern = entry.pattern; recipe = c.in_ok-recipe.recipe; place = entry.place } in
-    pushed_slots held.names new.names held.numbers.items new.numbers.items lines held.slots.items c.note_all.ensures.grown
-    (lined_held held.names held.numbers.items held.lines.items lines held.slots.items c.hold_recipe.ensures.grown c.self.invariant)
-    rule c.args.entry c.push.new.self.items c.in_ok-push.ensures.items
-    (noted_rule new.names new.numbers.items lines c.as_slice.result.now entry.needs _ rule c.in_ok-span.ensures.noted c.in_ok-recipe.ensures.held
-    ∙ ap (λ (targets : List Text). rule_by entry.kind targets entry.pattern entry.needs (option_map (λ lines. lines.items) entry.recipe) entry.place) c.as_slice.ensures
-    ∙ c.entry.view_is)
-    ∙ ap (λ (slots : List (Option Rule)). slots ++ Some c.args.entry ∷ [])
-    (lined_slots held.names held.numbers.items held.lines.items lines held.slots.items c.hold_recipe.ensures.grown c.self.invariant
-    ∙ ap (λ (both : List Text × List (Option Rule)). both.1) c.self.view_is)
+    let new = c.add_rows.new in
+    let added = c.in_ok-add_rows.ensures in
+    let recipe = option_map (λ own. own.items) entry.recipe in
+    let rule : HeldRule = record {
+      kind = entry.kind;
+      has_recipe = c.is_some.result;
+      targets = c.in_ok-narrow.field-0;
+      prerequisites = c.in_ok-narrow-2.field-0;
+      pattern = entry.pattern;
+      place = entry.place;
+    } in
+    pushed_rule held.names new.names held.numbers new.numbers held.lines new.lines held.slots.items c.push_reserved.new.self.items held.kinds (unwrap_or recipe []) rule
+    (c.as_slice-3.result.now ++ all_needs entry.needs) added.grown c.self.invariant added.numbered added.lined
+    (c.push_reserved.ensures.items ∙ ap (λ (slots : List (Option HeldRule)). slots ++ Some rule ∷ []) c.in_ok-reserve.ensures.items)
+    entry.targets entry.needs recipe
+    (ap (λ (targets : List Text). targets ++ all_needs entry.needs) c.as_slice-3.ensures)
+    (c.in_ok-narrow.ensures ∙ ap length c.as_slice.ensures)
+    (c.in_ok-narrow-2.ensures ∙ ap length c.as_slice-2.ensures)
+    (c.is_some.ensures ∙ sym (is_some-map (λ own. own.items) entry.recipe)) refl
+    ∙ (λ j. ap (λ (both : List Text × List (Option Rule)). both.1) c.self.view_is j ++ Some (c.entry.view_is j) ∷ [])

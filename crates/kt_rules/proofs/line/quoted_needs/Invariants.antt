@@ -1,12 +1,12 @@
 use Rattle.std.proofs.Common.{◌≡◌, length}
-use Rattle.kt_rules.specs.Names.{written_words}
+use Rattle.kt_rules.specs.Names.{name_of, written_words}
 use Rattle.kt_rules.specs.RuleLine.{needs_of}
 use Rattle.kt_rules.proofs.NeedsLemmas.{needs_from}
-use Rattle.kt_rules.proofs.line.needs.Given as goal
+use Rattle.kt_rules.proofs.line.quoted_needs.Given as goal
 
 abbrev pub invariant-loop-word : goal.invariant-loop-word
 invariant-loop-word l =
-    needs_from l.after_bar l.prerequisites.items l.order_only.items (written_words l.rest) ≡ needs_of (written_words l.text)
+    needs_from name_of l.after_bar l.prerequisites.items l.order_only.items (written_words l.rest) ≡ needs_of (written_words l.text)
 
 abbrev pub decreases-loop-word : goal.decreases-loop-word
 decreases-loop-word l = length (written_words l.rest)

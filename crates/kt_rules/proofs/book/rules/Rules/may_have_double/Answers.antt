@@ -1,0 +1,7 @@
+use Rattle.kt_rules.proofs.HeldLemmas.{none_double}
+use Rattle.kt_rules.proofs.book.rules.Rules.may_have_double.Goals as goal
+
+pub returns : goal.returns
+returns c = λ unseen.
+    let held = c.self.inside in
+    none_double c.args.self.now held.names held.numbers held.lines held.slots.items held.kinds c.self.view_is c.self.invariant unseen

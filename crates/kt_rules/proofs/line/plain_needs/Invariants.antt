@@ -1,0 +1,9 @@
+use Rattle.std.proofs.Common.{◌≡◌}
+use Rattle.kt_rules.specs.Names.{without_dots, written_words}
+use Rattle.kt_rules.specs.RuleLine.{needs_of}
+use Rattle.kt_rules.proofs.NeedsLemmas.{needs_from}
+use Rattle.kt_rules.proofs.line.plain_needs.Given as goal
+
+abbrev pub invariant-loop-word : goal.invariant-loop-word
+invariant-loop-word l =
+    needs_from without_dots l.after_bar l.prerequisites.items l.order_only.items l.word-iterator ≡ needs_of (written_words l.text)

@@ -1,0 +1,35 @@
+//! Which kinds of rules there may be.
+ghost use Rattle.std.specs.Prelude.{◌≡◌, true};
+ghost use Rattle.kt_rules.specs.declared.entry.Kind.{Kind as AnyKind};
+ghost use Rattle.kt_rules.specs.inner.Held.{sees};
+
+use super::target_rule::{is_double, is_group};
+use crate::entry::Kind;
+
+/// Whether there may be rules with two colons, and groups: where there are none, no target has to be looked up for them.
+#[derive(Clone, Copy)]
+pub(crate) struct Kinds {
+    pub(crate) double: bool,
+    pub(crate) group: bool,
+}
+
+impl Kinds {
+    /// Neither.
+    pub(crate) fn none() -> Kinds {
+        Kinds {
+            double: false,
+            group: false,
+        }
+    }
+
+    /// The same with a rule of one more kind.
+    pub(crate) fn with(self, kind: Kind) -> Kinds
+        ensures kept { (other : AnyKind) → sees self other ≡ true → sees result other ≡ true }
+        ensures added { sees result kind ≡ true }
+    {
+        Kinds {
+            double: self.double || is_double(kind),
+            group: self.group || is_group(kind),
+        }
+    }
+}
