@@ -16,6 +16,7 @@ use crate::state::Found;
 use crate::value::Value;
 pub use automatic::{Automatic, NoAutomatic};
 use indexmap::IndexMap;
+use kt_list::{Key, Text};
 pub use scope::Makefile;
 use std::alloc::{AllocError, Global};
 use std::marker::Model;
@@ -119,16 +120,15 @@ pub(crate) fn has_dollar(text: &[u8]) -> bool
 #[derive(Drop)]
 pub struct Macros {
     pub(crate) alloc: Global,
-    entries: IndexMap<Vec<u8>, Macro>,
+    entries: IndexMap<Text, Macro>,
 }
 
 impl Model for Macros {
-    ghost use Rattle.std.specs.Prelude.{map};
     ghost use Rattle.kt_eval.specs.macros.Macros.{Table};
 
     ghost Value = { Table };
 
-    ghost view = { λ s. map (λ entry. (entry.0.items, entry.1)) s.entries.entries };
+    ghost view = { λ s. s.entries.entries };
 }
 
 impl Macros {
@@ -149,7 +149,7 @@ impl Macros {
     pub fn get(&self, name: &[u8]) -> Option<&Macro>
         ensures { option_map (λ entry. entry.now) result ≡ find name.now self.now }
     {
-        self.entries.get(name)
+        self.entries.get(Key(name))
     }
 
     // The flavour and value of a name; the value is shared, not copied.
@@ -186,7 +186,7 @@ impl Macros {
         ensures set { OnOk result (self.new ≡ put name.items value self.old) }
         ensures refused { OnErr result (self.new ≡ self.old) }
     {
-        self.entries.insert(name, value)?;
+        self.entries.insert(Text::from(name), value)?;
         Ok(())
     }
 
@@ -204,7 +204,7 @@ impl Macros {
     {
         let alloc = self.alloc;
         let mut longer = Macro::of_makefile(flavour, front);
-        match self.entries.get_mut(name.as_slice()) {
+        match self.entries.get_mut(Key(name.as_slice())) {
             Some(entry) => {
                 *entry = longer;
                 entry.append(alloc, text)

@@ -1,8 +1,7 @@
 //! Texts that macros, bindings and arguments hold.
-ghost use Rattle.std.specs.Prelude.{◌≡◌, ◌++◌, IfOk, IfSome, OnErr, OnOk};
-ghost use Rattle.kt_eval.specs.Values.{value_of};
+ghost use Rattle.std.specs.Prelude.{◌≡◌, ◌++◌, IfOk, OnErr, OnOk};
 
-use kt_list::Shared;
+use kt_list::{Shared, ShortText};
 use std::alloc::{AllocError, Global};
 use std::marker::Model;
 
@@ -15,12 +14,9 @@ pub struct Value {
     form: Form,
 }
 
-// A value of at most so many bytes is short: they lie beside a size and a tag in four words.
-const SHORT: usize = 30;
-
 #[derive(Debug, Drop)]
 enum Form {
-    Short { size: u8, bytes: [u8; SHORT] },
+    Short(ShortText),
     Long(Shared<u8>),
 }
 
@@ -38,8 +34,10 @@ impl Value {
     pub fn copied(alloc: Global, bytes: &[u8]) -> Result<Value, AllocError>
         ensures { IfOk result (λ value. value ≡ bytes.now) }
     {
-        match short(bytes) {
-            Some(form) => Ok(Value { form }),
+        match ShortText::of(bytes) {
+            Some(short) => Ok(Value {
+                form: Form::Short(short),
+            }),
             None => Value::long(Vec::from_slice(alloc, bytes)?),
         }
     }
@@ -48,8 +46,10 @@ impl Value {
     pub fn from_vec(bytes: Vec<u8>) -> Result<Value, AllocError>
         ensures { IfOk result (λ value. value ≡ bytes.items) }
     {
-        match short(bytes.as_slice()) {
-            Some(form) => Ok(Value { form }),
+        match ShortText::of(bytes.as_slice()) {
+            Some(short) => Ok(Value {
+                form: Form::Short(short),
+            }),
             None => Value::long(bytes),
         }
     }
@@ -59,7 +59,7 @@ impl Value {
         ensures { result.now ≡ self.now }
     {
         match &self.form {
-            Form::Short { size, bytes } => bytes.get(..usize::from(*size)).unwrap_or(bytes),
+            Form::Short(short) => short.as_slice(),
             Form::Long(text) => text.as_slice(),
         }
     }
@@ -69,11 +69,8 @@ impl Value {
         ensures { IfOk result (λ value. value ≡ self.now) }
     {
         match &self.form {
-            Form::Short { size, bytes } => Ok(Value {
-                form: Form::Short {
-                    size: *size,
-                    bytes: *bytes,
-                },
+            Form::Short(short) => Ok(Value {
+                form: Form::Short(short.again()),
             }),
             Form::Long(text) => Ok(Value {
                 form: Form::Long(text.share()?),
@@ -110,19 +107,4 @@ fn joined(alloc: Global, front: &[u8], more: &[u8]) -> Result<Value, AllocError>
     bytes.extend_from_slice(front)?;
     bytes.extend_from_slice(more)?;
     Value::from_vec(bytes)
-}
-
-// The form of few bytes.
-fn short(bytes: &[u8]) -> Option<Form>
-    ensures { IfSome result (λ form. value_of form ≡ bytes.now) }
-{
-    if bytes.len() > SHORT {
-        return None;
-    }
-    let mut held = [0; SHORT];
-    held[..bytes.len()].copy_from_slice(bytes);
-    Some(Form::Short {
-        size: bytes.len() as u8,
-        bytes: held,
-    })
 }

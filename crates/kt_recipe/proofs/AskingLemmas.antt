@@ -1,10 +1,11 @@
 -- An automatic macro is found by its name.
-use Rattle.std.proofs.Common.{◌≡◌, ℕ, Bool, true, false, not, ◌&&◌, ◌||◌, ◌==◌, if◌then◌else◌, List, [], ◌∷◌, ◌++◌, map, Option, Some, None, option_map, refl, sym, ap, ◌∙◌, true≢false}
+use Rattle.std.proofs.Common.{◌≡◌, ℕ, Bool, true, false, not, ◌&&◌, ◌==◌, if◌then◌else◌, List, [], ◌∷◌, ◌++◌, map, Option, Some, None, option_map, refl, sym, ap, ◌∙◌, true≢false}
 use Rattle.std.specs.Prelude.{nat_eq, flat_map}
 use Rattle.std.specs.List.{list_any}
 use Rattle.std.specs.Option.{option_and_then}
 use Rattle.std.specs.Cmp.Lexicographic.{pointwise}
 use Rattle.std.proofs.lemmas.Bool.{eqb-true}
+use Rattle.kt_list.proofs.general.Booleans.{or_first, or_second}
 use Rattle.kt_text.specs.Words.{Text}
 use Rattle.kt_eval.specs.files.Files.{Store, look}
 use Rattle.kt_graph.specs.nodes.Node.{Node}
@@ -65,14 +66,6 @@ differ (one ∷ known) = not (has_mark known one.0) && differ known
 abbrev told_by : Node → ℕ → Text → Option Subject → Option Text
 told_by node part rest found = option_and_then (λ subject. look (of_mark node part subject) rest) found
 
-not_first : (a b : Bool) → (a || b) ≡ false → a ≡ false
-not_first true b is = absurd (true≢false is)
-not_first false b is = refl
-
-not_second : (a b : Bool) → (a || b) ≡ false → b ≡ false
-not_second true b is = absurd (true≢false is)
-not_second false b is = is
-
 apart : (a b : Bool) → (not a && b) ≡ true → a ≡ false
 apart true b is = absurd (true≢false (sym is))
 apart false b is = refl
@@ -87,8 +80,8 @@ none_there node part [] mark rest is = refl
 none_there node part (one ∷ known) mark rest is =
     look_after (after one.0 (of_mark node part one.1)) (all_after node part known) (mark ∷ rest)
     ∙ ap (λ found. or_else found (look (all_after node part known) (mark ∷ rest)))
-    (marked one.0 mark (of_mark node part one.1) rest false (not_first (one.0 == mark) (has_mark known mark) is))
-    ∙ none_there node part known mark rest (not_second (one.0 == mark) (has_mark known mark) is)
+    (marked one.0 mark (of_mark node part one.1) rest false (or_first (one.0 == mark) (has_mark known mark) is))
+    ∙ none_there node part known mark rest (or_second (one.0 == mark) (has_mark known mark) is)
 
 -- at the first mark, or after it
 either_mark : (node : Node) (part : ℕ) (one : ℕ × Subject) (known : List (ℕ × Subject)) (mark : ℕ) (rest : Text) (b : Bool) → (one.0 == mark) ≡ b

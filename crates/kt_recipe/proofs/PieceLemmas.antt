@@ -1,6 +1,6 @@
 -- A line without a newline is one piece.
-use Rattle.std.proofs.Common.{◌≡◌, ℕ, Bool, true, false, not, ◌==◌, ◌||◌, List, [], ◌∷◌, Option, Result, refl, sym, ap, ◌∙◌, true≢false}
-use Rattle.std.proofs.lemmas.Bool.{or_parts}
+use Rattle.std.proofs.Common.{◌≡◌, Bool, true, false, not, ◌==◌, List, [], ◌∷◌, Option, Result, refl, sym}
+use Rattle.std.proofs.lemmas.Bool.{not-true, or_parts}
 use Rattle.std.specs.List.{list_any, slice_split}
 use Rattle.kt_text.specs.Words.{Text}
 use Rattle.kt_eval.specs.declared.stop.Stop.{Stop}
@@ -8,10 +8,6 @@ use Rattle.kt_eval.specs.Outcome.{Outcome, Gave, Stopped, StepOver, then_do, don
 use Rattle.kt_eval.specs.expanding.Pure.{Says}
 use Rattle.kt_recipe.specs.Lines.{pieces_of}
 use Rattle.kt_recipe.specs.Shell.{Setting, put_piece, put_pieces}
-
-not_true : (a : Bool) → not a ≡ true → a ≡ false
-not_true true is = absurd (true≢false (sym is))
-not_true false is = refl
 
 uncut : (text : Text) → list_any (λ byte. byte == 10) text ≡ false → slice_split (λ byte. byte == 10) text ≡ text ∷ []
 uncut [] is = refl
@@ -27,7 +23,7 @@ put_one : (at : Setting) (marked : Bool) (text : Text) (command : Option Text) (
     → put_piece at marked text command said ≡ put_pieces at marked (pieces_of text) command said
 unfolding put_pieces pieces_of
 put_one at marked text command said whole =
-    rw (uncut text (not_true (list_any (λ byte. byte == 10) text) whole)) (sym (then_done (put_piece at marked text command said)))
+    rw (uncut text (not-true (list_any (λ byte. byte == 10) text) whole)) (sym (then_done (put_piece at marked text command said)))
 
 -- what holds for one step holds for another that does the same
 says_alike : {A B : Type 0} (see : A → B) (one other : StepOver (List Text) B) (result : Result A Stop) (old new : List Text) → one old ≡ other old

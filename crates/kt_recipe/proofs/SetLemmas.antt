@@ -5,25 +5,32 @@ use Rattle.std.specs.List.{list_any}
 use Rattle.std.specs.Cmp.Lexicographic.{pointwise}
 use Rattle.std.proofs.lemmas.List.{map-append}
 use Rattle.indexmap.specs.IndexSet.{insert_key}
+use Rattle.kt_list.specs.declared.key.Key.{Key}
 use Rattle.kt_text.specs.Words.{Text}
 use Rattle.kt_rules.specs.Names.{is_among, with_name}
 
--- whether a name is a key
-pub among_keys : (keys : List (Bor Text)) (name : Text)
-    → list_any (λ (key : Bor Text). pointwise nat_eq name key.now) keys ≡ is_among (map (λ (key : Bor Text). key.now) keys) name
-among_keys [] name = refl
-among_keys (key ∷ keys) name = ap (λ rest. pointwise nat_eq name key.now || rest) (among_keys keys name)
+-- whether a name is one of those that are borrowed
+pub among_names : (names : List (Bor Text)) (name : Text)
+    → list_any (λ (other : Bor Text). pointwise nat_eq name other.now) names ≡ is_among (map (λ (other : Bor Text). other.now) names) name
+among_names [] name = refl
+among_names (other ∷ names) name = ap (λ rest. pointwise nat_eq name other.now || rest) (among_names names name)
 
-either : (b : Bool) (keys : List (Bor Text)) (name : Bor Text)
-    → map (λ (key : Bor Text). key.now) (if b then keys else keys ++ name ∷ [])
-    ≡ (if b then map (λ (key : Bor Text). key.now) keys else map (λ (key : Bor Text). key.now) keys ++ name.now ∷ [])
+-- whether a name is a key
+pub among_keys : (keys : List Key) (name : Text)
+    → list_any (λ (key : Key). pointwise nat_eq name key.0.now) keys ≡ is_among (map (λ (key : Key). key.0.now) keys) name
+among_keys [] name = refl
+among_keys (key ∷ keys) name = ap (λ rest. pointwise nat_eq name key.0.now || rest) (among_keys keys name)
+
+either : (b : Bool) (keys : List Key) (name : Key)
+    → map (λ (key : Key). key.0.now) (if b then keys else keys ++ name ∷ [])
+    ≡ (if b then map (λ (key : Key). key.0.now) keys else map (λ (key : Key). key.0.now) keys ++ name.0.now ∷ [])
 either true keys name = refl
-either false keys name = map-append (λ (key : Bor Text). key.now) keys (name ∷ [])
+either false keys name = map-append (λ (key : Key). key.0.now) keys (name ∷ [])
 
 -- a name that is inserted is added at the end, unless it is there
-pub name_inserted : (keys : List (Bor Text)) (name : Bor Text)
-    → map (λ (key : Bor Text). key.now) (insert_key (λ (x y : Bor Text). pointwise nat_eq x.now y.now) keys name)
-    ≡ with_name (map (λ (key : Bor Text). key.now) keys) name.now
+pub name_inserted : (keys : List Key) (name : Key)
+    → map (λ (key : Key). key.0.now) (insert_key (λ (x y : Key). pointwise nat_eq x.0.now y.0.now) keys name)
+    ≡ with_name (map (λ (key : Key). key.0.now) keys) name.0.now
 name_inserted keys name =
-    either (list_any (λ (key : Bor Text). pointwise nat_eq name.now key.now) keys) keys name
-    ∙ ap (λ b. if b then map (λ (key : Bor Text). key.now) keys else map (λ (key : Bor Text). key.now) keys ++ name.now ∷ []) (among_keys keys name.now)
+    either (list_any (λ (key : Key). pointwise nat_eq name.0.now key.0.now) keys) keys name
+    ∙ ap (λ b. if b then map (λ (key : Key). key.0.now) keys else map (λ (key : Key). key.0.now) keys ++ name.0.now ∷ []) (among_keys keys name.0.now)

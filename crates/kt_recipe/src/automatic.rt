@@ -15,6 +15,7 @@ use crate::subjects::{Subject, asked_by};
 use indexmap::IndexSet;
 use kt_eval::Automatic;
 use kt_graph::{Inputs, Node};
+use kt_list::Key;
 use std::alloc::{AllocError, Global};
 use std::borrow::CowSlice;
 use std::marker::Model;
@@ -170,7 +171,8 @@ fn each_name<'g>(alloc: Global, names: Inputs<'g>) -> Result<Vec<&'g [u8]>, Allo
     if names.len() <= FEW {
         return each_of_few(alloc, names);
     }
-    listed(alloc, each(alloc, names)?)
+    let set = each(alloc, names)?;
+    listed(alloc, set.as_slice())
 }
 
 // A few names, each once: they are compared with one another, which is cheaper than a set of them.
@@ -209,47 +211,51 @@ fn is_one_of(names: &[&[u8]], name: &[u8]) -> bool
 
 // Each of the names once.
 #[tactic(auto, unfolding(kt_rules::specs::Names::without_repeats))]
-fn each<'g>(alloc: Global, names: Inputs<'g>) -> Result<IndexSet<&'g [u8]>, AllocError>
-    ensures { IfOk result (λ set. map (λ name. name.now) set.keys ≡ without_repeats names.entry) }
+fn each<'g>(alloc: Global, names: Inputs<'g>) -> Result<IndexSet<Key<'g>>, AllocError>
+    ensures { IfOk result (λ set. map (λ key. key.0.now) set.keys ≡ without_repeats names.entry) }
 {
     let mut set = IndexSet::new(alloc);
     for name in names {
-        set.insert(name)?;
+        set.insert(Key(name))?;
     }
     Ok(set)
 }
 
-fn listed<'g>(alloc: Global, set: IndexSet<&'g [u8]>) -> Result<Vec<&'g [u8]>, AllocError>
-    ensures { IfOk result (λ names. names.items ≡ set.entry.keys) }
+fn listed<'g>(alloc: Global, keys: &[Key<'g>]) -> Result<Vec<&'g [u8]>, AllocError>
+    ensures { IfOk result (λ names. map (λ name. name.now) names.items ≡ map (λ key. key.0.now) keys.now) }
 {
-    set.into_iter().collect(alloc)
+    let mut names = Vec::with_capacity(alloc, keys.len())?;
+    for key in keys {
+        names.push(key.0)?;
+    }
+    Ok(names)
 }
 
 // The names that aren't in a set.
 fn without<'g>(
     alloc: Global,
-    names: &[&'g [u8]],
-    others: &IndexSet<&'g [u8]>,
+    names: &[Key<'g>],
+    others: &IndexSet<Key<'g>>,
 ) -> Result<Vec<&'g [u8]>, AllocError>
     ensures { IfOk result (λ left. map (λ name. name.now) left.items
-        ≡ filter (λ name. not (is_among (map (λ other. other.now) others.now.keys) name)) (map
-        (λ name. name.now) names.now)) }
+        ≡ filter (λ name. not (is_among (map (λ other. other.0.now) others.now.keys) name)) (map
+        (λ name. name.0.now) names.now)) }
 {
     let mut left = Vec::new(alloc);
     for name in names {
-        put_other(&mut left, others, *name)?;
+        put_other(&mut left, others, name.0)?;
     }
     Ok(left)
 }
 
 fn put_other<'g>(
     left: &mut Vec<&'g [u8]>,
-    others: &IndexSet<&'g [u8]>,
+    others: &IndexSet<Key<'g>>,
     name: &'g [u8],
 ) -> Result<(), AllocError>
     ensures { OnOk result (map (λ name. name.now) left.new.items
         ≡ map (λ name. name.now) left.old.items ++ filter
-        (λ name. not (is_among (map (λ other. other.now) others.now.keys) name)) (name.now ∷ [])) }
+        (λ name. not (is_among (map (λ other. other.0.now) others.now.keys) name)) (name.now ∷ [])) }
 {
     if !is_among(others, name) {
         left.push(name)?;
@@ -258,8 +264,8 @@ fn put_other<'g>(
 }
 
 #[tactic(auto, using(crate::proofs::SetLemmas::among_keys))]
-fn is_among<'g>(others: &IndexSet<&'g [u8]>, name: &'g [u8]) -> bool
-    ensures { result ≡ is_among (map (λ other. other.now) others.now.keys) name.now }
+fn is_among<'g>(others: &IndexSet<Key<'g>>, name: &'g [u8]) -> bool
+    ensures { result ≡ is_among (map (λ other. other.0.now) others.now.keys) name.now }
 {
-    others.contains(&name)
+    others.contains(&Key(name))
 }

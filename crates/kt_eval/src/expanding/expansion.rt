@@ -21,6 +21,9 @@ use kt_syntax::{Term, Unterminated, terms};
 use kt_text::functions::patsubst;
 use std::borrow::CowSlice;
 
+// An expansion is mostly longer than its text, by less than this.
+const SPARE: usize = 64;
+
 impl<'a, M: Scope, F: Files> Evaluation<'a, M, F> {
     // Expands a text one level deeper than its caller.
     #[cycle(evaluate)]
@@ -55,7 +58,7 @@ impl<'a, M: Scope, F: Files> Evaluation<'a, M, F> {
     pub(crate) fn expand_here(&mut self, below: u64, text: &[u8]) -> Result<Vec<u8>, Stop>
         ensures { Does (λ v. v.items) M.writable below (λ e. expanded e text.now) result self.old self.new }
     {
-        let mut out = Vec::with_capacity(self.alloc, text.len())?;
+        let mut out = Vec::with_capacity(self.alloc, text.len().saturating_add(SPARE))?;
         let mut rest = terms(text);
         'terms: while let Some(term) = rest.next() {
             self.put_term(below, term, &mut out)?;

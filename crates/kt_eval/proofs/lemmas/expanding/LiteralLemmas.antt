@@ -1,5 +1,6 @@
 -- A text without a dollar expands to itself.
-use Rattle.std.proofs.Common.{◌≡◌, Bool, true, false, ◌==◌, ◌||◌, [], ◌∷◌, refl, sym, append-nil, true≢false}
+use Rattle.std.proofs.Common.{◌≡◌, false, ◌==◌, [], ◌∷◌, refl, sym, append-nil}
+use Rattle.std.proofs.lemmas.Bool.{or_parts}
 use Rattle.std.specs.List.{list_any}
 use Rattle.kt_text.specs.Words.{Text}
 use Rattle.kt_syntax.specs.Terms.{dropped, literal, count_of, terms_of}
@@ -8,15 +9,11 @@ use Rattle.kt_eval.specs.expanding.Expansion.{Evaluator, term_of, each_term, exp
 use Rattle.kt_eval.specs.Outcome.{Gave}
 use Rattle.kt_eval.specs.State.{World}
 
-neither : (a b : Bool) → (a || b) ≡ false → (a ≡ false) × (b ≡ false)
-neither false b is = (refl, is)
-neither true b is = absurd (true≢false is)
-
 uncounted : (text : Text) → list_any (λ byte. byte == 36) text ≡ false → count_of 36 text ≡ 0
 unfolding count_of
 uncounted [] free = refl
 uncounted (byte ∷ text) free =
-    let parts = neither (byte == 36) (list_any (λ byte. byte == 36) text) free in
+    let parts = or_parts (byte == 36) (list_any (λ byte. byte == 36) text) free in
     rw (parts.0, uncounted text parts.1) refl
 
 pub stays : (e : Evaluator) (text : Text) (w : World) → list_any (λ byte. byte == 36) text ≡ false → expanded e text w ≡ Gave w text

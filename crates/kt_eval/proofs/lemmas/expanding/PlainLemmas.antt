@@ -1,6 +1,6 @@
 -- What a term gives without a further level is its expansion.
 use Rattle.std.proofs.Common.{◌≡◌, ℕ, zero, suc, ◌+◌, Bool, true, false, not, ◌==◌, ◌&&◌, [], ◌∷◌, length, Option, Some, None, if◌then◌else◌, unwrap_or, refl, sym, ap, ◌∙◌, arith, true≢false}
-use Rattle.std.proofs.lemmas.Bool.{and_parts, eq-eqb}
+use Rattle.std.proofs.lemmas.Bool.{and_parts, eq-eqb, not-true}
 use Rattle.std.specs.Prelude.{is_some}
 use Rattle.std.specs.List.{list_all, list_any, position_or_len}
 use Rattle.kt_text.specs.Words.{Text, is_separator}
@@ -73,17 +73,13 @@ module _ (reads : Bool) (store : Store) (below : ℕ) where
 
 -- ---- a name
 
-not_true : (a : Bool) → not a ≡ true → a ≡ false
-not_true true is = absurd (true≢false (sym is))
-not_true false is = refl
-
 -- a byte of a plain name is no dollar, no colon and no separator
 byte_parts : (byte : ℕ) → is_name_byte byte ≡ true → ((byte == 36) ≡ false) × (((byte == 58) ≡ false) × (is_separator byte ≡ false))
 unfolding is_name_byte
 byte_parts byte is =
     let one = and_parts (not (byte == 36)) (not (byte == 58) && not (is_separator byte)) is in
     let two = and_parts (not (byte == 58)) (not (is_separator byte)) one.1 in
-    (not_true (byte == 36) one.0, (not_true (byte == 58) two.0, not_true (is_separator byte) two.1))
+    (not-true (byte == 36) one.0, (not-true (byte == 58) two.0, not-true (is_separator byte) two.1))
 
 no_dollar : (name : Text) → list_all is_name_byte name ≡ true → list_any (λ byte. byte == 36) name ≡ false
 no_dollar [] is = refl

@@ -1,7 +1,8 @@
 -- The first place of a byte outside parentheses is found.
-use Rattle.std.proofs.Common.{◌≡◌, ◌==◌, ◌&&◌, ◌≤◌, ◌<◌, ◌-◌, ◌+◌, ℕ, zero, suc, Bool, true, false, [], ◌∷◌, Option, Some, None, length, take, refl, sym, ap, subst, ◌∙◌, arith, zero-add, ⊎_elim}
-use Rattle.std.proofs.lemmas.Bool.{and_parts, cases_Bool, eq-eqb, eqb-true, false≢true}
+use Rattle.std.proofs.Common.{◌≡◌, ◌==◌, ◌&&◌, ◌≤◌, ◌<◌, ◌-◌, ◌+◌, ℕ, zero, suc, true, false, [], ◌∷◌, Option, Some, None, length, take, refl, sym, ap, subst, ◌∙◌, arith, zero-add, ⊎_elim}
+use Rattle.std.proofs.lemmas.Bool.{and_from, and_parts, cases_Bool, eq-eqb, eqb-true, false≢true}
 use Rattle.std.specs.Prelude.{slice_index, MatchOption}
+use Rattle.kt_list.proofs.general.Numbers.{above_zero, sum_suc}
 use Rattle.kt_text.specs.Words.{Text}
 use Rattle.kt_syntax.specs.Terms.{count_of}
 use Rattle.kt_syntax.proofs.Closing.{Closes, after-close, after-open, after-other, closes-close, closes-open, closes-other, count_nil}
@@ -40,7 +41,7 @@ onward : (wanted depth deeper at byte : ℕ) (text : Text) → ¬ IsBareIn wante
 onward wanted depth deeper at byte text not_here out back None later = none_at_all wanted depth deeper byte text out not_here later
 onward wanted depth deeper at byte text not_here out back (Some place) later = (
   suc later.0,
-  further at place later.0 later.1,
+  sum_suc at place later.0 later.1,
   record {
     within = (let w = later.2.within in omega arith);
     is = later.2.is;
@@ -48,9 +49,6 @@ onward wanted depth deeper at byte text not_here out back (Some place) later = (
   },
   none_before wanted depth deeper byte text out later.0 not_here later.3,
 )
-  where
-    further : (a p size : ℕ) → p ≡ (a + 1) + size → p ≡ a + suc size
-    further a p size e = omega arith
 
 -- the empty part at the start closes what is open only if nothing is
 nothing_open : (depth : ℕ) → Closes 40 41 depth [] → depth ≡ 0
@@ -66,11 +64,7 @@ closed_nothing = record { fronts = front; even = (let a = count_nil 40 in let b 
 not_this : (wanted depth byte : ℕ) (text : Text) → (depth == 0 && byte == wanted) ≡ false → ¬ IsBareIn wanted depth (byte ∷ text) 0
 not_this wanted depth byte text h bare =
     let none = nothing_open depth bare.closes in
-    false≢true (sym h ∙ both (depth == 0) (byte == wanted) (eq-eqb depth 0 none) (eq-eqb byte wanted bare.is))
-  where
-    both : (a b : Bool) → a ≡ true → b ≡ true → (a && b) ≡ true
-    both true b e f = f
-    both false b e f = absurd (false≢true e)
+    false≢true (sym h ∙ and_from (depth == 0) (byte == wanted) (eq-eqb depth 0 none) (eq-eqb byte wanted bare.is))
 
 at-here : (wanted depth at byte : ℕ) (text : Text) → (depth == 0 && byte == wanted) ≡ true → bare_place wanted depth at (byte ∷ text) ≡ Some at
 unfolding bare_place
@@ -99,10 +93,6 @@ at-other wanted depth at byte text h g f = rw (h, g, f) refl
 at-nil : (wanted depth at : ℕ) → bare_place wanted depth at [] ≡ None
 unfolding bare_place
 at-nil wanted depth at = refl
-
-above_zero : (n : ℕ) → (n == 0) ≡ false → 0 < n
-above_zero zero h = absurd (false≢true (sym h))
-above_zero (suc n) h = omega arith
 
 -- a closing one without its opening one
 no_more : (wanted depth byte : ℕ) (text : Text) → (depth == 0 && byte == wanted) ≡ false → (byte == 40) ≡ false → (byte == 41) ≡ true → depth ≡ 0

@@ -1,16 +1,16 @@
-use Rattle.std.proofs.Common.{◌++◌, map, codes, sym, ap, ◌∙◌}
+use Rattle.std.proofs.Common.{◌++◌, codes, sym, ap, ◌∙◌}
 use Rattle.std.specs.Option.{option_copied_mut}
 use Rattle.indexmap.proofs.MapLemmas.{OnOk-map}
 use Rattle.kt_eval.specs.declared.macros.Macro.{Macro}
 use Rattle.kt_eval.specs.macros.Macros.{put}
-use Rattle.kt_eval.proofs.lemmas.macros.TableLemmas.{entry_of, set_entries}
+use Rattle.kt_eval.proofs.lemmas.macros.TableLemmas.{set_entries}
 use Rattle.kt_eval.proofs.macros.Macros.append.Goals as goal
 
 pub returns-in-Some : goal.returns-in-Some
 returns-in-Some c =
     let longer : Macro → Macro = λ m. record m { value = (m.value ++ codes " ") ++ c.args.text.now } in
     OnOk-map c.append.result _ _
-    (λ e. ap (map entry_of) (c.get_mut.follows.holds c.append.new.self).0
+    (λ e. (c.get_mut.follows.holds c.append.new.self).0
     ∙ set_entries c.as_slice.result.now c.self.inside.entries.entries c.append.new.self c.in-Some.entry.now (sym c.get_mut.ensures.value ∙ ap option_copied_mut c.in-Some.is)
     ∙ (λ i. put (c.as_slice.ensures.value i) ((e ∙ ap longer c.of_makefile-longer.ensures) i) (c.self.view_is i)))
     c.append.ensures
