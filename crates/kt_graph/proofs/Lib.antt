@@ -1,2 +1,2 @@
 pub mod lemmas
-pub mod NameKeys
+pub mod GoalLemmas

@@ -1,30 +1,33 @@
 //! The goals.
-ghost use Rattle.std.specs.Prelude.{◌≡◌, map, IfOk, option_to_list};
+ghost use Rattle.std.specs.Prelude.{◌≡◌, IfOk, option_to_list};
 ghost use Rattle.kt_graph.specs.Goals.{default_goals, named_goals};
 
-use indexmap::IndexSet;
+use kt_list::Names;
 use kt_rules::{Book, Name, without_dots};
 use kt_text::stripped;
 use std::alloc::{AllocError, Global};
 
 /// The goals that the words of a command line name, each once (GNU make manual, "Arguments to
 /// Specify the Goals").
-#[tactic(auto, using(crate::proofs::NameKeys::key_added), unfolding(crate::proofs::NameKeys::goals_open))]
+#[tactic(auto, unfolding(crate::proofs::GoalLemmas::goals_open))]
 pub fn named_goals(alloc: Global, words: &[Name]) -> Result<Vec<Name>, AllocError>
     ensures { IfOk result (λ goals. goals.items ≡ named_goals words.now) }
 {
-    let mut goals = IndexSet::new(alloc);
+    let mut goals = Names::new(alloc);
     for word in words {
-        goals.insert(Vec::from_slice(alloc, without_dots(word.as_slice()))?)?;
+        goals.add(without_dots(word.as_slice()))?;
     }
-    in_order(alloc, goals)
+    copied(alloc, goals.as_slice())
 }
 
-// The names of a set.
-fn in_order(alloc: Global, names: IndexSet<Vec<u8>>) -> Result<Vec<Name>, AllocError>
-    ensures { IfOk result (λ list. list.items ≡ map (λ name. name.items) names.keys) }
+fn copied(alloc: Global, names: &[Name]) -> Result<Vec<Name>, AllocError>
+    ensures { IfOk result (λ list. list.items ≡ names.now) }
 {
-    names.into_iter().map(Name::from).collect(alloc)
+    let mut list = Vec::with_capacity(alloc, names.len())?;
+    for name in names {
+        list.push(Name::copied(alloc, name.as_slice())?)?;
+    }
+    Ok(list)
 }
 
 /// The goal if the command line names none: the expanded text of `.DEFAULT_GOAL`, or else the first target (GNU make

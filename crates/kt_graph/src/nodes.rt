@@ -14,6 +14,7 @@ pub(crate) mod node;
 pub(crate) mod numbering;
 mod reached;
 mod reached_name;
+mod stem;
 pub(crate) mod stored;
 mod stored_node;
 

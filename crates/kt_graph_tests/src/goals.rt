@@ -62,7 +62,7 @@ fn of_the_command_line(rt: HostRuntime) -> Result<(), Fail> {
     for row in ROWS {
         told.clear();
         put_named(&mut told, rt.alloc(), row.0)?;
-        assert_eq!(rt; told.as_slice(), row.1);
+        assert_eq!(rt; told.as_slice(), row.1, "of {:?}", row.0);
     }
     Ok(())
 }
@@ -81,7 +81,7 @@ fn of_the_makefile(rt: HostRuntime) -> Result<(), Fail> {
     for row in ROWS {
         told.clear();
         put_standing(&mut told, rt.alloc(), row.0, row.1)?;
-        assert_eq!(rt; told.as_slice(), row.2);
+        assert_eq!(rt; told.as_slice(), row.2, "of {:?} and {:?}", row.0, row.1);
     }
     Ok(())
 }

@@ -1,23 +1,11 @@
 -- Elements of lists, and tests of all of them or of any.
-use Rattle.std.proofs.Common.{◌≡◌, Bool, true, false, cond, ◌||◌, List, [], ◌∷◌, filter, Option, Some, None, is_some, refl, sym, ap, ◌∙◌, subst, true≢false, ◌⊎◌, inl, inr, ⊎_elim, arith}
+use Rattle.std.proofs.Common.{◌≡◌, Bool, true, false, cond, ◌||◌, List, [], ◌∷◌, filter, Option, Some, None, is_some, refl, sym, ap, ◌∙◌, subst, true≢false, ◌⊎◌, inl, inr, ⊎_elim}
 use Rattle.std.specs.List.{Contains, list_all, list_any, find}
 use Rattle.std.specs.Option.{option_or}
 use Rattle.std.proofs.lemmas.Bool.{and_parts, or_cases}
-use Rattle.std.proofs.lemmas.List.Elements.{Contains-append_left, Contains-append_right, Contains-append_cases, Contains-push_cases, Contains-push}
+use Rattle.kt_list.proofs.general.Elements.{first_or_rest, in_first, in_rest, none_in_empty}
 
 module _ {X : Type 0} where
-  pub none_in_empty : (x : X) → Contains [] x → ⊥
-  none_in_empty x h = omega (arith, h.1)
-
-  pub in_first : (x : X) (xs : List X) → Contains (x ∷ xs) x
-  in_first x xs = Contains-append_left (x ∷ []) xs x (Contains-push [] x)
-
-  pub in_rest : (y x : X) (xs : List X) → Contains xs x → Contains (y ∷ xs) x
-  in_rest y x xs h = Contains-append_right (y ∷ []) xs x h
-
-  pub first_or_rest : (y x : X) (xs : List X) → Contains (y ∷ xs) x → (y ≡ x) ⊎ Contains xs x
-  first_or_rest y x xs h = ⊎_elim (λ one. ⊎_elim (λ none. absurd (none_in_empty x none)) (λ e. inl e) (Contains-push_cases [] y x one)) (λ rest. inr rest) (Contains-append_cases (y ∷ []) xs x h)
-
   -- a test that passes each element
   pub each_passes : (p : X → Bool) (xs : List X) → list_all p xs ≡ true → (x : X) → Contains xs x → p x ≡ true
   each_passes p [] h x c = absurd (none_in_empty x c)

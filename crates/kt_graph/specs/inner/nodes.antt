@@ -1,5 +1,6 @@
 -- Nodes as the code holds them: before they have numbers, with numbers, and while they are found.
 pub mod GraphBuilder
+pub mod Stems
 pub mod Stored
 pub mod Named
 pub mod Numbering
@@ -7,4 +8,5 @@ pub mod Reached
 pub mod Inferring
 pub mod Building
 pub mod Graph
+pub mod Fronts
 pub mod Grouping

@@ -7,7 +7,8 @@ ghost use Rattle.kt_graph.specs.inner.faults.Edges.{with_edges};
 ghost use Rattle.kt_graph.specs.inner.nodes.Stored.{stored_at};
 
 use crate::faults::rows::{add_all, add_to, bare, row_at};
-use crate::nodes::stored::{StoredNodes, narrow};
+use crate::nodes::stored::StoredNodes;
+use kt_list::narrow;
 use std::alloc::{AllocError, Global};
 use std::slice::from_ref;
 

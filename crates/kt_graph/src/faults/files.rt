@@ -12,6 +12,8 @@ use crate::faults::spelling::is_canonical;
 use crate::nodes::graph::Nodes;
 use crate::nodes::node::Node;
 use indexmap::IndexMap;
+use kt_list::Key;
+use kt_rules::Name;
 use std::alloc::{AllocError, Global};
 
 /// Whether a name, made or not, is reserved for kati.
@@ -63,7 +65,7 @@ fn is_canonical_if_made(node: &Node<'_>) -> bool
 pub(crate) struct Files {
     alloc: Global,
     // Each file, and whether several made names are names of it.
-    several: IndexMap<Vec<u8>, bool>,
+    several: IndexMap<Name, bool>,
 }
 
 impl Files {
@@ -89,15 +91,15 @@ impl Files {
             return Ok(());
         }
         let file = canon(self.alloc, node.name())?;
-        self.add_file(file)
+        self.add_file(Name::from(file))
     }
 
-    fn add_file(&mut self, file: Vec<u8>) -> Result<(), AllocError>
+    fn add_file(&mut self, file: Name) -> Result<(), AllocError>
         ensures { OnOk result ((other : Text) → held_for self.new.several.entries other
-            ≡ (if bytes_eq other file.items then Some (is_some (held_for self.old.several.entries file.items))
+            ≡ (if bytes_eq other file then Some (is_some (held_for self.old.several.entries file))
             else held_for self.old.several.entries other)) }
     {
-        let is_known = self.several.contains_key(file.as_slice());
+        let is_known = self.several.contains_key(Key(file.as_slice()));
         self.several.insert(file, is_known)?;
         Ok(())
     }
@@ -135,6 +137,6 @@ impl Files {
     fn is_several(&self, file: &[u8]) -> bool
         ensures { result ≡ unwrap_or (held_for self.now.several.entries file.now) false }
     {
-        self.several.get(file).copied().unwrap_or(false)
+        self.several.get(Key(file)).copied().unwrap_or(false)
     }
 }

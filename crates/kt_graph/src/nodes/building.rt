@@ -10,13 +10,16 @@ ghost use Rattle.kt_rules.specs.Targets.{entry_view, needs_view, targets_view};
 ghost use Rattle.kt_rules.specs.Suffixes.{suffixes_of};
 ghost use Rattle.kt_graph.specs.inner.nodes.Building.{IsCut};
 ghost use Rattle.kt_graph.specs.nodes.Node.{double_node, explicit_node, first_name, group_of, kind_without, part_of};
-ghost use Rattle.kt_graph.specs.nodes.Node.{plain_node, stem_for, suffix_stem, used_rule};
+ghost use Rattle.kt_graph.specs.nodes.Node.{plain_node, used_rule};
 ghost use Rattle.kt_graph.specs.inner.nodes.Named.{named_view, needs_of_each, part_named, put_together};
+ghost use Rattle.kt_graph.specs.inner.nodes.Reached.{reached_text};
 ghost use Rattle.kt_graph.specs.nodes.Views.{instance_view};
 
 use crate::nodes::named::{Named, NamedPart};
 use crate::nodes::node::{Instance, NodeKind};
-use kt_rules::{Book, BookRule, Kind, Name, NeedsView, TargetRule, Targets};
+use crate::nodes::reached_name::ReachedName;
+use crate::nodes::stem::Stem;
+use kt_rules::{Book, BookRule, Kind, NeedsView, TargetRule, Targets};
 use std::alloc::{AllocError, Global};
 
 /// The rule whose recipe is used, and the rules before it and after it.
@@ -50,7 +53,7 @@ pub(crate) fn used_rule<'a, 'r>(rules: &'r [TargetRule<'a>]) -> Option<Used<'a, 
 /// The node of a name with double-colon rules: each rule is a part.
 pub(crate) fn double_node<'a>(
     alloc: Global,
-    book: &Book,
+    book: &'a Book,
     rules: &[TargetRule<'a>],
 ) -> Result<Named<'a, 'a>, AllocError>
     ensures { IfOk result (λ named. (name : Text)
@@ -59,7 +62,7 @@ pub(crate) fn double_node<'a>(
     let mut parts = Vec::with_capacity(alloc, rules.len())?;
     for rule in rules {
         let needs = Vec::from_array(alloc, [rule.needs()])?;
-        parts.push(rule_part(alloc, book, *rule, needs)?)?;
+        parts.push(rule_part(book, *rule, needs))?;
     }
     Ok(Named {
         kind: NodeKind::DoubleColon,
@@ -71,7 +74,7 @@ pub(crate) fn double_node<'a>(
 /// The node of a name with a recipe: the prerequisites of the rule with that recipe come first.
 pub(crate) fn explicit_node<'a>(
     alloc: Global,
-    book: &Book,
+    book: &'a Book,
     used: Used<'a, '_>,
 ) -> Result<Named<'a, 'a>, AllocError>
     ensures { IfOk result (λ named. (name : Text) (rules : List (Rule × HeldTarget)) → IsCut rules used.entry
@@ -81,8 +84,7 @@ pub(crate) fn explicit_node<'a>(
     let mut needs = Vec::from_array(alloc, [rule.needs()])?;
     add_needs(&mut needs, used.earlier)?;
     add_needs(&mut needs, used.later)?;
-    let part = rule_part(alloc, book, rule, needs)?;
-    let parts = Vec::from_array(alloc, [part])?;
+    let parts = Vec::from_array(alloc, [rule_part(book, rule, needs)])?;
     Ok(Named {
         kind: NodeKind::Explicit,
         parts,
@@ -93,19 +95,19 @@ pub(crate) fn explicit_node<'a>(
 /// The node of a name that no recipe makes.
 pub(crate) fn plain_node<'a>(
     alloc: Global,
-    book: &Book,
-    name: &[u8],
+    book: &'a Book,
+    name: &ReachedName<'a>,
     rules: &[TargetRule<'a>],
     is_phony: bool,
 ) -> Result<Named<'a, 'a>, AllocError>
-    ensures { IfOk result (λ named. named_view name.now named
-        ≡ plain_node (suffixes_of book.now) name.now (map rule_view rules.now) is_phony) }
+    ensures { IfOk result (λ named. named_view (reached_text name.now) named
+        ≡ plain_node (suffixes_of book.now) (reached_text name.now) (map rule_view rules.now) is_phony) }
 {
     let mut needs = Vec::new(alloc);
     add_needs(&mut needs, rules)?;
     let part = NamedPart {
         recipe: None,
-        stem: Name::copied(alloc, suffix_stem(book, name))?,
+        stem: Stem::of_name(alloc, book, name)?,
         needs,
     };
     Ok(Named {
@@ -165,20 +167,18 @@ fn is_double(rule: TargetRule) -> bool
 
 // The part for a rule of a target, with these prerequisites.
 fn rule_part<'a>(
-    alloc: Global,
-    book: &Book,
+    book: &'a Book,
     rule: TargetRule<'a>,
     needs: Vec<NeedsView<'a>>,
-) -> Result<NamedPart<'a, 'a>, AllocError>
-    ensures { IfOk result (λ part. part_named part
-        ≡ part_of (suffixes_of book.now) (rule_view rule.entry) (put_together (map
-        needs_view needs.entry.items))) }
+) -> NamedPart<'a, 'a>
+    ensures { part_named result ≡ part_of (suffixes_of book.now) (rule_view rule.entry)
+        (put_together (map needs_view needs.entry.items)) }
 {
-    Ok(NamedPart {
+    NamedPart {
         recipe: rule.entry.recipe(),
-        stem: Name::copied(alloc, stem_for(book, rule))?,
+        stem: Stem::of_rule(book, rule),
         needs,
-    })
+    }
 }
 
 // The making of a rule, if the rule is a group.
@@ -211,26 +211,5 @@ fn kind_without(rules: &[TargetRule], is_phony: bool) -> NodeKind
         NodeKind::Phony
     } else {
         NodeKind::Leaf
-    }
-}
-
-// The stem in an explicit rule: that of its static pattern, if it has one.
-fn stem_for<'r>(book: &Book, rule: TargetRule<'r>) -> &'r [u8]
-    ensures { result.now ≡ stem_for (suffixes_of book.now) (rule_view rule.entry) }
-{
-    match rule.target.stem() {
-        Some(stem) => stem,
-        None => suffix_stem(book, rule.target.name),
-    }
-}
-
-// The name without the first of the suffixes that it ends with; without one there is no stem.
-#[tactic(auto, unfolding(crate::specs::nodes::Node::suffix_stem))]
-fn suffix_stem<'n>(book: &Book, name: &'n [u8]) -> &'n [u8]
-    ensures { result.now ≡ suffix_stem (suffixes_of book.now) name.now }
-{
-    match book.suffix_of(name) {
-        Some(suffix) => &name[..name.len().saturating_sub(suffix.len())],
-        None => b"",
     }
 }

@@ -1,32 +1,106 @@
 //! Names in byte order.
-ghost use Rattle.std.specs.Prelude.{◌≡◌, map, IfOk};
+ghost use Rattle.std.specs.Prelude.{◌≡◌, ◌<◌, All, length, map, slice_index, IfOk};
+ghost use Rattle.kt_text.specs.Sorted.{front_number};
 ghost use Rattle.kt_graph.specs.inner.faults.Files.{IsByteOrder};
+ghost use Rattle.kt_graph.specs.inner.nodes.Fronts.{AreFronts, front_cmp};
+ghost use Rattle.kt_graph.specs.nodes.Views.{name_at};
 
 use crate::nodes::node::name_of;
 use crate::nodes::numbering::NameNumbers;
-use crate::nodes::stored::narrow;
-use kt_text::SortKey;
+use kt_list::narrow;
 use std::alloc::{AllocError, Global};
+use std::cmp::Ordering;
+
+/// The first bytes of a name as a number, and the name's number. Most names are told apart by the former without a look
+/// at them: long lists don't fit the caches.
+#[derive(Clone, Copy)]
+pub(crate) struct Front {
+    bytes: u64,
+    number: u32,
+}
 
 /// The numbers of names, in byte order of the names.
 pub(crate) fn byte_order(alloc: Global, names: &NameNumbers) -> Result<Vec<u32>, AllocError>
     ensures { IfOk result (λ order. IsByteOrder names.now order.items) }
 {
-    let count = names.len();
-    let mut named = Vec::with_capacity(alloc, count)?;
-    for number in 0..count {
-        named.push((SortKey::new(name_of(names, number)), number))?;
-    }
-    named.sort_unstable();
-    numbers(alloc, named.as_slice())
+    let texts = texts_of(alloc, names)?;
+    let texts = texts.as_slice();
+    let mut fronts = fronts_of(alloc, texts)?;
+    // This tells that no two names are equal.
+    let _count = names.len();
+    fronts.sort_unstable_by(|front, other| compare(texts, front, other));
+    numbers(alloc, fronts.as_slice())
 }
 
-fn numbers(alloc: Global, named: &[(SortKey<'_>, usize)]) -> Result<Vec<u32>, AllocError>
-    ensures { IfOk result (λ numbers. numbers.items ≡ map (λ pair. pair.1) named.now) }
+// The names by their numbers. Those that begin alike are compared in this list, where each lies one step away.
+fn texts_of<'n>(alloc: Global, names: &'n NameNumbers) -> Result<Vec<&'n [u8]>, AllocError>
+    ensures { IfOk result (λ texts. map (λ text. text.now) texts.items ≡ names.now) }
 {
-    let mut numbers = Vec::with_capacity(alloc, named.len())?;
-    for (_, number) in named {
-        numbers.push(narrow(*number)?)?;
+    let count = names.len();
+    let mut texts = Vec::with_capacity(alloc, count)?;
+    for number in 0..count {
+        texts.push(name_of(names, number))?;
+    }
+    Ok(texts)
+}
+
+fn fronts_of(alloc: Global, texts: &[&[u8]]) -> Result<Vec<Front>, AllocError>
+    ensures { IfOk result (λ fronts. AreFronts (map (λ text. text.now) texts.now) (length texts.now) fronts.items) }
+{
+    let mut fronts = Vec::with_capacity(alloc, texts.len())?;
+    for number in 0..texts.len() {
+        fronts.push(Front {
+            bytes: front_number(text_at(texts, number)),
+            number: narrow(number)?,
+        })?;
+    }
+    Ok(fronts)
+}
+
+fn compare(texts: &[&[u8]], front: &Front, other: &Front) -> Ordering
+    ensures { result ≡ front_cmp (map (λ text. text.now) texts.now) front.now other.now }
+{
+    match front.bytes.cmp(&other.bytes) {
+        Ordering::Equal => {
+            text_at(texts, front.number as usize).cmp(text_at(texts, other.number as usize))
+        }
+        decided => decided,
+    }
+}
+
+fn text_at<'n>(texts: &[&'n [u8]], number: usize) -> &'n [u8]
+    ensures { result.now ≡ name_at (map (λ text. text.now) texts.now) number }
+{
+    match texts.get(number) {
+        Some(text) => text,
+        None => b"",
+    }
+}
+
+// The first eight bytes as a number, the first one the highest, and 0 for each that isn't there.
+fn front_number(text: &[u8]) -> u64
+    ensures front { result ≡ front_number 8 text.now }
+    ensures bytes { All (λ byte. byte < 256) text.now }
+{
+    let mut front = 0;
+    for i in 0..8 {
+        front = front * 256 + u64::from(byte_at(text, i));
+    }
+    front
+}
+
+fn byte_at(text: &[u8], i: usize) -> u8
+    ensures { result ≡ slice_index text.now i }
+{
+    text.get(i).copied().unwrap_or(0)
+}
+
+fn numbers(alloc: Global, fronts: &[Front]) -> Result<Vec<u32>, AllocError>
+    ensures { IfOk result (λ numbers. numbers.items ≡ map (λ front. front.number) fronts.now) }
+{
+    let mut numbers = Vec::with_capacity(alloc, fronts.len())?;
+    for front in fronts {
+        numbers.push(front.number)?;
     }
     Ok(numbers)
 }

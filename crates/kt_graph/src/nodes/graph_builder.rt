@@ -112,20 +112,22 @@ impl<'a> GraphBuilder<'a> {
             (needed_by (node_of self.old.book.now self.old.known.now (reached_text name.now))) self.new) }
     {
         let rules = self.rules(name)?;
-        self.build_by(name.as_slice(), rules.as_slice())
+        self.build_by(name, rules.as_slice())
     }
 
     // The node of a name that has these explicit rules.
     fn build_by(
         &mut self,
-        name: &[u8],
+        name: &ReachedName<'a>,
         rules: &[TargetRule<'a>],
     ) -> Result<BuiltNode<'a>, AllocError>
         requires { IsOver self.old }
         ensures says { IfOk result (λ node. SaysNode self.new.numbers self.new.instances.keys
-            (node_with self.old.book.now self.old.known.now name.now (map rule_view rules.now)) (node_held node)) }
+            (node_with self.old.book.now self.old.known.now (reached_text name.now) (map rule_view rules.now))
+            (node_held node)) }
         ensures grown { OnOk result (ReachesMore self.old
-            (needed_by (node_with self.old.book.now self.old.known.now name.now (map rule_view rules.now))) self.new) }
+            (needed_by (node_with self.old.book.now self.old.known.now (reached_text name.now)
+            (map rule_view rules.now))) self.new) }
     {
         if has_double(rules) {
             return self.double_node(rules);
@@ -186,18 +188,18 @@ impl<'a> GraphBuilder<'a> {
     // The node of a name whose rules have no recipe.
     fn searched_node(
         &mut self,
-        name: &[u8],
+        name: &ReachedName<'a>,
         rules: &[TargetRule<'a>],
     ) -> Result<BuiltNode<'a>, AllocError>
         requires { IsOver self.old }
         ensures says { IfOk result (λ node. SaysNode self.new.numbers self.new.instances.keys
-            (node_by self.old.book.now name.now (map rule_view rules.now) None
-            (searched self.old.book.now self.old.known.now name.now)) (node_held node)) }
+            (node_by self.old.book.now (reached_text name.now) (map rule_view rules.now) None
+            (searched self.old.book.now self.old.known.now (reached_text name.now))) (node_held node)) }
         ensures grown { OnOk result (ReachesMore self.old
-            (needed_by (node_by self.old.book.now name.now (map rule_view rules.now) None
-            (searched self.old.book.now self.old.known.now name.now))) self.new) }
+            (needed_by (node_by self.old.book.now (reached_text name.now) (map rule_view rules.now) None
+            (searched self.old.book.now self.old.known.now (reached_text name.now)))) self.new) }
     {
-        match self.inferred(name)? {
+        match self.inferred(name.as_slice())? {
             Some(inferred) => self.implicit_node(inferred, rules),
             None => self.plain_node(name, rules),
         }
@@ -205,17 +207,17 @@ impl<'a> GraphBuilder<'a> {
 
     fn plain_node(
         &mut self,
-        name: &[u8],
+        name: &ReachedName<'a>,
         rules: &[TargetRule<'a>],
     ) -> Result<BuiltNode<'a>, AllocError>
         ensures says { IfOk result (λ node. SaysNode self.new.numbers self.new.instances.keys
-            (plain_node (suffixes_of self.old.book.now) name.now (map rule_view rules.now)
-            (is_phony self.old.book.now name.now)) (node_held node)) }
+            (plain_node (suffixes_of self.old.book.now) (reached_text name.now) (map rule_view rules.now)
+            (is_phony self.old.book.now (reached_text name.now))) (node_held node)) }
         ensures grown { OnOk result (ReachesMore self.old
-            (needed_by (plain_node (suffixes_of self.old.book.now) name.now (map rule_view rules.now)
-            (is_phony self.old.book.now name.now))) self.new) }
+            (needed_by (plain_node (suffixes_of self.old.book.now) (reached_text name.now) (map rule_view rules.now)
+            (is_phony self.old.book.now (reached_text name.now)))) self.new) }
     {
-        let is_phony = self.book.is_phony(name);
+        let is_phony = self.book.is_phony(name.as_slice());
         let named = plain_node(self.alloc, self.book, name, rules, is_phony)?;
         self.hold(named)
     }

@@ -4,16 +4,17 @@ ghost use Rattle.kt_graph.specs.inner.nodes.Inferring.{GivesChosen, pattern_maki
 ghost use Rattle.kt_graph.specs.nodes.Views.{instance_view};
 
 use crate::nodes::node::Instance;
+use crate::nodes::stem::Stem;
 use crate::search::choice::Chosen;
 use crate::search::stemming::Stemming;
-use kt_rules::{Name, Needs, Pattern, RecipeLine};
+use kt_rules::{Needs, Pattern, RecipeLine};
 use std::alloc::{AllocError, Global};
 
 /// The recipe, stem, prerequisites and making that a chosen pattern rule gives to a name.
 #[derive(Drop)]
 pub(crate) struct Inferred<'a> {
     pub(crate) recipe: Option<&'a [RecipeLine]>,
-    pub(crate) stem: Name,
+    pub(crate) stem: Stem<'a>,
     pub(crate) needs: Needs,
     pub(crate) making: Option<Instance>,
 }
@@ -31,7 +32,7 @@ impl<'a> Inferred<'a> {
             stem: chosen.stem.as_slice(),
         };
         let needs = stemming.needs(alloc, pattern.needs())?;
-        let stem = one_after_other(alloc, stemming.directory, stemming.stem)?;
+        let stem = Stem::joined(alloc, stemming.directory, stemming.stem)?;
         Ok(Inferred {
             recipe: pattern.recipe(),
             stem,
@@ -39,24 +40,6 @@ impl<'a> Inferred<'a> {
             making: pattern_making(alloc, pattern, &chosen)?,
         })
     }
-}
-
-// The two texts together. Most stems have no directory before them.
-fn one_after_other(alloc: Global, front: &[u8], back: &[u8]) -> Result<Name, AllocError>
-    ensures { IfOk result (λ name. name ≡ front.now ++ back.now) }
-{
-    match front {
-        [] => Name::copied(alloc, back),
-        _ => Ok(Name::from(appended(alloc, front, back)?)),
-    }
-}
-
-fn appended(alloc: Global, front: &[u8], back: &[u8]) -> Result<Vec<u8>, AllocError>
-    ensures { IfOk result (λ text. text.items ≡ front.now ++ back.now) }
-{
-    let mut text = Vec::from_slice(alloc, front)?;
-    text.extend_from_slice(back)?;
-    Ok(text)
 }
 
 // The making of a pattern rule, if it has several targets.

@@ -2,7 +2,8 @@
 ghost use Rattle.std.specs.Prelude.{◌≡◌, ◌∷◌, [], IfOk};
 
 use crate::nodes::node::{Instance, NodeKind};
-use kt_rules::{Name, NeedsView, RecipeLine};
+use crate::nodes::stem::Stem;
+use kt_rules::{NeedsView, RecipeLine};
 use std::alloc::{AllocError, Global};
 
 /// What makes a name and what it needs.
@@ -19,7 +20,7 @@ pub(crate) struct Named<'a, 'n> {
 #[derive(Drop)]
 pub(crate) struct NamedPart<'a, 'n> {
     pub(crate) recipe: Option<&'a [RecipeLine]>,
-    pub(crate) stem: Name,
+    pub(crate) stem: Stem<'a>,
     /// The prerequisites of one rule after another.
     pub(crate) needs: Vec<NeedsView<'n>>,
 }

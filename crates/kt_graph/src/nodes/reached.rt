@@ -5,7 +5,7 @@ ghost use Rattle.kt_text.specs.Words.{Text};
 ghost use Rattle.kt_graph.specs.inner.nodes.Reached.{HasSame, IsPlaced, IsPushed, Reaches, StaysPlaced};
 ghost use Rattle.kt_graph.specs.inner.nodes.Reached.{place_marked};
 
-use crate::nodes::stored::narrow;
+use kt_list::narrow;
 use std::alloc::{AllocError, Global};
 
 /// The numbers that were reached, each once, and the place of each.

@@ -5,8 +5,10 @@ ghost use Rattle.kt_graph.specs.inner.nodes.Stored.{IsWithin, PutsPart, cut, nod
 ghost use Rattle.kt_graph.specs.inner.nodes.Stored.{parts_held, stored_at};
 
 use crate::nodes::node::NodeKind;
-use crate::nodes::stored_node::{BuiltNode, Numbered, Part};
-use kt_rules::{Name, RecipeLine};
+use crate::nodes::stem::Stem;
+use crate::nodes::stored_node::{BuiltNode, Part};
+use kt_list::narrow;
+use kt_rules::RecipeLine;
 use std::alloc::{AllocError, Global};
 use std::marker::Model;
 
@@ -35,7 +37,7 @@ pub(crate) struct Head {
 #[derive(Drop)]
 pub(crate) struct HeldPart<'a> {
     recipe: Option<&'a [RecipeLine]>,
-    stem: Name,
+    stem: Stem<'a>,
     prerequisites: Span,
     order_only: Span,
 }
@@ -51,7 +53,7 @@ pub(crate) struct Span {
 #[derive(Clone, Copy)]
 pub(crate) struct SeenPart<'g> {
     pub(crate) recipe: Option<&'g [RecipeLine]>,
-    pub(crate) stem: &'g [u8],
+    pub(crate) stem: &'g Stem<'g>,
     pub(crate) prerequisites: &'g [u32],
     pub(crate) order_only: &'g [u32],
 }
@@ -133,7 +135,7 @@ impl<'a> StoredNodes<'a> {
         let part = cut(self.parts.as_slice(), head.parts).get(part)?;
         Some(SeenPart {
             recipe: part.recipe,
-            stem: part.stem.as_slice(),
+            stem: &part.stem,
             prerequisites: cut(self.numbers.as_slice(), part.prerequisites),
             order_only: cut(self.numbers.as_slice(), part.order_only),
         })
@@ -275,14 +277,4 @@ fn narrow_making(making: Option<usize>) -> Result<Option<u32>, AllocError>
         Some(number) => Ok(Some(narrow(number)?)),
         None => Ok(None),
     }
-}
-
-/// A number in 32 bits. A larger one has none, as if memory were refused for it.
-pub(crate) fn narrow(number: usize) -> Result<u32, AllocError>
-    ensures { IfOk result (λ narrowed. narrowed ≡ number) }
-{
-    if number as u64 > 4_294_967_295 {
-        return Err(AllocError);
-    }
-    Ok(number as u32)
 }

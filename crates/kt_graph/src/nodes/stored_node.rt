@@ -6,8 +6,9 @@ ghost use Rattle.kt_graph.specs.inner.nodes.Numbering.{order_only_numbers, rise,
 ghost use Rattle.kt_graph.specs.inner.nodes.Stored.{parts_held};
 
 use crate::nodes::node::NodeKind;
+use crate::nodes::stem::Stem;
 use indexmap::IndexSet;
-use kt_rules::{Name, RecipeLine};
+use kt_rules::RecipeLine;
 use std::alloc::{AllocError, Global};
 
 // Up to this many numbers are compared with one another.
@@ -31,7 +32,7 @@ pub(crate) struct BuiltNode<'a> {
 #[derive(Drop)]
 pub(crate) struct Part<'a> {
     pub(crate) recipe: Option<&'a [RecipeLine]>,
-    pub(crate) stem: Name,
+    pub(crate) stem: Stem<'a>,
     pub(crate) needs: Numbered,
 }
 

@@ -1,5 +1,5 @@
 //! The chains of pattern rules that a search tries.
-ghost use Rattle.std.specs.Prelude.{◌≡◌, ◌+◌, [], ◌∷◌, find, fold, length, map, nat_le, is_some, option_map, IfOk};
+ghost use Rattle.std.specs.Prelude.{◌≡◌, ◌+◌, [], ◌∷◌, find, fold, length, nat_le, is_some, option_map, IfOk};
 ghost use Rattle.std.specs.Prelude.{IfSome, OnOk};
 ghost use Rattle.std.specs.List.{list_all, prefix_len};
 ghost use Rattle.kt_rules.specs.Names.{with_name, without_repeats};
@@ -22,7 +22,7 @@ use crate::search::patterns::Patterns;
 use crate::search::question::Question;
 use crate::search::stemming::Stemming;
 use crate::search::tried::{Placed, Tried};
-use indexmap::IndexSet;
+use kt_list::Names;
 use kt_rules::{Name, Needs, Pattern};
 use std::alloc::{AllocError, Global};
 
@@ -277,17 +277,16 @@ impl<'a> Chains<'a> {
         &self,
         tried: &mut Tried,
         left: usize,
-        names: &[Vec<u8>],
+        names: &[Name],
         used: &[usize],
     ) -> Result<bool, AllocError>
         requires whole { left + length used.now ≡ chain_limit }
         requires ready { IsRightFor self.now.patterns self.now.known.now tried.old (length used.now) }
         ensures found { IfOk result (λ all. all ≡ list_all
-            (λ name. is_some (fitting self.now.patterns self.now.known.now left used.now name)) (map
-            (λ name. name.items) names.now)) }
+            (λ name. is_some (fitting self.now.patterns self.now.known.now left used.now name)) names.now) }
         ensures leaves { OnOk result (HasAnswered self.now.patterns self.now.known.now tried.old tried.new
             (length used.now) (asked_for (fitting self.now.patterns self.now.known.now left)
-            (asking self.now.patterns self.now.known.now left) used.now (map (λ name. name.items) names.now))) }
+            (asking self.now.patterns self.now.known.now left) used.now names.now)) }
         ensures kept { Keeps tried.old tried.new }
     {
         let mut at = 0;
@@ -301,30 +300,25 @@ impl<'a> Chains<'a> {
     }
 
     // The unknown prerequisites of a candidate, in order and each once.
-    fn unknown(&self, name: &[u8], candidate: &Candidate) -> Result<IndexSet<Vec<u8>>, AllocError>
+    fn unknown(&self, name: &[u8], candidate: &Candidate) -> Result<Names, AllocError>
         requires { AreWithin self.now.patterns name.now (candidate.now ∷ []) }
         ensures { IfOk result (λ unknown. IfSome (candidate_view self.now.patterns name.now candidate.now)
-            (λ told. map (λ name. name.items) unknown.keys ≡ unknown_needs self.now.known.now told)) }
+            (λ told. unknown ≡ unknown_needs self.now.known.now told)) }
     {
         match self.patterns.get(candidate.rule) {
             Some(pattern) => self.unknown_with(
                 Stemming::new(&candidate.fit, name),
                 pattern.needs(),
             ),
-            None => Ok(IndexSet::new(self.alloc)),
+            None => Ok(Names::new(self.alloc)),
         }
     }
 
-    fn unknown_with(
-        &self,
-        stemming: Stemming,
-        needs: &Needs,
-    ) -> Result<IndexSet<Vec<u8>>, AllocError>
-        ensures { IfOk result (λ unknown. map (λ name. name.items) unknown.keys
-            ≡ without_repeats (unknown_of self.now.known.now
+    fn unknown_with(&self, stemming: Stemming, needs: &Needs) -> Result<Names, AllocError>
+        ensures { IfOk result (λ unknown. unknown ≡ without_repeats (unknown_of self.now.known.now
             (all_needs (needs_with stemming.entry.directory.now stemming.entry.stem.now needs.now)))) }
     {
-        let mut unknown = IndexSet::new(self.alloc);
+        let mut unknown = Names::new(self.alloc);
         self.add_unknown(stemming, needs.prerequisites.as_slice(), &mut unknown)?;
         self.add_unknown(stemming, needs.order_only.as_slice(), &mut unknown)?;
         Ok(unknown)
@@ -334,34 +328,26 @@ impl<'a> Chains<'a> {
         &self,
         stemming: Stemming,
         names: &[Name],
-        unknown: &mut IndexSet<Vec<u8>>,
+        unknown: &mut Names,
     ) -> Result<(), AllocError>
-        ensures { OnOk result (map (λ name. name.items) unknown.new.keys
-            ≡ fold with_name (map (λ name. name.items) unknown.old.keys)
-            (unknown_of self.now.known.now
+        ensures { OnOk result (unknown.new ≡ fold with_name unknown.old (unknown_of self.now.known.now
             (needed_names stemming.entry.directory.now stemming.entry.stem.now names.now))) }
     {
         for name in names {
             let needed = stemming.name(self.alloc, name.as_slice())?;
-            self.add_if_unknown(needed, unknown)?;
+            self.add_if_unknown(needed.as_slice(), unknown)?;
         }
         Ok(())
     }
 
-    fn add_if_unknown(
-        &self,
-        name: Vec<u8>,
-        unknown: &mut IndexSet<Vec<u8>>,
-    ) -> Result<(), AllocError>
-        ensures { OnOk result (map (λ name. name.items) unknown.new.keys
-            ≡ fold with_name (map (λ name. name.items) unknown.old.keys)
-            (unknown_of self.now.known.now (name.items ∷ []))) }
+    fn add_if_unknown(&self, name: &[u8], unknown: &mut Names) -> Result<(), AllocError>
+        ensures { OnOk result (unknown.new ≡ fold with_name unknown.old
+            (unknown_of self.now.known.now (name.now ∷ []))) }
     {
-        if self.known.contains(name.as_slice()) {
+        if self.known.contains(name) {
             return Ok(());
         }
-        unknown.insert(name)?;
-        Ok(())
+        unknown.add(name)
     }
 
     // The choice of a candidate for a name.

@@ -15,7 +15,8 @@ use Rattle.kt_graph.specs.inner.faults.Edges.{AreEdgesOf, IsFirstBack, LeadsBack
 use Rattle.kt_graph.specs.Reach.{IsCyclic, IsFirst, IsGraph}
 use Rattle.kt_graph.specs.nodes.Views.{name_at, names_at, nodes_view}
 use Rattle.kt_graph.specs.inner.nodes.Graph.{IsWhole}
-use Rattle.kt_graph.proofs.lemmas.MemberLemmas.{Contains-here, Contains-map}
+use Rattle.kt_list.proofs.general.Elements.{in_first}
+use Rattle.kt_graph.proofs.lemmas.MemberLemmas.{Contains-map}
 use Rattle.kt_graph.proofs.lemmas.faults.TroubleLemmas.{in_cut, none_below}
 use Rattle.kt_graph.proofs.lemmas.nodes.WholeLemmas.{cyclic_back, is_cyclic, reached_number}
 
@@ -31,7 +32,7 @@ module _ (names : List Text) (instances : List Held) (nodes : List StoredNode) (
   pub first_cyclic : (number : ℕ) → IsFirstBack edges order number → IsFirst (IsCyclic rules known goals) (name_at names number)
   first_cyclic number first =
       let inside : Contains order number = subst (λ (ns : List ℕ). Contains ns number) (sym first.cut)
-      (Contains-append_right first.earlier (number ∷ first.later) number (Contains-here number first.later)) in
+      (Contains-append_right first.earlier (number ∷ first.later) number (in_first number first.later)) in
       let below : number < length names = (whole.rises.all number).0 inside in
       let rises : IsStrictlySortedBy (slice_cmp nat_cmp) (names_at names first.earlier ++ name_at names number ∷ names_at names first.later) =
       subst (IsStrictlySortedBy (slice_cmp nat_cmp)) (ap (names_at names) first.cut ∙ map-append (name_at names) first.earlier (number ∷ first.later)) whole.rises.rises in

@@ -11,7 +11,8 @@ use Rattle.std.proofs.lemmas.Option.{none-some, same_Some}
 use Rattle.kt_graph.specs.declared.faults.edges.Edges.{Edges}
 use Rattle.kt_graph.specs.inner.nodes.Stored.{StoredNode}
 use Rattle.kt_graph.specs.inner.faults.Edges.{AreMadeBelow, AreNeededBelow, LeadToVertices, HasNext, IsEdge, LeadsTo, bare_rows, count_of, edges_from, edges_to, making_edges, makings_edges, needed_numbers, numbers_after, one_at, row_by, row_of, rows_of, turned_from, with_edge, with_edges}
-use Rattle.kt_graph.proofs.lemmas.MemberLemmas.{Contains-here, Contains-there, Contains-none, Contains-cases, Contains-map, Contains-from_map, Contains-slice_get}
+use Rattle.kt_list.proofs.general.Elements.{first_or_rest, in_first, in_rest}
+use Rattle.kt_graph.proofs.lemmas.MemberLemmas.{Contains-none, Contains-map, Contains-from_map, Contains-slice_get}
 
 -- ---- one edge
 
@@ -69,9 +70,9 @@ edges_added [] rows from to has = inl has
 edges_added (edge ∷ edges) rows from to has = ⊎_elim
     (λ (h : Contains (get_or (with_edge rows edge) from []) to). ⊎_elim
     (λ (g : Contains (get_or rows from []) to). inl g)
-    (λ (e : edge ≡ (from, to)). inr (subst (λ (d : ℕ × ℕ). Contains (edge ∷ edges) d) e (Contains-here edge edges)))
+    (λ (e : edge ≡ (from, to)). inr (subst (λ (d : ℕ × ℕ). Contains (edge ∷ edges) d) e (in_first edge edges)))
     (one_from rows edge from to h))
-    (λ (h : Contains edges (from, to)). inr (Contains-there edge edges (from, to) h))
+    (λ (h : Contains edges (from, to)). inr (in_rest edge (from, to) edges h))
     (edges_added edges (with_edge rows edge) from to has)
 
 edges_kept : (edges : List (ℕ × ℕ)) (rows : List (List ℕ)) (from to : ℕ) → Contains (get_or rows from []) to
@@ -88,7 +89,7 @@ edges_there (edge ∷ edges) rows from to within has = ⊎_elim
     (edges_kept edges (with_edge rows (from, to)) from to (one_adds rows from to within)))
     (λ (h : Contains edges (from, to)).
     edges_there edges (with_edge rows edge) from to (subst (λ n. from < n) (sym (length-set rows edge.0 (get_or rows edge.0 [] ++ edge.1 ∷ []))) within) h)
-    (Contains-cases edge edges (from, to) has)
+    (first_or_rest edge (from, to) edges has)
 
 -- among vertices that led nowhere there are just the edges that were added
 bare_none : (count from to : ℕ) → Contains (get_or (bare_rows count) from []) to → ⊥
@@ -334,14 +335,14 @@ module _ (nodes : List StoredNode) (count : ℕ) (makings : List ℕ) (rows : Li
   leads number node to at (Some making) made has = ⊎_elim
       (λ (e : length nodes + making ≡ to). sym e)
       (λ (h : Contains [] to). Contains-none to h)
-      (Contains-cases (length nodes + making) [] to (subst (λ (xs : List ℕ). Contains xs to) (making_alone number node making at made) has))
+      (first_or_rest (length nodes + making) to [] (subst (λ (xs : List ℕ). Contains xs to) (making_alone number node making at made) has))
 
   led : (number : ℕ) (node : StoredNode) (to : ℕ) → slice_get nodes number ≡ Some node → (o : Option ℕ) → node.made_with ≡ o → LeadsTo (length nodes) node o to
       → Contains (row_by makings node o) to
   led number node to at None made has = has
   led number node to at (Some making) made same =
       subst (λ (xs : List ℕ). Contains xs to) (sym (making_alone number node making at made))
-      (subst (λ n. Contains ((length nodes + making) ∷ []) n) (sym same) (Contains-here (length nodes + making) []))
+      (subst (λ n. Contains ((length nodes + making) ∷ []) n) (sym same) (in_first (length nodes + making) []))
 
   pub edges_are : (from to : ℕ) → Contains (get_or (map (row_of makings) nodes ++ rows) from []) to ↔ IsEdge nodes from to
   edges_are from to = (

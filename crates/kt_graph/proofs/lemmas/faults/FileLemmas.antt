@@ -1,5 +1,5 @@
 -- Files of made names, counted as they come.
-use Rattle.std.proofs.Common.{◌≡◌, ℕ, zero, suc, ◌+◌, Bool, true, false, not, ◌&&◌, cond, if◌then◌else◌, List, [], ◌∷◌, ◌++◌, length, map, filter, find, All, nat_eq, nat_lt, Option, None, Some, is_some, unwrap_or, Vec, Global, refl, sym, ap, ◌∙◌, subst, arith}
+use Rattle.std.proofs.Common.{◌≡◌, ℕ, zero, suc, ◌+◌, Bool, true, false, not, ◌&&◌, cond, if◌then◌else◌, List, [], ◌∷◌, ◌++◌, length, map, filter, find, All, nat_eq, nat_lt, Option, None, Some, is_some, unwrap_or, refl, sym, ap, ◌∙◌, subst, arith}
 use Rattle.std.specs.Map.{lookup, KeepsOthers}
 use Rattle.std.specs.Str.{bytes_eq}
 use Rattle.std.proofs.lemmas.Bool.{ne_eqb, lt-ltb}
@@ -16,16 +16,16 @@ use Rattle.kt_graph.specs.faults.Paths.{canon_of}
 -- ---- what is held of files
 
 -- if two files differ, no key is both
-apart : (file other : Text) → bytes_eq other file ≡ false → (key : Vec ℕ Global) → bytes_eq file key.items ≡ true → bytes_eq other key.items ≡ false
+apart : (file other : Text) → bytes_eq other file ≡ false → (key : Text) → bytes_eq file key ≡ true → bytes_eq other key ≡ false
 apart file other differ key is =
-    nat_list_eq_equiv.symm other key.items
-    ∙ sym (nat_list_eq_equiv.congr file key.items other is)
+    nat_list_eq_equiv.symm other key
+    ∙ sym (nat_list_eq_equiv.congr file key other is)
     ∙ nat_list_eq_equiv.symm file other ∙ differ
 
 -- one file got another value, and all others keep theirs
-pub held_after : (old new : List (Vec ℕ Global × Bool)) (file : Text) (value : Bool)
-    → KeepsOthers (λ (x y : Vec ℕ Global). bytes_eq x.items y.items) (λ (key : Vec ℕ Global). bytes_eq file key.items) old new
-    → lookup (λ (key : Vec ℕ Global). bytes_eq file key.items) new ≡ Some value
+pub held_after : (old new : List (Text × Bool)) (file : Text) (value : Bool)
+    → KeepsOthers (λ (x y : Text). bytes_eq x y) (λ (key : Text). bytes_eq file key) old new
+    → lookup (λ (key : Text). bytes_eq file key) new ≡ Some value
     → (other : Text) → held_for new other ≡ (if bytes_eq other file then Some value else held_for old other)
 unfolding KeepsOthers
 held_after old new file value others found other = by (bytes_eq other file) refl
@@ -35,8 +35,8 @@ held_after old new file value others found other = by (bytes_eq other file) refl
         let same : other ≡ file = (bytes_eq-Decides other file).0 e in
         subst (λ (n : Text). held_for new n ≡ Some value) (sym same) found
     by false e =
-        others (λ (key : Vec ℕ Global). bytes_eq other key.items)
-        (λ x y h. nat_list_eq_equiv.congr other x.items y.items h)
+        others (λ (key : Text). bytes_eq other key)
+        (λ x y h. nat_list_eq_equiv.congr other x y h)
         (λ key h. apart file other e key h)
 
 -- one more name of a file
@@ -72,7 +72,7 @@ several_with names name file =
     by false = ap several_at (omega arith)
 
 -- so what is held is right after one more name
-pub files_with : (old new : List (Vec ℕ Global × Bool)) (names : List Text) (name file : Text) → file ≡ canon_of name
+pub files_with : (old new : List (Text × Bool)) (names : List Text) (name file : Text) → file ≡ canon_of name
     → ((other : Text) → held_for new other ≡ (if bytes_eq other file then Some (is_some (held_for old file)) else held_for old other))
     → ((other : Text) → held_for old other ≡ several_in names other)
     → (other : Text) → held_for new other ≡ several_in (names ++ name ∷ []) other

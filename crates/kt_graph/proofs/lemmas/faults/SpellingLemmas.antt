@@ -6,6 +6,7 @@ use Rattle.std.proofs.lemmas.List.Elements.{All-from_get_or}
 use Rattle.std.proofs.lemmas.List.{append-nil, append_assoc, reverse-append}
 use Rattle.std.proofs.lemmas.List.Splits.{join_with_byte-slice_split, slice_split_first, slice_split_none}
 use Rattle.memchr.specs.Find.{IsFirstByte, is_byte}
+use Rattle.kt_list.proofs.general.Booleans.{and_first, and_second}
 use Rattle.kt_text.specs.Words.{Text}
 use Rattle.kt_text.proofs.PlaceLemmas.{first_byte_place}
 use Rattle.kt_graph.specs.inner.faults.Spelling.{has_names_only, is_name}
@@ -31,14 +32,6 @@ put_names rooted front (part ∷ parts) h =
     ∙ ap (λ begun. begun ++ parts) (reverse-cons part front)
     ∙ append_assoc (reverse front) (part ∷ []) parts
   where
-    and_first : (a b : Bool) → (a && b) ≡ true → a ≡ true
-    and_first true b h = refl
-    and_first false b h = absurd (false≢true h)
-
-    and_second : (a b : Bool) → (a && b) ≡ true → b ≡ true
-    and_second true b h = h
-    and_second false b h = absurd (false≢true h)
-
     reverse-cons : (part : Text) (front : List Text) → reverse (part ∷ front) ≡ reverse front ++ part ∷ []
     reverse-cons part front = reverse-append (part ∷ []) front
 

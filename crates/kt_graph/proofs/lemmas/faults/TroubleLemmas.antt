@@ -2,16 +2,16 @@
 use Rattle.std.proofs.Common.{◌≡◌, ◌<◌, Bool, true, false, not, ◌||◌, cond, ◌⊎◌, ⊎_elim, List, [], ◌∷◌, ◌++◌, length, map, filter, find, All, Option, None, Some, option_map, refl, sym, ap, ◌∙◌, subst, arith}
 use Rattle.std.specs.List.{Contains, list_any}
 use Rattle.std.specs.List.Sorted.{IsStrictlySortedBy}
-use Rattle.std.specs.Ordering.{nat_cmp, is_eq, ordering_reverse}
-use Rattle.std.specs.Option.{MatchOption, option_map_or}
+use Rattle.std.specs.Ordering.{nat_cmp, is_eq}
+use Rattle.std.specs.Option.{option_map_or}
 use Rattle.std.specs.declared.cmp.Ordering.{Ordering}
 use Rattle.std.specs.declared.cmp.Ordering.TheVariants.{Less}
 use Rattle.std.specs.Cmp.Lexicographic.{slice_cmp}
 use Rattle.std.specs.Str.{bytes_eq}
 use Rattle.std.proofs.lemmas.Bool.{false≢true, true≢false, lt-ltb, ltb-true}
 use Rattle.std.proofs.lemmas.Cmp.{nat_list_cmp_total, tied_itself}
-use Rattle.std.proofs.lemmas.List.{length-map, map-append}
-use Rattle.std.proofs.lemmas.List.Elements.{All-cons, All-contains, All-filter, All-head, All-map, All-tail, recursion_from_All}
+use Rattle.std.proofs.lemmas.List.{length-map}
+use Rattle.std.proofs.lemmas.List.Elements.{All-contains, All-filter, All-map, recursion_from_All}
 use Rattle.std.proofs.lemmas.Map.Keys.{sorted_tail}
 use Rattle.std.proofs.lemmas.Map.Views.{All-after_first}
 use Rattle.std.proofs.lemmas.Option.{none-some, same_Some}
@@ -25,7 +25,8 @@ use Rattle.kt_graph.specs.nodes.Node.{Node, is_leaf, node_of}
 use Rattle.kt_graph.specs.faults.Paths.{canon_of, is_reserved}
 use Rattle.kt_graph.specs.Reach.{ComesFirst, IsCyclic, IsDoubled, IsFirst, IsGraph, IsMade, IsReached, IsReserved, Trouble, no_rule, circular, reserved_name, one_file, is_unmade, unmade_goal}
 use Rattle.kt_graph.specs.inner.nodes.Graph.{makes_among}
-use Rattle.kt_graph.proofs.lemmas.MemberLemmas.{Contains-cases, Contains-from_map, Contains-here, Contains-map, Contains-none, Contains-there}
+use Rattle.kt_list.proofs.general.Elements.{first_or_rest, in_first, in_rest}
+use Rattle.kt_graph.proofs.lemmas.MemberLemmas.{Contains-from_map, Contains-map, Contains-none}
 
 abbrev order : Text → Text → Ordering
 order = slice_cmp nat_cmp
@@ -40,10 +41,10 @@ any_there p [] e = absurd (false≢true e)
 any_there {A} p (first ∷ xs) e = by (λ f. any_there p xs f) (p first) refl e
   where
     by : (list_any p xs ≡ true → (x : A) × Contains xs x × (p x ≡ true)) → (b : Bool) → p first ≡ b → (b || list_any p xs) ≡ true → (x : A) × Contains (first ∷ xs) x × (p x ≡ true)
-    by more true on f = (first, Contains-here first xs, on)
+    by more true on f = (first, in_first first xs, on)
     by more false off f =
         let rest : (x : A) × Contains xs x × (p x ≡ true) = more f in
-        (rest.0, Contains-there first xs rest.0 rest.1, rest.2)
+        (rest.0, in_rest first rest.0 xs rest.1, rest.2)
 
 pub any_nowhere : {A : Type 0} (p : A → Bool) (xs : List A) → list_any p xs ≡ false → (x : A) → Contains xs x → p x ≡ false
 any_nowhere p [] e x has = Contains-none x has
@@ -54,13 +55,13 @@ any_nowhere {A} p (first ∷ xs) e x has = by (λ f h. any_nowhere p xs f x h) (
     by more false off f = ⊎_elim
         (λ (same : first ≡ x). ap p (sym same) ∙ off)
         (λ (h : Contains xs x). more f h)
-        (Contains-cases first xs x has)
+        (first_or_rest first x xs has)
 
 pub find_agree : {A : Type 0} (p q : A → Bool) (xs : List A) → ((x : A) → Contains xs x → p x ≡ q x) → find p xs ≡ find q xs
 find_agree p q [] same = refl
 find_agree {A} p q (x ∷ xs) same =
-    ap (λ b. cond b (Some x) (find p xs)) (same x (Contains-here x xs))
-    ∙ ap (λ (rest : Option A). cond (q x) (Some x) rest) (find_agree p q xs (λ y has. same y (Contains-there x xs y has)))
+    ap (λ b. cond b (Some x) (find p xs)) (same x (in_first x xs))
+    ∙ ap (λ (rest : Option A). cond (q x) (Some x) rest) (find_agree p q xs (λ y has. same y (in_rest x y xs has)))
 
 -- what is found passes, and nothing before it does
 pub record IsFound {A : Type 0} (p : A → Bool) (xs : List A) (x : A) : Type 0 where
@@ -94,7 +95,7 @@ found_is {A} p (first ∷ xs) x e = by (λ f. found_is p xs x f) (p first) refl 
           none_earlier = λ y has. ⊎_elim
               (λ (same : first ≡ y). ap p (sym same) ∙ off)
               (λ (h : Contains rest.earlier y). rest.none_earlier y h)
-              (Contains-cases first rest.earlier y has);
+              (first_or_rest first y rest.earlier has);
         }
 
 pub found_nowhere : {A : Type 0} (p : A → Bool) (xs : List A) → find p xs ≡ None → (x : A) → Contains xs x → p x ≡ false
@@ -106,7 +107,7 @@ found_nowhere {A} p (first ∷ xs) e x has = by (λ f h. found_nowhere p xs f x 
     by more false off f = ⊎_elim
         (λ (same : first ≡ x). ap p (sym same) ∙ off)
         (λ (h : Contains xs x). more f h)
-        (Contains-cases first xs x has)
+        (first_or_rest first x xs has)
 
 -- ---- lists that rise
 
@@ -130,7 +131,7 @@ pub none_below : (earlier : List Text) (name : Text) (later : List Text) → Ris
 none_below [] name later rises other has less = ⊎_elim
     (λ (same : name ≡ other). never_itself name (subst (λ (n : Text). order n name ≡ Less) (sym same) less))
     (λ (h : Contains later other). never_both other name less (All-contains (λ n. order name n ≡ Less) later other (All-after_first order name later rises) h))
-    (Contains-cases name later other has)
+    (first_or_rest name other later has)
 none_below (first ∷ earlier) name later rises other has less =
     none_below earlier name later (sorted_tail order first (earlier ++ name ∷ later) rises) other has less
 
@@ -180,24 +181,24 @@ filter_there p [] x has on = Contains-none x has
 filter_there {A} p (first ∷ xs) x has on = ⊎_elim
     (λ (same : first ≡ x).
     subst (λ b. Contains (cond b (first ∷ filter p xs) (filter p xs)) x) (sym (ap p same ∙ on))
-    (subst (λ (y : A). Contains (first ∷ filter p xs) y) same (Contains-here first (filter p xs))))
+    (subst (λ (y : A). Contains (first ∷ filter p xs) y) same (in_first first (filter p xs))))
     (λ (h : Contains xs x). by (p first) (filter_there p xs x h on))
-    (Contains-cases first xs x has)
+    (first_or_rest first x xs has)
   where
     by : (b : Bool) → Contains (filter p xs) x → Contains (cond b (first ∷ filter p xs) (filter p xs)) x
-    by true h = Contains-there first (filter p xs) x h
+    by true h = in_rest first x (filter p xs) h
     by false h = h
 
 pub from_filter : {A : Type 0} (p : A → Bool) (xs : List A) (x : A) → Contains (filter p xs) x → Contains xs x × (p x ≡ true)
 from_filter p [] x has = Contains-none x has
 from_filter {A} p (first ∷ xs) x has =
-    by (λ h. let rest = from_filter p xs x h in (Contains-there first xs x rest.0, rest.1)) (p first) refl has
+    by (λ h. let rest = from_filter p xs x h in (in_rest first x xs rest.0, rest.1)) (p first) refl has
   where
     by : (Contains (filter p xs) x → Contains (first ∷ xs) x × (p x ≡ true)) → (b : Bool) → p first ≡ b → Contains (cond b (first ∷ filter p xs) (filter p xs)) x → Contains (first ∷ xs) x × (p x ≡ true)
     by later true e h = ⊎_elim
-        (λ (same : first ≡ x). (subst (λ (y : A). Contains (first ∷ xs) y) same (Contains-here first xs), ap p (sym same) ∙ e))
+        (λ (same : first ≡ x). (subst (λ (y : A). Contains (first ∷ xs) y) same (in_first first xs), ap p (sym same) ∙ e))
         (λ (g : Contains (filter p xs) x). later g)
-        (Contains-cases first (filter p xs) x h)
+        (first_or_rest first x (filter p xs) h)
     by later false e h = later h
 
 -- two that pass make the count two, and the other way round
@@ -210,12 +211,12 @@ two_pass {A} p (first ∷ xs) x y one other differ on also = ⊎_elim
     (λ (same : first ≡ x). ⊎_elim
     (λ (e : first ≡ y). absurd (differ (sym same ∙ e)))
     (λ (h : Contains xs y). here (ap p same ∙ on) (one_passes p xs y h also))
-    (Contains-cases first xs y other))
+    (first_or_rest first y xs other))
     (λ (h : Contains xs x). ⊎_elim
     (λ (e : first ≡ y). here (ap p e ∙ also) (one_passes p xs x h on))
     (λ (g : Contains xs y). by (p first) (two_pass p xs x y h g differ on also))
-    (Contains-cases first xs y other))
-    (Contains-cases first xs x one)
+    (first_or_rest first y xs other))
+    (first_or_rest first x xs one)
   where
     here : p first ≡ true → 0 < length (filter p xs) → 1 < length (filter p (first ∷ xs))
     here e some = subst (λ b. 1 < length (cond b (first ∷ filter p xs) (filter p xs))) (sym e) (omega arith)
@@ -230,7 +231,7 @@ some_passes {A} p xs some = by (filter p xs) refl some
     by : (ys : List A) → filter p xs ≡ ys → 0 < length ys → (x : A) × Contains xs x × (p x ≡ true)
     by [] e none = absurd (omega arith)
     by (y ∷ ys) e more =
-        let in' = from_filter p xs y (subst (λ (zs : List A). Contains zs y) (sym e) (Contains-here y ys)) in
+        let in' = from_filter p xs y (subst (λ (zs : List A). Contains zs y) (sym e) (in_first y ys)) in
         (y, in'.0, in'.1)
 
 -- of two that pass in a list that rises, one isn't a given one
@@ -245,7 +246,7 @@ another p (first ∷ names) name rises two =
         let one : (x : Text) × Contains names x × (p x ≡ true) = some_passes p names some in
         let is : name ≡ first = (bytes_eq-Decides name first).0 same in (
           one.0,
-          Contains-there first names one.0 one.1,
+          in_rest first one.0 names one.1,
           one.2,
           λ e. never_itself one.0
               (subst (λ (n : Text). order n one.0 ≡ Less) (sym is ∙ e)
@@ -254,7 +255,7 @@ another p (first ∷ names) name rises two =
 
     at : p first ≡ true → 0 < length (filter p names) → (b : Bool) → bytes_eq name first ≡ b → (other : Text) × Contains (first ∷ names) other × (p other ≡ true) × ¬ (name ≡ other)
     at on some true same = later some same
-    at on some false differ = (first, Contains-here first names, on, λ e. false≢true (sym differ ∙ (bytes_eq-Decides name first).1 e))
+    at on some false differ = (first, in_first first names, on, λ e. false≢true (sym differ ∙ (bytes_eq-Decides name first).1 e))
 
     by : (1 < length (filter p names) → (other : Text) × Contains names other × (p other ≡ true) × ¬ (name ≡ other)) → (b : Bool) → p first ≡ b
         → 1 < length (cond b (first ∷ filter p names) (filter p names)) → (other : Text) × Contains (first ∷ names) other × (p other ≡ true) × ¬ (name ≡ other)
@@ -262,7 +263,7 @@ another p (first ∷ names) name rises two =
     by more false e h =
         let rest : (other : Text) × Contains names other × (p other ≡ true) × ¬ (name ≡ other) =
         more h in
-        (rest.0, Contains-there first names rest.0 rest.1, rest.2, rest.3)
+        (rest.0, in_rest first rest.0 names rest.1, rest.2, rest.3)
 
 -- ---- names that are the canonical spelling of their file
 
@@ -324,7 +325,7 @@ module _ (rules : List Rule) (known goals : List Text) (nodes : List Node) (grap
           let found = found_is (λ (one : Node). bytes_eq name one.name) nodes node e in
           let same : name ≡ node.name = (bytes_eq-Decides name node.name).0 found.passes in
           let inside : Contains nodes node = subst (λ (ns : List Node). Contains ns node) (sym found.cut)
-          (Rattle.std.proofs.lemmas.List.Elements.Contains-append_right found.earlier (node ∷ found.later) node (Contains-here node found.later)) in
+          (Rattle.std.proofs.lemmas.List.Elements.Contains-append_right found.earlier (node ∷ found.later) node (in_first node found.later)) in
           twice (is_leaf node.kind)
           ∙ ap (λ (one : Node). is_leaf one.kind) (sym (of_node node inside))
           ∙ ap (λ (n : Text). is_leaf (node_of rules known n).kind) (sym same)
@@ -406,7 +407,7 @@ module _ (rules : List Rule) (known goals : List Text) (nodes : List Node) (grap
   file_trouble (Some name) off is =
       let found = found_is (is_repeated (made_names nodes)) (made_names nodes) name (sym is) in
       let inside : Contains (made_names nodes) name = subst (λ (ns : List Text). Contains ns name) (sym found.cut)
-      (Rattle.std.proofs.lemmas.List.Elements.Contains-append_right found.earlier (name ∷ found.later) name (Contains-here name found.later)) in (
+      (Rattle.std.proofs.lemmas.List.Elements.Contains-append_right found.earlier (name ∷ found.later) name (in_first name found.later)) in (
         none_reserved off,
         first_of (IsDoubled rules known goals) (is_repeated (made_names nodes)) (made_names nodes) name (rises_made nodes graph.rises) found
             (repeated_doubled name inside found.passes) doubled_repeated,

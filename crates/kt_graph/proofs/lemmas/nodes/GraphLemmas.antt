@@ -1,5 +1,5 @@
 -- A graph of the nodes of all reached names.
-use Rattle.std.proofs.Common.{◌≡◌, ℕ, ◌<◌, Bool, true, ⊎_elim, List, [], ◌∷◌, ◌++◌, length, get_or, map, find, All, Option, None, Some, option_map, slice_get, Vec, Global, refl, sym, ap, ◌∙◌, subst, arith}
+use Rattle.std.proofs.Common.{◌≡◌, ℕ, ◌<◌, Bool, true, ⊎_elim, List, [], ◌∷◌, ◌++◌, length, get_or, map, find, All, Option, None, Some, option_map, slice_get, refl, sym, ap, ◌∙◌, subst}
 use Rattle.std.specs.List.{Contains, cons_option, list_any, position}
 use Rattle.std.specs.List.Sorted.{IsStrictlySortedBy}
 use Rattle.std.specs.Ordering.{nat_cmp}
@@ -11,6 +11,7 @@ use Rattle.std.proofs.lemmas.List.Elements.{All-contains, All-head, All-tail}
 use Rattle.std.proofs.lemmas.List.Quantifiers.{position-Some}
 use Rattle.std.proofs.lemmas.Option.{get_or_from_slice_get, slice_get_within}
 use Rattle.std.proofs.lemmas.Slice.Eq.{bytes_eq-Decides}
+use Rattle.kt_list.proofs.general.Places.{at_place}
 use Rattle.kt_text.specs.Words.{Text}
 use Rattle.kt_rules.specs.Entry.{Rule}
 use Rattle.kt_graph.specs.declared.nodes.node.Instance.{Instance as Held}
@@ -26,7 +27,7 @@ use Rattle.kt_graph.specs.inner.nodes.Graph.{AreApart, IsWhole}
 use Rattle.kt_graph.proofs.lemmas.MemberLemmas.{Contains-from_map, Contains-map, Contains-slice_get, slice_get-Contains}
 use Rattle.kt_graph.proofs.lemmas.nodes.NodeLemmas.{inputs_are, others_are}
 use Rattle.kt_graph.proofs.lemmas.faults.TroubleLemmas.{any_nowhere}
-use Rattle.kt_graph.proofs.lemmas.nodes.WholeLemmas.{all_below, at_place, find_nowhere, find_there, names_in_order, needed_in, node_there, numbers_of}
+use Rattle.kt_graph.proofs.lemmas.nodes.WholeLemmas.{all_below, find_nowhere, find_there, names_in_order, needed_in, node_there, numbers_of}
 
 -- ---- keys of sets
 

@@ -11,6 +11,7 @@ use Rattle.std.proofs.lemmas.Bool.{false≢true, or_cases}
 use Rattle.std.proofs.lemmas.List.Elements.{All-map}
 use Rattle.std.proofs.lemmas.Option.{none-some, same_Some}
 use Rattle.std.proofs.lemmas.Slice.Eq.{bytes_eq-Decides}
+use Rattle.kt_list.proofs.general.Booleans.{equal_when}
 use Rattle.kt_text.specs.Words.{Text}
 use Rattle.kt_rules.specs.Entry.{Rule}
 use Rattle.kt_graph.specs.nodes.Groups.{AreGroups, HasBoth, IsInOne, are_together, groups_among, is_leading, is_one_making, leader_name, made_nodes}
@@ -46,11 +47,6 @@ first_kept p (first ∷ nodes) node e = by (p first) e (first_kept p nodes node)
     by false f more = more f
 
 -- ---- the nodes of a graph
-
-both_ways : (p q : Bool) → (p ≡ true → q ≡ true) → (q ≡ true → p ≡ true) → p ≡ q
-both_ways true q there back = sym (there refl)
-both_ways false true there back = back refl
-both_ways false false there back = refl
 
 making_told : (one other : Option Instance) → is_one_making one other ≡ true → (making : Instance) × (one ≡ Some making) × (other ≡ Some making)
 making_told None other e = absurd (false≢true e)
@@ -101,7 +97,7 @@ module _ (rules : List Rule) (known goals : List Text) (nodes : List Node) (grap
   -- nodes that are equal are in groups with the same nodes
   alike : (one other : Node) → Contains (made_nodes nodes) one → Contains (made_nodes nodes) other → AreOne one other
       → (node : Node) → Contains (made_nodes nodes) node → are_together one node ≡ are_together other node
-  alike one other first second same node has = both_ways (are_together one node) (are_together other node)
+  alike one other first second same node has = equal_when (are_together one node) (are_together other node)
       (λ e. as_test other node (joined other one node (swapped one other same) (by_test one node first has e)))
       (λ e. as_test one node (joined one other node same (by_test other node second has e)))
 

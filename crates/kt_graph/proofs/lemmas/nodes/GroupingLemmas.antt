@@ -15,6 +15,7 @@ use Rattle.std.proofs.lemmas.Map.Keys.{sorted_tail}
 use Rattle.std.proofs.lemmas.Map.Text.{is_eq-slice_cmp}
 use Rattle.std.proofs.lemmas.Map.Views.{All-after_first}
 use Rattle.std.proofs.lemmas.Slice.Eq.{bytes_eq-Decides}
+use Rattle.kt_list.proofs.general.Booleans.{equal_when}
 use Rattle.kt_text.specs.Words.{Text}
 use Rattle.kt_graph.specs.declared.nodes.node.Instance.{Instance as Held}
 use Rattle.kt_graph.specs.inner.nodes.Stored.{StoredNode}
@@ -26,14 +27,10 @@ use Rattle.kt_graph.specs.inner.nodes.Numbering.{HasNumbers}
 use Rattle.kt_graph.specs.nodes.Views.{instance_at, name_at, names_at, node_view, nodes_view}
 use Rattle.kt_graph.specs.inner.nodes.Graph.{IsWhole}
 use Rattle.kt_graph.proofs.lemmas.nodes.GroupLemmas.{one_itself, one_same}
-use Rattle.kt_graph.proofs.lemmas.MemberLemmas.{Contains-cases, Contains-here, Contains-map, Contains-none, Contains-slice_get, Contains-there}
+use Rattle.kt_list.proofs.general.Elements.{first_or_rest, in_first, in_rest}
+use Rattle.kt_graph.proofs.lemmas.MemberLemmas.{Contains-map, Contains-none, Contains-slice_get}
 use Rattle.kt_graph.proofs.lemmas.faults.TroubleLemmas.{from_filter}
 use Rattle.kt_graph.proofs.lemmas.nodes.WholeLemmas.{instance_there}
-
-both_ways : (p q : Bool) → (p ≡ true → q ≡ true) → (q ≡ true → p ≡ true) → p ≡ q
-both_ways true q there back = sym (there refl)
-both_ways false true there back = back refl
-both_ways false false there back = refl
 
 -- ---- the numbers of each making
 
@@ -138,7 +135,7 @@ module _ (names : List Text) (instances : List Held) (nodes : List StoredNode) (
   -- ---- two numbers
 
   same_name : (one other : ℕ) → Contains order one → Contains order other → bytes_eq (name_at names one) (name_at names other) ≡ nat_eq one other
-  same_name one other first second = both_ways (bytes_eq (name_at names one) (name_at names other)) (nat_eq one other)
+  same_name one other first second = equal_when (bytes_eq (name_at names one) (name_at names other)) (nat_eq one other)
       (λ e. eq-eqb one other (whole.held.distinct one other ((whole.rises.all one).0 first) ((whole.rises.all other).0 second)
       ((bytes_eq-Decides (name_at names one) (name_at names other)).0 e)))
       (λ e. (bytes_eq-Decides (name_at names one) (name_at names other)).1 (ap (name_at names) (eqb-true one other e)))
@@ -156,7 +153,7 @@ module _ (names : List Text) (instances : List Held) (nodes : List StoredNode) (
   same_making (Some one) None first second =
       let there : (told : Instance) × (instance_at instances (Some one) ≡ Some told) = instance_there instances one first in
       ap (λ (o : Option Instance). is_one_making o None) there.1
-  same_making (Some one) (Some other) first second = both_ways (is_one_making (instance_at instances (Some one)) (instance_at instances (Some other))) (nat_eq one other)
+  same_making (Some one) (Some other) first second = equal_when (is_one_making (instance_at instances (Some one)) (instance_at instances (Some other))) (nat_eq one other)
       (λ e. eq-eqb one other (whole.held.apart one other first second (one_same (instance_at instances (Some one)) (instance_at instances (Some other)) e)))
       (λ e.
       let there : (told : Instance) × (instance_at instances (Some one) ≡ Some told) = instance_there instances one first in
@@ -222,11 +219,11 @@ module _ (names : List Text) (instances : List Held) (nodes : List StoredNode) (
       → filter (are_together (node_view names instances leader node)) (made numbers) ≡ told (filter (stands_with leader) numbers)
   with_all leader node first at [] inside = refl
   with_all leader node first at (number ∷ numbers) inside =
-      let rest = with_all leader node first at numbers (λ other h. inside other (Contains-there number numbers other h)) in
+      let rest = with_all leader node first at numbers (λ other h. inside other (in_rest number other numbers h)) in
       ap (filter (are_together (node_view names instances leader node))) (made_one number numbers)
       ∙ filter-append (are_together (node_view names instances leader node)) (if is_made_at nodes number then told (number ∷ []) else []) (made numbers)
       ∙ ap (λ (front : List Node). front ++ filter (are_together (node_view names instances leader node)) (made numbers))
-      (with_one leader node first at number (inside number (Contains-here number numbers)))
+      (with_one leader node first at number (inside number (in_first number numbers)))
       ∙ ap (λ (back : List Node). told (cond (stands_with leader number) (number ∷ []) []) ++ back) rest
       ∙ joined (stands_with leader number)
       ∙ ap told (sym (filter_one (stands_with leader) number numbers))
@@ -243,8 +240,8 @@ module _ (names : List Text) (instances : List Held) (nodes : List StoredNode) (
       kept_none : (others : List ℕ) → ((number : ℕ) → Contains others number → p number ≡ false) → filter p others ≡ []
       kept_none [] none = refl
       kept_none (first ∷ others) none =
-          ap (λ b. cond b (first ∷ filter p others) (filter p others)) (none first (Contains-here first others))
-          ∙ kept_none others (λ number h. none number (Contains-there first others number h))
+          ap (λ b. cond b (first ∷ filter p others) (filter p others)) (none first (in_first first others))
+          ∙ kept_none others (λ number h. none number (in_rest first number others h))
 
       by : (number : ℕ) → Contains numbers number → (b : Bool) → p number ≡ b → p number ≡ false
       by number h false e = e
@@ -275,7 +272,7 @@ module _ (names : List Text) (instances : List Held) (nodes : List StoredNode) (
           (⊎_elim
           (λ (same : first ≡ leader). absurd (false≢true (sym e ∙ ap p same ∙ on)))
           (λ (h : Contains numbers leader). h)
-          (Contains-cases first numbers leader inside))
+          (first_or_rest first leader numbers inside))
 
   -- the numbers in the group of a number are its members
   members_are : (leader : ℕ) → Contains order leader → is_made_at nodes leader ≡ true → (making : Option ℕ) → making_at nodes leader ≡ making → IsBelow making
@@ -345,7 +342,7 @@ module _ (names : List Text) (instances : List Held) (nodes : List StoredNode) (
       first_of making less [] is = refl
       first_of making less (first ∷ others) is =
           let from = from_filter (is_made_with nodes making) order first
-          (subst (λ (ns : List ℕ). Contains ns first) (sym is ∙ has.each making less) (Contains-here first others)) in
+          (subst (λ (ns : List ℕ). Contains ns first) (sym is ∙ has.each making less) (in_first first others)) in
           let made_there : is_made_at nodes first ≡ true = (and_parts (is_made_at nodes first) (is_number making (making_at nodes first)) from.1).0 in
           let there : (one : StoredNode) × (slice_get nodes first ≡ Some one) = there_made first made_there in
           ap (λ (o : Option StoredNode). is_named leader (cons_option (option_map (node_view names instances first) o) (told others))) there.1
@@ -389,11 +386,11 @@ module _ (names : List Text) (instances : List Held) (nodes : List StoredNode) (
       → map group_in (filter (is_leading (made order)) (made numbers)) ≡ groups_left names instances nodes members numbers
   all_groups [] inside = refl
   all_groups (number ∷ numbers) inside =
-      let rest = all_groups numbers (λ other h. inside other (Contains-there number numbers other h)) in
+      let rest = all_groups numbers (λ other h. inside other (in_rest number other numbers h)) in
       ap (λ (ns : List Node). map group_in (filter (is_leading (made order)) ns)) (made_one number numbers)
       ∙ ap (map group_in) (filter-append (is_leading (made order)) (if is_made_at nodes number then told (number ∷ []) else []) (made numbers))
       ∙ map-append group_in (filter (is_leading (made order)) (if is_made_at nodes number then told (number ∷ []) else [])) (filter (is_leading (made order)) (made numbers))
-      ∙ ap (λ (front : List (List Node)). front ++ map group_in (filter (is_leading (made order)) (made numbers))) (one_group number (inside number (Contains-here number numbers)))
+      ∙ ap (λ (front : List (List Node)). front ++ map group_in (filter (is_leading (made order)) (made numbers))) (one_group number (inside number (in_first number numbers)))
       ∙ ap (λ (back : List (List Node)). group_at names instances nodes members number ++ back) rest
 
   pub groups_are : groups_left names instances nodes members order ≡ groups_of (nodes_view names instances nodes order)

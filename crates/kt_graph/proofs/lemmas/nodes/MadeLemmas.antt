@@ -7,6 +7,8 @@ use Rattle.std.specs.Cmp.Lexicographic.{same_text}
 use Rattle.std.proofs.lemmas.Bool.{and_from, and_parts, not_from_false}
 use Rattle.std.proofs.lemmas.List.Elements.{Contains-append_cases, Contains-append_left, Contains-append_right}
 use Rattle.std.proofs.lemmas.Option.{none-some, same_Some}
+use Rattle.kt_list.proofs.general.Elements.{first_or_rest, from_flat_map, in_first, in_flat_map, in_rest, none_in_empty}
+use Rattle.kt_list.proofs.general.Places.{at_place}
 use Rattle.kt_text.specs.Words.{Text}
 use Rattle.kt_rules.specs.declared.entry.Target.{Target}
 use Rattle.kt_rules.specs.Names.{is_among, without_repeats}
@@ -19,9 +21,8 @@ use Rattle.kt_graph.specs.Known.{known_names, listed_names, named_by, named_with
 use Rattle.kt_graph.specs.search.Search.{choice_of, fitting, is_begun, is_inferred, is_met, is_used, open_candidates, unknown_needs, with_rule}
 use Rattle.kt_graph.specs.nodes.Node.{Node, all_inputs, chosen_rule, double_node, implicit_node, inputs_of, is_leaf, joined_needs, kind_without, node_by, node_of, order_only_of, searched, used_rule}
 use Rattle.kt_graph.specs.Reach.{HasInput, HasMadeInputs, IsGraph, IsReached, Leads}
-use Rattle.kt_graph.proofs.lemmas.search.GrowthLemmas.{from_by_size, from_flat_map, in_flat_map, tree_grows}
-use Rattle.kt_graph.proofs.lemmas.Membership.{any_passes, each_passes, first_or_rest, in_first, in_rest, kept_by_filter, none_in_empty}
-use Rattle.kt_graph.proofs.lemmas.search.CandidateViewLemmas.{get_some}
+use Rattle.kt_graph.proofs.lemmas.search.GrowthLemmas.{from_by_size, tree_grows}
+use Rattle.kt_graph.proofs.lemmas.Membership.{any_passes, each_passes, kept_by_filter}
 use Rattle.kt_graph.proofs.lemmas.search.TreeLemmas.{found_as_trees}
 use Rattle.kt_graph.proofs.lemmas.search.UnknownLemmas.{among_from, among_itself, from_without_repeats, in_without_repeats, is_unknown}
 
@@ -235,7 +236,7 @@ module _ (rules : List Rule) (known : List Text) (name : Text) where
     where
       drawn : (one : Candidate) → choice_of (patterns_of rules) known name ≡ Some one → option_and_then (chosen_rule (patterns_of rules)) (choice_of (patterns_of rules) known name) ≡ None → ⊥
       drawn one e none =
-          let rule = get_some (patterns_of rules) one.rule (has_rule (patterns_of rules) (is_begun []) name one (chosen_is (patterns_of rules) known 7 [] name one e).0) in
+          let rule = at_place (patterns_of rules) one.rule (has_rule (patterns_of rules) (is_begun []) name one (chosen_is (patterns_of rules) known 7 [] name one e).0) in
           none-some (one, rule.0) (sym none ∙ ap (option_and_then (chosen_rule (patterns_of rules))) e ∙ ap (option_map (λ r. (one, r))) rule.1)
 
       some : (o : Option Candidate) → choice_of (patterns_of rules) known name ≡ o → is_some o ≡ true → option_and_then (chosen_rule (patterns_of rules)) (choice_of (patterns_of rules) known name) ≡ None → ⊥

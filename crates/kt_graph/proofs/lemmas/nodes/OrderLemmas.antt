@@ -1,22 +1,27 @@
 -- Names that are sorted with their numbers.
-use Rattle.std.proofs.Common.{◌≡◌, ℕ, suc, zero, ◌+◌, ◌<◌, ◌↔◌, false, List, [], ◌∷◌, ◌++◌, length, map, get_or, All, refl, sym, ap, ◌∙◌, subst, arith, add-zero}
+use Rattle.std.proofs.Common.{◌≡◌, ℕ, suc, zero, ◌+◌, ◌<◌, ◌↔◌, false, List, [], ◌∷◌, ◌++◌, length, map, take, get_or, unwrap_or, All, Option, refl, sym, ap, ◌∙◌, subst, arith, add-zero}
 use Rattle.std.specs.List.{Contains, range_with_len, swap}
 use Rattle.std.specs.List.Sorted.{IsPermutation, IsSorted, IsSortedBy, IsStrictlySortedBy}
-use Rattle.std.specs.Ordering.{is_eq, is_lt, nat_cmp, ordering_then, ordering_reverse}
+use Rattle.std.specs.Ordering.{MatchOrdering, is_eq, is_lt, nat_cmp, ordering_then, ordering_reverse}
+use Rattle.std.specs.Cmp.{IsStrictWeakOrder, IsTotalOrder}
 use Rattle.std.specs.Cmp.Lexicographic.{slice_cmp}
 use Rattle.std.specs.declared.cmp.Ordering.{Ordering}
 use Rattle.std.specs.declared.cmp.Ordering.TheVariants.{Less, Equal, Greater}
 use Rattle.std.proofs.lemmas.Bool.{false≢true}
-use Rattle.std.proofs.lemmas.Cmp.{nat_list_cmp_total}
-use Rattle.std.proofs.lemmas.List.{length-map, get_or-map, map-append}
-use Rattle.std.proofs.lemmas.List.Elements.{All-contains, All-head, All-nil, All-push, All-tail, recursion_from_All}
+use Rattle.std.proofs.lemmas.Cmp.{nat_cmp_total, nat_list_cmp_total, on_total, then_total}
+use Rattle.std.proofs.lemmas.List.{length-map, get_or-map, map-append, take_more}
+use Rattle.std.proofs.lemmas.List.Elements.{All-contains, All-nil, All-push, recursion_from_All}
 use Rattle.std.proofs.lemmas.List.FromFn.{length-range_with_len, get_or-range_with_len}
 use Rattle.std.proofs.lemmas.List.Sorted.{All-permutation, Contains-permutation, IsPermutation-keeps, IsPermutation-map, IsPermutation-swap, length_permutation, ranks_by, sorted_far}
 use Rattle.indexmap.proofs.ReorderLemmas.{exchange, exchange-twice, exchange-within, get_or-swap}
 use Rattle.std.proofs.lemmas.Map.Text.{is_eq-slice_cmp}
 use Rattle.std.proofs.lemmas.Slice.Eq.{bytes_eq-Decides}
+use Rattle.std.proofs.lemmas.Option.{slice_get-get_or}
 use Rattle.kt_text.specs.Words.{Text}
+use Rattle.kt_text.proofs.SortLemmas.{fronts_decide}
+use Rattle.kt_graph.specs.declared.nodes.byte_order.Front.{Front}
 use Rattle.kt_graph.specs.inner.faults.Files.{AreDistinct, IsByteOrder}
+use Rattle.kt_graph.specs.inner.nodes.Fronts.{AreFronts, IsFront, front_cmp}
 use Rattle.kt_graph.specs.nodes.Views.{name_at, names_at}
 
 -- ---- numbers that differ
@@ -95,59 +100,65 @@ rising xs sorted single =
     (sorted_far (λ x y. is_lt (slice_cmp nat_cmp x y)) (ranks_by nat_list_cmp_total (λ x. x)) xs sorted i j d (omega arith) within)
     (λ same. let e : i ≡ j = single i j d (omega arith) within same in omega arith))
 
--- ---- names with their numbers
+-- ---- names with their first bytes
 
-abbrev pub Numbered : Type 0
-Numbered = Text × ℕ
+-- if the order by first bytes doesn't say less, the order of the names doesn't
+not_less : (names : List Text) (x y : Front) → IsFront names x → IsFront names y → is_lt (front_cmp names x y) ≡ false
+    → is_lt (slice_cmp nat_cmp (name_at names x.number) (name_at names y.number)) ≡ false
+not_less names x y is_x is_y h =
+    by (nat_cmp x.bytes y.bytes) h
+    (fronts_decide (name_at names x.number) (name_at names y.number) x.bytes y.bytes (nat_cmp x.bytes y.bytes) is_x.begins is_y.begins is_x.small is_y.small refl)
+  where
+    by : (o : Ordering) → is_lt (ordering_then o (slice_cmp nat_cmp (name_at names x.number) (name_at names y.number))) ≡ false
+        → MatchOrdering o (slice_cmp nat_cmp (name_at names x.number) (name_at names y.number) ≡ Less) (Unit {0})
+        (slice_cmp nat_cmp (name_at names x.number) (name_at names y.number) ≡ Greater)
+        → is_lt (slice_cmp nat_cmp (name_at names x.number) (name_at names y.number)) ≡ false
+    by Less e decided = absurd (false≢true (sym e))
+    by Equal e decided = e
+    by Greater e decided = ap is_lt decided
 
--- each name has its number
-pub record AreNumbered (names : List Text) (count : ℕ) (pairs : List Numbered) : Type 0 where
-  pub numbers : map (λ (pair : Numbered). pair.1) pairs ≡ range_with_len 0 count
-  pub named : All (λ (pair : Numbered). pair.0 ≡ name_at names pair.1) pairs
+front_total : (names : List Text) → IsTotalOrder (front_cmp names)
+front_total names = then_total (on_total (λ (front : Front). front.bytes) nat_cmp_total) (on_total (λ (front : Front). name_at names front.number) nat_list_cmp_total)
 
-names_of : (names : List Text) (pairs : List Numbered) → All (λ (pair : Numbered). pair.0 ≡ name_at names pair.1) pairs
-    → map (λ (pair : Numbered). pair.0) pairs ≡ names_at names (map (λ (pair : Numbered). pair.1) pairs)
-names_of names [] named = refl
-names_of names (pair ∷ pairs) named =
-    ap (λ first. first ∷ map (λ (p : Numbered). p.0) pairs) (All-head (λ (p : Numbered). p.0 ≡ name_at names p.1) pair pairs named)
-    ∙ ap (λ rest. name_at names pair.1 ∷ rest) (names_of names pairs (All-tail (λ (p : Numbered). p.0 ≡ name_at names p.1) pair pairs named))
+-- a sort by this order may be one by a test
+pub front_ranks : (names : List Text) → IsStrictWeakOrder (λ x y. is_lt (front_cmp names x y))
+front_ranks names = ranks_by (front_total names) (λ (front : Front). front)
 
-abbrev pub pair_cmp : Numbered → Numbered → Ordering
-pair_cmp x y = ordering_then (slice_cmp nat_cmp x.0 y.0) (nat_cmp x.1 y.1)
+names_of : (names : List Text) (fronts : List Front) → map (λ (front : Front). name_at names front.number) fronts ≡ names_at names (map (λ (front : Front). front.number) fronts)
+names_of names [] = refl
+names_of names (front ∷ fronts) = ap (λ rest. name_at names front.number ∷ rest) (names_of names fronts)
 
-first_not_less : (a b : Ordering) → is_lt (ordering_then a b) ≡ false → is_lt a ≡ false
-first_not_less Less b h = h
-first_not_less Equal b h = refl
-first_not_less Greater b h = refl
-
-names_sorted : (pairs : List Numbered) → IsSorted pair_cmp pairs → IsSortedBy (λ x y. is_lt (slice_cmp nat_cmp x y)) (map (λ (pair : Numbered). pair.0) pairs)
-names_sorted pairs sorted k d low within =
-    let long : length (map (λ (pair : Numbered). pair.0) pairs) ≡ length pairs = length-map pairs (λ (pair : Numbered). pair.0) in
-    let past : Numbered = ([], 0) in
-    let this : get_or (map (λ (pair : Numbered). pair.0) pairs) k d ≡ (get_or pairs k past).0 = get_or-map (λ (pair : Numbered). pair.0) pairs k past d (omega arith) in
-    let next : get_or (map (λ (pair : Numbered). pair.0) pairs) (k + 1) d ≡ (get_or pairs (k + 1) past).0
-    = get_or-map (λ (pair : Numbered). pair.0) pairs (k + 1) past d (omega arith) in
-    rw (this, next) (first_not_less _ (nat_cmp (get_or pairs (k + 1) past).1 (get_or pairs k past).1) (sorted k past low (omega arith)))
+names_sorted : (names : List Text) (fronts : List Front) → All (IsFront names) fronts → IsSorted (front_cmp names) fronts
+    → IsSortedBy (λ x y. is_lt (slice_cmp nat_cmp x y)) (map (λ (front : Front). name_at names front.number) fronts)
+names_sorted names fronts are sorted k d low within =
+    let long : length (map (λ (front : Front). name_at names front.number) fronts) ≡ length fronts = length-map fronts (λ (front : Front). name_at names front.number) in
+    let past : Front = record { bytes = 0; number = 0 } in
+    let this : get_or (map (λ (front : Front). name_at names front.number) fronts) k d ≡ name_at names (get_or fronts k past).number
+    = get_or-map (λ (front : Front). name_at names front.number) fronts k past d (omega arith) in
+    let next : get_or (map (λ (front : Front). name_at names front.number) fronts) (k + 1) d ≡ name_at names (get_or fronts (k + 1) past).number
+    = get_or-map (λ (front : Front). name_at names front.number) fronts (k + 1) past d (omega arith) in
+    rw (this, next)
+    (not_less names (get_or fronts (k + 1) past) (get_or fronts k past) (are (k + 1) past (omega arith)) (are k past (omega arith)) (sorted k past low (omega arith)))
 
 single_at : (order : List ℕ) → IsSingle order → (i j : ℕ) → i < length order → j < length order → get_or order i 0 ≡ get_or order j 0 → i ≡ j
 unfolding IsSingle
 single_at order single i j in_i in_j same = single i j 0 in_i in_j same
 
--- names that are sorted with their numbers are in byte order
-pub sorted_order : (names : List Text) (pairs sorted : List Numbered) → AreDistinct names → AreNumbered names (length names) pairs
-    → IsPermutation pairs sorted → IsSorted pair_cmp sorted → IsByteOrder names (map (λ (pair : Numbered). pair.1) sorted)
-sorted_order names pairs sorted distinct numbered moved up =
-    let order : List ℕ = map (λ (pair : Numbered). pair.1) sorted in
+-- names that are sorted by their first bytes and then by all are in byte order
+pub sorted_order : (names : List Text) (fronts sorted : List Front) → AreDistinct names → AreFronts names (length names) fronts
+    → IsPermutation fronts sorted → IsSorted (front_cmp names) sorted → IsByteOrder names (map (λ (front : Front). front.number) sorted)
+sorted_order names fronts sorted distinct first moved up =
+    let order : List ℕ = map (λ (front : Front). front.number) sorted in
     let n = length names in
     let moved_numbers : IsPermutation (range_with_len 0 n) order
-    = subst (λ xs. IsPermutation xs order) numbered.numbers (IsPermutation-map (λ (pair : Numbered). pair.1) pairs sorted moved) in
-    let named = names_of names sorted (All-permutation (λ (p : Numbered). p.0 ≡ name_at names p.1) pairs sorted moved numbered.named) in
+    = subst (λ xs. IsPermutation xs order) first.numbers (IsPermutation-map (λ (front : Front). front.number) fronts sorted moved) in
+    let are : All (IsFront names) sorted = All-permutation (IsFront names) fronts sorted moved first.are in
     let below : All (λ k. k < n) order = All-permutation (λ k. k < n) (range_with_len 0 n) order moved_numbers (within_range n) in
     let single = single_permuted n order moved_numbers in
     let long : length (names_at names order) ≡ length order = length-map order (name_at names) in
     record {
       rises = rising (names_at names order)
-          (subst (λ xs. IsSortedBy (λ x y. is_lt (slice_cmp nat_cmp x y)) xs) named (names_sorted sorted up))
+          (subst (λ xs. IsSortedBy (λ x y. is_lt (slice_cmp nat_cmp x y)) xs) (names_of names sorted) (names_sorted names sorted are up))
           (λ i j d in_i in_j same.
           let at_i : get_or (names_at names order) i d ≡ name_at names (get_or order i 0) = get_or-map (name_at names) order i 0 d (omega arith) in
           let at_j : get_or (names_at names order) j d ≡ name_at names (get_or order j 0) = get_or-map (name_at names) order j 0 d (omega arith) in
@@ -158,10 +169,10 @@ sorted_order names pairs sorted distinct numbered moved up =
 
 -- ---- one more
 
-pub numbered_none : (names : List Text) (pairs : List Numbered) → pairs ≡ [] → AreNumbered names 0 pairs
-numbered_none names pairs none = record {
-  numbers = ap (map (λ (pair : Numbered). pair.1)) none;
-  named = subst (λ xs. All (λ (pair : Numbered). pair.0 ≡ name_at names pair.1) xs) (sym none) (All-nil (λ (pair : Numbered). pair.0 ≡ name_at names pair.1));
+pub fronts_none : (names : List Text) (fronts : List Front) → fronts ≡ [] → AreFronts names 0 fronts
+fronts_none names fronts none = record {
+  numbers = ap (map (λ (front : Front). front.number)) none;
+  are = subst (λ xs. All (IsFront names) xs) (sym none) (All-nil (IsFront names));
 }
 
 range_more : (a n : ℕ) → range_with_len a n ++ (a + n) ∷ [] ≡ range_with_len a (n + 1)
@@ -172,11 +183,15 @@ range_more a (suc n) =
     let last : a + suc n ≡ a + 1 + n = omega arith in
     rw (more, last) (ap (λ rest. a ∷ rest) (range_more (a + 1) n ∙ ap (range_with_len (a + 1)) next))
 
-pub numbered_more : (names : List Text) (number : ℕ) (pairs more : List Numbered) (pair : Numbered) → AreNumbered names number pairs
-    → pair.0 ≡ name_at names number → pair.1 ≡ number → more ≡ pairs ++ pair ∷ [] → AreNumbered names (number + 1) more
-numbered_more names number pairs more pair numbered text at grown = record {
-  numbers = ap (map (λ (p : Numbered). p.1)) grown ∙ map-append (λ (p : Numbered). p.1) pairs (pair ∷ [])
-      ∙ ap (λ front. front ++ pair.1 ∷ []) numbered.numbers ∙ ap (λ k. range_with_len 0 number ++ k ∷ []) (at ∙ omega arith) ∙ range_more 0 number;
-  named = subst (λ xs. All (λ (p : Numbered). p.0 ≡ name_at names p.1) xs) (sym grown)
-      (All-push (λ (p : Numbered). p.0 ≡ name_at names p.1) pairs pair numbered.named (text ∙ ap (name_at names) (sym at)));
+pub fronts_more : (names : List Text) (number : ℕ) (fronts more : List Front) (front : Front) → AreFronts names number fronts
+    → IsFront names front → front.number ≡ number → more ≡ fronts ++ front ∷ [] → AreFronts names (number + 1) more
+fronts_more names number fronts more front first is at grown = record {
+  numbers = ap (map (λ (f : Front). f.number)) grown ∙ map-append (λ (f : Front). f.number) fronts (front ∷ [])
+      ∙ ap (λ before. before ++ front.number ∷ []) first.numbers ∙ ap (λ k. range_with_len 0 number ++ k ∷ []) (at ∙ omega arith) ∙ range_more 0 number;
+  are = subst (λ xs. All (IsFront names) xs) (sym grown) (All-push (IsFront names) fronts front first.are is);
 }
+
+-- the first names, with the next one
+pub taken_more : (names : List Text) (number : ℕ) → number < length names → take number names ++ name_at names number ∷ [] ≡ take (number + 1) names
+taken_more names number within =
+    ap (λ (o : Option Text). take number names ++ unwrap_or o [] ∷ []) (slice_get-get_or names number [] within) ∙ sym (take_more names number [] within)

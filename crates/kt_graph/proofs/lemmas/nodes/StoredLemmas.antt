@@ -2,7 +2,7 @@
 use Rattle.std.proofs.Common.{◌≡◌, ℕ, zero, suc, not, ◌+◌, ◌-◌, ◌<◌, ◌≤◌, List, [], ◌∷◌, ◌++◌, All, Option, Some, length, take, drop, slice_get, refl, sym, ap, ◌∙◌, subst, arith}
 use Rattle.std.specs.List.{slice_range}
 use Rattle.std.proofs.lemmas.List.{append-nil, append_assoc, drop-append-le, length-append, length-drop, map-append, take-append-le}
-use Rattle.std.proofs.lemmas.List.Elements.{All-append, All-head, All-push, All-tail, All-weaker}
+use Rattle.std.proofs.lemmas.List.Elements.{All-drop, All-head, All-push, All-tail, All-take, All-weaker}
 use Rattle.std.proofs.lemmas.Option.{slice_get-get_or}
 use Rattle.std.proofs.Math.Seq.{drop-append_seam}
 use Rattle.kt_graph.specs.declared.nodes.node.NodeKind.{NodeKind}
@@ -49,14 +49,8 @@ part_within_more count more part up h = record {
 pub parts_within_more : (count more : ℕ) (parts : List HeldPart) → count ≤ more → All (IsPartWithin count) parts → All (IsPartWithin more) parts
 parts_within_more count more parts up h = All-weaker (IsPartWithin count) (IsPartWithin more) (λ part g. part_within_more count more part up g) parts h
 
-all_drop : {A : Type 0} (P : A → Type 0) (k : ℕ) (xs : List A) → All P xs → All P (drop k xs)
-all_drop P k xs h = Rattle.std.proofs.lemmas.List.Elements.All-drop P k xs h
-
-all_take : {A : Type 0} (P : A → Type 0) (k : ℕ) (xs : List A) → All P xs → All P (take k xs)
-all_take P k xs h = Rattle.std.proofs.lemmas.List.Elements.All-take P k xs h
-
 pub all_cut : {A : Type 0} (P : A → Type 0) (xs : List A) (span : Span) → All P xs → All P (cut xs span)
-all_cut P xs span h = all_take P (span.end - span.start) (drop span.start xs) (all_drop P span.start xs h)
+all_cut P xs span h = All-take P (span.end - span.start) (drop span.start xs) (All-drop P span.start xs h)
 
 -- ---- nodes
 
@@ -201,7 +195,7 @@ pub puts_more : (start : ℕ) (held new : List HeldPart) (numbers more : List �
     → parts_stored more (drop start new) ≡ put ++ expected ∷ []
 puts_more start held new numbers more put expected within all grown puts are =
     let front : parts_stored more (drop start held) ≡ put
-    = parts_same numbers more (drop start held) (all_drop (IsPartWithin (length numbers)) start held all) grown ∙ are in
+    = parts_same numbers more (drop start held) (All-drop (IsPartWithin (length numbers)) start held all) grown ∙ are in
     ap (λ l. parts_stored more (drop start l)) puts.put
     ∙ ap (parts_stored more) (drop-append-le start held (puts.part ∷ []) within)
     ∙ map-append (part_stored more) (drop start held) (puts.part ∷ [])

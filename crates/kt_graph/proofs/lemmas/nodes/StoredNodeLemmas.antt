@@ -1,5 +1,5 @@
 -- The inputs of a node with one part, and numbers without repeats.
-use Rattle.std.proofs.Common.{◌≡◌, ℕ, ◌<◌, ◌≤◌, ◌==◌, ◌&&◌, Bool, List, [], ◌∷◌, ◌++◌, ap, append-nil, append_assoc, arith, fold, length, nat_eq, nat_lt, refl, sym, subst, ◌∙◌, false, true, true≢false}
+use Rattle.std.proofs.Common.{◌≡◌, ℕ, ◌<◌, ◌≤◌, ◌==◌, Bool, List, [], ◌∷◌, ◌++◌, ap, append-nil, append_assoc, arith, fold, length, nat_eq, nat_lt, refl, sym, subst, ◌∙◌, false, true}
 use Rattle.std.specs.List.{AllByRecursion, IsDistinct, flat_map, list_any}
 use Rattle.std.specs.List.Sorted.{IsPermutation}
 use Rattle.std.proofs.lemmas.Bool.{eq-eqb, eqb-false, eqb-true, ltb-true, ne_eqb}
@@ -7,6 +7,7 @@ use Rattle.std.proofs.lemmas.List.{nil_from_length}
 use Rattle.std.proofs.lemmas.List.Folds.{flat_map-map}
 use Rattle.std.proofs.lemmas.List.Sorted.{IsPermutation-sym}
 use Rattle.std.proofs.lemmas.Map.Keys.{IsDistinct-cons, IsDistinct-head, IsDistinct-tail, IsDistinct-IsPermutation}
+use Rattle.kt_list.proofs.general.Booleans.{and_first, and_second}
 use Rattle.kt_graph.specs.declared.nodes.stored_node.Part.{Part as HeldPart}
 use Rattle.kt_graph.specs.inner.nodes.Numbering.{input_numbers, inputs_held, numbers_without, order_only_held, order_only_numbers, rise, rise_after, with_number}
 use Rattle.kt_graph.specs.inner.nodes.Stored.{StoredPart, part_held, parts_held}
@@ -19,23 +20,15 @@ prerequisites_alone parts part others numbers are alone is =
 
 -- ---- numbers that rise
 
-first_true : (a b : Bool) → (a && b) ≡ true → a ≡ true
-first_true true b h = refl
-first_true false b h = h
-
-rest_true : (a b : Bool) → (a && b) ≡ true → b ≡ true
-rest_true true b h = h
-rest_true false b h = absurd (true≢false (sym h))
-
 -- those that rise after a number differ from each that isn't greater
 differ : (least last : ℕ) (numbers : List ℕ) → least ≤ last → rise_after last numbers ≡ true
     → AllByRecursion (λ y. nat_eq least y ≡ false) numbers
 unfolding rise_after
 differ least last [] low h = tt
 differ least last (number ∷ numbers) low h =
-    let up : last < number = ltb-true last number (first_true (nat_lt last number) (rise_after number numbers) h) in (
+    let up : last < number = ltb-true last number (and_first (nat_lt last number) (rise_after number numbers) h) in (
       ne_eqb least number (λ same. absurd (omega (arith, up, low, same))),
-      differ least number numbers (omega (arith, up, low)) (rest_true (nat_lt last number) (rise_after number numbers) h),
+      differ least number numbers (omega (arith, up, low)) (and_second (nat_lt last number) (rise_after number numbers) h),
     )
 
 after_distinct : (first : ℕ) (numbers : List ℕ) → rise_after first numbers ≡ true → IsDistinct nat_eq (first ∷ numbers)
@@ -43,7 +36,7 @@ unfolding rise_after IsDistinct
 after_distinct first [] h = IsDistinct-cons nat_eq first [] tt tt
 after_distinct first (number ∷ numbers) h =
     IsDistinct-cons nat_eq first (number ∷ numbers) (differ first first (number ∷ numbers) (omega arith) h)
-    (after_distinct number numbers (rest_true (nat_lt first number) (rise_after number numbers) h))
+    (after_distinct number numbers (and_second (nat_lt first number) (rise_after number numbers) h))
 
 pub rising_distinct : (numbers : List ℕ) → rise numbers ≡ true → IsDistinct nat_eq numbers
 unfolding rise IsDistinct

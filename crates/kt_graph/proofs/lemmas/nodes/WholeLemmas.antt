@@ -1,12 +1,13 @@
 -- A graph's vertices and the names that they are.
-use Rattle.std.proofs.Common.{◌≡◌, ℕ, zero, suc, ◌+◌, ◌<◌, Bool, true, false, ◌⊎◌, ⊎_elim, inl, inr, List, [], ◌∷◌, ◌++◌, length, get_or, map, filter_map, find, cond, Option, None, Some, IfSome, option_map, slice_get, refl, sym, ap, ◌∙◌, subst, arith}
+use Rattle.std.proofs.Common.{◌≡◌, ℕ, ◌+◌, ◌<◌, Bool, true, false, ◌⊎◌, ⊎_elim, inl, inr, List, [], ◌∷◌, ◌++◌, length, get_or, map, filter_map, find, cond, Option, None, Some, IfSome, option_map, slice_get, refl, sym, ap, ◌∙◌, subst, arith}
 use Rattle.std.specs.List.{Contains, cons_option}
 use Rattle.std.specs.Str.{bytes_eq}
 use Rattle.std.proofs.lemmas.Bool.{false≢true}
 use Rattle.std.proofs.lemmas.Slice.Eq.{bytes_eq-Decides}
 use Rattle.std.proofs.lemmas.List.{get_or-map, length-map, map-append}
-use Rattle.std.proofs.lemmas.List.Elements.{All-contains, All-head, All-tail, Contains-append_cases, Contains-append_left, Contains-append_right}
+use Rattle.std.proofs.lemmas.List.Elements.{All-contains, All-head, All-tail, Contains-append_cases}
 use Rattle.std.proofs.lemmas.Option.{none-some, same_Some, slice_get-get_or, slice_get_within}
+use Rattle.kt_list.proofs.general.Places.{at_place}
 use Rattle.kt_text.specs.Words.{Text}
 use Rattle.kt_rules.specs.Entry.{Rule}
 use Rattle.kt_graph.specs.declared.faults.edges.Edges.{Edges}
@@ -19,61 +20,56 @@ use Rattle.kt_graph.specs.Reach.{AreOneMaking, HasEdge, HasInput, IsCyclic, IsGr
 use Rattle.kt_graph.specs.nodes.Views.{instance_at, instance_view, name_at, names_at, node_at, node_view, nodes_view}
 use Rattle.kt_graph.specs.inner.nodes.Graph.{IsWhole}
 use Rattle.kt_graph.proofs.lemmas.faults.CircleLemmas.{Reaches-join, Reaches-none, Reaches-step, on_step, on_more}
-use Rattle.kt_graph.proofs.lemmas.MemberLemmas.{Contains-cases, Contains-from_map, Contains-here, Contains-map, Contains-none, Contains-slice_get, Contains-there}
+use Rattle.kt_list.proofs.general.Elements.{first_or_rest, in_first, in_rest}
+use Rattle.kt_graph.proofs.lemmas.MemberLemmas.{Contains-from_map, Contains-map, Contains-none, Contains-slice_get}
 use Rattle.kt_graph.proofs.lemmas.nodes.NodeLemmas.{inputs_are, inputs_below, others_are, others_below}
 
 -- ---- lists
-
--- what a list has at a place
-pub at_place : {A : Type 0} (xs : List A) (place : ℕ) → place < length xs → (x : A) × (slice_get xs place ≡ Some x)
-at_place [] place within = absurd (omega arith)
-at_place (x ∷ xs) zero within = (x, refl)
-at_place (x ∷ xs) (suc place) within = at_place xs place (omega arith)
 
 pub Contains-filter_map : {A B : Type 0} (f : A → Option B) (xs : List A) (x : A) (y : B) → Contains xs x → f x ≡ Some y → Contains (filter_map f xs) y
 Contains-filter_map f [] x y has is = Contains-none x has
 Contains-filter_map {A} {B} f (first ∷ xs) x y has is = ⊎_elim
     (λ (e : first ≡ x).
-    subst (λ (o : Option B). Contains (cons_option o (filter_map f xs)) y) (sym (ap f e ∙ is)) (Contains-here y (filter_map f xs)))
+    subst (λ (o : Option B). Contains (cons_option o (filter_map f xs)) y) (sym (ap f e ∙ is)) (in_first y (filter_map f xs)))
     (λ (h : Contains xs x). later (f first) (Contains-filter_map f xs x y h is))
-    (Contains-cases first xs x has)
+    (first_or_rest first x xs has)
   where
     later : (o : Option B) → Contains (filter_map f xs) y → Contains (cons_option o (filter_map f xs)) y
     later None h = h
-    later (Some z) h = Contains-there z (filter_map f xs) y h
+    later (Some z) h = in_rest z y (filter_map f xs) h
 
 pub Contains-from_filter_map : {A B : Type 0} (f : A → Option B) (xs : List A) (y : B) → Contains (filter_map f xs) y → (x : A) × Contains xs x × (f x ≡ Some y)
 Contains-from_filter_map f [] y has = Contains-none y has
 Contains-from_filter_map {A} {B} f (first ∷ xs) y has = by (λ h. Contains-from_filter_map f xs y h) (f first) refl has
   where
     from : (x : A) × Contains xs x × (f x ≡ Some y) → (x : A) × Contains (first ∷ xs) x × (f x ≡ Some y)
-    from rest = (rest.0, Contains-there first xs rest.0 rest.1, rest.2)
+    from rest = (rest.0, in_rest first rest.0 xs rest.1, rest.2)
 
     by : (Contains (filter_map f xs) y → (x : A) × Contains xs x × (f x ≡ Some y)) → (o : Option B) → f first ≡ o
         → Contains (cons_option o (filter_map f xs)) y → (x : A) × Contains (first ∷ xs) x × (f x ≡ Some y)
     by more None e h = from (more h)
     by more (Some z) e h = ⊎_elim
-        (λ (same : z ≡ y). (first, Contains-here first xs, e ∙ ap (λ (w : B). Some w) same))
+        (λ (same : z ≡ y). (first, in_first first xs, e ∙ ap (λ (w : B). Some w) same))
         (λ (g : Contains (filter_map f xs) y). from (more g))
-        (Contains-cases z (filter_map f xs) y h)
+        (first_or_rest z y (filter_map f xs) h)
 
 pub find_only : {A : Type 0} (p : A → Bool) (xs : List A) (y : A) → Contains xs y → p y ≡ true → ((x : A) → Contains xs x → p x ≡ true → x ≡ y) → find p xs ≡ Some y
 find_only p [] y has on only = Contains-none y has
 find_only {A} p (first ∷ xs) y has on only =
-    by (λ h. find_only p xs y h on (λ x in' passes. only x (Contains-there first xs x in') passes)) (p first) refl
+    by (λ h. find_only p xs y h on (λ x in' passes. only x (in_rest first x xs in') passes)) (p first) refl
   where
     by : (Contains xs y → find p xs ≡ Some y) → (b : Bool) → p first ≡ b → cond b (Some first) (find p xs) ≡ Some y
-    by more true e = ap (λ (x : A). Some x) (only first (Contains-here first xs) e)
+    by more true e = ap (λ (x : A). Some x) (only first (in_first first xs) e)
     by more false e = ⊎_elim
         (λ (same : first ≡ y). absurd (false≢true (sym e ∙ ap p same ∙ on)))
         (λ (h : Contains xs y). more h)
-        (Contains-cases first xs y has)
+        (first_or_rest first y xs has)
 
 pub find_none : {A : Type 0} (p : A → Bool) (xs : List A) → ((x : A) → Contains xs x → p x ≡ false) → find p xs ≡ None
 find_none p [] none = refl
 find_none {A} p (first ∷ xs) none =
-    ap (λ b. cond b (Some first) (find p xs)) (none first (Contains-here first xs))
-    ∙ find_none p xs (λ x has. none x (Contains-there first xs x has))
+    ap (λ b. cond b (Some first) (find p xs)) (none first (in_first first xs))
+    ∙ find_none p xs (λ x has. none x (in_rest first x xs has))
 
 -- each of a list that is mapped to itself is
 pub mapped_itself : {A B : Type 0} (f : B → A) (v : A → B) (xs : List A) (x : A) → xs ≡ map f (map v xs) → Contains xs x → f (v x) ≡ x

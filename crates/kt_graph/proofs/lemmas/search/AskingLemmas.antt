@@ -10,7 +10,7 @@ use Rattle.kt_rules.specs.Entry.{Rule}
 use Rattle.kt_graph.specs.search.Candidates.{Candidate}
 use Rattle.kt_graph.specs.inner.search.Chains.{asked_besides}
 use Rattle.kt_graph.specs.search.Search.{Asked, Asking, Choosing, asked_among, asked_by, asked_for, asked_inside, asking, fitting, is_inferred, is_met, open_candidates, unknown_needs, with_rule}
-use Rattle.kt_graph.proofs.lemmas.Membership.{first_or_rest, none_in_empty}
+use Rattle.kt_list.proofs.general.Elements.{first_or_rest, none_in_empty}
 
 -- one rule more
 pub length-with_rule : (rule : ℕ) (used : List ℕ) → length (with_rule rule used) ≡ length used + 1

@@ -1,10 +1,11 @@
 -- Candidates as those of the definitions, one by one.
-use Rattle.std.proofs.Common.{◌≡◌, ℕ, zero, suc, ◌+◌, ◌<◌, ◌≤◌, Bool, true, false, cond, not, List, [], ◌∷◌, length, get_or, drop, filter, Option, Some, None, is_some, refl, sym, ap, ◌∙◌, subst, arith}
+use Rattle.std.proofs.Common.{◌≡◌, ℕ, ◌+◌, ◌<◌, ◌≤◌, Bool, true, false, cond, not, List, [], ◌∷◌, length, get_or, drop, filter, Option, Some, None, is_some, refl, sym, ap, ◌∙◌, subst, arith}
 use Rattle.std.specs.Prelude.{◌==◌, option_map, slice_get, IfSome}
 use Rattle.std.proofs.lemmas.Option.{none-some, same_Some}
 use Rattle.std.specs.List.{cons_option, filter_map, find}
 use Rattle.std.proofs.lemmas.Bool.{eqb-true}
 use Rattle.std.proofs.lemmas.List.{drop_more, drop_all, get_or_default}
+use Rattle.kt_list.proofs.general.Places.{at_place}
 use Rattle.kt_text.specs.Words.{Text}
 use Rattle.kt_rules.specs.Entry.{Rule}
 use Rattle.kt_rules.specs.Patterns.{is_terminal}
@@ -14,11 +15,6 @@ use Rattle.kt_graph.specs.inner.search.Chains.{IsFound}
 use Rattle.kt_graph.specs.search.Search.{is_begun}
 use Rattle.kt_graph.specs.search.Views.{AreWithin, IsWithin, candidate_at, candidate_view, candidates_view}
 
-pub get_some : {X : Type 0} (xs : List X) (k : ℕ) → k < length xs → (x : X) × (slice_get xs k ≡ Some x)
-get_some [] k h = absurd (omega arith)
-get_some (x ∷ xs) zero h = (x, refl)
-get_some (x ∷ xs) (suc k) h = get_some xs k (omega arith)
-
 pub at_some : {X : Type 0} (o : Option X) (P : X → Type 0) (x : X) → o ≡ Some x → IfSome o P → P x
 at_some o P x e h = rw e at h
 
@@ -26,7 +22,7 @@ module _ (rules : List Rule) (name : Text) where
   -- the view of a candidate with a rule
   pub told_at : (candidate : HeldCandidate) → candidate.rule < length rules → (told : Candidate) × (candidate_view rules name candidate ≡ Some told)
   told_at candidate h =
-      let rule = get_some rules candidate.rule h in
+      let rule = at_place rules candidate.rule h in
       (candidate_at name rule.0 candidate, ap (option_map (λ one. candidate_at name one candidate)) rule.1)
 
   pub told_cons : (candidate : HeldCandidate) (candidates : List HeldCandidate) (told : Candidate) → candidate_view rules name candidate ≡ Some told

@@ -25,7 +25,8 @@ use Rattle.kt_graph.specs.search.Candidates.{Candidate, candidate_by, candidate_
 use Rattle.kt_graph.specs.inner.search.Ends.{AreAllNoted, AreNoted, HasAll, IsNoted, candidate_numbered, candidates_numbered, numbers_at}
 use Rattle.kt_graph.specs.search.Views.{AreWithin, IsWithin, candidate_at, candidate_view, candidates_view, found_view}
 use Rattle.kt_graph.proofs.lemmas.search.CandidateLemmas.{matching_at, matching_none, rule_at, told_at}
-use Rattle.kt_graph.proofs.lemmas.MemberLemmas.{Contains-cases, Contains-none}
+use Rattle.kt_list.proofs.general.Elements.{first_or_rest}
+use Rattle.kt_graph.proofs.lemmas.MemberLemmas.{Contains-none}
 
 -- without a percent sign, nothing is after it
 pub no_back : (pattern : Text) → IsFirstByte (is_byte 37) pattern None → [] ≡ pattern_back pattern
@@ -164,7 +165,7 @@ rises_past number (first ∷ numbers) up there = ⊎_elim
     (λ (same : first ≡ number). let above = up.0 in absurd (omega arith))
     (λ (after : Contains numbers number).
     rises_past number numbers (rises_lower (first + 1) (number + 1) numbers (let above = up.0 in omega arith) up.1) after)
-    (Contains-cases first numbers number there)
+    (first_or_rest first number numbers there)
 
 none_numbered : (rules : List Rule) (name : Text) (numbers : List ℕ) (least : ℕ) → length rules ≤ least → Rises least numbers → candidates_numbered rules name numbers ≡ []
 none_numbered rules name [] least past up = refl
@@ -193,7 +194,7 @@ covers_after rules name at numbers covers number rule above found = ⊎_elim
     (λ (there : Contains (at ∷ numbers) number). ⊎_elim
     (λ (same : at ≡ number). absurd (omega arith))
     (λ (after : Contains numbers number). inr after)
-    (Contains-cases at numbers number there))
+    (first_or_rest at number numbers there))
     (covers number rule (omega arith) found)
 
 first_told : (rules : List Rule) (name : Text) (at : ℕ) (rule : Rule) (ones : List Candidate) → slice_get rules at ≡ Some rule

@@ -1,30 +1,16 @@
 -- Trees stay when a chain has fewer rules and more may be added: what makes a name after a chain makes it without one.
-use Rattle.std.proofs.Common.{◌≡◌, ℕ, zero, suc, ◌+◌, ◌≤◌, Bool, true, false, not, ◌||◌, if◌then◌else◌, List, [], ◌∷◌, length, filter, refl, sym, ap, ◌∙◌, subst, true≢false, ◌⊎◌, inl, inr, ⊎_elim, arith}
+use Rattle.std.proofs.Common.{◌≡◌, ℕ, zero, suc, ◌+◌, ◌≤◌, Bool, true, false, not, ◌||◌, if◌then◌else◌, List, [], ◌∷◌, length, filter, refl, sym, ap, ◌∙◌, true≢false, ⊎_elim, arith}
 use Rattle.std.specs.Prelude.{◌==◌, nat_eq, nat_lt}
-use Rattle.std.specs.List.{Contains, flat_map, list_any, range_with_len}
+use Rattle.std.specs.List.{Contains, list_any, range_with_len}
 use Rattle.std.proofs.lemmas.Bool.{eq-eqb, false_from_ne_true, or_cases, or_left, or_right}
-use Rattle.std.proofs.lemmas.List.Elements.{All-weaker, Contains-append_cases, Contains-append_left, Contains-append_right}
+use Rattle.std.proofs.lemmas.List.Elements.{All-weaker}
+use Rattle.kt_list.proofs.general.Booleans.{or_swap}
+use Rattle.kt_list.proofs.general.Elements.{from_flat_map, in_flat_map}
 use Rattle.kt_text.specs.Words.{Text}
 use Rattle.kt_rules.specs.Entry.{Rule}
 use Rattle.kt_graph.specs.search.Candidates.{Candidate, by_size, candidates_for, matching_from, size_of, without_any}
 use Rattle.kt_graph.specs.search.Search.{HasTree, is_begun, is_used, unknown_needs, with_rule}
-use Rattle.kt_graph.proofs.lemmas.Membership.{first_or_rest, in_filter, in_first, in_rest, kept_by_filter, none_in_empty}
-
--- ---- elements of lists that are joined
-
-pub from_flat_map : {X Y : Type 0} (f : X → List Y) (xs : List X) (y : Y) → Contains (flat_map f xs) y → (x : X) × Contains xs x × Contains (f x) y
-from_flat_map f [] y c = absurd (none_in_empty y c)
-from_flat_map {X = X} f (x ∷ xs) y c = by (Contains-append_cases (f x) (flat_map f xs) y c) (from_flat_map f xs y)
-  where
-    by : Contains (f x) y ⊎ Contains (flat_map f xs) y → (Contains (flat_map f xs) y → (z : X) × Contains xs z × Contains (f z) y) → (z : X) × Contains (x ∷ xs) z × Contains (f z) y
-    by (inl here) later = (x, in_first x xs, here)
-    by (inr rest) later = let found = later rest in (found.0, in_rest x found.0 xs found.1, found.2)
-
-pub in_flat_map : {X Y : Type 0} (f : X → List Y) (xs : List X) (x : X) (y : Y) → Contains xs x → Contains (f x) y → Contains (flat_map f xs) y
-in_flat_map f [] x y c h = absurd (none_in_empty x c)
-in_flat_map f (z ∷ xs) x y c h =
-    ⊎_elim (λ e. Contains-append_left (f z) (flat_map f xs) y (subst (λ w. Contains (f w) y) (sym e) h))
-    (λ rest. Contains-append_right (f z) (flat_map f xs) y (in_flat_map f xs x y rest h)) (first_or_rest z x xs c)
+use Rattle.kt_graph.proofs.lemmas.Membership.{in_filter, kept_by_filter}
 
 -- ---- candidates outside a chain
 
@@ -58,12 +44,6 @@ outside_chain rules name one c =
 
 abbrev pub HasAll : List ℕ → List ℕ → Type 0
 HasAll used fewer = (rule : ℕ) → is_used fewer rule ≡ true → is_used used rule ≡ true
-
-or_swap : (a b c : Bool) → (a || (b || c)) ≡ (b || (a || c))
-or_swap true true c = refl
-or_swap true false c = refl
-or_swap false true c = refl
-or_swap false false c = refl
 
 used_with : (rule other : ℕ) (used : List ℕ) → is_used (with_rule rule used) other ≡ (nat_eq other rule || is_used used other)
 unfolding with_rule

@@ -15,7 +15,8 @@ use Rattle.kt_rules.specs.declared.entry.Target.{Target}
 use Rattle.kt_rules.specs.Entry.{Rule}
 use Rattle.kt_graph.specs.declared.search.ends.Ends.{Ends}
 use Rattle.kt_graph.specs.inner.search.Ends.{AreAllNoted, AreNoted, HasAll, IsNoted, KeepsNoted, Notes, NotesAll, numbers_at}
-use Rattle.kt_graph.proofs.lemmas.MemberLemmas.{Contains-cases, Contains-here, Contains-none}
+use Rattle.kt_list.proofs.general.Elements.{first_or_rest, in_first}
+use Rattle.kt_graph.proofs.lemmas.MemberLemmas.{Contains-none}
 
 -- ---- one more number
 
@@ -33,7 +34,7 @@ pub notes : (old new : Ends) (end : Text) (number : ℕ) → new.lengths.keys �
 notes old new end number lengths numbers = record {
   noted = (
     subst (λ (xs : List ℕ). Contains xs number) (sym (numbers end ∙ ap (λ b. numbers_at old end ++ (if b then number ∷ [] else [])) (nat_list_eq_equiv.refl end)))
-        (Contains-append_right (numbers_at old end) (number ∷ []) number (Contains-here number [])),
+        (Contains-append_right (numbers_at old end) (number ∷ []) number (in_first number [])),
     subst (λ (xs : List ℕ). Contains xs (length end)) (sym lengths) (Contains-insert_key nat_eq (λ x y e. eqb-true x y e) old.lengths.keys (length end)),
   );
   kept = λ other one there. (
@@ -101,7 +102,7 @@ found_more ends name lengths found new more size before grown is one number ther
     Contains-append_right found more number
     (subst (λ (xs : List ℕ). Contains xs number) (sym (is (omega arith) ∙ ap (λ n. numbers_at ends (drop (length name - n) name)) same)) held))
     (λ (none : Contains [] one). Contains-none one none)
-    (Contains-cases size [] one last))
+    (first_or_rest size one [] last))
     (Contains-append_cases lengths (size ∷ []) one there))
 
 pub found_same : (ends : Ends) (name : Text) (lengths found : List ℕ) (size : ℕ) → HasAll ends name lengths found

@@ -10,7 +10,7 @@ use Rattle.std.proofs.lemmas.Option.{get_or_from_slice_get, slice_get_within}
 use Rattle.kt_graph.specs.declared.search.question.Question.{Question}
 use Rattle.kt_graph.specs.search.Search.{Asked, asked_eq, with_question}
 use Rattle.kt_graph.specs.search.Views.{question_view}
-use Rattle.kt_graph.proofs.lemmas.Membership.{first_or_rest, in_first, in_rest, none_in_empty}
+use Rattle.kt_list.proofs.general.Elements.{first_or_rest, in_first, in_rest, none_in_empty}
 
 pub asked_itself : (question : Asked) → asked_eq question question ≡ true
 asked_itself question = and_from _ _ (nat_list_eq_equiv.refl question.0) (nat_list_eq_equiv.refl question.1)

@@ -1,5 +1,5 @@
 -- The steps of a search: the questions for names and candidates in turn.
-use Rattle.std.proofs.Common.{◌≡◌, ℕ, zero, suc, ◌+◌, ◌-◌, ◌<◌, ◌≤◌, Bool, true, false, not, ◌&&◌, if◌then◌else◌, List, [], ◌∷◌, ◌++◌, length, get_or, drop, map, Option, Some, None, is_some, Vec, Global, refl, sym, ap, ◌∙◌, subst, arith}
+use Rattle.std.proofs.Common.{◌≡◌, ℕ, zero, suc, ◌+◌, ◌-◌, ◌<◌, ◌≤◌, Bool, true, false, not, ◌&&◌, if◌then◌else◌, List, [], ◌∷◌, ◌++◌, length, get_or, drop, map, Option, Some, None, is_some, refl, sym, ap, ◌∙◌, subst, arith}
 use Rattle.std.specs.Prelude.{fold, slice_get, IfSome}
 use Rattle.std.specs.List.{find, list_all}
 use Rattle.std.proofs.lemmas.List.{drop_more, drop_all}
@@ -53,33 +53,30 @@ module _ (rules : List Rule) (known : List Text) (least : ℕ) where
 
 -- ---- names in turn
 
-module _ (deeper : Choosing) (ask : Asking) (used : List ℕ) (names : List (Vec ℕ Global)) (i : ℕ) where
-  abbrev name_at : Vec ℕ Global → Text
-  name_at name = name.items
+module _ (deeper : Choosing) (ask : Asking) (used : List ℕ) (names : List Text) (i : ℕ) where
+  names_from : (name : Text) → i < length names → name ≡ get_or names i name
+      → drop i names ≡ name ∷ drop (i + 1) names
+  names_from name h is = drop_more names i name h ∙ ap (λ one. one ∷ drop (i + 1) names) (sym is)
 
-  names_from : (name : Vec ℕ Global) → i < length names → name ≡ get_or names i name
-      → map name_at (drop i names) ≡ name.items ∷ map name_at (drop (i + 1) names)
-  names_from name h is = ap (map name_at) (drop_more names i name h ∙ ap (λ one. one ∷ drop (i + 1) names) (sym is))
-
-  pub asked_from : (name : Vec ℕ Global) → i < length names → name ≡ get_or names i name → (b : Bool) → is_some (deeper used name.items) ≡ b
-      → asked_for deeper ask used (map name_at (drop i names)) ≡ ask used name.items ++ (if b then asked_for deeper ask used (map name_at (drop (i + 1) names)) else [])
+  pub asked_from : (name : Text) → i < length names → name ≡ get_or names i name → (b : Bool) → is_some (deeper used name) ≡ b
+      → asked_for deeper ask used (drop i names) ≡ ask used name ++ (if b then asked_for deeper ask used (drop (i + 1) names) else [])
   asked_from name h is b e =
       ap (asked_for deeper ask used) (names_from name h is)
-      ∙ ap (λ b. ask used name.items ++ (if b then asked_for deeper ask used (map name_at (drop (i + 1) names)) else [])) e
+      ∙ ap (λ b. ask used name ++ (if b then asked_for deeper ask used (drop (i + 1) names) else [])) e
 
-  pub asked_past : length names ≤ i → asked_for deeper ask used (map name_at (drop i names)) ≡ []
-  asked_past past = ap (λ rest. asked_for deeper ask used (map name_at rest)) (drop_all i names past)
+  pub asked_past : length names ≤ i → asked_for deeper ask used (drop i names) ≡ []
+  asked_past past = ap (λ rest. asked_for deeper ask used rest) (drop_all i names past)
 
   abbrev finds : Text → Bool
   finds name = is_some (deeper used name)
 
-  pub finds_from : (name : Vec ℕ Global) → i < length names → name ≡ get_or names i name → (b : Bool) → is_some (deeper used name.items) ≡ b
-      → list_all finds (map name_at (drop i names)) ≡ (b && list_all finds (map name_at (drop (i + 1) names)))
+  pub finds_from : (name : Text) → i < length names → name ≡ get_or names i name → (b : Bool) → is_some (deeper used name) ≡ b
+      → list_all finds (drop i names) ≡ (b && list_all finds (drop (i + 1) names))
   finds_from name h is b e =
-      ap (list_all finds) (names_from name h is) ∙ ap (λ c. c && list_all finds (map name_at (drop (i + 1) names))) e
+      ap (list_all finds) (names_from name h is) ∙ ap (λ c. c && list_all finds (drop (i + 1) names)) e
 
-  pub finds_past : length names ≤ i → list_all finds (map name_at (drop i names)) ≡ true
-  finds_past past = ap (λ rest. list_all finds (map name_at rest)) (drop_all i names past)
+  pub finds_past : length names ≤ i → list_all finds (drop i names) ≡ true
+  finds_past past = ap (λ rest. list_all finds rest) (drop_all i names past)
 
 -- ---- candidates in turn
 
@@ -111,42 +108,42 @@ other_asked known deeper ask used chain names told e c n =
 -- ---- the steps one by one
 
 -- a name finds a rule or none
-module _ (rules : List Rule) (known : List Text) (left : ℕ) (used : List ℕ) (names : List (Vec ℕ Global)) (i : ℕ) (name : Vec ℕ Global) (h : i < length names)
-    (is : name ≡ get_or names i name) (text : Text) (e : text ≡ name.items) (answer : Option HeldCandidate) (found : IsFound rules text (fitting rules known left used text) answer) where
+module _ (rules : List Rule) (known : List Text) (left : ℕ) (used : List ℕ) (names : List Text) (i : ℕ) (name : Text) (h : i < length names)
+    (is : name ≡ get_or names i name) (text : Text) (e : text ≡ name) (answer : Option HeldCandidate) (found : IsFound rules text (fitting rules known left used text) answer) where
   abbrev deeper : Choosing
   deeper = fitting rules known left
 
   abbrev ask : Asking
   ask = asking rules known left
 
-  some_is : (b : Bool) → is_some answer ≡ b → is_some (deeper used name.items) ≡ b
+  some_is : (b : Bool) → is_some answer ≡ b → is_some (deeper used name) ≡ b
   some_is b a = ap (λ n. is_some (deeper used n)) (sym e) ∙ found_some rules text (fitting rules known left used text) answer found ∙ a
 
   asked_here : (b : Bool) → is_some answer ≡ b
-      → asked_for deeper ask used (map (λ (one : Vec ℕ Global). one.items) (drop i names))
-      ≡ ask used text ++ (if b then asked_for deeper ask used (map (λ (one : Vec ℕ Global). one.items) (drop (i + 1) names)) else [])
+      → asked_for deeper ask used (drop i names)
+      ≡ ask used text ++ (if b then asked_for deeper ask used (drop (i + 1) names) else [])
   asked_here b a =
       asked_from deeper ask used names i name h is b (some_is b a)
-      ∙ ap (λ n. ask used n ++ (if b then asked_for deeper ask used (map (λ (one : Vec ℕ Global). one.items) (drop (i + 1) names)) else [])) (sym e)
+      ∙ ap (λ n. ask used n ++ (if b then asked_for deeper ask used (drop (i + 1) names) else [])) (sym e)
 
   pub asks_later : (old now new : Tried) (all : List Asked) → is_some answer ≡ true
-      → IsAsking rules known old now (length used) all (asked_for deeper ask used (map (λ (one : Vec ℕ Global). one.items) (drop i names)))
+      → IsAsking rules known old now (length used) all (asked_for deeper ask used (drop i names))
       → HasAnswered rules known now new (length used) (ask used text) → Keeps now new
-      → IsAsking rules known old new (length used) all (asked_for deeper ask used (map (λ (one : Vec ℕ Global). one.items) (drop (i + 1) names)))
+      → IsAsking rules known old new (length used) all (asked_for deeper ask used (drop (i + 1) names))
   asks_later old now new all a asks leaves keeps =
       asking_more rules known (length used) old now new all _ (ask used text) _ asks leaves keeps (asked_here true a)
 
   pub asks_no_more : (old now new : Tried) (all : List Asked) → is_some answer ≡ false
-      → IsAsking rules known old now (length used) all (asked_for deeper ask used (map (λ (one : Vec ℕ Global). one.items) (drop i names)))
+      → IsAsking rules known old now (length used) all (asked_for deeper ask used (drop i names))
       → HasAnswered rules known now new (length used) (ask used text) → Keeps now new → HasAnswered rules known old new (length used) all
   asks_no_more old now new all a asks leaves keeps =
       asking_ends rules known (length used) old new all [] (asking_more rules known (length used) old now new all _ (ask used text) [] asks leaves keeps (asked_here false a)) refl
 
-  pub finds_later : (all : Bool) → is_some answer ≡ true → list_all (λ n. is_some (deeper used n)) (map (λ (one : Vec ℕ Global). one.items) (drop i names)) ≡ all
-      → list_all (λ n. is_some (deeper used n)) (map (λ (one : Vec ℕ Global). one.items) (drop (i + 1) names)) ≡ all
+  pub finds_later : (all : Bool) → is_some answer ≡ true → list_all (λ n. is_some (deeper used n)) (drop i names) ≡ all
+      → list_all (λ n. is_some (deeper used n)) (drop (i + 1) names) ≡ all
   finds_later all a rest = sym (finds_from deeper ask used names i name h is true (some_is true a)) ∙ rest
 
-  pub finds_not : (all : Bool) → is_some answer ≡ false → list_all (λ n. is_some (deeper used n)) (map (λ (one : Vec ℕ Global). one.items) (drop i names)) ≡ all → false ≡ all
+  pub finds_not : (all : Bool) → is_some answer ≡ false → list_all (λ n. is_some (deeper used n)) (drop i names) ≡ all → false ≡ all
   finds_not all a rest = sym (finds_from deeper ask used names i name h is false (some_is false a)) ∙ rest
 
 -- a candidate is inferred or not
@@ -193,28 +190,28 @@ module _ (rules : List Rule) (known : List Text) (left : ℕ) (name : Text) (use
       (at_some (candidate_view rules name candidate) (λ told. HasAnswered rules known now new least (asked_by known choosing putting used told)) one one_told leaves) keeps (among_here true a)) refl
 
 -- what a candidate is that isn't last
-module _ (rules : List Rule) (known : List Text) (left : ℕ) (name : Text) (used chain : List ℕ) (candidate : HeldCandidate) (names : List (Vec ℕ Global)) (last : Bool)
+module _ (rules : List Rule) (known : List Text) (left : ℕ) (name : Text) (used chain : List ℕ) (candidate : HeldCandidate) (names : List Text) (last : Bool)
     (not_last : last ≡ false) (tells : IfSome (slice_get rules candidate.rule) (λ rule. last ≡ is_terminal rule.kind)) (chained : chain ≡ with_rule candidate.rule used)
-    (unknown : IfSome (candidate_view rules name candidate) (λ told. map (λ one. one.items) names ≡ unknown_needs known told)) where
+    (unknown : IfSome (candidate_view rules name candidate) (λ told. names ≡ unknown_needs known told)) where
   abbrev whole_chain : (told : Candidate) → candidate_view rules name candidate ≡ Some told → chain ≡ with_rule told.rule used
   whole_chain told e = chained ∙ ap (λ rule. with_rule rule used) (told_rule rules name candidate told e)
 
-  pub inferred_so : (all : Bool) → all ≡ list_all (λ n. is_some (fitting rules known left chain n)) (map (λ (one : Vec ℕ Global). one.items) names)
+  pub inferred_so : (all : Bool) → all ≡ list_all (λ n. is_some (fitting rules known left chain n)) names
       → IfSome (candidate_view rules name candidate) (λ told. all ≡ is_inferred known (fitting rules known left) used told)
   inferred_so all found = if_some (candidate_view rules name candidate) (λ told. all ≡ is_inferred known (fitting rules known left) used told)
-      (λ told e. other_inferred known (fitting rules known left) used chain (map (λ (one : Vec ℕ Global). one.items) names) told all
+      (λ told e. other_inferred known (fitting rules known left) used chain names told all
       (sym (told_last rules name candidate told e last tells) ∙ not_last) (whole_chain told e)
-      (at_some (candidate_view rules name candidate) (λ one. map (λ (n : Vec ℕ Global). n.items) names ≡ unknown_needs known one) told e unknown) found)
+      (at_some (candidate_view rules name candidate) (λ one. names ≡ unknown_needs known one) told e unknown) found)
 
-  pub asked_so : (old new : Tried) → HasAnswered rules known old new (length chain) (asked_for (fitting rules known left) (asking rules known left) chain (map (λ (one : Vec ℕ Global). one.items) names))
+  pub asked_so : (old new : Tried) → HasAnswered rules known old new (length chain) (asked_for (fitting rules known left) (asking rules known left) chain names)
       → IfSome (candidate_view rules name candidate) (λ told. HasAnswered rules known old new (length used + 1) (asked_by known (fitting rules known left) (asking rules known left) used told))
   asked_so old new leaves = if_some (candidate_view rules name candidate) (λ told. HasAnswered rules known old new (length used + 1) (asked_by known (fitting rules known left) (asking rules known left) used told))
       (λ told e. subst (λ n. HasAnswered rules known old new n (asked_by known (fitting rules known left) (asking rules known left) used told))
       (ap length chained ∙ length-with_rule candidate.rule used)
       (subst (λ asked. HasAnswered rules known old new (length chain) asked)
-      (other_asked known (fitting rules known left) (asking rules known left) used chain (map (λ (one : Vec ℕ Global). one.items) names) told
+      (other_asked known (fitting rules known left) (asking rules known left) used chain names told
       (sym (told_last rules name candidate told e last tells) ∙ not_last) (whole_chain told e)
-      (at_some (candidate_view rules name candidate) (λ one. map (λ (n : Vec ℕ Global). n.items) names ≡ unknown_needs known one) told e unknown)) leaves))
+      (at_some (candidate_view rules name candidate) (λ one. names ≡ unknown_needs known one) told e unknown)) leaves))
 
 module _ (rules : List Rule) (known : List Text) where
   -- a candidate is met

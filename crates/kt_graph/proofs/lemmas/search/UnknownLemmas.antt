@@ -1,22 +1,22 @@
 -- Names without repeats, and the unknown prerequisites of a candidate.
-use Rattle.std.proofs.Common.{◌≡◌, ℕ, ◌+◌, ◌<◌, ◌≤◌, Bool, true, false, cond, not, ◌&&◌, ◌||◌, if◌then◌else◌, List, [], ◌∷◌, ◌++◌, length, get_or, drop, map, Vec, Global, refl, sym, ap, ◌∙◌, subst, true≢false, ◌⊎◌, inl, inr, ⊎_elim}
+use Rattle.std.proofs.Common.{◌≡◌, ℕ, ◌+◌, ◌<◌, ◌≤◌, Bool, true, false, cond, not, ◌&&◌, if◌then◌else◌, List, [], ◌∷◌, ◌++◌, length, get_or, drop, refl, sym, ap, ◌∙◌, subst, true≢false, ◌⊎◌, inl, inr, ⊎_elim}
 use Rattle.std.specs.Prelude.{nat_eq, fold}
-use Rattle.std.specs.List.{Contains, list_all, list_any}
+use Rattle.std.specs.List.{Contains, list_all}
 use Rattle.std.specs.Cmp.Lexicographic.{pointwise, same_text}
 use Rattle.std.proofs.lemmas.Bool.{cases_Bool, not-true}
 use Rattle.std.proofs.lemmas.Cmp.{nat_list_eq_equiv}
-use Rattle.std.proofs.lemmas.List.{drop_more, drop_all, map-append}
+use Rattle.std.proofs.lemmas.List.{drop_more, drop_all}
 use Rattle.std.proofs.lemmas.List.Folds.{list_all-append}
 use Rattle.std.proofs.lemmas.List.Sums.{fold-append}
 use Rattle.std.proofs.lemmas.List.Elements.{Contains-append_left, Contains-push, Contains-push_cases, filter-append}
-use Rattle.indexmap.specs.IndexSet.{insert_key}
 use Rattle.kt_text.specs.Words.{Text}
 use Rattle.kt_rules.specs.Names.{is_among, with_name, without_repeats}
 use Rattle.kt_rules.specs.Suffixes.{all_needs}
 use Rattle.kt_graph.specs.search.Candidates.{Candidate, needed_name, needed_names}
 use Rattle.kt_graph.specs.Known.{unknown_of}
 use Rattle.kt_graph.specs.search.Search.{is_met, unknown_needs}
-use Rattle.kt_graph.proofs.lemmas.Membership.{all_pass, any_passes, each_passes, first_or_rest, in_filter, in_first, in_rest, kept_by_filter, none_in_empty, one_passes}
+use Rattle.kt_list.proofs.general.Elements.{first_or_rest, in_first, in_rest, none_in_empty}
+use Rattle.kt_graph.proofs.lemmas.Membership.{all_pass, any_passes, each_passes, in_filter, kept_by_filter, one_passes}
 
 -- ---- names among names
 
@@ -108,21 +108,7 @@ none_met known candidate none = all_pass (is_among known) (all_needs candidate.n
     ⊎_elim (λ yes. yes) (λ not_known. absurd (none_in_empty name (subst (λ names. Contains names name) none (is_unknown known candidate name c not_known))))
     (cases_Bool (is_among known name)))
 
--- ---- how they are gathered in a set
-
-any_items : (keys : List (Vec ℕ Global)) (name : Vec ℕ Global)
-    → list_any (λ v. pointwise nat_eq name.items v.items) keys ≡ list_any (pointwise nat_eq name.items) (map (λ v. v.items) keys)
-any_items [] name = refl
-any_items (key ∷ keys) name = ap (λ b. pointwise nat_eq name.items key.items || b) (any_items keys name)
-
--- a name that is inserted into a set of vectors is added at the end, unless it is there
-pub inserted_name : (keys : List (Vec ℕ Global)) (name : Vec ℕ Global)
-    → map (λ v. v.items) (insert_key (λ x y. pointwise nat_eq x.items y.items) keys name) ≡ with_name (map (λ v. v.items) keys) name.items
-inserted_name keys name = rw (any_items keys name) (by (list_any (pointwise nat_eq name.items) (map (λ v. v.items) keys)))
-  where
-    by : (b : Bool) → map (λ v. v.items) (if b then keys else keys ++ name ∷ []) ≡ (if b then map (λ v. v.items) keys else map (λ v. v.items) keys ++ name.items ∷ [])
-    by true = refl
-    by false = map-append (λ v. v.items) keys (name ∷ [])
+-- ---- how they are gathered
 
 -- none remains
 pub unknown_past : (known : List Text) (directory stem : Text) (names : List Text) (i : ℕ) → length names ≤ i → unknown_of known (needed_names directory stem (drop i names)) ≡ []

@@ -6,8 +6,6 @@ use Rattle.std.specs.Map.{lookup}
 use Rattle.std.specs.List.Sorted.{IsStrictlySortedBy}
 use Rattle.std.specs.Ordering.{nat_cmp}
 use Rattle.std.specs.Cmp.Lexicographic.{slice_cmp}
-use Rattle.std.specs.declared.vec.Vec.{Vec}
-use Rattle.std.specs.declared.alloc.Global.{Global}
 use Rattle.kt_text.specs.Words.{Text}
 use Rattle.kt_graph.specs.declared.faults.files.Files.{Files}
 use Rattle.kt_graph.specs.nodes.Groups.{made_nodes}
@@ -30,8 +28,8 @@ made_names nodes = map (λ node. node.name) (made_nodes nodes)
 abbrev pub several_in : List Text → Text → Option Bool
 several_in names file = if nat_eq (count_of names file) 0 then None else Some (nat_lt 1 (count_of names file))
 
-abbrev pub held_for : List (Vec ℕ Global × Bool) → Text → Option Bool
-held_for entries file = lookup (λ key. bytes_eq file key.items) entries
+abbrev pub held_for : List (Text × Bool) → Text → Option Bool
+held_for entries file = lookup (λ key. bytes_eq file key) entries
 
 -- the code holds this for each file
 abbrev pub HasFiles : Files → List Text → Type 0

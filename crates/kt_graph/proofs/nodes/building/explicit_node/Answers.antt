@@ -12,9 +12,9 @@ returns c = λ name rules cut.
     let earlier = map rule_view c.args.used.earlier.now in
     let later = map rule_view c.args.used.later.now in
     explicit_told (suffixes_of c.args.book.now) name rules earlier later (rule_view c.args.used.rule)
-    (record { kind = Explicit; parts = c.in_ok-parts.parts; making = c.in_ok-group_of.field-0 }) c.in_ok-part.part
+    (record { kind = Explicit; parts = c.in_ok-parts.parts; making = c.in_ok-group_of.field-0 }) c.rule_part.result
     (map needs_view c.add_needs-2.new.needs.items)
-    refl c.in_ok-parts.ensures.items c.in_ok-group_of.ensures c.in_ok-part.ensures
+    refl c.in_ok-parts.ensures.items c.in_ok-group_of.ensures c.rule_part.ensures
     (c.in_ok-add_needs-2.ensures ∙ ap (λ l. l ++ needs_of_each later) (c.in_ok-add_needs.ensures ∙ ap (λ l. map needs_view l ++ needs_of_each earlier) c.in_ok-needs.ensures.items)
     ∙ ap (λ n. n ∷ (needs_of_each earlier ++ needs_of_each later)) c.needs.ensures)
     cut.before cut.after

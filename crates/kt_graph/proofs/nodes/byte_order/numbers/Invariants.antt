@@ -1,6 +1,5 @@
-use Rattle.std.proofs.Common.{◌≡◌, ◌++◌, List, ℕ, map, drop}
+use Rattle.std.proofs.Common.{◌≡◌, ◌++◌, map, drop}
 use Rattle.kt_graph.proofs.nodes.byte_order.numbers.Given as goal
 
-abbrev pub invariant-loop-number : goal.invariant-loop-number
-invariant-loop-number l =
-    l.numbers.items ++ map (λ (pair : List ℕ × ℕ). pair.1) (drop l.number-index l.named) ≡ map (λ (pair : List ℕ × ℕ). pair.1) l.named
+abbrev pub invariant-loop-front : goal.invariant-loop-front
+invariant-loop-front l = l.numbers.items ++ map (λ front. front.number) (drop l.front-index l.fronts) ≡ map (λ front. front.number) l.fronts

@@ -9,6 +9,7 @@ use Rattle.kt_graph.specs.inner.nodes.Building.{IsCut}
 use Rattle.kt_graph.specs.inner.nodes.Named.{needed_by}
 use Rattle.kt_graph.specs.nodes.Node.{double_node, explicit_node, node_with}
 use Rattle.kt_graph.specs.inner.nodes.Numbering.{SaysNode}
+use Rattle.kt_graph.specs.inner.nodes.Reached.{reached_text}
 use Rattle.kt_graph.specs.inner.nodes.Stored.{node_held}
 use Rattle.kt_graph.specs.inner.nodes.GraphBuilder.{ReachesMore}
 use Rattle.kt_graph.proofs.lemmas.nodes.StepLemmas.{double_with, single_with}
@@ -18,7 +19,7 @@ pub returns-then-has_double-clause-says : goal.returns-then-has_double-clause-sa
 returns-then-has_double-clause-says c =
     let book = c.args.self.now.book.now in
     let known = c.args.self.now.known.now in
-    let name = c.args.name.now in
+    let name = reached_text c.args.name.now in
     let made = map rule_view c.args.rules.now in
     let names = c.double_node.new.self.numbers in
     let instances = c.double_node.new.self.instances.keys in
@@ -30,7 +31,7 @@ pub returns-then-has_double-clause-grown : goal.returns-then-has_double-clause-g
 returns-then-has_double-clause-grown c =
     let book = c.args.self.now.book.now in
     let known = c.args.self.now.known.now in
-    let name = c.args.name.now in
+    let name = reached_text c.args.name.now in
     let made = map rule_view c.args.rules.now in
     let new = c.double_node.new.self in
     let same = double_with book known name made (sym c.has_double.ensures ∙ c.if-has_double.true) in
@@ -41,7 +42,7 @@ pub returns-in-Some-clause-says : goal.returns-in-Some-clause-says
 returns-in-Some-clause-says c =
     let book = c.args.self.now.book.now in
     let known = c.args.self.now.known.now in
-    let name = c.args.name.now in
+    let name = reached_text c.args.name.now in
     let made = map rule_view c.args.rules.now in
     let used = c.in-Some.used in
     let names = c.explicit_node.new.self.numbers in
@@ -56,7 +57,7 @@ pub returns-in-Some-clause-grown : goal.returns-in-Some-clause-grown
 returns-in-Some-clause-grown c =
     let book = c.args.self.now.book.now in
     let known = c.args.self.now.known.now in
-    let name = c.args.name.now in
+    let name = reached_text c.args.name.now in
     let made = map rule_view c.args.rules.now in
     let used = c.in-Some.used in
     let new = c.explicit_node.new.self in

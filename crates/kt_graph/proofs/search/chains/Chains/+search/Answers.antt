@@ -1,5 +1,5 @@
 -- The lemmas of each step, at the values of the code.
-use Rattle.std.proofs.Common.{◌≡◌, ◌+◌, Some, None, find, length, map, not, is_some, Vec, ℕ, Global, refl, sym, ap, ◌∙◌, subst, arith, rules}
+use Rattle.std.proofs.Common.{◌≡◌, ◌+◌, Some, None, find, length, not, is_some, refl, sym, ap, ◌∙◌, subst, arith, rules}
 use Rattle.std.specs.Prelude.{IfSome}
 use Rattle.std.specs.List.{list_all}
 use Rattle.std.proofs.lemmas.Result.{IfOk-weaker, on_ok_weaker}
@@ -27,13 +27,13 @@ all_found-returns-in_err-ask-clause-kept t c =
 pub all_found-returns-then-is_none-clause-found : goal.all_found-returns-then-is_none-clause-found
 all_found-returns-then-is_none-clause-found t c =
     finds_not c.args.self.now.patterns c.args.self.now.known.now c.args.left c.args.used.now c.args.names.now c.loop-at.at c.index-names-at.result c.loop-at-test.true
-    c.index-names-at.is c.as_slice.result.now c.as_slice.ensures.value c.in_ok-ask.field-0 c.in_ok-ask.ensures.found _
+    c.index-names-at.is c.as_slice.result.now c.as_slice.ensures c.in_ok-ask.field-0 c.in_ok-ask.ensures.found _
     (c.is_none.ensures ∙ ap not c.if-is_none.true) c.loop-at.invariant.finds
 
 pub all_found-returns-then-is_none-clause-leaves : goal.all_found-returns-then-is_none-clause-leaves
 all_found-returns-then-is_none-clause-leaves t c =
     asks_no_more c.args.self.now.patterns c.args.self.now.known.now c.args.left c.args.used.now c.args.names.now c.loop-at.at c.index-names-at.result c.loop-at-test.true
-    c.index-names-at.is c.as_slice.result.now c.as_slice.ensures.value c.in_ok-ask.field-0 c.in_ok-ask.ensures.found c.args.tried.now c.loop-at.tried c.ask.new.tried _
+    c.index-names-at.is c.as_slice.result.now c.as_slice.ensures c.in_ok-ask.field-0 c.in_ok-ask.ensures.found c.args.tried.now c.loop-at.tried c.ask.new.tried _
     (c.is_none.ensures ∙ ap not c.if-is_none.true) c.loop-at.invariant.asks c.in_ok-ask.ensures.leaves c.in_ok-ask.ensures.kept
 
 pub all_found-returns-then-is_none-clause-kept : goal.all_found-returns-then-is_none-clause-kept
@@ -43,10 +43,10 @@ all_found-returns-then-is_none-clause-kept t c =
 pub all_found-loop-at-preserved : goal.all_found-loop-at-preserved
 all_found-loop-at-preserved t c = record {
   asks = asks_later c.args.self.now.patterns c.args.self.now.known.now c.args.left c.args.used.now c.args.names.now c.loop-at.at c.index-names-at.result c.loop-at-test.true
-      c.index-names-at.is c.as_slice.result.now c.as_slice.ensures.value c.in_ok-ask.field-0 c.in_ok-ask.ensures.found c.args.tried.now c.loop-at.tried c.ask.new.tried _
+      c.index-names-at.is c.as_slice.result.now c.as_slice.ensures c.in_ok-ask.field-0 c.in_ok-ask.ensures.found c.args.tried.now c.loop-at.tried c.ask.new.tried _
       (c.is_none.ensures ∙ ap not c.if-is_none.false) c.loop-at.invariant.asks c.in_ok-ask.ensures.leaves c.in_ok-ask.ensures.kept;
   finds = finds_later c.args.self.now.patterns c.args.self.now.known.now c.args.left c.args.used.now c.args.names.now c.loop-at.at c.index-names-at.result c.loop-at-test.true
-      c.index-names-at.is c.as_slice.result.now c.as_slice.ensures.value c.in_ok-ask.field-0 c.in_ok-ask.ensures.found _
+      c.index-names-at.is c.as_slice.result.now c.as_slice.ensures c.in_ok-ask.field-0 c.in_ok-ask.ensures.found _
       (c.is_none.ensures ∙ ap not c.if-is_none.false) c.loop-at.invariant.finds;
 }
 
@@ -139,10 +139,10 @@ is_inferred-returns-clause-inferred t c =
     let rules = c.args.self.now.patterns in
     let known = c.args.self.now.known.now in
     IfOk-weaker c.all_found.result
-    (λ all. all ≡ list_all (λ n. is_some (fitting rules known c.args.left c.as_slice-2.result.now n)) (map (λ (one : Vec ℕ Global). one.items) c.as_slice.result.now))
+    (λ all. all ≡ list_all (λ n. is_some (fitting rules known c.args.left c.as_slice-2.result.now n)) c.as_slice.result.now)
     (λ all. IfSome (candidate_view rules c.args.name.now c.args.candidate) (λ told. all ≡ is_inferred known (fitting rules known c.args.left) c.args.used.now told))
     (λ all found. inferred_so rules known c.args.left c.args.name.now c.args.used.now c.as_slice-2.result.now c.args.candidate c.as_slice.result.now c.is_last.result c.if-is_last.false
-    c.is_last.ensures (c.as_slice-2.ensures.value ∙ c.in_ok-chain.ensures) (rw c.as_slice.ensures.keys c.in_ok-unknown.ensures) all found)
+    c.is_last.ensures (c.as_slice-2.ensures.value ∙ c.in_ok-chain.ensures) (rw c.as_slice.ensures.names c.in_ok-unknown.ensures) all found)
     c.all_found.ensures.found
 
 pub is_inferred-returns-clause-leaves : goal.is_inferred-returns-clause-leaves
@@ -151,7 +151,7 @@ is_inferred-returns-clause-leaves t c =
     let known = c.args.self.now.known.now in
     on_ok_weaker c.all_found.result
     (λ leaves. asked_so rules known c.args.left c.args.name.now c.args.used.now c.as_slice-2.result.now c.args.candidate c.as_slice.result.now c.is_last.result c.if-is_last.false
-    c.is_last.ensures (c.as_slice-2.ensures.value ∙ c.in_ok-chain.ensures) (rw c.as_slice.ensures.keys c.in_ok-unknown.ensures) c.args.tried.now c.all_found.new.tried leaves)
+    c.is_last.ensures (c.as_slice-2.ensures.value ∙ c.in_ok-chain.ensures) (rw c.as_slice.ensures.names c.in_ok-unknown.ensures) c.args.tried.now c.all_found.new.tried leaves)
     c.all_found.ensures.leaves
 
 -- ---- what makes a name

@@ -1,6 +1,6 @@
 -- How deep in the chain a step is: a question is above the questions that it asks, each of which has one rule more. The
 -- loops: what remains to be asked and found from here is what was to be asked and found from the start.
-use Rattle.std.proofs.Common.{◌≡◌, ◌+◌, ◌-◌, ◌*◌, length, map, drop, is_some}
+use Rattle.std.proofs.Common.{◌≡◌, ◌+◌, ◌-◌, ◌*◌, length, drop, is_some}
 use Rattle.std.specs.List.{find, list_all}
 use Rattle.kt_graph.specs.search.Search.{asked_among, asked_for, asking, fitting, is_inferred}
 use Rattle.kt_graph.specs.search.Views.{candidates_view}
@@ -31,8 +31,8 @@ invariant-all_found-loop-at l =
     let known = l.self.known.now in
     let deeper = fitting rules known l.left in
     record {
-      asks : IsAsking rules known l.fn.tried l.tried (length l.used) (asked_for deeper (asking rules known l.left) l.used (map (λ name. name.items) l.names)) (asked_for deeper (asking rules known l.left) l.used (map (λ name. name.items) (drop l.at l.names)));
-      finds : list_all (λ name. is_some (deeper l.used name)) (map (λ name. name.items) (drop l.at l.names)) ≡ list_all (λ name. is_some (deeper l.used name)) (map (λ name. name.items) l.names);
+      asks : IsAsking rules known l.fn.tried l.tried (length l.used) (asked_for deeper (asking rules known l.left) l.used l.names) (asked_for deeper (asking rules known l.left) l.used (drop l.at l.names));
+      finds : list_all (λ name. is_some (deeper l.used name)) (drop l.at l.names) ≡ list_all (λ name. is_some (deeper l.used name)) l.names;
     }
 
 abbrev pub decreases-all_found-loop-at : goal.decreases-all_found-loop-at

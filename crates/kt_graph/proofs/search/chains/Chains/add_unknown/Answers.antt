@@ -1,4 +1,4 @@
-use Rattle.std.proofs.Common.{◌+◌, ◌<◌, ℕ, Vec, Global, length, map, drop, sym, ap, ◌∙◌, arith}
+use Rattle.std.proofs.Common.{◌+◌, ◌<◌, length, drop, sym, ap, ◌∙◌, arith}
 use Rattle.std.specs.Prelude.{fold}
 use Rattle.kt_rules.specs.Names.{with_name}
 use Rattle.kt_graph.specs.search.Candidates.{needed_name, needed_names}
@@ -14,13 +14,13 @@ loop-name-preserved c =
     let i = c.loop-name.name-index in
     let h : i < length c.args.names.now = omega arith in
     ap (λ names. fold with_name names (unknown_of known (needed_names directory stem (drop (i + 1) c.args.names.now)))) c.in_ok-add_if_unknown.ensures
-    ∙ sym (unknown_step known directory stem c.args.names.now (map (λ (name : Vec ℕ Global). name.items) c.loop-name.unknown.keys) i c.name-item.result c.in_ok-needed.needed.items h c.name-item.is
-    (c.in_ok-needed.ensures ∙ ap (needed_name directory stem) c.as_slice.ensures))
+    ∙ sym (unknown_step known directory stem c.args.names.now c.loop-name.unknown i c.name-item.result c.as_slice-in-loop-name.result.now h c.name-item.is
+    (c.as_slice-in-loop-name.ensures.value ∙ c.in_ok-needed.ensures ∙ ap (needed_name directory stem) c.as_slice.ensures))
     ∙ c.loop-name.invariant
 
 pub returns : goal.returns
 returns c =
     let known = c.args.self.now.known.now in
-    sym (ap (fold with_name (map (λ (name : Vec ℕ Global). name.items) c.loop-name.unknown.keys))
+    sym (ap (fold with_name c.loop-name.unknown)
     (unknown_past known c.args.stemming.directory.now c.args.stemming.stem.now c.args.names.now c.loop-name.name-index (omega arith)))
     ∙ c.loop-name.invariant

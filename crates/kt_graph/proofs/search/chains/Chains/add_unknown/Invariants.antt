@@ -1,4 +1,4 @@
-use Rattle.std.proofs.Common.{◌≡◌, map, drop}
+use Rattle.std.proofs.Common.{◌≡◌, drop}
 use Rattle.std.specs.Prelude.{fold}
 use Rattle.kt_rules.specs.Names.{with_name}
 use Rattle.kt_graph.specs.search.Candidates.{needed_names}
@@ -10,4 +10,4 @@ abbrev pub invariant-loop-name : goal.invariant-loop-name
 invariant-loop-name l =
     let left = unknown_of l.self.known.now (needed_names l.stemming.directory.now l.stemming.stem.now (drop l.name-index l.names)) in
     let all = unknown_of l.self.known.now (needed_names l.stemming.directory.now l.stemming.stem.now l.names) in
-    fold with_name (map (λ name. name.items) l.unknown.keys) left ≡ fold with_name (map (λ name. name.items) l.fn.unknown.keys) all
+    fold with_name l.unknown left ≡ fold with_name l.fn.unknown all

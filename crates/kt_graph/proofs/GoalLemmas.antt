@@ -1,0 +1,19 @@
+-- The goals of a command line, word by word.
+use Rattle.std.proofs.Common.{◌≡◌, ℕ, List, ◌∷◌, ◌+◌, ◌<◌, length, get_or, drop, fold, map, sym, ap, ◌∙◌}
+use Rattle.std.proofs.lemmas.List.{drop_more}
+use Rattle.kt_text.specs.Words.{Text}
+use Rattle.kt_rules.specs.Names.{with_name, without_dots, without_repeats}
+use Rattle.kt_graph.specs.Goals.{named_goals}
+
+-- what the definition of the named goals is made of, opened under one name
+unfoldable pub goals_open : Unit {0}
+unfolding named_goals without_repeats
+goals_open = tt
+
+-- one more of the words of a command line
+pub word_more : (goals more : List Text) (words : List Text) (i : ℕ) (word : Text) → i < length words → word ≡ get_or words i word
+    → more ≡ with_name goals (without_dots word)
+    → fold with_name more (map without_dots (drop (i + 1) words)) ≡ fold with_name goals (map without_dots (drop i words))
+word_more goals more words i word within is grown =
+    ap (λ names. fold with_name names (map without_dots (drop (i + 1) words))) grown
+    ∙ sym (ap (λ left. fold with_name goals (map without_dots left)) (drop_more words i word within ∙ ap (λ first. first ∷ drop (i + 1) words) (sym is)))
