@@ -1,10 +1,11 @@
 -- Joined lines and what stands in the file.
 use Rattle.std.proofs.Common.{◌≡◌, ℕ, ◌+◌, ◌-◌, Bool, true, false, not, ◌==◌, ◌&&◌, List, [], ◌∷◌, ◌++◌, refl, sym, ◌∙◌, ap, subst, append_assoc, append-nil, length, take, arith, Option, Some, None, ⊎_elim, ◌⊎◌, inl, inr}
-use Rattle.std.proofs.lemmas.Bool.{cases_Bool, false≢true, eqb-true, and_from, and_parts}
+use Rattle.std.proofs.lemmas.Bool.{cases_Bool, false≢true, eqb-true, and_from, and_parts, not-true}
 use Rattle.std.proofs.lemmas.List.Folds.{list_all-append}
 use Rattle.std.proofs.lemmas.List.Concat.{flat_map-append}
 use Rattle.std.specs.List.{flat_map, list_all}
-use Rattle.kt_ninja.specs.JoinedLines.{Begun, FileLine, Line, Text, ends_in_dollar, file_lines, first_number, goes_on, is_comment, joined_from, joined_lines, joined_text, with_byte, without_indent}
+use Rattle.kt_list.proofs.general.Booleans.{and_nothing}
+use Rattle.kt_ninja.specs.JoinedLines.{Begun, FileLine, JoinedLine, Text, ends_in_dollar, file_lines, first_number, goes_on, is_comment, joined_from, joined_lines, joined_text, with_byte, without_indent}
 use Rattle.kt_ninja.specs.Continued.{AreContinued, AreFronts, Continued, EndsRight, HasNoNewline, IsEnd, JoinedLaw, end_in_file, fronts_in_file, in_file, kept_of, numbered}
 use Rattle.kt_ninja.proofs.JoinedLemmas.{last-append}
 
@@ -157,11 +158,7 @@ EndsBehind begun fronts last =
 no_more : (last text : Text) → (ends_in_dollar false last ≡ false) ⊎ (is_comment text ≡ true)
     → (ends_in_dollar false last && not (is_comment text)) ≡ false
 no_more last text (inl h) = rw h refl
-no_more last text (inr h) = rw h (and_false (ends_in_dollar false last))
-  where
-    and_false : (b : Bool) → (b && false) ≡ false
-    and_false true = refl
-    and_false false = refl
+no_more last text (inr h) = rw h (and_nothing (ends_in_dollar false last))
 
 end_stops : (number : ℕ) (begun : Option Begun) (last rest : Text) → HasNoNewline last → EndsBehind begun [] last
     → joined_from number begun (file_lines (last ++ 10 ∷ rest))
@@ -271,7 +268,7 @@ by_end : (ended : Bool) (fronts : List Text) (last : Text) (ls : List Continued)
     } ∷ numbered (number + length fronts + 1) ls
 by_end true fronts last ls number are plain free ends later =
     line_ended fronts number None last (in_file ls) are plain free ends
-    ∙ ap (λ (ms : List Line). record { number = number; text = kept_of (fronts ++ last ∷ []); ended = true } ∷ ms)
+    ∙ ap (λ (ms : List JoinedLine). record { number = number; text = kept_of (fronts ++ last ∷ []); ended = true } ∷ ms)
     (later (number + length fronts + 1))
 by_end false fronts last ls number are plain free ends later =
     rw ends.0 (ap (λ (t : Text). joined_from number None (file_lines (fronts_in_file fronts ++ t))) (append-nil last)
@@ -292,17 +289,13 @@ unfolding ends_in_dollar
 dollar_cut pending [] h = inl (refl, h)
 dollar_cut pending (b ∷ bs) h = past (dollar_cut (not pending && b == 36) bs h)
   where
-    no_pending : (p : Bool) → not p ≡ true → p ≡ false
-    no_pending true e = sym e
-    no_pending false e = refl
-
     past : ((bs ≡ []) × ((not pending && b == 36) ≡ true)) ⊎
         ((front : Text) × (bs ≡ front ++ 36 ∷ []) × (ends_in_dollar (not pending && b == 36) front ≡ false))
         → ((b ∷ bs ≡ []) × (pending ≡ true)) ⊎
         ((front : Text) × (b ∷ bs ≡ front ++ 36 ∷ []) × (ends_in_dollar pending front ≡ false))
     past (inl found) =
         let both = and_parts (not pending) (b == 36) found.1 in
-        inr ([], rw found.0 (ap (λ (c : ℕ). c ∷ []) (eqb-true b 36 both.1)), no_pending pending both.0)
+        inr ([], rw found.0 (ap (λ (c : ℕ). c ∷ []) (eqb-true b 36 both.1)), not-true pending both.0)
     past (inr found) = inr (b ∷ found.0, ap (λ (t : Text). b ∷ t) found.1, found.2)
 
 last_dollar : (bytes : Text) → ends_in_dollar false bytes ≡ true

@@ -5,10 +5,12 @@ use Rattle.std.specs.List.{list_all, position_from, IsDistinct, AllByRecursion}
 use Rattle.std.specs.Bool.{Decides}
 use Rattle.std.specs.Option.{option_or}
 use Rattle.std.specs.Cmp.Lexicographic.{pointwise, same_text, other_text}
+use Rattle.std.proofs.lemmas.Bool.{and_from, or_from, or_parts}
 use Rattle.std.proofs.lemmas.List.Folds.{list_any-append}
 use Rattle.std.proofs.lemmas.Map.Made.{AllPairs-from_IsDistinct, IsDistinct-from_AllPairs}
 use Rattle.std.proofs.lemmas.Map.Views.{list_any-from_Contains}
 use Rattle.std.proofs.lemmas.Cmp.{nat_list_eq_equiv}
+use Rattle.kt_list.proofs.general.Booleans.{and_first, and_second, or_nothing}
 use Rattle.kt_ninja.specs.declared.plan.Plan.{Plan}
 use Rattle.kt_ninja.specs.declared.plan.Statement.{Statement}
 use Rattle.kt_ninja.specs.declared.checking.Unwritable.{Unwritable}
@@ -17,17 +19,6 @@ use Rattle.kt_list.specs.Names.{is_among}
 use Rattle.kt_ninja.specs.Writable.{HasWritableTexts, IsWritable, Obstacle, no_output, bad_name, bad_command, repeated, not_an_output, first_obstacle, is_empty, is_made, is_name, not_made, repeated_after, obstacle_in, obstacle_of_statement, obstacle_of_statements}
 
 -- ---- a list all of whose elements pass has no first that fails
-
-both_true : (a b : Bool) → a ≡ true → b ≡ true → (a && b) ≡ true
-both_true a b one two = ap (λ x. x && b) one ∙ two
-
-first_true : (a b : Bool) → (a && b) ≡ true → a ≡ true
-first_true true b e = refl
-first_true false b e = e
-
-second_true : (a b : Bool) → (a && b) ≡ true → b ≡ true
-second_true true b e = e
-second_true false b e = absurd (cc e)
 
 -- of the first element and the rest: with no first that fails, all pass
 pass_case : {A : Type 0} (here : Bool) (x : A) (later : Option A) (rest : Bool)
@@ -98,26 +89,26 @@ fine s = list_all is_name (names_of s) && is_made s.made
 fine_from_none : (n : ℕ) (s : Statement) → obstacle_of_statement n s ≡ None → fine s ≡ true
 fine_from_none n s e =
     let names = find (λ x. not (is_name x)) (names_of s) in
-    both_true (list_all is_name (names_of s)) (is_made s.made)
+    and_from (list_all is_name (names_of s)) (is_made s.made)
     (pass_from_find is_name (names_of s) (map_none bad_name names (or_first (option_map bad_name names) _ e)))
     (made_true (is_made s.made) (bad_command n) (or_second (option_map bad_name names) _ e))
 
 none_from_fine : (n : ℕ) (s : Statement) → fine s ≡ true → obstacle_of_statement n s ≡ None
 none_from_fine n s e =
-    or_none _ _ (ap (option_map bad_name) (find_from_pass is_name (names_of s) (first_true (list_all is_name (names_of s)) (is_made s.made) e)))
-    (made_none (is_made s.made) (bad_command n) (second_true (list_all is_name (names_of s)) (is_made s.made) e))
+    or_none _ _ (ap (option_map bad_name) (find_from_pass is_name (names_of s) (and_first (list_all is_name (names_of s)) (is_made s.made) e)))
+    (made_none (is_made s.made) (bad_command n) (and_second (list_all is_name (names_of s)) (is_made s.made) e))
 
 all_fine : (n : ℕ) (ss : List Statement) → obstacle_of_statements n ss ≡ None → list_all fine ss ≡ true
 all_fine n [] e = refl
 all_fine n (s ∷ ss) e =
-    both_true (fine s) (list_all fine ss) (fine_from_none n s (or_first (obstacle_of_statement n s) _ e))
+    and_from (fine s) (list_all fine ss) (fine_from_none n s (or_first (obstacle_of_statement n s) _ e))
     (all_fine (n + 1) ss (or_second (obstacle_of_statement n s) _ e))
 
 no_obstacle : (n : ℕ) (ss : List Statement) → list_all fine ss ≡ true → obstacle_of_statements n ss ≡ None
 no_obstacle n [] e = refl
 no_obstacle n (s ∷ ss) e =
-    or_none (obstacle_of_statement n s) _ (none_from_fine n s (first_true (fine s) (list_all fine ss) e))
-    (no_obstacle (n + 1) ss (second_true (fine s) (list_all fine ss) e))
+    or_none (obstacle_of_statement n s) _ (none_from_fine n s (and_first (fine s) (list_all fine ss) e))
+    (no_obstacle (n + 1) ss (and_second (fine s) (list_all fine ss) e))
 
 -- ---- outputs
 
@@ -137,21 +128,6 @@ flip_false false a b same differ = refl
 other_way : (a b : List ℕ) → pointwise nat_eq b a ≡ false → pointwise nat_eq a b ≡ false
 other_way a b differ = flip_false (pointwise nat_eq a b) a b (names_decide a b) differ
 
-or_false : (a b : Bool) → a ≡ false → b ≡ false → (a || b) ≡ false
-or_false a b one two = ap (λ x. x || b) one ∙ two
-
-false_first : (a b : Bool) → (a || b) ≡ false → a ≡ false
-false_first true b e = e
-false_first false b e = refl
-
-false_second : (a b : Bool) → (a || b) ≡ false → b ≡ false
-false_second true b e = absurd (cc e)
-false_second false b e = e
-
-or_nothing : (a : Bool) → (a || false) ≡ a
-or_nothing true = refl
-or_nothing false = refl
-
 among_more : (before : List (List ℕ)) (x y : List ℕ) → is_among (before ++ x ∷ []) y ≡ (is_among before y || pointwise nat_eq y x)
 among_more before x y =
     list_any-append (pointwise nat_eq y) before (x ∷ []) ∙ ap (λ b. is_among before y || b) (or_nothing (pointwise nat_eq y x))
@@ -168,15 +144,16 @@ apart_less : (before : List (List ℕ)) (x : List ℕ) (xs : List (List ℕ)) �
 apart_less before x [] apart = (tt, tt)
 apart_less before x (y ∷ ys) apart =
     let here = sym (among_more before x y) ∙ apart.0 in
-    let later = apart_less before x ys apart.1 in (
-      (false_first (is_among before y) (pointwise nat_eq y x) here, later.0),
-      (other_way x y (false_second (is_among before y) (pointwise nat_eq y x) here), later.1),
+    let later = apart_less before x ys apart.1 in
+    let parts = or_parts (is_among before y) (pointwise nat_eq y x) here in (
+      (parts.0, later.0),
+      (other_way x y parts.1, later.1),
     )
 
 apart_more : (before : List (List ℕ)) (x : List ℕ) (xs : List (List ℕ)) → Apart before xs → Other x xs → Apart (before ++ x ∷ []) xs
 apart_more before x [] apart other = tt
 apart_more before x (y ∷ ys) apart other = (
-  among_more before x y ∙ or_false (is_among before y) (pointwise nat_eq y x) apart.0 (other_way y x other.0),
+  among_more before x y ∙ or_from (is_among before y) (pointwise nat_eq y x) apart.0 (other_way y x other.0),
   apart_more before x ys apart.1 other.1,
 )
 
@@ -223,9 +200,9 @@ contains_from_among (n ∷ ns) name e =
 
 all_from_pass : (outs names : List (List ℕ)) → list_all (is_among outs) names ≡ true → All (λ d. Contains outs d) names
 all_from_pass outs [] e k d below = absurd (omega arith)
-all_from_pass outs (n ∷ ns) e zero d below = contains_from_among outs n (first_true (is_among outs n) (list_all (is_among outs) ns) e)
+all_from_pass outs (n ∷ ns) e zero d below = contains_from_among outs n (and_first (is_among outs n) (list_all (is_among outs) ns) e)
 all_from_pass outs (n ∷ ns) e (suc k) d below =
-    all_from_pass outs ns (second_true (is_among outs n) (list_all (is_among outs) ns) e) k d (omega arith)
+    all_from_pass outs ns (and_second (is_among outs n) (list_all (is_among outs) ns) e) k d (omega arith)
 
 among_from_contains : (names : List (List ℕ)) (name : List ℕ) → Contains names name → is_among names name ≡ true
 among_from_contains names name within = list_any-from_Contains nat_list_eq_equiv name names within
@@ -233,7 +210,7 @@ among_from_contains names name within = list_any-from_Contains nat_list_eq_equiv
 pub pass_from_all : (outs names : List (List ℕ)) → All (λ d. Contains outs d) names → list_all (is_among outs) names ≡ true
 pass_from_all outs [] all = refl
 pass_from_all outs (n ∷ ns) all =
-    both_true (is_among outs n) (list_all (is_among outs) ns) (among_from_contains outs n (all 0 n (omega arith)))
+    and_from (is_among outs n) (list_all (is_among outs) ns) (among_from_contains outs n (all 0 n (omega arith)))
     (pass_from_all outs ns (λ k d below. all (suc k) d (omega arith)))
 
 -- ---- the plan

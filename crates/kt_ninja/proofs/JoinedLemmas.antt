@@ -1,6 +1,6 @@
 -- Joined lines, line by line of the file.
 use Rattle.std.proofs.Common.{◌≡◌, ℕ, suc, zero, ◌+◌, ◌-◌, ◌<◌, ◌≤◌, Bool, true, false, not, ◌==◌, ◌&&◌, unwrap_or, List, [], ◌∷◌, ◌++◌, refl, sym, ◌∙◌, ap, append_assoc, length, length-append, take, drop, get_or, slice_index_or, subst, Result, Ok, Err, is_ok, OnOk, arith, Option, Some, None, find, if◌then◌else◌, ⊎_elim}
-use Rattle.std.proofs.lemmas.Bool.{cases_Bool, false≢true, false_from_ne_true, eqb-true, and_parts}
+use Rattle.std.proofs.lemmas.Bool.{cases_Bool, false≢true, false_from_ne_true, eqb-true, and_parts, not-true}
 use Rattle.std.proofs.lemmas.List.Folds.{list_all-append}
 use Rattle.std.proofs.Math.Seq.{take-append-add, drop-cons}
 use Rattle.kt_ninja.specs.declared.joined.FileLine.{FileLine as CutLine}
@@ -9,7 +9,7 @@ use Rattle.kt_ninja.specs.inner.Joining.{Joins, added_text, begun_by, file_line,
 use Rattle.std.proofs.lemmas.List.Sums.{position_or_len_is}
 use Rattle.memchr.specs.Find.{IsFirstByte, is_byte}
 use Rattle.std.specs.List.{position_or_len}
-use Rattle.kt_ninja.specs.JoinedLines.{FileLine, Line, Text, ends_in_dollar, file_lines, first_number, goes_on, is_blank, is_comment, joined_from, joined_text, left_over, with_byte, without_indent}
+use Rattle.kt_ninja.specs.JoinedLines.{FileLine, JoinedLine, Text, ends_in_dollar, file_lines, first_number, goes_on, is_blank, is_comment, joined_from, joined_text, left_over, with_byte, without_indent}
 
 -- whether a byte that was found is a hash
 abbrev pub is_hash : Option ℕ → Bool
@@ -127,10 +127,6 @@ comment-kept : (going_on : Bool) (joined : Text) → (going_on ≡ true → is_c
 comment-kept true joined plain h = comment-take (length joined - 1) joined (plain refl)
 comment-kept false joined plain h = absurd (false≢true h)
 
-not_from : (b : Bool) → not b ≡ true → b ≡ false
-not_from true h = sym h
-not_from false h = refl
-
 -- a line of the file that is joined
 pub joins : (old : OpenLine) (line : CutLine) (new : OpenLine) (bytes kept : Text)
     → old.blank ≡ is_blank old.text → is_comment old.text ≡ false
@@ -149,7 +145,7 @@ joins old line new bytes kept blank plain is_added going is_kept is_blank_now te
     ap is_comment (sym whole) ∙ comment-joined front bytes plain ∙ ap (λ b. b && is_comment bytes) (sym blank) in
     let goes : new.going_on ≡ goes_on (file_line line) joined = going ∙ ap (λ b. line.ended && (ends_in_dollar false line.bytes.now && not b)) (sym comment) in
     let on : new.going_on ≡ true → (ends_in_dollar false line.bytes.now ≡ true) × (is_comment joined ≡ false) = λ h.
-    let parts = and_parts _ _ (sym goes ∙ h) in let inner = and_parts _ _ parts.1 in (inner.0, not_from _ inner.1) in
+    let parts = and_parts _ _ (sym goes ∙ h) in let inner = and_parts _ _ parts.1 in (inner.0, not-true _ inner.1) in
     let some : new.going_on ≡ true → 0 < length bytes = λ h. rw is_added (some-added old.going_on line.bytes.now (on h).0) in
     let kept_is : new.text ≡ (if new.going_on then take (length joined - 1) joined else joined) =
     text ∙ ap (λ k. front ++ k) is_kept ∙ kept-append new.going_on front bytes some ∙ ap (λ j. if new.going_on then take (length j - 1) j else j) whole in
@@ -172,7 +168,7 @@ first_number-by true begun number h = refl
 first_number-by false begun number h = sym (h refl)
 
 -- what a step leaves
-abbrev pub stepped : Bool → ℕ → OpenLine → CutLine → List FileLine → List Line
+abbrev pub stepped : Bool → ℕ → OpenLine → CutLine → List FileLine → List JoinedLine
 stepped true number new line later = joined_from (number + 1) (begun_by true new) later
 stepped false number new line later = record { number = new.number; text = new.text; ended = line.ended } ∷ joined_from (number + 1) None later
 
@@ -198,7 +194,7 @@ unfolding joined_from
 joined_end g number begun = refl
 
 -- the lines that are left after a step: one ended
-pub pushed : (number : ℕ) (lines more : List Line) (begun new last : OpenLine) (line : CutLine) (rest later : List FileLine) (whole : List Line)
+pub pushed : (number : ℕ) (lines more : List JoinedLine) (begun new last : OpenLine) (line : CutLine) (rest later : List FileLine) (whole : List JoinedLine)
     → joined_from number (begun_by begun.going_on begun) (file_line line ∷ later) ≡ stepped new.going_on number new line later
     → rest ≡ file_line line ∷ later
     → lines ++ joined_from number (begun_by begun.going_on begun) rest ≡ whole
@@ -211,7 +207,7 @@ pushed number lines more begun new last line rest later whole step cut before of
     ∙ rw cut at before)
 
 -- the same where it goes on
-pub passed : (number : ℕ) (lines : List Line) (begun new : OpenLine) (line : CutLine) (rest later : List FileLine) (whole : List Line)
+pub passed : (number : ℕ) (lines : List JoinedLine) (begun new : OpenLine) (line : CutLine) (rest later : List FileLine) (whole : List JoinedLine)
     → joined_from number (begun_by begun.going_on begun) (file_line line ∷ later) ≡ stepped new.going_on number new line later
     → rest ≡ file_line line ∷ later
     → lines ++ joined_from number (begun_by begun.going_on begun) rest ≡ whole
@@ -221,7 +217,7 @@ passed number lines begun new line rest later whole step cut before on =
     rw on (ap (λ l. lines ++ l) (rw on at (sym step)) ∙ rw cut at before)
 
 -- at the end of the text
-pub over : (g : Bool) (number : ℕ) (lines : List Line) (begun : OpenLine) (rest : List FileLine) (whole : List Line)
+pub over : (g : Bool) (number : ℕ) (lines : List JoinedLine) (begun : OpenLine) (rest : List FileLine) (whole : List JoinedLine)
     → begun.going_on ≡ g → rest ≡ [] → lines ++ joined_from number (begun_by begun.going_on begun) rest ≡ whole
     → lines ++ left_over (begun_by g begun) ≡ whole
 over g number lines begun rest whole is none before =

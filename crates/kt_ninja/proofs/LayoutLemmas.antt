@@ -2,26 +2,27 @@
 use Rattle.std.proofs.Common.{◌≡◌, ℕ, ◌+◌, Bool, true, false, not, ◌==◌, ◌&&◌, ◌||◌, List, [], ◌∷◌, ◌++◌, refl, sym, ◌∙◌, ap, length, Option, Some, None, option_map, if◌then◌else◌, Result, Ok, Err}
 use Rattle.std.proofs.lemmas.Bool.{and_from, and_parts, false≢true}
 use Rattle.std.specs.List.{list_all}
-use Rattle.std.specs.Option.{option_and_then}
 use Rattle.std.specs.Result.{result_ok}
 use Rattle.kt_ninja.specs.Continued.{AreContinued, Continued, EndsRight, numbered}
 use Rattle.kt_ninja.specs.Forms.{Binding}
-use Rattle.kt_ninja.specs.JoinedLines.{Line, Text, is_blank, is_comment}
+use Rattle.kt_ninja.specs.JoinedLines.{JoinedLine, Text, is_blank, is_comment}
 use Rattle.kt_ninja.specs.Layout.{LayoutLaw, SaysNothing, is_between, text_of}
-use Rattle.kt_ninja.specs.NinjaRead.{Cut, Part, State, all_parts, and_then_parts, begins_part, block_from, block_of, cut_lines, cut_with, is_sound, ninja_read, nothing_read, plan_in, plan_of, read_head, read_part, read_parts}
+use Rattle.kt_ninja.specs.NinjaRead.{Cut, FilePart, State, all_parts, and_then_parts, begins_part, block_from, cut_lines, cut_with, is_sound, ninja_read, nothing_read, plan_in, plan_of, read_head, read_part, read_parts}
+use Rattle.kt_ninja.specs.Reading.{part_before, part_of}
 use Rattle.kt_ninja.proofs.ContinuedLemmas.{joined_law}
+use Rattle.kt_ninja.proofs.ReaderLemmas.{begin_by}
 
 -- ---- lines and parts that are read alike
 
 -- lines below a line at the margin that are read alike
-record SameBlock (xs ys : List Line) : Type 0 where
+record SameBlock (xs ys : List JoinedLine) : Type 0 where
   sound : list_all is_sound xs ≡ list_all is_sound ys
   block : (closed : Bool) → block_from closed xs ≡ block_from closed ys
 
-abbrev SamePart : Part → Part → Type 0
+abbrev SamePart : FilePart → FilePart → Type 0
 SamePart p q = (state : State) → read_part state p ≡ read_part state q
 
-abbrev SameParts : List Part → List Part → Type 0
+abbrev SameParts : List FilePart → List FilePart → Type 0
 SameParts [] [] = Unit {0}
 SameParts [] (q ∷ qs) = ⊥
 SameParts (p ∷ ps) [] = ⊥
@@ -32,43 +33,39 @@ record SameCut (c d : Cut) : Type 0 where
   parts : SameParts c.parts d.parts
 
 -- the same line under another number
-abbrev line_at : ℕ → Text → Bool → Line
+abbrev line_at : ℕ → Text → Bool → JoinedLine
 line_at number text ended = record { number = number; text = text; ended = ended }
 
-same_part : (n m : ℕ) (text : Text) (ended : Bool) (xs ys : List Line) → SameBlock xs ys
-    → SamePart (record { number = n; head = Some (line_at n text ended); body = xs }) (record { number = m; head = Some (line_at m text ended); body = ys })
+same_part : (p q : FilePart) → ((state : State) → read_head state p.head ≡ read_head state q.head) → SameBlock p.body q.body → SamePart p q
 unfolding read_part
-same_part n m text ended xs ys same state =
-    let head = read_head state (Some (line_at n text ended)) in
-    ap (λ sound. if sound then option_and_then head (block_of xs) else None) same.sound
-    ∙ ap (λ block. if list_all is_sound ys then option_and_then head block else None) (same.block false)
+same_part p q head same state = rw (head state, same.sound, same.block false) refl
 
-block_with : (n m : ℕ) (text : Text) (ended : Bool) (xs ys : List Line) → SameBlock xs ys → SameBlock (line_at n text ended ∷ xs) (line_at m text ended ∷ ys)
+block_with : (n m : ℕ) (text : Text) (ended : Bool) (xs ys : List JoinedLine) → SameBlock xs ys → SameBlock (line_at n text ended ∷ xs) (line_at m text ended ∷ ys)
 unfolding block_from
 block_with n m text ended xs ys same = record {
   sound = ap (λ sound. is_sound (line_at n text ended) && sound) same.sound;
   block = λ closed. rw (same.block closed, same.block true, same.block false) refl;
 }
 
-cut_more : (b : Bool) (n m : ℕ) (text : Text) (ended : Bool) (c d : Cut) → begins_part text ≡ b → SameCut c d
+cut_both : (b : Bool) (n m : ℕ) (text : Text) (ended : Bool) (c d : Cut) → begins_part text ≡ b → SameCut c d
     → SameCut (cut_with (line_at n text ended) c) (cut_with (line_at m text ended) d)
-cut_more true n m text ended c d is same = rw is (record {
+cut_both true n m text ended c d is same = rw is (record {
   before = record { sound = refl; block = λ closed. refl };
-  parts = (same_part n m text ended c.before d.before same.before, same.parts);
+  parts = (same_part (part_of (line_at n text ended) c.before) (part_of (line_at m text ended) d.before) (λ state. refl) same.before, same.parts);
 })
-cut_more false n m text ended c d is same = rw is (record { before = block_with n m text ended c.before d.before same.before; parts = same.parts })
+cut_both false n m text ended c d is same = rw is (record { before = block_with n m text ended c.before d.before same.before; parts = same.parts })
 
 -- the same lines under other numbers
 cut_same : (n m : ℕ) (lines : List Continued) → SameCut (cut_lines (numbered n lines)) (cut_lines (numbered m lines))
 unfolding cut_lines
 cut_same n m [] = record { before = record { sound = refl; block = λ closed. refl }; parts = tt }
 cut_same n m (l ∷ ls) =
-    cut_more (begins_part (text_of l)) n m (text_of l) l.ended _ _ refl (cut_same (n + length l.fronts + 1) (m + length l.fronts + 1) ls)
+    cut_both (begins_part (text_of l)) n m (text_of l) l.ended _ _ refl (cut_same (n + length l.fronts + 1) (m + length l.fronts + 1) ls)
 
 -- ---- one more line
 
 -- a sound line that begins no part, in front of lines whose block it leaves as it is
-cut_between : (line : Line) (c d : Cut) → begins_part line.text ≡ false → is_sound line ≡ true
+cut_between : (line : JoinedLine) (c d : Cut) → begins_part line.text ≡ false → is_sound line ≡ true
     → ((closed : Bool) → block_from closed (line ∷ c.before) ≡ block_from closed c.before) → SameCut c d → SameCut (cut_with line c) d
 cut_between line c d is sound stays same = rw is (record {
   before = record {
@@ -85,11 +82,11 @@ cut_front : (n : ℕ) (front back : List Continued) (line : Continued)
 unfolding cut_lines
 cut_front n [] back line same = same n n
 cut_front n (l ∷ ls) back line same =
-    cut_more (begins_part (text_of l)) n n (text_of l) l.ended _ _ refl (cut_front (n + length l.fronts + 1) ls back line same)
+    cut_both (begins_part (text_of l)) n n (text_of l) l.ended _ _ refl (cut_front (n + length l.fronts + 1) ls back line same)
 
 -- ---- what is read
 
-parts_read : (state : State) (ps qs : List Part) → SameParts ps qs → result_ok (read_parts state ps) ≡ result_ok (read_parts state qs)
+parts_read : (state : State) (ps qs : List FilePart) → SameParts ps qs → result_ok (read_parts state ps) ≡ result_ok (read_parts state qs)
 unfolding read_parts
 parts_read state [] [] same = refl
 parts_read state [] (q ∷ qs) same = absurd same
@@ -101,34 +98,18 @@ parts_read state (p ∷ ps) (q ∷ qs) same = rw (same.0 state) (by (read_part s
     by None rest = refl
     by (Some s) rest = rest s
 
-abbrev before_part : List Line → Part
-before_part body = record { number = 1; head = None; body = body }
-
--- no line before the first part says nothing
-all_read : (c : Cut) → read_parts nothing_read (all_parts c) ≡ read_parts nothing_read (before_part c.before ∷ c.parts)
-unfolding read_parts read_part block_from
-all_read c = by c.before c.parts
-  where
-    by : (before : List Line) (parts : List Part) → read_parts nothing_read (all_parts (record { before = before; parts = parts })) ≡ read_parts nothing_read (before_part before ∷ parts)
-    by [] parts = refl
-    by (l ∷ ls) parts = refl
-
-before_same : (xs ys : List Line) → SameBlock xs ys → SamePart (before_part xs) (before_part ys)
-unfolding read_part
-before_same xs ys same state =
-    ap (λ sound. if sound then option_and_then (read_head state None) (block_of xs) else None) same.sound
-    ∙ ap (λ block. if list_all is_sound ys then option_and_then (read_head state None) block else None) (same.block false)
-
 plan_ok : (r : Result State ℕ) → result_ok (plan_in r) ≡ option_map plan_of (result_ok r)
 plan_ok (Ok state) = refl
 plan_ok (Err number) = refl
 
 cuts_read : (c d : Cut) → SameCut c d → result_ok (plan_in (read_parts nothing_read (all_parts c))) ≡ result_ok (plan_in (read_parts nothing_read (all_parts d)))
+unfolding read_parts
 cuts_read c d same =
     plan_ok (read_parts nothing_read (all_parts c))
-    ∙ (ap (option_map plan_of) (ap result_ok (all_read c)
-    ∙ (parts_read nothing_read (before_part c.before ∷ c.parts) (before_part d.before ∷ d.parts) (before_same c.before d.before same.before, same.parts)
-    ∙ sym (ap result_ok (all_read d)))) ∙ sym (plan_ok (read_parts nothing_read (all_parts d))))
+    ∙ (ap (option_map plan_of) (ap result_ok (begin_by c.before c.parts)
+    ∙ (parts_read nothing_read (part_before c.before ∷ c.parts) (part_before d.before ∷ d.parts)
+    (same_part (part_before c.before) (part_before d.before) (λ state. refl) same.before, same.parts)
+    ∙ sym (ap result_ok (begin_by d.before d.parts)))) ∙ sym (plan_ok (read_parts nothing_read (all_parts d))))
 
 -- ---- the lines of a file
 
@@ -164,19 +145,19 @@ comment_begins (b ∷ bs) is = by (b == 32) is
     by true is = refl
     by false is = rw is refl
 
-comment_stays : (closed : Bool) (line : Line) (lines : List Line) → is_comment line.text ≡ true → block_from closed (line ∷ lines) ≡ block_from closed lines
+comment_skipped : (closed : Bool) (line : JoinedLine) (lines : List JoinedLine) → is_comment line.text ≡ true → block_from closed (line ∷ lines) ≡ block_from closed lines
 unfolding block_from
-comment_stays closed line lines is = rw is refl
+comment_skipped closed line lines is = rw is refl
 
 blank_begins : (text : Text) → is_blank text ≡ true → begins_part text ≡ false
 blank_begins [] is = refl
 blank_begins (b ∷ bs) is = rw (and_parts (b == 32) (is_blank bs) is).0 refl
 
-abbrev has_no_binding : Line → Bool
+abbrev has_no_binding : JoinedLine → Bool
 has_no_binding line = is_comment line.text || is_blank line.text
 
 -- where no binding follows, it doesn't matter whether the block has ended
-closed_alike : (lines : List Line) → list_all has_no_binding lines ≡ true → block_from true lines ≡ block_from false lines
+closed_alike : (lines : List JoinedLine) → list_all has_no_binding lines ≡ true → block_from true lines ≡ block_from false lines
 unfolding block_from
 closed_alike [] none = refl
 closed_alike (l ∷ ls) none =
@@ -189,10 +170,10 @@ closed_alike (l ∷ ls) none =
     by false true x y is same = refl
     by false false x y is same = absurd (false≢true is)
 
-blank_stays : (closed : Bool) (line : Line) (lines : List Line) → is_blank line.text ≡ true → list_all has_no_binding lines ≡ true
+blank_skipped : (closed : Bool) (line : JoinedLine) (lines : List JoinedLine) → is_blank line.text ≡ true → list_all has_no_binding lines ≡ true
     → block_from closed (line ∷ lines) ≡ block_from closed lines
 unfolding block_from
-blank_stays closed line lines is none = rw is (by (is_comment line.text) closed)
+blank_skipped closed line lines is none = rw is (by (is_comment line.text) closed)
   where
     by : (comment closed : Bool) → (if comment then block_from closed lines else block_from true lines) ≡ block_from closed lines
     by true closed = refl
@@ -221,12 +202,12 @@ layout_law = record {
       let after = n + length line.fronts + 1 in
       cut_between (line_at n (text_of line) line.ended) (cut_lines (numbered after back)) (cut_lines (numbered m back))
       (comment_begins (text_of line) is) sound
-      (λ closed. comment_stays closed (line_at n (text_of line) line.ended) (cut_lines (numbered after back)).before is)
+      (λ closed. comment_skipped closed (line_at n (text_of line) line.ended) (cut_lines (numbered after back)).before is)
       (cut_same after m back));
   blank = λ front back line are sound is between. says_nothing front back line are (λ n m.
       let after = n + length line.fronts + 1 in
       cut_between (line_at n (text_of line) line.ended) (cut_lines (numbered after back)) (cut_lines (numbered m back))
       (blank_begins (text_of line) is) sound
-      (λ closed. blank_stays closed (line_at n (text_of line) line.ended) (cut_lines (numbered after back)).before is (none_before after back between))
+      (λ closed. blank_skipped closed (line_at n (text_of line) line.ended) (cut_lines (numbered after back)).before is (none_before after back between))
       (cut_same after m back));
 }

@@ -4,6 +4,7 @@ pub mod Places
 pub mod Putting
 pub mod ViewLemmas
 pub mod Escaping
+pub mod Finding
 pub mod Marks
 pub mod Troubles
 pub mod Deciding

@@ -11,10 +11,10 @@ use Rattle.kt_ninja.specs.JoinedLines.{Text}
 use Rattle.kt_ninja.specs.Writable.{is_empty}
 use Rattle.kt_ninja.specs.Pieces.{Piece, Plain, Escaped, Variable, Where, after_dollar, in_braces, in_name, is_escapable, is_long_name_byte, is_short_name_byte, outer_step, outside, pieces_from}
 use Rattle.kt_ninja.specs.inner.Cutting.{CutsOff, CutsShort, begins_short, dollar_piece}
-use Rattle.kt_ninja.specs.inner.Refusals.{Refuses}
+use Rattle.kt_ninja.specs.inner.Refusals.{LacksReading}
 
 -- a refusal of one reading is one of another that has no value either
-pub refuses_too : {X Y : Type 0} (old : Option X) (new : Option Y) → (old ≡ None → new ≡ None) → (fault : Fault) → Refuses old fault → Refuses new fault
+pub refuses_too : {X Y : Type 0} (old : Option X) (new : Option Y) → (old ≡ None → new ≡ None) → (fault : Fault) → LacksReading old fault → LacksReading new fault
 refuses_too old new h NoReading r = h r
 refuses_too old new h Memory r = tt
 

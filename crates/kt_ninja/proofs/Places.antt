@@ -6,12 +6,6 @@ use Rattle.std.proofs.lemmas.List.{drop_all, drop_more, take_more}
 use Rattle.std.proofs.lemmas.Option.{get_or_from_slice_get, slice_get_within}
 use Rattle.kt_ninja.specs.Writable.{is_empty}
 
--- there is an item at a place within
-pub item_there : {A : Type 0} (xs : List A) (i : ℕ) → i < length xs → (x : A) × (slice_get xs i ≡ Some x)
-item_there [] i below = absurd (omega (arith, below))
-item_there (x ∷ xs) zero below = (x, refl)
-item_there (x ∷ xs) (suc i) below = item_there xs i (omega (arith, below))
-
 -- the list from a place on is the item there, and the list from the next on
 pub drop_at : {A : Type 0} (xs : List A) (i : ℕ) (x : A) → slice_get xs i ≡ Some x → drop i xs ≡ x ∷ drop (i + 1) xs
 drop_at xs i x is = drop_more xs i x (slice_get_within xs i x is) ∙ ap (λ y. y ∷ drop (i + 1) xs) (get_or_from_slice_get xs i x x is)

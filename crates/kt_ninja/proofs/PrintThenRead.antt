@@ -11,10 +11,10 @@ use Rattle.kt_ninja.specs.declared.plan.Made.{Made}
 use Rattle.kt_ninja.specs.declared.plan.Made.TheVariants.{Command, Phony}
 use Rattle.kt_ninja.specs.declared.plan.Statement.{Statement}
 use Rattle.kt_ninja.specs.declared.plan.Plan.{Plan}
-use Rattle.kt_ninja.specs.JoinedLines.{Line, Text, ends_in_dollar, file_lines, is_comment, joined_from, joined_lines}
+use Rattle.kt_ninja.specs.JoinedLines.{JoinedLine, Text, ends_in_dollar, file_lines, is_comment, joined_from, joined_lines}
 use Rattle.kt_ninja.specs.Forms.{Pieces}
 use Rattle.kt_ninja.specs.Scopes.{Table, command_value, find_in, put_in}
-use Rattle.kt_ninja.specs.NinjaRead.{Making, Part, PendingStatement, all_parts, and_then_parts, are_new, block_from, by_nothing, by_rule, cut_lines, cut_with, made_of, making_of, nothing_read, ninja_read, outs_of, plan_in, plan_of, read_part, read_parts, statement_of}
+use Rattle.kt_ninja.specs.NinjaRead.{Making, FilePart, PendingStatement, all_parts, and_then_parts, are_new, block_from, by_nothing, by_rule, cut_lines, cut_with, made_of, making_of, nothing_read, ninja_read, outs_of, plan_in, plan_of, read_part, read_parts, statement_of}
 use Rattle.kt_ninja.specs.Plan.{names_of, outputs}
 use Rattle.kt_ninja.specs.Text.{defaults_text, number_text, plan_text, rule_count, rule_name_text, statements_text}
 use Rattle.kt_list.specs.Names.{is_among}
@@ -118,7 +118,7 @@ phony_making table so_far = refl
 -- ---- statements
 
 -- the parts of a statement add it to what was read
-statement_read : (number at : ℕ) (s : Statement) (made : Made) (later : List Part) (table : Table Pieces) (so_far : List PendingStatement)
+statement_read : (number at : ℕ) (s : Statement) (made : Made) (later : List FilePart) (table : Table Pieces) (so_far : List PendingStatement)
     → Fresh number table → not (is_empty s.outs) ≡ true → Named s → is_made made ≡ true → are_new (outs_of so_far) s.outs ≡ true
     → read_parts (state_with table so_far) (statement_parts number at s made later)
     ≡ read_parts (state_with (table_after number made table) (so_far ++ pending_as (making_as made) s ∷ [])) later
@@ -239,7 +239,7 @@ unfolding find_in
 nothing_fresh m h = refl
 
 -- the comment that a printed text begins with
-abbrev comment : Line
+abbrev comment : JoinedLine
 comment = record { number = 1; text = codes "# kati"; ended = true }
 
 -- the text of a plan is that comment, and then the parts
@@ -248,7 +248,7 @@ unfolding plan_text joined_lines joined_from file_lines ends_in_dollar cut_lines
 text_cut plan = ap (λ t. cut_with comment (cut_lines (lines_at 2 (statements_text 0 plan.statements ++ t)))) (append-nil (defaults_text plan.defaults))
 
 -- the comment says nothing
-comment_read : (parts : List Part) → read_parts nothing_read (all_parts (cut_with comment (from_parts parts))) ≡ read_parts nothing_read parts
+comment_read : (parts : List FilePart) → read_parts nothing_read (all_parts (cut_with comment (from_parts parts))) ≡ read_parts nothing_read parts
 unfolding read_parts read_part block_from is_comment
 comment_read parts = refl
 

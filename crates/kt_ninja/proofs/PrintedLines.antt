@@ -9,9 +9,9 @@ use Rattle.kt_ninja.specs.Pieces.{Plain}
 use Rattle.kt_ninja.specs.declared.plan.Made.{Made}
 use Rattle.kt_ninja.specs.declared.plan.Made.TheVariants.{Command, Phony}
 use Rattle.kt_ninja.specs.declared.plan.Statement.{Statement}
-use Rattle.kt_ninja.specs.JoinedLines.{Line, Text, file_lines, joined_from}
+use Rattle.kt_ninja.specs.JoinedLines.{JoinedLine, Text, file_lines, joined_from}
 use Rattle.kt_ninja.specs.Forms.{Pieces}
-use Rattle.kt_ninja.specs.NinjaRead.{Cut, Part, cut_lines, cut_with}
+use Rattle.kt_ninja.specs.NinjaRead.{Cut, FilePart, cut_lines, cut_with}
 use Rattle.kt_ninja.specs.Plan.{names_of}
 use Rattle.kt_ninja.specs.Text.{command_text, defaults_text, is_special_in_name, marked_text, names_text, number_text, rule_count, rule_name_text, rule_text, statements_text}
 use Rattle.kt_ninja.specs.Writable.{is_command_byte, is_empty, is_made, is_name}
@@ -188,11 +188,11 @@ line_cut (b ∷ bs) rest e =
     rw (other, line_cut bs rest both.1) refl
 
 -- the line of these pieces
-abbrev pub line : ℕ → Pieces → Line
+abbrev pub line : ℕ → Pieces → JoinedLine
 line number ps = record { number = number; text = written ps; ended = true }
 
 -- the joined lines of a text from this line on
-abbrev pub lines_at : ℕ → Text → List Line
+abbrev pub lines_at : ℕ → Text → List JoinedLine
 lines_at number text = joined_from number None (file_lines text)
 
 -- nothing is joined to a printed line
@@ -211,11 +211,11 @@ cut_line number ps rest e = ap cut_lines (line_first number ps rest e)
 -- ---- parts
 
 -- a part with a line of these pieces at the margin
-abbrev pub part : ℕ → Pieces → List Line → Part
+abbrev pub part : ℕ → Pieces → List JoinedLine → FilePart
 part number ps body = record { number = number; head = Some (line number ps); body = body }
 
 -- parts with no line before them
-abbrev pub from_parts : List Part → Cut
+abbrev pub from_parts : List FilePart → Cut
 from_parts parts = record { before = []; parts = parts }
 
 -- the line after a statement that begins at this line
@@ -224,25 +224,25 @@ line_after (Command c) at = at + 1 + 1 + 1
 line_after Phony at = at + 1
 
 -- the parts of a statement, and those after it
-abbrev pub statement_parts : ℕ → ℕ → Statement → Made → List Part → List Part
+abbrev pub statement_parts : ℕ → ℕ → Statement → Made → List FilePart → List FilePart
 statement_parts number at s (Command c) later =
     part at (rule_line (rule_name_text number (Command c))) (line (at + 1) (command_line c) ∷ [])
     ∷ part (at + 1 + 1) (build_line (rule_name_text number (Command c)) s) [] ∷ later
 statement_parts number at s Phony later = part at (build_line (codes "phony") s) [] ∷ later
 
 -- the part of the default targets, if there are any
-abbrev pub default_parts : ℕ → List Text → List Part
+abbrev pub default_parts : ℕ → List Text → List FilePart
 default_parts at [] = []
 default_parts at (n ∷ ns) = part at (default_line (n ∷ ns)) [] ∷ []
 
 -- the parts of statements and default targets, the first rule of which has this number, from this line on
-abbrev pub plan_parts : ℕ → ℕ → List Statement → List Text → List Part
+abbrev pub plan_parts : ℕ → ℕ → List Statement → List Text → List FilePart
 plan_parts number at [] defaults = default_parts at defaults
 plan_parts number at (s ∷ ss) defaults =
     statement_parts number at s s.made (plan_parts (number + rule_count s.made) (line_after s.made at) ss defaults)
 
 -- a build line before the others
-build_cut : (number at : ℕ) (made : Made) (s : Statement) (rest : Text) (later : List Part) → Named s
+build_cut : (number at : ℕ) (made : Made) (s : Statement) (rest : Text) (later : List FilePart) → Named s
     → cut_lines (lines_at (at + 1) rest) ≡ from_parts later
     → cut_lines (lines_at at (build_named (rule_name_text number made) s ++ rest)) ≡ from_parts (part at (build_line (rule_name_text number made) s) [] ∷ later)
 build_cut number at made s rest later named more =
@@ -252,7 +252,7 @@ build_cut number at made s rest later named more =
     ∙ ap (cut_with (line at ps)) more
 
 -- a statement before the others
-statement_cut : (number at : ℕ) (s : Statement) (made : Made) (rest : Text) (later : List Part) → is_made made ≡ true → Named s
+statement_cut : (number at : ℕ) (s : Statement) (made : Made) (rest : Text) (later : List FilePart) → is_made made ≡ true → Named s
     → cut_lines (lines_at (line_after made at) rest) ≡ from_parts later
     → cut_lines (lines_at at ((rule_text number made ++ build_named (rule_name_text number made) s) ++ rest)) ≡ from_parts (statement_parts number at s made later)
 statement_cut number at s (Command c) rest later can named more =

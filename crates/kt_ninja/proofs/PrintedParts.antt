@@ -8,7 +8,7 @@ use Rattle.std.proofs.lemmas.Bool.{and_from, and_parts}
 use Rattle.kt_ninja.specs.declared.plan.Made.{Made}
 use Rattle.kt_ninja.specs.declared.plan.Made.TheVariants.{Command, Phony}
 use Rattle.kt_ninja.specs.declared.plan.Statement.{Statement}
-use Rattle.kt_ninja.specs.JoinedLines.{Line, Text, is_comment}
+use Rattle.kt_ninja.specs.JoinedLines.{JoinedLine, Text, is_comment}
 use Rattle.kt_ninja.specs.Pieces.{Plain, pieces}
 use Rattle.kt_ninja.specs.Forms.{Binding, Build, Form, Pieces, binding_of, build_form, build_of, default_form, defaults_of, form_of, rule_form, rule_of}
 use Rattle.kt_ninja.specs.Scopes.{Table, find_in, put_in, value_in, value_within}
@@ -110,7 +110,7 @@ default_line_form n ns e =
 -- ---- parts
 
 -- a part by the form of its first line and its block
-part_read : (state : State) (number : ℕ) (ps : Pieces) (body : List Line) (form : Form) (bindings : List Binding) → list_all is_printed ps ≡ true
+part_read : (state : State) (number : ℕ) (ps : Pieces) (body : List JoinedLine) (form : Form) (bindings : List Binding) → list_all is_printed ps ≡ true
     → form_of (written ps) ≡ Some form → list_all is_sound body ≡ true → block_of body ≡ Some bindings
     → read_part state (part number ps body) ≡ read_form state form bindings
 unfolding read_part

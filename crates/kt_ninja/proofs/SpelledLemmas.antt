@@ -7,7 +7,7 @@ use Rattle.std.specs.List.{list_any, position_or_len}
 use Rattle.memchr.specs.Find.{IsFirstByte, is_byte2}
 use Rattle.kt_ninja.specs.declared.spelling.Cut.{Cut}
 use Rattle.kt_ninja.specs.JoinedLines.{Text}
-use Rattle.kt_ninja.specs.Pieces.{Piece, Plain, Variable, Where, Step, after_dollar, in_braces, in_name, is_escapable, is_long_name_byte, is_short_name_byte, last_pieces, outside, pieces, pieces_from, step}
+use Rattle.kt_ninja.specs.Pieces.{Piece, Plain, Variable, Where, PieceStep, after_dollar, in_braces, in_name, is_escapable, is_long_name_byte, is_short_name_byte, last_pieces, outside, pieces, pieces_from, step}
 use Rattle.kt_ninja.specs.inner.Spelled.{is_spelled, pieces_in}
 use Rattle.kt_ninja.specs.Forms.{is_plain}
 use Rattle.kt_ninja.specs.Writable.{is_empty}
@@ -41,7 +41,7 @@ over_both from mid to f g d e one two = record {
   reads = λ t. ap (pieces_from from) (append_assoc f g t) ∙ one.reads (g ++ t) ∙ ap (option_map (λ later. d ++ later)) (two.reads t) ∙ map_twice d e (pieces_from to t);
 }
 
-pub over_step : (from : Where) (b : ℕ) (s : Step) → step from b ≡ Some s → Over from (b ∷ []) s.done s.next
+pub over_step : (from : Where) (b : ℕ) (s : PieceStep) → step from b ≡ Some s → Over from (b ∷ []) s.done s.next
 unfolding pieces_from
 over_step from b s h = record { reads = λ t. rw h refl }
 
@@ -54,15 +54,15 @@ some_step from b bs h = by (step from b) h
     kept front None e = e
     kept front (Some ps) e = refl
 
-    by : (found : Option Step) → is_some (option_and_then (λ s. option_map (λ later. s.done ++ later) (pieces_from s.next bs)) found) ≡ true → IfSome found (λ s. is_some (pieces_from s.next bs) ≡ true)
+    by : (found : Option PieceStep) → is_some (option_and_then (λ s. option_map (λ later. s.done ++ later) (pieces_from s.next bs)) found) ≡ true → IfSome found (λ s. is_some (pieces_from s.next bs) ≡ true)
     by None e = tt
     by (Some s) e = kept s.done (pieces_from s.next bs) e
 
-step_is : (from : Where) (b : ℕ) (bs : Text) → is_some (pieces_from from (b ∷ bs)) ≡ true → (s : Step) × (step from b ≡ Some s)
+step_is : (from : Where) (b : ℕ) (bs : Text) → is_some (pieces_from from (b ∷ bs)) ≡ true → (s : PieceStep) × (step from b ≡ Some s)
 unfolding pieces_from
 step_is from b bs h = by (step from b) h
   where
-    by : (found : Option Step) → is_some (option_and_then (λ s. option_map (λ later. s.done ++ later) (pieces_from s.next bs)) found) ≡ true → (s : Step) × (found ≡ Some s)
+    by : (found : Option PieceStep) → is_some (option_and_then (λ s. option_map (λ later. s.done ++ later) (pieces_from s.next bs)) found) ≡ true → (s : PieceStep) × (found ≡ Some s)
     by None e = absurd (false≢true e)
     by (Some s) e = (s, refl)
 
@@ -73,7 +73,7 @@ is_ready after_dollar = false
 is_ready (in_name name) = true
 is_ready (in_braces name) = true
 
-abbrev Fits : ℕ → Step → Type 0
+abbrev Fits : ℕ → PieceStep → Type 0
 Fits mark s = (is_ready s.next ≡ true) × (list_any (is_plain mark) s.done ≡ false)
 
 -- a byte that is neither a dollar nor the mark
@@ -268,7 +268,7 @@ last_free mark after_dollar ready = tt
 last_free mark (in_name name) ready = refl
 last_free mark (in_braces name) ready = tt
 
-pub record Ended (mark : ℕ) (to : Where) (s : Step) : Type 0 where
+pub record Ended (mark : ℕ) (to : Where) (s : PieceStep) : Type 0 where
   pub last : List Piece
   pub is : last_pieces to ≡ Some last
   pub done : s.done ≡ last ++ Plain mark ∷ []

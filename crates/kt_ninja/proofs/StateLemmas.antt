@@ -12,7 +12,7 @@ use Rattle.kt_ninja.specs.Scopes.{Scope, expanded, find_in, put_in, refers_to, v
 use Rattle.kt_ninja.specs.NinjaRead.{Making, State, PendingStatement, add_defaults, are_new, block_scope, made_of, outs_of, paths_in, pending_with, statement_of}
 use Rattle.kt_list.specs.Names.{is_among, with_name}
 use Rattle.kt_ninja.specs.Writable.{is_empty}
-use Rattle.kt_ninja.specs.inner.Refusals.{Refuses}
+use Rattle.kt_ninja.specs.inner.Refusals.{LacksReading}
 use Rattle.kt_ninja.specs.inner.Holding.{block_with, made_as, making_as, path_in}
 
 -- what is left begins with the item that comes next
@@ -110,8 +110,8 @@ statement_told file s block making made held is =
     (is ∙ made_told file s block making ∙ ap (made_of file s) (sym held))
 
 -- an answer for one value is one for another that is the same
-pub carried : {X : Type 0} (old new : Option X) (r : Result X Fault) → old ≡ new → MatchResult r (λ x. old ≡ Some x) (Refuses old) → MatchResult r (λ x. new ≡ Some x) (Refuses new)
-carried {X} old new r same h = let P : Option X → Type 0 = λ o. MatchResult r (λ x. o ≡ Some x) (Refuses o) in subst P same h
+pub carried : {X : Type 0} (old new : Option X) (r : Result X Fault) → old ≡ new → MatchResult r (λ x. old ≡ Some x) (LacksReading old) → MatchResult r (λ x. new ≡ Some x) (LacksReading new)
+carried {X} old new r same h = let P : Option X → Type 0 = λ o. MatchResult r (λ x. o ≡ Some x) (LacksReading o) in subst P same h
 
 -- a build line without all of its paths
 pub no_inputs : (value_of : Text → Text) (making : Making) (b : Build) (outs : List Text) → paths_in value_of b.outs ≡ Some outs

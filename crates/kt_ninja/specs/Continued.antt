@@ -3,7 +3,7 @@
 use Rattle.std.specs.Prelude.{◌≡◌, ◌⊎◌, ℕ, ◌+◌, Bool, true, false, not, ◌==◌, ◌∷◌, ◌++◌}
 use Rattle.std.specs.Prelude.{List, [], length, if◌then◌else◌}
 use Rattle.std.specs.List.{flat_map, list_all}
-use Rattle.kt_ninja.specs.JoinedLines.{Line, Text, ends_in_dollar, is_comment, joined_lines, without_indent}
+use Rattle.kt_ninja.specs.JoinedLines.{JoinedLine, Text, ends_in_dollar, is_comment, joined_lines, without_indent}
 
 -- a joined line: what stands in front of each of its escaped newlines, what stands after the last of them, and
 -- whether a newline ends it
@@ -30,7 +30,7 @@ kept_of [] = []
 kept_of (l ∷ ls) = l ++ flat_map without_indent ls
 
 -- the lines, the first of which has this number
-abbrev pub numbered : ℕ → List Continued → List Line
+abbrev pub numbered : ℕ → List Continued → List JoinedLine
 numbered number [] = []
 numbered number (l ∷ ls) = record { number = number; text = kept_of (l.fronts ++ l.last ∷ []); ended = l.ended }
     ∷ numbered (number + length l.fronts + 1) ls

@@ -10,7 +10,7 @@ Text = List ℕ
 
 -- a line with those that are joined to it, without newlines: the number of its first line in the file, from 1, its
 -- text, and whether it ends with a newline
-pub record Line : Type 0 where
+pub record JoinedLine : Type 0 where
   pub number : ℕ
   pub text : Text
   pub ended : Bool
@@ -69,12 +69,12 @@ abbrev pub goes_on : FileLine → Text → Bool
 goes_on line joined = line.ended && (ends_in_dollar false line.bytes && not (is_comment joined))
 
 -- a line that still goes on where the text ends has no newline
-abbrev pub left_over : Option Begun → List Line
+abbrev pub left_over : Option Begun → List JoinedLine
 left_over None = []
 left_over (Some begun) = record { number = begun.first; text = begun.front; ended = false } ∷ []
 
 -- the joined lines of file lines, the first of which has this number, after what was begun
-unfoldable pub joined_from : ℕ → Option Begun → List FileLine → List Line
+unfoldable pub joined_from : ℕ → Option Begun → List FileLine → List JoinedLine
 joined_from number begun [] = left_over begun
 joined_from number begun (l ∷ ls) =
     let joined = joined_text begun l.bytes in
@@ -87,5 +87,5 @@ joined_from number begun (l ∷ ls) =
     ∷ joined_from (number + 1) None ls
 
 -- the joined lines of a text, numbered from 1 by their first file line
-unfoldable pub joined_lines : Text → List Line
+unfoldable pub joined_lines : Text → List JoinedLine
 joined_lines text = joined_from 1 None (file_lines text)

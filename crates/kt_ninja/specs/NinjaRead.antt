@@ -9,7 +9,7 @@ use Rattle.kt_ninja.specs.declared.plan.Made.{Made}
 use Rattle.kt_ninja.specs.declared.plan.Made.TheVariants.{Command, Phony}
 use Rattle.kt_ninja.specs.declared.plan.Statement.{Statement}
 use Rattle.kt_ninja.specs.declared.plan.Plan.{Plan}
-use Rattle.kt_ninja.specs.JoinedLines.{Line, Text, is_blank, is_comment, joined_lines}
+use Rattle.kt_ninja.specs.JoinedLines.{JoinedLine, Text, is_blank, is_comment, joined_lines}
 use Rattle.kt_ninja.specs.Pieces.{pieces}
 use Rattle.kt_ninja.specs.Forms.{Binding, Build, Form, Pieces, binding_of, rule_form, build_form, default_form}
 use Rattle.kt_ninja.specs.Forms.{binding_form, form_of}
@@ -19,10 +19,10 @@ use Rattle.kt_list.specs.Names.{is_among}
 use Rattle.kt_ninja.specs.Writable.{is_empty}
 
 -- a part of the file: a line at the margin, if it has one, with the lines up to the next such line
-pub record Part : Type 0 where
+pub record FilePart : Type 0 where
   pub number : ℕ
-  pub head : Option Line
-  pub body : List Line
+  pub head : Option JoinedLine
+  pub body : List JoinedLine
 
 -- what begins a part: a line that isn't empty and begins with neither a space nor `#`
 abbrev pub begins_part : Text → Bool
@@ -31,11 +31,11 @@ begins_part (b ∷ bs) = not (b == 32 || b == 35)
 
 -- lines before the first part that a line begins, and the parts
 pub record Cut : Type 0 where
-  pub before : List Line
-  pub parts : List Part
+  pub before : List JoinedLine
+  pub parts : List FilePart
 
 -- one more line in front
-abbrev pub cut_with : Line → Cut → Cut
+abbrev pub cut_with : JoinedLine → Cut → Cut
 cut_with line cut =
     if begins_part line.text
     then record {
@@ -46,12 +46,12 @@ cut_with line cut =
     else record { before = line ∷ cut.before; parts = cut.parts }
 
 -- lines cut before each that begins a part
-unfoldable pub cut_lines : List Line → Cut
+unfoldable pub cut_lines : List JoinedLine → Cut
 cut_lines [] = record { before = []; parts = [] }
 cut_lines (l ∷ ls) = cut_with l (cut_lines ls)
 
 -- all parts: the first begins with the first line, whatever that is
-abbrev pub all_parts : Cut → List Part
+abbrev pub all_parts : Cut → List FilePart
 all_parts cut = if is_empty cut.before then cut.parts
     else record { number = 1; head = None; body = cut.before } ∷ cut.parts
 
@@ -60,11 +60,11 @@ abbrev pub is_file_byte : ℕ → Bool
 is_file_byte b = not (b == 13 || b == 0)
 
 -- a line that a file can have: it ends with a newline, and has no byte that is refused
-abbrev pub is_sound : Line → Bool
+abbrev pub is_sound : JoinedLine → Bool
 is_sound line = line.ended && list_all is_file_byte line.text
 
 -- the lines of a block: comments are skipped, and after a blank line no binding stands
-unfoldable pub block_from : Bool → List Line → Option (List Binding)
+unfoldable pub block_from : Bool → List JoinedLine → Option (List Binding)
 block_from closed [] = Some []
 block_from closed (l ∷ ls) =
     if is_comment l.text then block_from closed ls
@@ -74,7 +74,7 @@ block_from closed (l ∷ ls) =
     (λ bs. b ∷ bs) (block_from false ls)) (option_and_then binding_of (pieces l.text))))
 
 -- the bindings of a block
-abbrev pub block_of : List Line → Option (List Binding)
+abbrev pub block_of : List JoinedLine → Option (List Binding)
 block_of lines = block_from false lines
 
 -- how the outputs of a statement are made: by no command, by a command of its own, or by its rule's command with the
@@ -204,13 +204,13 @@ read_form state (default_form paths) bindings = if is_empty bindings then read_d
 read_form state (binding_form b) bindings = if is_empty bindings then Some (bind state b) else None
 
 -- a part's first line with the bindings below it
-abbrev pub read_head : State → Option Line → List Binding → Option State
+abbrev pub read_head : State → Option JoinedLine → List Binding → Option State
 read_head state None bindings = if is_empty bindings then Some state else None
 read_head state (Some line) bindings =
     if is_sound line then option_and_then (λ form. read_form state form bindings) (form_of line.text) else None
 
 -- what a part adds to what was read before it, if it has a reading there
-unfoldable pub read_part : State → Part → Option State
+unfoldable pub read_part : State → FilePart → Option State
 read_part state part =
     if list_all is_sound part.body then option_and_then (read_head state part.head) (block_of part.body) else None
 
@@ -219,7 +219,7 @@ abbrev pub and_then_parts : ℕ → Option State → (State → Result State ℕ
 and_then_parts number None rest = Err number
 and_then_parts number (Some state) rest = rest state
 
-unfoldable pub read_parts : State → List Part → Result State ℕ
+unfoldable pub read_parts : State → List FilePart → Result State ℕ
 read_parts state [] = Ok state
 read_parts state (p ∷ ps) = and_then_parts p.number (read_part state p) (λ s. read_parts s ps)
 
@@ -253,7 +253,7 @@ plan_in (Ok state) = Ok (plan_of state)
 plan_in (Err number) = Err number
 
 -- the plan that lines say, or the number of the line that begins the first part through which they say none
-abbrev pub plan_said : List Line → Result Plan ℕ
+abbrev pub plan_said : List JoinedLine → Result Plan ℕ
 plan_said lines = plan_in (read_parts nothing_read (all_parts (cut_lines lines)))
 
 -- the plan that a text says

@@ -36,31 +36,31 @@ pub data Where : Type 0 where
   in_braces : Text → Where
 
 -- what a byte ends, and where the next one stands
-pub record Step : Type 0 where
+pub record PieceStep : Type 0 where
   pub done : List Piece
   pub next : Where
 
 -- a byte outside of all escapes, after these pieces
-abbrev pub outer_step : List Piece → ℕ → Step
+abbrev pub outer_step : List Piece → ℕ → PieceStep
 outer_step before b =
     if b == 36 then record { done = before; next = after_dollar }
     else record { done = before ++ Plain b ∷ []; next = outside }
 
 -- the byte after a dollar; none where it escapes nothing
-abbrev pub dollar_step : ℕ → Option Step
+abbrev pub dollar_step : ℕ → Option PieceStep
 dollar_step b =
     if is_escapable b then Some (record { done = Escaped b ∷ []; next = outside })
     else (if b == 123 then Some (record { done = []; next = in_braces [] })
     else (if is_short_name_byte b then Some (record { done = []; next = in_name (b ∷ []) }) else None))
 
 -- a byte in braces: a name has at least one byte
-abbrev pub brace_step : Text → ℕ → Option Step
+abbrev pub brace_step : Text → ℕ → Option PieceStep
 brace_step name b =
     if b == 125 then (if is_empty name then None else Some (record { done = Variable name ∷ []; next = outside }))
     else (if is_long_name_byte b then Some (record { done = []; next = in_braces (name ++ b ∷ []) }) else None)
 
 -- any byte; a name without braces is as long as can be
-abbrev pub step : Where → ℕ → Option Step
+abbrev pub step : Where → ℕ → Option PieceStep
 step outside b = Some (outer_step [] b)
 step after_dollar b = dollar_step b
 step (in_name name) b =

@@ -5,10 +5,10 @@ use Rattle.kt_ninja.specs.declared.read_fault.Fault.{Fault}
 use Rattle.kt_ninja.specs.declared.read_fault.Fault.TheVariants.{NoReading, Memory}
 use Rattle.kt_ninja.specs.declared.read_fault.ReadFault.{ReadFault}
 use Rattle.kt_ninja.specs.declared.read_fault.ReadFault.TheVariants.{NotNinja, Memory as MemoryRefused}
-use Rattle.kt_ninja.specs.JoinedLines.{Line, Text}
+use Rattle.kt_ninja.specs.JoinedLines.{JoinedLine, Text}
 use Rattle.kt_ninja.specs.Pieces.{pieces}
 use Rattle.kt_ninja.specs.Forms.{Binding, binding_of, build_of, defaults_of, form_of, rule_of}
-use Rattle.kt_ninja.specs.NinjaRead.{Part, State, bind, block_from, read_build, read_default, read_form, read_rule}
+use Rattle.kt_ninja.specs.NinjaRead.{FilePart, State, bind, block_from, read_build, read_default, read_form, read_rule}
 use Rattle.kt_ninja.specs.Writable.{is_empty}
 
 -- the text has no reading from the part on that begins with this line, or memory was refused
@@ -26,15 +26,15 @@ abbrev pub line_binding : Text → Option Binding
 line_binding text = option_and_then binding_of (pieces text)
 
 -- what a line of a block adds, and whether it closes the block, whatever comes after it
-abbrev pub Adds : Bool → List Binding → Line → Bool → List Binding → Type 0
+abbrev pub Adds : Bool → List Binding → JoinedLine → Bool → List Binding → Type 0
 Adds closed old line now new =
-    (rest : List Line) → option_map (λ more. old ++ more) (block_from closed (line ∷ rest)) ≡ option_map
+    (rest : List JoinedLine) → option_map (λ more. old ++ more) (block_from closed (line ∷ rest)) ≡ option_map
     (λ more. new ++ more) (block_from now rest)
 
 -- no block goes on with the line, or memory was refused
-abbrev pub Stops : Bool → Line → Fault → Type 0
-Stops closed line NoReading = (rest : List Line) → block_from closed (line ∷ rest) ≡ None
-Stops closed line Memory = Unit {0}
+abbrev pub StopsBlock : Bool → JoinedLine → Fault → Type 0
+StopsBlock closed line NoReading = (rest : List JoinedLine) → block_from closed (line ∷ rest) ≡ None
+StopsBlock closed line Memory = Unit {0}
 
 -- what stands after `rule`, `build` and `default`, and a binding, with the block below it
 abbrev pub rule_line : State → List Binding → Text → Option State
@@ -57,9 +57,9 @@ abbrev pub read_text : State → List Binding → Text → Option State
 read_text state bindings text = option_and_then (λ form. read_form state form bindings) (form_of text)
 
 -- the part that a line begins
-abbrev pub part_of : Line → List Line → Part
+abbrev pub part_of : JoinedLine → List JoinedLine → FilePart
 part_of head body = record { number = head.number; head = Some head; body = body }
 
 -- the lines before the first such part
-abbrev pub part_before : List Line → Part
+abbrev pub part_before : List JoinedLine → FilePart
 part_before body = record { number = 1; head = None; body = body }

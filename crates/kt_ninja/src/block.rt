@@ -41,7 +41,19 @@ impl<'a, W: Sink> Block<'a, W> {
     }
 
     /// Puts the piece after what waits.
+    #[inline(always)]
     pub fn put(&mut self, piece: &[u8])
+        ensures { Puts W.seen self.old self.new piece.now }
+    {
+        if piece.len() <= self.waiting.remaining_capacity() {
+            self.waiting.try_extend_from_slice(piece).unwrap();
+        } else {
+            self.put_across(piece);
+        }
+    }
+
+    /// The same for a piece that may have no room in the block.
+    fn put_across(&mut self, piece: &[u8])
         ensures { Puts W.seen self.old self.new piece.now }
     {
         let mut done = 0;

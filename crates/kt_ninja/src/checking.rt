@@ -11,6 +11,7 @@ ghost use Rattle.kt_ninja.specs.Writable.{obstacle_of_statements};
 
 use crate::plan::Plan;
 use crate::view::{Listed, NamesView, PlanView};
+use memchr::memchr3;
 use thiserror::Error;
 
 /// What keeps a plan from being written. Numbers are those of the plan's statements, from 0.
@@ -36,12 +37,6 @@ fn is_written_name_byte(byte: u8) -> bool
     !matches!(byte, b'|' | b'\r' | b'\n' | 0)
 }
 
-fn is_written_command_byte(byte: u8) -> bool
-    ensures { result ≡ is_command_byte byte }
-{
-    !matches!(byte, b'\r' | b'\n' | 0)
-}
-
 fn all_name_bytes(bytes: &[u8]) -> bool
     ensures { result ≡ list_all is_name_byte bytes.now }
 {
@@ -49,10 +44,11 @@ fn all_name_bytes(bytes: &[u8]) -> bool
 }
 
 /// Whether a command can hold these bytes: there is no CR, LF or NUL.
+#[tactic(auto, using(crate::proofs::Finding::none_found))]
 pub fn command_can_hold(bytes: &[u8]) -> bool
     ensures { result ≡ list_all is_command_byte bytes.now }
 {
-    bytes.iter().all(|byte| is_written_command_byte(*byte))
+    memchr3(b'\r', b'\n', 0, bytes).is_none()
 }
 
 fn has_no_bytes(bytes: &[u8]) -> bool

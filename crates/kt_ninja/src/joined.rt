@@ -8,7 +8,7 @@ ghost use Rattle.kt_ninja.specs.JoinedLines.{without_indent};
 ghost use Rattle.kt_ninja.specs.inner.Joining.{Joins, added_text, file_line, kept_text};
 
 use crate::bytes::first_byte;
-use crate::line::{Line, LineText};
+use crate::line::{JoinedLine, LineText};
 use memchr::memchr;
 use std::alloc::{AllocError, Global};
 use std::mem;
@@ -186,7 +186,7 @@ impl<'t> Begun<'t> {
     fn end(
         &mut self,
         alloc: Global,
-        lines: &mut Vec<Line<'t>>,
+        lines: &mut Vec<JoinedLine<'t>>,
         ended: bool,
         next: u64,
     ) -> Result<(), AllocError>
@@ -199,13 +199,13 @@ impl<'t> Begun<'t> {
         let text = mem::replace(&mut self.text, LineText::empty());
         self.number = next;
         self.blank = true;
-        let line = Line::new(alloc, number, text, ended)?;
+        let line = JoinedLine::new(alloc, number, text, ended)?;
         Ok(lines.push(line)?)
     }
 }
 
 /// The joined lines of the text (Ninja manual, "Lexical syntax").
-pub(crate) fn joined_lines(alloc: Global, text: &[u8]) -> Result<Vec<Line<'_>>, AllocError>
+pub(crate) fn joined_lines(alloc: Global, text: &[u8]) -> Result<Vec<JoinedLine<'_>>, AllocError>
     ensures { IfOk result (λ lines. lines.items ≡ joined_lines text.now) }
 {
     let mut lines = Vec::new(alloc);

@@ -81,7 +81,7 @@ fn both(alloc: Global, first: &[u8], second: &[u8]) -> Result<Vec<u8>, AllocErro
 
 /// A line with those that are joined to it, without newlines.
 #[derive(Drop)]
-pub(crate) struct Line<'t> {
+pub(crate) struct JoinedLine<'t> {
     form: LineForm<'t>,
 }
 
@@ -99,22 +99,22 @@ struct OtherLine {
     ended: bool,
 }
 
-impl<'t> Model for Line<'t> {
-    ghost use Rattle.kt_ninja.specs.JoinedLines.{Line as JoinedLine};
+impl<'t> Model for JoinedLine<'t> {
+    ghost use Rattle.kt_ninja.specs.JoinedLines.{JoinedLine as ReadLine};
     ghost use Rattle.kt_ninja.specs.inner.Joining.{line_view};
 
-    ghost Value = { JoinedLine };
+    ghost Value = { ReadLine };
 
     ghost view = { λ s. line_view s.form };
 }
 
-impl<'t> Line<'t> {
+impl<'t> JoinedLine<'t> {
     pub(crate) fn new(
         alloc: Global,
         number: u64,
         text: LineText<'t>,
         ended: bool,
-    ) -> Result<Line<'t>, AllocError>
+    ) -> Result<JoinedLine<'t>, AllocError>
         ensures { IfOk result (λ line. line ≡ record { number = number; text = text.entry; ended = ended }) }
     {
         let form = match text.of_file() {
@@ -128,7 +128,7 @@ impl<'t> Line<'t> {
                 LineForm::Other(Box::new(alloc, line)?)
             }
         };
-        Ok(Line { form })
+        Ok(JoinedLine { form })
     }
 
     /// The number of its first line in the file, from 1.

@@ -6,7 +6,7 @@ ghost use Rattle.kt_ninja.specs.declared.plan.Plan.{Plan as PlanRead};
 ghost use Rattle.kt_ninja.specs.declared.read_fault.ReadFault.TheVariants.{Memory as MemoryRefused};
 ghost use Rattle.kt_ninja.specs.NinjaRead.{all_parts, begins_part, block_of, cut_lines, is_file_byte, is_sound};
 ghost use Rattle.kt_ninja.specs.NinjaRead.{ninja_read, nothing_read, plan_said, read_part, read_parts};
-ghost use Rattle.kt_ninja.specs.Reading.{Adds, Misreads, Stops, build_line, default_line, fault_at, line_binding};
+ghost use Rattle.kt_ninja.specs.Reading.{Adds, Misreads, StopsBlock, build_line, default_line, fault_at, line_binding};
 ghost use Rattle.kt_ninja.specs.Reading.{margin_line, part_before, part_of, read_text, rule_line};
 ghost use Rattle.kt_ninja.specs.inner.Parting.{CutsPart};
 ghost use Rattle.kt_ninja.specs.inner.Refusals.{Reads, ReadsAs};
@@ -18,7 +18,7 @@ ghost use Rattle.kt_ninja.specs.Writable.{IsWritable, is_empty};
 use crate::bytes::first_byte;
 use crate::forms::{Binding, binding_of, build_of, defaults_of, rule_name};
 use crate::joined::{is_blank, is_comment, joined_lines};
-use crate::line::Line;
+use crate::line::JoinedLine;
 use crate::plan::Plan;
 use crate::read_fault::{Fault, ReadFault};
 use crate::spelling::Spelling;
@@ -26,7 +26,7 @@ use crate::state::State;
 use std::alloc::Global;
 
 // Whether the line begins a part of the file: it isn't empty, and begins with neither a space nor `#`.
-fn begins_part(line: &Line) -> bool
+fn begins_part(line: &JoinedLine) -> bool
     ensures { result ≡ begins_part line.now.text }
 {
     match first_byte(line.text()) {
@@ -48,13 +48,13 @@ fn all_file_bytes(text: &[u8]) -> bool
 }
 
 // Whether the file can have the line: it ends, and has no byte that is refused.
-fn is_sound(line: &Line) -> bool
+fn is_sound(line: &JoinedLine) -> bool
     ensures { result ≡ is_sound line.now }
 {
     line.is_ended() && all_file_bytes(line.text())
 }
 
-fn all_sound(lines: &[Line]) -> bool
+fn all_sound(lines: &[JoinedLine]) -> bool
     ensures { result ≡ list_all is_sound lines.now }
 {
     lines.iter().all(|line| is_sound(line))
@@ -89,10 +89,10 @@ fn add_line<'t>(
     alloc: Global,
     closed: bool,
     bindings: &mut Vec<Binding<'t>>,
-    line: &'t Line<'t>,
+    line: &'t JoinedLine<'t>,
 ) -> Result<bool, Fault>
     ensures { MatchResult result (λ now. Adds closed (map binding_view bindings.old.items) line.now now
-        (map binding_view bindings.new.items)) (Stops closed line.now) }
+        (map binding_view bindings.new.items)) (StopsBlock closed line.now) }
 {
     let text = line.text();
     if is_comment(text) {
@@ -109,7 +109,7 @@ fn add_line<'t>(
 }
 
 // The bindings of a block.
-fn block<'t>(alloc: Global, body: &'t [Line<'t>]) -> Result<Vec<Binding<'t>>, Fault>
+fn block<'t>(alloc: Global, body: &'t [JoinedLine<'t>]) -> Result<Vec<Binding<'t>>, Fault>
     ensures { ReadsAs (λ block. map binding_view block.items) result (block_of body.now) }
 {
     let mut bindings = Vec::new(alloc);
@@ -214,7 +214,7 @@ fn read_text<'t>(
 
 // The lines before the first that begins a part.
 #[tactic(auto, unfolding(crate::specs::NinjaRead::read_part))]
-fn read_before<'t>(alloc: Global, body: &'t [Line<'t>]) -> Result<(), Fault>
+fn read_before<'t>(alloc: Global, body: &'t [JoinedLine<'t>]) -> Result<(), Fault>
     ensures { ReadsAs (λ _. nothing_read) result (read_part nothing_read (part_before body.now)) }
 {
     if !all_sound(body) {
@@ -233,8 +233,8 @@ fn read_before<'t>(alloc: Global, body: &'t [Line<'t>]) -> Result<(), Fault>
 fn read_part<'t>(
     alloc: Global,
     state: State<'t>,
-    head: &'t Line<'t>,
-    body: &'t [Line<'t>],
+    head: &'t JoinedLine<'t>,
+    body: &'t [JoinedLine<'t>],
 ) -> Result<State<'t>, Fault>
     ensures { Reads result (read_part state.entry (part_of head.now body.now)) }
 {
@@ -246,7 +246,7 @@ fn read_part<'t>(
 }
 
 // How many lines there are before the next that begins a part.
-fn body_length(lines: &[Line]) -> usize
+fn body_length(lines: &[JoinedLine]) -> usize
     ensures value { result ≡ prefix_len (λ line. not (begins_part line.text)) lines.now }
     ensures bound { result ≤ length lines.now }
 {
@@ -265,12 +265,12 @@ fn fault_at(number: u64, fault: Fault) -> ReadFault
 // A part of the file: the line that begins it, those below it, and where the next part begins.
 #[derive(Drop)]
 struct PartLines<'t> {
-    head: &'t Line<'t>,
-    body: &'t [Line<'t>],
+    head: &'t JoinedLine<'t>,
+    body: &'t [JoinedLine<'t>],
     next: usize,
 }
 
-fn lines_from<'t>(lines: &'t [Line<'t>], from: usize) -> &'t [Line<'t>]
+fn lines_from<'t>(lines: &'t [JoinedLine<'t>], from: usize) -> &'t [JoinedLine<'t>]
     requires { from ≤ length lines.now }
     ensures { result.now ≡ drop from lines.now }
 {
@@ -278,7 +278,7 @@ fn lines_from<'t>(lines: &'t [Line<'t>], from: usize) -> &'t [Line<'t>]
 }
 
 // The part that begins at this line. The place is a number: the borrow checker loses a slice of such lines in a loop.
-fn part_at<'t>(lines: &'t [Line<'t>], from: usize) -> Option<PartLines<'t>>
+fn part_at<'t>(lines: &'t [JoinedLine<'t>], from: usize) -> Option<PartLines<'t>>
     requires bound { from ≤ length lines.now }
     requires begun { (cut_lines (drop from lines.now)).before ≡ [] }
     ensures { MatchOption result (drop from lines.now ≡ []) (CutsPart lines.now from) }
@@ -296,7 +296,7 @@ fn part_at<'t>(lines: &'t [Line<'t>], from: usize) -> Option<PartLines<'t>>
 }
 
 // The parts of the file, where no line stands before the first.
-fn read_parts<'t>(alloc: Global, parts: &'t [Line<'t>]) -> Result<State<'t>, ReadFault>
+fn read_parts<'t>(alloc: Global, parts: &'t [JoinedLine<'t>]) -> Result<State<'t>, ReadFault>
     requires { (cut_lines parts.now).before ≡ [] }
     ensures { MatchResult result (λ state. read_parts nothing_read (cut_lines parts.now).parts
         ≡ Ok state) (Misreads (read_parts nothing_read (cut_lines parts.now).parts)) }
@@ -314,7 +314,7 @@ fn read_parts<'t>(alloc: Global, parts: &'t [Line<'t>]) -> Result<State<'t>, Rea
 }
 
 // All lines of the file.
-fn read_lines<'t>(alloc: Global, lines: &'t [Line<'t>]) -> Result<State<'t>, ReadFault>
+fn read_lines<'t>(alloc: Global, lines: &'t [JoinedLine<'t>]) -> Result<State<'t>, ReadFault>
     ensures { MatchResult result (λ state. read_parts nothing_read (all_parts (cut_lines lines.now))
         ≡ Ok state) (Misreads (read_parts nothing_read (all_parts (cut_lines lines.now)))) }
 {
@@ -326,7 +326,7 @@ fn read_lines<'t>(alloc: Global, lines: &'t [Line<'t>]) -> Result<State<'t>, Rea
 }
 
 // The plan that all lines of the file say.
-fn plan_of_lines<'t>(alloc: Global, lines: &'t [Line<'t>]) -> Result<Plan, ReadFault>
+fn plan_of_lines<'t>(alloc: Global, lines: &'t [JoinedLine<'t>]) -> Result<Plan, ReadFault>
     ensures { MatchResult result (λ plan. plan_said lines.now ≡ Ok plan) (Misreads (plan_said lines.now)) }
 {
     let state = read_lines(alloc, lines)?;

@@ -9,7 +9,7 @@ ghost use Rattle.kt_ninja.specs.Scopes.{put_in, shell_word, shell_words, value_i
 use crate::plan::Name;
 use crate::spelling::{Dollar, Spelling};
 use crate::table::Table;
-use kt_list::Sequence;
+use kt_list::{Sequence, Text};
 use std::alloc::{AllocError, Global};
 use std::boxed::Box;
 use std::marker::Model;
@@ -80,10 +80,10 @@ impl BlockScope {
     pub(crate) fn put(
         &mut self,
         alloc: Global,
-        name: Vec<u8>,
+        name: Text,
         value: Sequence<u8>,
     ) -> Result<(), AllocError>
-        ensures { OnOk result (self.new ≡ put_in self.old name.items value) }
+        ensures { OnOk result (self.new ≡ put_in self.old name value) }
     {
         let mut values = self.take(alloc);
         values.put(name, value)?;

@@ -6,7 +6,7 @@ ghost use Rattle.kt_ninja.specs.NinjaRead.{add_defaults, add_statement, are_new,
 ghost use Rattle.kt_ninja.specs.NinjaRead.{nothing_read, paths_in, plan_of, read_build, read_default, read_rule};
 ghost use Rattle.kt_ninja.specs.NinjaRead.{rule_command, pending_with};
 ghost use Rattle.kt_ninja.specs.Scopes.{expanded, find_in, refers_to, value_in, value_within};
-ghost use Rattle.kt_ninja.specs.inner.Holding.{Fails, block_with, making_as};
+ghost use Rattle.kt_ninja.specs.inner.Holding.{FailsTest, block_with, making_as};
 ghost use Rattle.kt_ninja.specs.inner.Wording.{binding_view, build_view};
 ghost use Rattle.kt_ninja.specs.inner.Refusals.{Reads, ReadsAs};
 ghost use Rattle.kt_list.specs.Names.{is_among};
@@ -19,7 +19,7 @@ use crate::read_fault::Fault;
 use crate::scopes::{BlockScope, Scope, Scopes, expanded};
 use crate::spelling::Spelling;
 use crate::table::{Rules, Table};
-use kt_list::{Names, Sequence};
+use kt_list::{Names, Sequence, Text};
 use std::alloc::{AllocError, Global};
 use std::boxed::Box;
 use std::marker::Model;
@@ -120,7 +120,7 @@ fn add_to_block(
     if block.has(binding.key) || refers_to_key(alloc, block, &binding.value)? {
         return Err(Fault::NoReading);
     }
-    let key = Vec::from_slice(alloc, binding.key)?;
+    let key = Text::copied(alloc, binding.key)?;
     let value = value_of(alloc, &binding.value, file)?;
     block.put(alloc, key, Sequence::from(value))?;
     Ok(())
@@ -140,7 +140,7 @@ fn block_scope(alloc: Global, file: &Scope, bindings: &[Binding]) -> Result<Bloc
 // Adds outputs, each of which is new.
 fn add_outs(names: &mut Names, outs: &[Name]) -> Result<(), Fault>
     ensures { MatchResult result (λ _. (are_new names.old outs.now ≡ true)
-        × (names.new ≡ names.old ++ outs.now)) (Fails (are_new names.old outs.now)) }
+        × (names.new ≡ names.old ++ outs.now)) (FailsTest (are_new names.old outs.now)) }
 {
     for out in outs {
         let name = out.as_slice();
@@ -187,7 +187,7 @@ impl<'t> State<'t> {
         ensures { IfOk result (λ state. state ≡ bind self.entry (binding_view binding.now)) }
     {
         let value = value_of(self.alloc, &binding.value, &self.file)?;
-        let key = Vec::from_slice(self.alloc, binding.key)?;
+        let key = Text::copied(self.alloc, binding.key)?;
         self.file.put(key, Sequence::from(value))?;
         Ok(self)
     }
@@ -210,7 +210,7 @@ impl<'t> State<'t> {
     }
 
     #[tactic(auto, unfolding(crate::specs::NinjaRead::making_of))]
-    fn making(&self, rule: &[u8], block: &BlockScope) -> Result<Making<'t>, Fault>
+    fn making(&self, rule: &'t [u8], block: &BlockScope) -> Result<Making<'t>, Fault>
         ensures { ReadsAs (λ making. making_as block.now making) result (making_of self.now rule.now block.now) }
     {
         if is_phony(rule) {
@@ -250,7 +250,7 @@ impl<'t> State<'t> {
 
     /// A build line with its block.
     #[tactic(auto, unfolding(crate::specs::NinjaRead::read_build))]
-    pub(crate) fn read_build(self, build: &Build, block: &[Binding]) -> Result<State<'t>, Fault>
+    pub(crate) fn read_build(self, build: &Build<'t>, block: &[Binding]) -> Result<State<'t>, Fault>
         ensures { Reads result (read_build self.entry (build_view build.now) (map binding_view block.now)) }
     {
         let block = self.block(block)?;

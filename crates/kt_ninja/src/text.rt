@@ -1,11 +1,11 @@
 //! The text of a plan as a Ninja file.
-ghost use Rattle.std.specs.Prelude.{◌≡◌, ◌≤◌, ◌<◌, OnOk, OnErr, Some, false, length, option_map, slice_get};
+ghost use Rattle.std.specs.Prelude.{◌≡◌, ◌≤◌, ◌<◌, ℕ, OnOk, OnErr, Some, false, length, option_map, slice_get};
 ghost use Rattle.kt_list.specs.Counters.{Rises};
 ghost use Rattle.kt_ninja.specs.Blocks.{Prints, Puts};
 ghost use Rattle.kt_ninja.specs.Text.{build_text, command_text, defaults_text, lead_text, marked_text, names_text};
 ghost use Rattle.kt_ninja.specs.Text.{number_text, plan_text, rule_count, rule_name_text, rule_text, statement_text};
 ghost use Rattle.kt_ninja.specs.Text.{statements_text};
-ghost use Rattle.kt_ninja.specs.View.{made_by};
+ghost use Rattle.kt_ninja.specs.View.{made_at, made_by};
 ghost use Rattle.kt_ninja.specs.Writable.{IsWritable};
 ghost use Rattle.kt_ninja.specs.Written.{GrowsByFront, Takes};
 ghost use Rattle.kt_ninja.specs.declared.plan.Statement.{Statement as StatementSeen};
@@ -49,13 +49,6 @@ impl<'a, W: Sink> Block<'a, W> {
         }
     }
 
-    fn put_number(&mut self, number: usize)
-        ensures { Puts W.seen self.old self.new (number_text number) }
-    {
-        let mut buffer = Buffer::new();
-        self.put(buffer.format(number).as_bytes());
-    }
-
     /// A leading space would be lost after the `=` of its line, so that it stands after a dollar.
     fn put_lead(&mut self, command: &[u8])
         ensures { Puts W.seen self.old self.new (lead_text command.now) }
@@ -72,52 +65,73 @@ impl<'a, W: Sink> Block<'a, W> {
         self.put_escaped(command, Escapes::InCommand);
     }
 
-    fn put_rule(&mut self, number: usize, command: Option<&[u8]>)
-        ensures { Puts W.seen self.old self.new
+    /// The rule of a command, if there is one, by the digits of its number.
+    fn put_rule(&mut self, digits: &[u8], command: Option<&[u8]>)
+        ensures { (number : ℕ) → digits.now ≡ number_text number → Puts W.seen self.old self.new
             (rule_text number (made_by (option_map (λ text. text.now) command.entry))) }
     {
         if let Some(command) = command {
             self.put(b"rule r");
-            self.put_number(number);
+            self.put(digits);
             self.put(b"\n command = ");
             self.put_command(command);
             self.put(b"\n");
         }
     }
 
-    fn put_rule_name(&mut self, number: usize, command: Option<&[u8]>)
-        ensures { Puts W.seen self.old self.new
+    fn put_rule_name(&mut self, digits: &[u8], command: Option<&[u8]>)
+        ensures { (number : ℕ) → digits.now ≡ number_text number → Puts W.seen self.old self.new
             (rule_name_text number (made_by (option_map (λ text. text.now) command.entry))) }
     {
         match command {
             Some(_) => {
                 self.put(b"r");
-                self.put_number(number);
+                self.put(digits);
             }
             None => self.put(b"phony"),
         }
     }
 
-    fn put_build<'v, V: PlanView<'v>>(&mut self, number: usize, view: &'v V, statement: usize)
-        ensures { (s : StatementSeen) → slice_get (V.plan view.now).statements statement ≡ Some s
+    fn put_build<'v, V: PlanView<'v>>(
+        &mut self,
+        digits: &[u8],
+        command: Option<&[u8]>,
+        view: &'v V,
+        statement: usize,
+    )
+        requires { made_by (option_map (λ text. text.now) command)
+            ≡ made_at (slice_get (V.plan view.now).statements statement) }
+        ensures { (number : ℕ) → digits.now ≡ number_text number → (s : StatementSeen)
+            → slice_get (V.plan view.now).statements statement ≡ Some s
             → Puts W.seen self.old self.new (build_text number s) }
     {
         self.put(b"build");
         self.put_names(&view.names(Listed::Outputs(statement)));
         self.put(b": ");
-        self.put_rule_name(number, view.command(statement));
+        self.put_rule_name(digits, command);
         self.put_names(&view.names(Listed::Inputs(statement)));
         self.put_marked(b" |", &view.names(Listed::Implicit(statement)));
         self.put_marked(b" ||", &view.names(Listed::OrderOnly(statement)));
         self.put(b"\n");
     }
 
-    fn put_statement<'v, V: PlanView<'v>>(&mut self, number: usize, view: &'v V, statement: usize)
+    /// A statement, by its command: the number of its rule is made into digits once.
+    fn put_statement<'v, V: PlanView<'v>>(
+        &mut self,
+        number: usize,
+        command: Option<&[u8]>,
+        view: &'v V,
+        statement: usize,
+    )
+        requires { made_by (option_map (λ text. text.now) command)
+            ≡ made_at (slice_get (V.plan view.now).statements statement) }
         ensures { (s : StatementSeen) → slice_get (V.plan view.now).statements statement ≡ Some s
             → Puts W.seen self.old self.new (statement_text number s) }
     {
-        self.put_rule(number, view.command(statement));
-        self.put_build(number, view, statement);
+        let mut buffer = Buffer::new();
+        let digits = buffer.format(number).as_bytes();
+        self.put_rule(digits, command);
+        self.put_build(digits, command, view, statement);
     }
 
     fn put_statements<'v, V: PlanView<'v>>(&mut self, view: &'v V)
@@ -125,8 +139,9 @@ impl<'a, W: Sink> Block<'a, W> {
     {
         let mut number = 0;
         for statement in 0..view.statement_count() {
-            self.put_statement(number, view, statement);
-            number += rules_of(view.command(statement));
+            let command = view.command(statement);
+            self.put_statement(number, command, view, statement);
+            number += rules_of(command);
         }
     }
 

@@ -183,7 +183,7 @@ const PIECES: [(&[u8], bool, &[u8], u64, u64); 4] = [
 fn pieces_are_put(rt: HostRuntime) {
     for (piece, wanted, held, calls, failures) in PIECES {
         let mut sink = MemSink::new(rt.alloc(), 7, 2).expect(&rt, "memory");
-        assert_eq!(rt; sink.write(b"abc"), Ok(2));
+        assert_eq!(rt; sink.write(b"abc"), Ok(2), "before {piece:?}");
         assert_eq!(rt; put(&mut sink, piece).is_ok(), wanted, "of {piece:?}");
         assert_eq!(rt; sink.as_slice(), held, "of {piece:?}");
         assert_eq!(rt;

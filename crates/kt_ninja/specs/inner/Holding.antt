@@ -40,6 +40,6 @@ abbrev pub path_in : (Text → Text) → Pieces → Option Text
 path_in value_of ps = if is_empty (expanded value_of ps) then None else Some (expanded value_of ps)
 
 -- the test fails, or memory was refused
-abbrev pub Fails : Bool → Fault → Type 0
-Fails test NoReading = test ≡ false
-Fails test Memory = Unit {0}
+abbrev pub FailsTest : Bool → Fault → Type 0
+FailsTest test NoReading = test ≡ false
+FailsTest test Memory = Unit {0}

@@ -4,10 +4,10 @@ use Rattle.kt_ninja.specs.declared.line.LineForm.{LineForm}
 use Rattle.kt_ninja.specs.declared.line.LineForm.TheVariants.{Plain, Other}
 use Rattle.kt_ninja.specs.declared.joined.FileLine.{FileLine as CutLine}
 use Rattle.kt_ninja.specs.declared.joined.Begun.{Begun as OpenLine}
-use Rattle.kt_ninja.specs.JoinedLines.{Begun, FileLine, Line, Text, goes_on, is_blank, is_comment, without_indent}
+use Rattle.kt_ninja.specs.JoinedLines.{Begun, FileLine, JoinedLine, Text, goes_on, is_blank, is_comment, without_indent}
 
 -- a line as it is held
-abbrev pub line_view : LineForm → Line
+abbrev pub line_view : LineForm → JoinedLine
 line_view (Plain number text) = record { number = number; text = text.now; ended = true }
 line_view (Other line) = record { number = line.value.number; text = line.value.text.items; ended = line.value.ended }
 

@@ -1,19 +1,19 @@
 use Rattle.std.proofs.Common.{rules}
 use Rattle.kt_ninja.specs.Writable.{told_obstacle}
-use Rattle.kt_ninja.proofs.Places.{item_there}
+use Rattle.kt_list.proofs.general.Places.{at_place}
 use Rattle.kt_ninja.proofs.Troubles.{obstacles_here, obstacles_later}
 use Rattle.kt_ninja.proofs.checking.first_bad_text.Goals as goal
 
 pub returns-in-Err : goal.returns-in-Err
 returns-in-Err g c =
     let ss = (g.V.PlanView.plan c.args.view.now).statements in
-    let there = item_there ss c.loop-statement.statement (search rules) in
+    let there = at_place ss c.loop-statement.statement (search rules) in
     obstacles_here ss c.loop-statement.statement there.0 there.1 (told_obstacle c.in-Err.obstacle) _ c.in-Err.ensures c.loop-statement.invariant.obstacles
 
 pub loop-statement-preserved : goal.loop-statement-preserved
 loop-statement-preserved g c =
     let ss = (g.V.PlanView.plan c.args.view.now).statements in
-    let there = item_there ss c.loop-statement.statement (search rules) in
+    let there = at_place ss c.loop-statement.statement (search rules) in
     record {
       within = search rules;
       obstacles = obstacles_later ss c.loop-statement.statement there.0 there.1 _ (search rules) c.loop-statement.invariant.obstacles;

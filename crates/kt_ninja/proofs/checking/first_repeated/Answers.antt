@@ -5,7 +5,7 @@ use Rattle.kt_ninja.specs.declared.plan.Statement.{Statement}
 use Rattle.kt_ninja.specs.Plan.{outputs}
 use Rattle.kt_ninja.specs.View.{names_at}
 use Rattle.kt_ninja.specs.Writable.{repeated_after}
-use Rattle.kt_ninja.proofs.Places.{item_there}
+use Rattle.kt_list.proofs.general.Places.{at_place}
 use Rattle.kt_ninja.proofs.Troubles.{repeated_after-next}
 use Rattle.kt_ninja.proofs.checking.first_repeated.Goals as goal
 
@@ -13,7 +13,7 @@ pub returns-in-Some : goal.returns-in-Some
 returns-in-Some g c =
     let all = (g.V.PlanView.plan c.args.view.now).statements in
     let i = c.loop-statement.statement in
-    let there = item_there all i (search rules) in
+    let there = at_place all i (search rules) in
     let rest = repeated_after (outputs (take (i + 1) all)) (outputs (drop (i + 1) all)) in
     let found : Some c.in-Some.out.now ≡ repeated_after (outputs (take i all)) there.0.outs
     = c.in-Some.ensures ∙ ap (λ (o : Option Statement). repeated_after (outputs (take i all)) (names_at (λ s. s.outs) o)) there.1 in
@@ -23,7 +23,7 @@ pub loop-statement-preserved : goal.loop-statement-preserved
 loop-statement-preserved g c =
     let all = (g.V.PlanView.plan c.args.view.now).statements in
     let i = c.loop-statement.statement in
-    let there = item_there all i (search rules) in
+    let there = at_place all i (search rules) in
     let rest = repeated_after (outputs (take (i + 1) all)) (outputs (drop (i + 1) all)) in
     let found : None ≡ repeated_after (outputs (take i all)) there.0.outs
     = c.in_default.ensures ∙ ap (λ (o : Option Statement). repeated_after (outputs (take i all)) (names_at (λ s. s.outs) o)) there.1 in

@@ -3,13 +3,14 @@ use Rattle.std.specs.Prelude.{Option, true, false}
 use Rattle.kt_ninja.specs.declared.plan.Statement.{Statement}
 use Rattle.kt_ninja.specs.View.{names_at}
 use Rattle.kt_ninja.specs.Writable.{is_empty}
-use Rattle.kt_ninja.proofs.Places.{item_there, place_here, place_later}
+use Rattle.kt_list.proofs.general.Places.{at_place}
+use Rattle.kt_ninja.proofs.Places.{place_here, place_later}
 use Rattle.kt_ninja.proofs.checking.first_without_output.Goals as goal
 
 pub returns-then-has_no_output : goal.returns-then-has_no_output
 returns-then-has_no_output g c =
     let ss = (g.V.PlanView.plan c.args.view.now).statements in
-    let there = item_there ss c.loop-statement.statement (search rules) in
+    let there = at_place ss c.loop-statement.statement (search rules) in
     let none : c.has_no_output.result ≡ is_empty there.0.outs
     = c.has_no_output.ensures ∙ ap (λ (o : Option Statement). is_empty (names_at (λ s. s.outs) o)) there.1 in
     let yes : c.has_no_output.result ≡ true = search rules in
@@ -18,7 +19,7 @@ returns-then-has_no_output g c =
 pub loop-statement-preserved : goal.loop-statement-preserved
 loop-statement-preserved g c =
     let ss = (g.V.PlanView.plan c.args.view.now).statements in
-    let there = item_there ss c.loop-statement.statement (search rules) in
+    let there = at_place ss c.loop-statement.statement (search rules) in
     let none : c.has_no_output.result ≡ is_empty there.0.outs
     = c.has_no_output.ensures ∙ ap (λ (o : Option Statement). is_empty (names_at (λ s. s.outs) o)) there.1 in
     let no : c.has_no_output.result ≡ false = search rules in

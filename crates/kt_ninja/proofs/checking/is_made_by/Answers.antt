@@ -3,14 +3,15 @@ use Rattle.std.specs.Prelude.{true, false, Option}
 use Rattle.kt_list.specs.Names.{is_among}
 use Rattle.kt_ninja.specs.declared.plan.Statement.{Statement}
 use Rattle.kt_ninja.specs.View.{names_at}
-use Rattle.kt_ninja.proofs.Places.{item_there, passes_here, passes_later, passes_none}
+use Rattle.kt_list.proofs.general.Places.{at_place}
+use Rattle.kt_ninja.proofs.Places.{passes_here, passes_later, passes_none}
 use Rattle.kt_ninja.proofs.checking.is_made_by.Goals as goal
 
 pub returns-then-is_made_at : goal.returns-then-is_made_at
 returns-then-is_made_at g c =
     let ss = (g.V.PlanView.plan c.args.view.now).statements in
     let name = c.args.name.now in
-    let there = item_there ss c.loop-statement.statement (search rules) in
+    let there = at_place ss c.loop-statement.statement (search rules) in
     let made : c.is_made_at.result ≡ is_among there.0.outs name
     = c.is_made_at.ensures ∙ ap (λ (o : Option Statement). is_among (names_at (λ s. s.outs) o) name) there.1 in
     let yes : c.is_made_at.result ≡ true = search rules in
@@ -21,7 +22,7 @@ pub loop-statement-preserved : goal.loop-statement-preserved
 loop-statement-preserved g c =
     let ss = (g.V.PlanView.plan c.args.view.now).statements in
     let name = c.args.name.now in
-    let there = item_there ss c.loop-statement.statement (search rules) in
+    let there = at_place ss c.loop-statement.statement (search rules) in
     let made : c.is_made_at.result ≡ is_among there.0.outs name
     = c.is_made_at.ensures ∙ ap (λ (o : Option Statement). is_among (names_at (λ s. s.outs) o) name) there.1 in
     let no : c.is_made_at.result ≡ false = search rules in

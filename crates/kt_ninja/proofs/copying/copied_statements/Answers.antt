@@ -1,7 +1,8 @@
 use Rattle.std.proofs.Common.{◌≡◌, ◌∙◌, ◌++◌, ◌∷◌, [], List, take, sym, ap, rules}
 use Rattle.std.specs.Prelude.{slice_get}
 use Rattle.kt_ninja.specs.declared.plan.Statement.{Statement}
-use Rattle.kt_ninja.proofs.Places.{item_there, take_at}
+use Rattle.kt_list.proofs.general.Places.{at_place}
+use Rattle.kt_ninja.proofs.Places.{take_at}
 use Rattle.kt_ninja.proofs.ViewLemmas.{shown_there}
 use Rattle.kt_ninja.proofs.copying.copied_statements.Goals as goal
 
@@ -9,7 +10,7 @@ pub loop-place-preserved : goal.loop-place-preserved
 loop-place-preserved g c =
     let ss = (g.V.PlanView.plan c.args.view.now).statements in
     let i = c.loop-place.place in
-    let there = item_there ss i (search rules) in
+    let there = at_place ss i (search rules) in
     let copied : c.in_ok-copied_statement.field-0 ≡ there.0
     = c.in_ok-copied_statement.ensures ∙ shown_there (slice_get ss i) there.0 there.1 in
     record {

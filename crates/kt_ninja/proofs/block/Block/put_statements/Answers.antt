@@ -3,8 +3,9 @@ use Rattle.std.specs.Prelude.{option_map}
 use Rattle.std.specs.Borrow.{Bor}
 use Rattle.std.proofs.lemmas.List.{drop_all}
 use Rattle.kt_ninja.specs.Text.{statement_text, statements_text, rule_count}
-use Rattle.kt_ninja.specs.View.{made_at, made_by}
-use Rattle.kt_ninja.proofs.Places.{item_there, drop_at}
+use Rattle.kt_ninja.specs.View.{made_by}
+use Rattle.kt_list.proofs.general.Places.{at_place}
+use Rattle.kt_ninja.proofs.Places.{drop_at}
 use Rattle.kt_ninja.proofs.Putting.{up_to_more, up_to_end, up_to_start}
 use Rattle.kt_ninja.proofs.block.Block.put_statements.Goals as goal
 
@@ -20,12 +21,12 @@ loop-statement-preserved g c =
     let i = c.loop-statement.statement in
     let number = c.loop-statement.number in
     let all = (g.V.PlanView.plan c.args.view.now).statements in
-    let there = item_there all i (search rules) in
+    let there = at_place all i (search rules) in
     let s = there.0 in
     let rest = drop (i + 1) all in
     let next : statements_text number (drop i all) ≡ statement_text number s ++ statements_text (number + rule_count s.made) rest =
     ap (λ t. statements_text number t) (drop_at all i s there.1) in
-    let made : made_by (option_map (λ (text : Bor (List ℕ)). text.now) c.command.result) ≡ s.made = c.command.ensures ∙ ap made_at there.1 in
+    let made : made_by (option_map (λ (text : Bor (List ℕ)). text.now) c.command-command.result) ≡ s.made = rw there.1 at c.command-command.ensures in
     let count : number + rule_count s.made ≡ number + c.rules_of-number.result =
     ap (λ k. number + k) (ap rule_count (sym made) ∙ sym c.rules_of-number.ensures.count) in
     record {

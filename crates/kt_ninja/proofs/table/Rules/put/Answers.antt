@@ -5,6 +5,6 @@ use Rattle.kt_ninja.proofs.table.Rules.put.Goals as goal
 
 pub returns : goal.returns
 returns c =
-    ap (λ es. map (λ e. (e.0.now, e.1)) es) (c.in_ok-insert.ensures.entries)
-    ∙ put_in_borrowed c.self.inside.commands.entries c.args.name c.args.command
+    ap (λ es. map (λ e. (e.0.0.now, e.1)) es) (c.in_ok-insert.ensures.entries)
+    ∙ put_in_borrowed _ _ c.args.command
     ∙ ap (λ es. put_in es c.args.name.now c.args.command) c.self.view_is

@@ -1,10 +1,10 @@
-use Rattle.std.proofs.Common.{map, ap, ◌∙◌}
+use Rattle.std.proofs.Common.{ap, ◌∙◌}
 use Rattle.kt_ninja.specs.Scopes.{put_in}
 use Rattle.kt_ninja.proofs.TableLemmas.{put_in_entries}
 use Rattle.kt_ninja.proofs.table.Table.put.Goals as goal
 
 pub returns : goal.returns
 returns g c =
-    ap (λ es. map (λ e. (e.0.items, e.1)) es) (c.in_ok-insert.ensures.entries)
+    c.in_ok-insert.ensures.entries
     ∙ put_in_entries c.self.inside.entries.entries c.args.name c.args.value
-    ∙ ap (λ es. put_in es c.args.name.items c.args.value) c.self.view_is
+    ∙ ap (λ es. put_in es c.args.name c.args.value) c.self.view_is

@@ -3,7 +3,7 @@ use Rattle.std.proofs.Math.Seq.{take-add}
 use Rattle.std.proofs.lemmas.List.{take_rest}
 use Rattle.kt_ninja.specs.Blocks.{Puts}
 use Rattle.kt_ninja.proofs.Putting.{puts_then}
-use Rattle.kt_ninja.proofs.block.Block.put.Goals as goal
+use Rattle.kt_ninja.proofs.block.Block.put_across.Goals as goal
 
 pub loop-done-preserved : goal.loop-done-preserved
 loop-done-preserved g c = record {

@@ -1,0 +1,17 @@
+-- Whether all bytes pass, by the place of the first that doesn't.
+use Rattle.std.proofs.Common.{◌≡◌, ℕ, suc, List, [], ◌∷◌, length, refl, sym, ap, arith, Option, Some, None, is_none}
+use Rattle.std.specs.Prelude.{Bool, true, not}
+use Rattle.std.specs.List.{list_all}
+use Rattle.std.proofs.lemmas.Bool.{and_from, false_from_ne_true, not_from_false}
+use Rattle.std.proofs.lemmas.List.Folds.{list_all_at}
+use Rattle.memchr.specs.Find.{IsFirstByte, Nowhere, Passes}
+
+all_fail : (test : ℕ → Bool) (bs : List ℕ) → Nowhere (Passes test bs) 0 (length bs) → list_all (λ b. not (test b)) bs ≡ true
+all_fail test [] none = refl
+all_fail test (b ∷ bs) none =
+    and_from (not (test b)) (list_all (λ c. not (test c)) bs) (not_from_false (test b) (false_from_ne_true (test b) (none 0 (omega arith) (omega arith))))
+    (all_fail test bs (λ k low below. none (suc k) (omega arith) (omega arith)))
+
+pub none_found : (test : ℕ → Bool) (bs : List ℕ) (r : Option ℕ) → IsFirstByte test bs r → is_none r ≡ list_all (λ b. not (test b)) bs
+none_found test bs None none = sym (all_fail test bs none)
+none_found test bs (Some k) found = sym (list_all_at (λ b. not (test b)) bs k 0 found.0.high (ap not found.1))
