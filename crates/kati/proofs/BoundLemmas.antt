@@ -16,9 +16,9 @@ use Rattle.kt_graph.specs.search.Candidates.{Candidate}
 use Rattle.kt_graph.specs.nodes.Node.{Part, bare_part, chosen_rule, double_node, inputs_of, joined_needs, needs_after, node_by, node_of, order_only_of, other_rules, own_part, searched, used_rule}
 use Rattle.kt_graph.specs.Reach.{HasInput}
 use Rattle.kt_graph.specs.search.Search.{choice_of}
-use Rattle.kt_graph.proofs.lemmas.search.GrowthLemmas.{from_flat_map, in_flat_map}
+use Rattle.kt_list.proofs.general.Elements.{first_or_rest, from_flat_map, in_first, in_flat_map, in_rest}
 use Rattle.kt_graph.proofs.lemmas.nodes.MadeLemmas.{chosen_is}
-use Rattle.kt_graph.proofs.lemmas.MemberLemmas.{Contains-cases, Contains-from_map, Contains-here, Contains-none, Contains-there}
+use Rattle.kt_graph.proofs.lemmas.MemberLemmas.{Contains-from_map, Contains-none}
 use Rattle.kt_graph.proofs.lemmas.faults.TroubleLemmas.{from_filter}
 use Rattle.kt_graph.proofs.lemmas.search.UnknownLemmas.{from_without_repeats}
 use Rattle.kati.proofs.ClosingLemmas.{IsClosed}
@@ -64,8 +64,8 @@ fewer_named made more input within named = (named.0, within named.0 named.1, nam
 last_in : (o : Option (Rule × Target)) (made : List (Rule × Target)) (one : Rule × Target) → last_or o made ≡ Some one → (o ≡ Some one) ⊎ Contains made one
 last_in o [] one e = inl e
 last_in o (first ∷ made) one e = ⊎_elim
-    (λ (h : Some first ≡ Some one). inr (subst (Contains (first ∷ made)) (same_Some first one h) (Contains-here first made)))
-    (λ (h : Contains made one). inr (Contains-there first made one h))
+    (λ (h : Some first ≡ Some one). inr (subst (Contains (first ∷ made)) (same_Some first one h) (in_first first made)))
+    (λ (h : Contains made one). inr (in_rest first one made h))
     (last_in (Some first) made one e)
 
 used_in : (made : List (Rule × Target)) (one : Rule × Target) → used_rule made ≡ Some one → Contains made one
@@ -86,7 +86,7 @@ module _ (rules : List Rule) (known : List Text) (name : Text) where
   IsTold input = IsNamed made input ⊎ IsChosenBy rules known name input
 
   alone : (part : Part) (one : Part) → Contains (part ∷ []) one → part ≡ one
-  alone part one has = ⊎_elim (λ (same : part ≡ one). same) (λ (none : Contains [] one). Contains-none one none) (Contains-cases part [] one has)
+  alone part one has = ⊎_elim (λ (same : part ≡ one). same) (λ (none : Contains [] one). Contains-none one none) (first_or_rest part one [] has)
 
   searched_choice : (found : Candidate × Rule) → searched rules known name ≡ Some found → choice_of (patterns_of rules) known name ≡ Some found.0
   searched_choice found e = by (is_phony rules name) e

@@ -6,10 +6,11 @@ use Rattle.std.proofs.lemmas.Bool.{true≢false}
 use Rattle.std.proofs.lemmas.List.{length-append}
 use Rattle.std.proofs.lemmas.List.Elements.{Contains-append_cases, Contains-append_left, Contains-append_right}
 use Rattle.std.proofs.lemmas.Slice.Eq.{bytes_eq-Decides}
+use Rattle.kt_list.proofs.general.Elements.{first_or_rest, in_first, in_rest}
 use Rattle.kt_text.specs.Words.{Text}
 use Rattle.kt_rules.specs.Entry.{Rule}
 use Rattle.kt_graph.specs.Reach.{HasInput}
-use Rattle.kt_graph.proofs.lemmas.MemberLemmas.{Contains-cases, Contains-here, Contains-none, Contains-there}
+use Rattle.kt_graph.proofs.lemmas.MemberLemmas.{Contains-none}
 
 -- whether something holds can be decided
 abbrev pub Decided : Type 0 → Type 0
@@ -30,13 +31,13 @@ pub first_or_none : (P : Text → Type 0) (names : List Text) → ((name : Text)
     → FirstOf P names ⊎ ((name : Text) → Contains names name → P name → ⊥)
 first_or_none P [] decide = inr (λ name has holds. Contains-none name has)
 first_or_none P (first ∷ names) decide =
-    by (decide first (Contains-here first names)) (first_or_none P names (λ name has. decide name (Contains-there first names name has)))
+    by (decide first (in_first first names)) (first_or_none P names (λ name has. decide name (in_rest first name names has)))
   where
     other : (rest : List Text) → (P first → ⊥) → ((name : Text) → Contains rest name → P name → ⊥) → (name : Text) → Contains (first ∷ rest) name → P name → ⊥
     other rest isnt none name has holds = ⊎_elim
         (λ (same : first ≡ name). isnt (subst P (sym same) holds))
         (λ (later : Contains rest name). none name later holds)
-        (Contains-cases first rest name has)
+        (first_or_rest first name rest has)
 
     by : Decided (P first) → FirstOf P names ⊎ ((name : Text) → Contains names name → P name → ⊥)
         → FirstOf P (first ∷ names) ⊎ ((name : Text) → Contains (first ∷ names) name → P name → ⊥)
@@ -63,10 +64,10 @@ decide_in [] name = inr (λ none. Contains-none name none)
 decide_in (first ∷ names) name = by (bytes_eq first name) refl (decide_in names name)
   where
     by : (b : Bool) → bytes_eq first name ≡ b → Decided (Contains names name) → Decided (Contains (first ∷ names) name)
-    by true is rest = inl (subst (λ (n : Text). Contains (first ∷ names) n) ((bytes_eq-Decides first name).0 is) (Contains-here first names))
-    by false is (inl later) = inl (Contains-there first names name later)
+    by true is rest = inl (subst (λ (n : Text). Contains (first ∷ names) n) ((bytes_eq-Decides first name).0 is) (in_first first names))
+    by false is (inl later) = inl (in_rest first name names later)
     by false is (inr none) = inr (λ has. ⊎_elim
-        (λ (same : first ≡ name). true≢false (sym ((bytes_eq-Decides first name).1 same) ∙ is)) none (Contains-cases first names name has))
+        (λ (same : first ≡ name). true≢false (sym ((bytes_eq-Decides first name).1 same) ∙ is)) none (first_or_rest first name names has))
 
 -- ---- the least list that has the first names and, with a name, the next ones
 
@@ -84,7 +85,7 @@ in_cut earlier one later name has = ⊎_elim
     (λ (h : Contains (one ∷ later) name). ⊎_elim
     (λ (same : one ≡ name). inl same)
     (λ (g : Contains later name). inr (Contains-append_right earlier later name g))
-    (Contains-cases one later name h))
+    (first_or_rest one name later h))
     (Contains-append_cases earlier (one ∷ later) name has)
 
 module _ (next : Text → List Text) (starts universe : List Text) (Met : Text → Type 0)
@@ -105,7 +106,7 @@ module _ (next : Text → List Text) (starts universe : List Text) (Met : Text �
       by (inr isnt) (inl found) = inl (inr (
         found.one,
         subst (λ (l : List Text). Contains l found.one) (sym found.cut)
-            (Contains-append_right found.earlier (found.one ∷ found.later) found.one (Contains-here found.one found.later)),
+            (Contains-append_right found.earlier (found.one ∷ found.later) found.one (in_first found.one found.later)),
         found.holds,
       ))
       by (inr isnt) (inr none) = inr (λ missing. ⊎_elim isnt (λ (p : (one : Text) × Contains done one × Contains (next one) name). none p.0 p.1 p.2) missing)
@@ -128,12 +129,12 @@ module _ (next : Text → List Text) (starts universe : List Text) (Met : Text �
 
   with_one : (done rest : List Text) → Covers done rest → (found : FirstOf (Missing done) rest) → Covers (found.one ∷ done) (found.earlier ++ found.later)
   with_one done rest so found = record {
-    met = λ name has. ⊎_elim (λ (same : found.one ≡ name). subst Met same one_met) (so.met name) (Contains-cases found.one done name has);
-    inside = λ name has. ⊎_elim (λ (same : found.one ≡ name). subst (Contains universe) same one_inside) (so.inside name) (Contains-cases found.one done name has);
+    met = λ name has. ⊎_elim (λ (same : found.one ≡ name). subst Met same one_met) (so.met name) (first_or_rest found.one name done has);
+    inside = λ name has. ⊎_elim (λ (same : found.one ≡ name). subst (Contains universe) same one_inside) (so.inside name) (first_or_rest found.one name done has);
     cover = λ name has. ⊎_elim
-        (λ (h : Contains done name). inl (Contains-there found.one done name h))
+        (λ (h : Contains done name). inl (in_rest found.one name done h))
         (λ (h : Contains rest name). ⊎_elim
-        (λ (same : found.one ≡ name). inl (subst (Contains (found.one ∷ done)) same (Contains-here found.one done)))
+        (λ (same : found.one ≡ name). inl (subst (Contains (found.one ∷ done)) same (in_first found.one done)))
         (λ (g : Contains (found.earlier ++ found.later) name). inr g)
         (in_cut found.earlier found.one found.later name (subst (λ (l : List Text). Contains l name) found.cut h)))
         (so.cover name has);

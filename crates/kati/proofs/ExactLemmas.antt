@@ -13,7 +13,7 @@ use Rattle.kt_graph.specs.faults.Faults.{IsSoundGraph}
 use Rattle.kt_graph.specs.nodes.Groups.{groups_of, leader_name, made_nodes}
 use Rattle.kt_graph.specs.nodes.Node.{Node, is_leaf, node_of}
 use Rattle.kt_graph.specs.Reach.{IsGraph, IsMade}
-use Rattle.kt_graph.proofs.lemmas.MemberLemmas.{Contains-cases, Contains-from_map, Contains-here, Contains-map, Contains-none, Contains-there}
+use Rattle.kt_graph.proofs.lemmas.MemberLemmas.{Contains-from_map, Contains-map, Contains-none}
 use Rattle.kt_graph.proofs.lemmas.faults.TroubleLemmas.{filter_there, from_filter}
 use Rattle.kt_ninja.specs.Plan.{outputs}
 use Rattle.kt_ninja.specs.Writable.{IsWritable}
@@ -23,7 +23,8 @@ use Rattle.kati.specs.Exact.{IsAlwaysBuilt, IsMadeOnce, IsOfGroup, PlansAreGraph
 use Rattle.kati.specs.Meaning.{Meaning, MeansGoals, Wanted, prepared}
 use Rattle.kati.specs.Planning.{always_build, always_built, command_for, first_output, has_implicit, outs_of, plan_groups, plan_of, statement_of, with_always_built}
 use Rattle.kt_recipe.proofs.CommandLemmas.{gave_both}
-use Rattle.kati.proofs.PlanLemmas.{from_flat, law, name_in, name_reached, node_is, order, outs_in, outs_told, statements_in, to_flat}
+use Rattle.kt_list.proofs.general.Elements.{first_or_rest, from_flat_map, in_first, in_flat_map, in_rest}
+use Rattle.kati.proofs.PlanLemmas.{law, name_in, name_reached, node_is, order, outs_in, outs_told, statements_in}
 use Rattle.kati.proofs.ReadBackLemmas.{has_plan, plan_given, read_back, went_on}
 
 -- ---- names that differ
@@ -44,7 +45,7 @@ never_both [] rest name differ here there = Contains-none name here
 never_both (first ∷ names) rest name differ here there = ⊎_elim
     (λ (same : first ≡ name). first_differs first (names ++ rest) name differ (Contains-append_right names rest name there) same)
     (λ (later : Contains names name). never_both names rest name (later_differ first (names ++ rest) differ) later there)
-    (Contains-cases first names name here)
+    (first_or_rest first name names here)
 
 -- a name is an output of one statement at most
 single_output : (statements : List Statement) (one other : Statement) (name : Text) → AllPairs (λ (a b : Text). a ≢ b) (outputs statements)
@@ -52,7 +53,7 @@ single_output : (statements : List Statement) (one other : Statement) (name : Te
 single_output [] one other name differ has_one in_one has_other in_other = Contains-none one has_one
 single_output (first ∷ statements) one other name differ has_one in_one has_other in_other =
     by (λ rest later_one later_other. single_output statements one other name rest later_one in_one later_other in_other)
-    (Contains-cases first statements one has_one) (Contains-cases first statements other has_other)
+    (first_or_rest first one statements has_one) (first_or_rest first other statements has_other)
   where
     apart : AllPairs (λ (a b : Text). a ≢ b) (first.outs ++ outputs statements)
     apart = subst (λ (names : List Text). AllPairs (λ (a b : Text). a ≢ b) names) (flat_map-cons outs_in first statements) differ
@@ -61,9 +62,9 @@ single_output (first ∷ statements) one other name differ has_one in_one has_ot
         → (first ≡ one) ⊎ Contains statements one → (first ≡ other) ⊎ Contains statements other → other ≡ one
     by more (inl is_one) (inl is_other) = sym is_other ∙ is_one
     by more (inl is_one) (inr later) = absurd (never_both first.outs (outputs statements) name apart
-        (subst (λ (s : Statement). Contains s.outs name) (sym is_one) in_one) (to_flat outs_in statements other name later in_other))
+        (subst (λ (s : Statement). Contains s.outs name) (sym is_one) in_one) (in_flat_map outs_in statements other name later in_other))
     by more (inr later) (inl is_other) = absurd (never_both first.outs (outputs statements) name apart
-        (subst (λ (s : Statement). Contains s.outs name) (sym is_other) in_other) (to_flat outs_in statements one name later in_one))
+        (subst (λ (s : Statement). Contains s.outs name) (sym is_other) in_other) (in_flat_map outs_in statements one name later in_one))
     by more (inr later_one) (inr later_other) = more (rest_differ first.outs (outputs statements) apart) later_one later_other
 
 -- ---- the statements of groups
@@ -72,7 +73,7 @@ group_later : (read : Read) (limit : ℕ) (first : List Node) (groups : List (Li
     → IsOfGroup read limit groups statement → IsOfGroup read limit (first ∷ groups) statement
 group_later read limit first groups statement of = record {
   group = of.group;
-  among = Contains-there first groups of.group of.among;
+  among = in_rest first of.group groups of.among;
   command = of.command;
   is_command = of.is_command;
   is = of.is;
@@ -99,13 +100,13 @@ groups_told read limit (group ∷ groups) before said heard statements e stateme
         (λ (earlier : Contains before statement). inl earlier)
         (λ (here : Contains (statement_of read.book group command ∷ []) statement). inr (record {
           group = group;
-          among = Contains-here group groups;
+          among = in_first group groups;
           command = command;
           is_command = record { said = said; heard = told; expanded = is };
           is = ⊎_elim
               (λ (same : statement_of read.book group command ≡ statement). sym same)
               (λ (none : Contains [] statement). Contains-none statement none)
-              (Contains-cases (statement_of read.book group command) [] statement here);
+              (first_or_rest (statement_of read.book group command) statement [] here);
         }))
         (Contains-append_cases before (statement_of read.book group command ∷ []) statement among)
 
@@ -141,7 +142,7 @@ module _ (rules : List Rule) (known goals : List Text) (nodes : List Node) (grap
       let made = (law rules known goals nodes graph).made group node.0 is_group node.1 in
       let kept = from_filter (λ (one : Node). not (is_leaf one.kind)) nodes node.0 made in
       record {
-        reached = name_reached rules known goals nodes graph name (to_flat outs_of (groups_of nodes) group name is_group has);
+        reached = name_reached rules known goals nodes graph name (in_flat_map outs_of (groups_of nodes) group name is_group has);
         made = ap (λ (n : Text). is_leaf (node_of rules known n).kind) (sym node.2)
             ∙ ap (λ (one : Node). is_leaf one.kind) (node_is rules known goals nodes graph node.0 kept.0)
             ∙ not_made (is_leaf node.0.kind) kept.1;
@@ -163,7 +164,7 @@ module _ (read : Read) (limit : ℕ) (known goals : List Text) (nodes : List Nod
   among_all statement has = by (list_any has_implicit statements)
     where
       by : (b : Bool) → Contains (cond b (always_built ∷ statements) statements) statement
-      by true = Contains-there always_built statements statement has
+      by true = in_rest always_built statement statements has
       by false = has
 
   outs : map outs_in statements ≡ map outs_of (groups_of nodes)
@@ -198,7 +199,7 @@ module _ (read : Read) (limit : ℕ) (known goals : List Text) (nodes : List Nod
 
   of_statements : (name : Text) → Contains (outputs statements) name → IsMade read.book known goals name
   of_statements name has =
-      let statement = from_flat outs_in statements name has in
+      let statement = from_flat_map outs_in statements name has in
       let group = Contains-from_map outs_of (groups_of nodes) statement.0.outs
       (subst (λ (l : List (List Text)). Contains l statement.0.outs) outs (Contains-map outs_in statements statement.0 statement.1)) in
       of_group read.book known goals nodes sound.1 name group.0 group.1 (subst (λ (names : List Text). Contains names name) (sym group.2) statement.2)
@@ -212,7 +213,7 @@ module _ (read : Read) (limit : ℕ) (known goals : List Text) (nodes : List Nod
       by true h = ⊎_elim
           (λ (same : always_build ≡ name). inr (sym same))
           (λ (later : Contains (outputs statements) name). inl (of_statements name later))
-          (Contains-cases always_build (outputs statements) name h)
+          (first_or_rest always_build name (outputs statements) h)
 
   grouped : (statement : Statement) → Contains all statement → IsOfGroup read limit (groups_of nodes) statement ⊎ IsAlwaysBuilt all statement
   unfolding with_always_built
@@ -230,7 +231,7 @@ module _ (read : Read) (limit : ℕ) (known goals : List Text) (nodes : List Nod
       by true is h = ⊎_elim
           (λ (same : always_built ≡ statement). inr (sym same, is))
           (λ (later : Contains statements statement). inl (of later))
-          (Contains-cases always_built statements statement h)
+          (first_or_rest always_built statement statements h)
 
   always : list_any has_implicit all ≡ true → Contains all always_built
   unfolding with_always_built
@@ -238,7 +239,7 @@ module _ (read : Read) (limit : ℕ) (known goals : List Text) (nodes : List Nod
     where
       by : (b : Bool) → list_any has_implicit statements ≡ b → list_any has_implicit (cond b (always_built ∷ statements) statements) ≡ true
           → Contains (cond b (always_built ∷ statements) statements) always_built
-      by true is h = Contains-here always_built statements
+      by true is h = in_first always_built statements
       by false is h = absurd (false≢true (sym is ∙ h))
 
   ordered : StandInOrder all

@@ -16,9 +16,8 @@ use Rattle.kt_graph.specs.faults.Paths.{is_reserved}
 use Rattle.kt_graph.specs.Reach.{AreOneMaking, ComesFirst, HasEdge, HasInput, IsCyclic, IsFirst, IsGraph, IsInGroup, IsReached, Leads, Reaches, Trouble, beside, itself, circular, no_rule, one_file, reserved_name, unmade_goal}
 use Rattle.kt_graph.specs.inner.faults.Files.{is_repeated, made_names}
 use Rattle.kt_graph.proofs.lemmas.nodes.GroupLemmas.{one_itself, one_same}
-use Rattle.kt_graph.proofs.lemmas.search.GrowthLemmas.{from_flat_map, in_flat_map}
+use Rattle.kt_list.proofs.general.Elements.{first_or_rest, from_flat_map, in_first, in_flat_map, in_rest}
 use Rattle.kt_graph.proofs.lemmas.nodes.MadeLemmas.{input_reached, node_name}
-use Rattle.kt_graph.proofs.lemmas.MemberLemmas.{Contains-cases, Contains-here, Contains-there}
 use Rattle.kt_graph.proofs.lemmas.nodes.ReachLemmas.{goal_reached}
 use Rattle.kt_graph.proofs.lemmas.faults.TroubleLemmas.{comes_first, file_trouble, filter_there, from_filter, is_reserved_there, none_below}
 use Rattle.kt_graph.proofs.lemmas.nodes.WholeLemmas.{group_cases}
@@ -110,12 +109,12 @@ module _ (rules : List Rule) (known goals names : List Text) (are : IsClosed rul
       let kept = from_filter (λ other. is_one_making (node_of rules known name).made_with (node_of rules known other).made_with) reach.names member h in
       let making = making_of (node_of rules known name).made_with (node_of rules known member).made_with kept.1 in
       beside (reach.met member kept.0) (record { making = making.0; first = making.1; second = making.2 }))
-      (Contains-cases name (filter (λ other. is_one_making (node_of rules known name).made_with (node_of rules known other).made_with) reach.names) member has)
+      (first_or_rest name member (filter (λ other. is_one_making (node_of rules known name).made_with (node_of rules known other).made_with) reach.names) has)
 
   is_member : (name member : Text) → IsInGroup rules known goals name member → Contains (members name) member
   is_member name member in_group = ⊎_elim
-      (λ (same : name ≡ member). subst (Contains (members name)) same (Contains-here name _))
-      (λ (p : IsReached rules known goals member × AreOneMaking rules known name member). Contains-there name _ member
+      (λ (same : name ≡ member). subst (Contains (members name)) same (in_first name _))
+      (λ (p : IsReached rules known goals member × AreOneMaking rules known name member). in_rest name member _
       (filter_there (λ other. is_one_making (node_of rules known name).made_with (node_of rules known other).made_with) reach.names member (all_reached member p.0)
       (one_making (node_of rules known name).made_with (node_of rules known member).made_with p.1.making p.1.first p.1.second)))
       (group_cases rules known goals name member in_group)

@@ -15,8 +15,9 @@ use Rattle.kt_rules.specs.Entry.{Rule}
 use Rattle.kt_rules.specs.Names.{after_dots, without_dots}
 use Rattle.kt_rules.specs.Suffixes.{all_needs}
 use Rattle.kt_graph.specs.search.Candidates.{Candidate, are_short, candidate_by, candidate_of, candidate_with, candidates_for, directory_of, fit_of, has_slash, left_out, matched_part, matching_from, needed_name, needed_names, nonempty, shorter, shortest, size_of, spelled_out, stem_of, unless_long, without_any}
-use Rattle.kt_graph.proofs.lemmas.search.GrowthLemmas.{from_by_size, from_flat_map, in_flat_map}
-use Rattle.kt_graph.proofs.lemmas.MemberLemmas.{Contains-cases, Contains-from_map, Contains-here, Contains-map, Contains-none, Contains-there}
+use Rattle.kt_list.proofs.general.Elements.{first_or_rest, from_flat_map, in_first, in_flat_map, in_rest}
+use Rattle.kt_graph.proofs.lemmas.search.GrowthLemmas.{from_by_size}
+use Rattle.kt_graph.proofs.lemmas.MemberLemmas.{Contains-from_map, Contains-map, Contains-none}
 use Rattle.kt_graph.proofs.lemmas.Membership.{each_passes}
 use Rattle.kt_graph.proofs.lemmas.faults.TroubleLemmas.{from_filter}
 use Rattle.kt_graph.proofs.lemmas.nodes.WholeLemmas.{Contains-from_filter_map}
@@ -49,8 +50,8 @@ in_numbers : (n symbol : ℕ) → symbol < n → Contains (numbers n) symbol
 unfolding numbers
 in_numbers zero symbol below = absurd (omega (arith, below))
 in_numbers (suc n) symbol below = ⊎_elim
-    (λ (same : n ≡ symbol). subst (Contains (n ∷ numbers n)) same (Contains-here n (numbers n)))
-    (λ (less : symbol < n). Contains-there n (numbers n) symbol (in_numbers n symbol less))
+    (λ (same : n ≡ symbol). subst (Contains (n ∷ numbers n)) same (in_first n (numbers n)))
+    (λ (less : symbol < n). in_rest n symbol (numbers n) (in_numbers n symbol less))
     (last_or_less n symbol below)
 
 from_numbers : (n symbol : ℕ) → Contains (numbers n) symbol → symbol < n
@@ -59,7 +60,7 @@ from_numbers zero symbol has = Contains-none symbol has
 from_numbers (suc n) symbol has = ⊎_elim
     (λ (same : n ≡ symbol). omega (arith, same))
     (λ (later : Contains (numbers n) symbol). omega (arith, from_numbers n symbol later))
-    (Contains-cases n (numbers n) symbol has)
+    (first_or_rest n symbol (numbers n) has)
 
 -- the texts of at most a number of symbols below a number
 unfoldable pub texts : ℕ → ℕ → List Text
@@ -68,21 +69,21 @@ texts most (suc n) = [] ∷ flat_map (λ text. map (λ symbol. symbol ∷ text) 
 
 pub in_texts : (most n : ℕ) (text : Text) → Below most text → length text ≤ n → Contains (texts most n) text
 unfolding texts
-in_texts most zero [] below short = Contains-here [] []
+in_texts most zero [] below short = in_first [] []
 in_texts most zero (symbol ∷ text) below short = absurd (omega (arith, short))
-in_texts most (suc n) [] below short = Contains-here [] (flat_map (λ text. map (λ symbol. symbol ∷ text) (numbers most)) (texts most n))
+in_texts most (suc n) [] below short = in_first [] (flat_map (λ text. map (λ symbol. symbol ∷ text) (numbers most)) (texts most n))
 in_texts most (suc n) (symbol ∷ text) below short =
-    Contains-there [] (flat_map (λ rest. map (λ first. first ∷ rest) (numbers most)) (texts most n)) (symbol ∷ text)
+    in_rest [] (symbol ∷ text) (flat_map (λ rest. map (λ first. first ∷ rest) (numbers most)) (texts most n))
     (in_flat_map (λ rest. map (λ first. first ∷ rest) (numbers most)) (texts most n) text (symbol ∷ text)
-    (in_texts most n text (λ one has. below one (Contains-there symbol text one has)) (omega (arith, short)))
-    (Contains-map (λ first. first ∷ text) (numbers most) symbol (in_numbers most symbol (below symbol (Contains-here symbol text)))))
+    (in_texts most n text (λ one has. below one (in_rest symbol one text has)) (omega (arith, short)))
+    (Contains-map (λ first. first ∷ text) (numbers most) symbol (in_numbers most symbol (below symbol (in_first symbol text)))))
 
 pub from_texts : (most n : ℕ) (text : Text) → Contains (texts most n) text → Below most text
 unfolding texts
 from_texts most zero text has symbol inside = ⊎_elim
     (λ (same : [] ≡ text). Contains-none symbol (subst (λ (t : Text). Contains t symbol) (sym same) inside))
     (λ (none : Contains [] text). Contains-none text none)
-    (Contains-cases [] [] text has)
+    (first_or_rest [] text [] has)
 from_texts most (suc n) text has symbol inside = ⊎_elim
     (λ (same : [] ≡ text). Contains-none symbol (subst (λ (t : Text). Contains t symbol) (sym same) inside))
     (λ (later : Contains (flat_map (λ rest. map (λ first. first ∷ rest) (numbers most)) (texts most n)) text).
@@ -90,8 +91,8 @@ from_texts most (suc n) text has symbol inside = ⊎_elim
     let first = Contains-from_map (λ one. one ∷ found.0) (numbers most) text found.2 in ⊎_elim
     (λ (same : first.0 ≡ symbol). subst (λ (n : ℕ). n < most) same (from_numbers most first.0 first.1))
     (λ (rest : Contains found.0 symbol). from_texts most n found.0 found.1 symbol rest)
-    (Contains-cases first.0 found.0 symbol (subst (λ (t : Text). Contains t symbol) (sym first.2) inside)))
-    (Contains-cases [] (flat_map (λ rest. map (λ first. first ∷ rest) (numbers most)) (texts most n)) text has)
+    (first_or_rest first.0 symbol found.0 (subst (λ (t : Text). Contains t symbol) (sym first.2) inside)))
+    (first_or_rest [] text (flat_map (λ rest. map (λ first. first ∷ rest) (numbers most)) (texts most n)) has)
 
 -- a number above all of these
 pub bound : List ℕ → ℕ
@@ -104,7 +105,7 @@ in_bound [] symbol has = Contains-none symbol has
 in_bound (first ∷ symbols) symbol has = ⊎_elim
     (λ (same : first ≡ symbol). omega (arith, same))
     (λ (later : Contains symbols symbol). omega (arith, in_bound symbols symbol later))
-    (Contains-cases first symbols symbol has)
+    (first_or_rest first symbol symbols has)
 
 pub least_bound : (symbols : List ℕ) → 48 ≤ bound symbols
 unfolding bound
@@ -124,8 +125,8 @@ module _ (most : ℕ) (enough : 48 ≤ most) where
       by false = (below, omega arith)
   dots_fit drops (byte ∷ next ∷ text) below =
       by (drops && byte == 47) (byte == 46 && next == 47)
-      (dots_fit true (next ∷ text) (λ symbol has. below symbol (Contains-there byte (next ∷ text) symbol has)))
-      (dots_fit true text (λ symbol has. below symbol (Contains-there byte (next ∷ text) symbol (Contains-there next text symbol has))))
+      (dots_fit true (next ∷ text) (λ symbol has. below symbol (in_rest byte symbol (next ∷ text) has)))
+      (dots_fit true text (λ symbol has. below symbol (in_rest byte symbol (next ∷ text) (in_rest next symbol text has))))
     where
       by : (b c : Bool) → Below most (after_dots true (next ∷ text)) × (length (after_dots true (next ∷ text)) ≤ length (next ∷ text))
           → Below most (after_dots true text) × (length (after_dots true text) ≤ length text)
@@ -139,8 +140,8 @@ module _ (most : ℕ) (enough : 48 ≤ most) where
   here_fits symbol has = ⊎_elim
       (λ (same : 46 ≡ symbol). omega (arith, same, enough))
       (λ (h : Contains (47 ∷ []) symbol). ⊎_elim
-      (λ (same : 47 ≡ symbol). omega (arith, same, enough)) (λ (none : Contains [] symbol). Contains-none symbol none) (Contains-cases 47 [] symbol h))
-      (Contains-cases 46 (47 ∷ []) symbol has)
+      (λ (same : 47 ≡ symbol). omega (arith, same, enough)) (λ (none : Contains [] symbol). Contains-none symbol none) (first_or_rest 47 symbol [] h))
+      (first_or_rest 46 symbol (47 ∷ []) has)
 
   without_fits : (name : Text) → Below most name → length name ≤ 4096 → Below most (without_dots name) × (length (without_dots name) ≤ 4096)
   unfolding without_dots
@@ -233,16 +234,16 @@ module _ (most : ℕ) (enough : 48 ≤ most) where
   shorter_of : (P : Candidate → Type 0) (best : Candidate) (others : List Candidate) → P best → ((one : Candidate) → Contains others one → P one) → P (fold shorter best others)
   shorter_of P best [] first rest = first
   shorter_of P best (other ∷ others) first rest =
-      shorter_of P (shorter best other) others (by (nat_le (size_of best) (size_of other))) (λ one has. rest one (Contains-there other others one has))
+      shorter_of P (shorter best other) others (by (nat_le (size_of best) (size_of other))) (λ one has. rest one (in_rest other one others has))
     where
       by : (b : Bool) → P (if b then best else other)
       by true = first
-      by false = rest other (Contains-here other others)
+      by false = rest other (in_first other others)
 
   shortest_of : (P : Candidate → Type 0) (candidates : List Candidate) (one : Candidate) → ((one : Candidate) → Contains candidates one → P one) → shortest candidates ≡ Some one → P one
   shortest_of P [] one each e = absurd (none-some one e)
   shortest_of P (candidate ∷ candidates) one each e = subst P (same_Some (fold shorter candidate candidates) one e)
-      (shorter_of P candidate candidates (each candidate (Contains-here candidate candidates)) (λ other has. each other (Contains-there candidate candidates other has)))
+      (shorter_of P candidate candidates (each candidate (in_first candidate candidates)) (λ other has. each other (in_rest candidate other candidates has)))
 
   candidate_is : (number : ℕ) (rule : Rule) (name : Text) (one : Candidate) → candidate_of number rule name ≡ Some one
       → IsOf rule name one × (are_short one.directory one.stem rule.needs ≡ true)
@@ -299,16 +300,16 @@ module _ (most : ℕ) (enough : 48 ≤ most) where
   in_option : (o : Option Candidate) (one : Candidate) → Contains (option_to_list o) one → o ≡ Some one
   in_option None one has = Contains-none one has
   in_option (Some other) one has = ⊎_elim
-      (λ (same : other ≡ one). ap (λ (c : Candidate). Some c) same) (λ (none : Contains [] one). Contains-none one none) (Contains-cases other [] one has)
+      (λ (same : other ≡ one). ap (λ (c : Candidate). Some c) same) (λ (none : Contains [] one). Contains-none one none) (first_or_rest other one [] has)
 
   matching_is : (number : ℕ) (rules : List Rule) (name : Text) (one : Candidate) → Contains (matching_from number rules name) one
       → (at : ℕ) × (rule : Rule) × Contains rules rule × (candidate_of at rule name ≡ Some one)
   unfolding matching_from
   matching_is number [] name one has = Contains-none one has
   matching_is number (rule ∷ rules) name one has = ⊎_elim
-      (λ (here : Contains (option_to_list (candidate_of number rule name)) one). (number, rule, Contains-here rule rules, in_option (candidate_of number rule name) one here))
+      (λ (here : Contains (option_to_list (candidate_of number rule name)) one). (number, rule, in_first rule rules, in_option (candidate_of number rule name) one here))
       (λ (later : Contains (matching_from (number + 1) rules name) one).
-      let found = matching_is (number + 1) rules name one later in (found.0, found.1, Contains-there rule rules found.1 found.2, found.3))
+      let found = matching_is (number + 1) rules name one later in (found.0, found.1, in_rest rule found.1 rules found.2, found.3))
       (Contains-append_cases (option_to_list (candidate_of number rule name)) (matching_from (number + 1) rules name) one has)
 
   from_without_any : (in_chain : Bool) (candidates : List Candidate) (one : Candidate) → Contains (without_any in_chain candidates) one → Contains candidates one

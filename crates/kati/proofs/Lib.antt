@@ -1,7 +1,6 @@
 pub mod DrawnLemmas
 pub mod RangeLemmas
 pub mod SketchLemmas
-pub mod NodeGroupLemmas
 pub mod GraphPlanLemmas
 pub mod TellingLemmas
 pub mod PlanLemmas
@@ -25,3 +24,5 @@ pub mod ClosingLemmas
 pub mod FitLemmas
 pub mod BoundLemmas
 pub mod ExistenceLemmas
+pub mod NamesLemmas
+pub mod ApartLemmas

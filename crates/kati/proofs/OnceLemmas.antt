@@ -12,6 +12,7 @@ use Rattle.std.proofs.lemmas.Map.Keys.{sorted_tail}
 use Rattle.std.proofs.lemmas.Map.Lookups.{exact_bytes}
 use Rattle.std.proofs.lemmas.Map.Views.{All-after_first}
 use Rattle.std.proofs.lemmas.Option.{none-some, same_Some}
+use Rattle.kt_list.proofs.general.Elements.{first_or_rest, in_first, in_rest}
 use Rattle.kt_text.specs.Words.{Text}
 use Rattle.kt_rules.specs.Entry.{Rule}
 use Rattle.kt_eval.specs.reading.Machine.{Trace, traced}
@@ -20,7 +21,7 @@ use Rattle.kt_eval.specs.Step.{fault_at}
 use Rattle.kt_graph.specs.faults.Faults.{fault_number, fault_words}
 use Rattle.kt_graph.specs.nodes.Node.{Node, node_of}
 use Rattle.kt_graph.specs.Reach.{ComesFirst, IsFirst, IsGraph, IsSound, Trouble, no_rule, circular, reserved_name, one_file}
-use Rattle.kt_graph.proofs.lemmas.MemberLemmas.{Contains-cases, Contains-here, Contains-none, Contains-there}
+use Rattle.kt_graph.proofs.lemmas.MemberLemmas.{Contains-none}
 use Rattle.kati.specs.Meaning.{Meaning, MeansAfter, MeansGoals, Wanted, meaning_of, prepared}
 use Rattle.kati.specs.Once.{HasOneMeaning}
 use Rattle.kati.specs.Planning.{planned}
@@ -50,20 +51,20 @@ not_before_first first names name rises has less = ⊎_elim
     (λ (same : first ≡ name). not_less name first less (sym same))
     (λ (later : Contains names name). never_back name first less
     (All-contains (λ (q : Text). order first q ≡ Less) names name (All-after_first order first names rises) later))
-    (Contains-cases first names name has)
+    (first_or_rest first name names has)
 
 later_of : (first : Text) (names : List Text) (name : Text) → (first ≡ name → ⊥) → Contains (first ∷ names) name → Contains names name
 later_of first names name other has = ⊎_elim
     (λ (same : first ≡ name). absurd (other same))
     (λ (later : Contains names name). later)
-    (Contains-cases first names name has)
+    (first_or_rest first name names has)
 
 module _ (name other : Text) (names others : List Text) (rises : IsStrictlySortedBy order (name ∷ names)) where
   -- what is contained after the first of two lists whose first names are the same
   later_too : name ≡ other → ((one : Text) → Contains (name ∷ names) one → Contains (other ∷ others) one)
       → (one : Text) → Contains names one → Contains others one
   later_too first there one has =
-      later_of other others one (λ (same : other ≡ one). not_less name one above (first ∙ same)) (there one (Contains-there name names one has))
+      later_of other others one (λ (same : other ≡ one). not_less name one above (first ∙ same)) (there one (in_rest name one names has))
     where
       above : order name one ≡ Less
       above = All-contains (λ (q : Text). order name q ≡ Less) names one (All-after_first order name names rises) has
@@ -75,11 +76,11 @@ module _ (name other : Text) (names others : List Text) (rises : IsStrictlySorte
 same_names : (names others : List Text) → IsStrictlySortedBy order names → IsStrictlySortedBy order others
     → ((name : Text) → Contains names name → Contains others name) → ((name : Text) → Contains others name → Contains names name) → names ≡ others
 same_names [] [] rises rise there back = refl
-same_names [] (other ∷ others) rises rise there back = Contains-none other (back other (Contains-here other others))
-same_names (name ∷ names) [] rises rise there back = Contains-none name (there name (Contains-here name names))
+same_names [] (other ∷ others) rises rise there back = Contains-none other (back other (in_first other others))
+same_names (name ∷ names) [] rises rise there back = Contains-none name (there name (in_first name names))
 same_names (name ∷ names) (other ∷ others) rises rise there back =
     let first : name ≡ other
-    = same_first name other names others rises rise (there name (Contains-here name names)) (back other (Contains-here other others)) in
+    = same_first name other names others rises rise (there name (in_first name names)) (back other (in_first other others)) in
     ap (λ (one : Text). one ∷ names) first
     ∙ ap (λ (rest : List Text). other ∷ rest)
     (same_names names others (sorted_tail order name names rises) (sorted_tail order other others rise)

@@ -5,7 +5,6 @@ use Rattle.kt_eval.specs.declared.fault.Fault.{Fault}
 use Rattle.kt_eval.specs.declared.stop.Stop.{Stop}
 use Rattle.kt_eval.specs.declared.stop.Stop.TheVariants as stops
 use Rattle.kt_eval.specs.reading.Machine.{Trace}
-use Rattle.kt_eval.specs.Outcome.{Outcome}
 use Rattle.kt_ninja.specs.declared.plan.Plan.{Plan}
 use Rattle.kt_ninja.specs.Text.{plan_text}
 use Rattle.kt_ninja.specs.Written.{GrowsByFront, SinkSeen, Takes}

@@ -1,6 +1,6 @@
 -- The plan of what goals need can be written, if its names and commands can.
 use Rattle.std.proofs.Common.{◌≡◌, ◌≢◌, ℕ, ◌+◌, Bool, true, false, not, ◌&&◌, if◌then◌else◌, cond, List, [], ◌∷◌, ◌++◌, map, filter, find, flat_map, Option, Some, None, refl, sym, ap, ◌∙◌, subst, ⊎_elim, append-nil, arith, ◌||◌}
-use Rattle.std.specs.Prelude.{IfOk, MatchOption, Result, Ok, Err, nat_eq, slice_get}
+use Rattle.std.specs.Prelude.{IfOk, MatchOption, Result, Ok, Err, slice_get}
 use Rattle.std.specs.Option.{option_and_then, option_map_or}
 use Rattle.std.specs.List.{All, AllPairs, Contains, list_all, list_any}
 use Rattle.std.specs.List.Sorted.{IsStrictlySortedBy}
@@ -8,11 +8,10 @@ use Rattle.std.specs.Ordering.{is_eq, nat_cmp}
 use Rattle.std.specs.declared.cmp.Ordering.{Ordering}
 use Rattle.std.specs.declared.cmp.Ordering.TheVariants.{Less}
 use Rattle.std.specs.Cmp.Lexicographic.{slice_cmp}
-use Rattle.std.specs.Str.{bytes_eq}
 use Rattle.std.proofs.lemmas.Bool.{false≢true, true≢false}
 use Rattle.std.proofs.lemmas.List.{append_assoc, map-append}
 use Rattle.std.proofs.lemmas.List.Concat.{flat_map-cons}
-use Rattle.std.proofs.lemmas.List.Elements.{All-contains, All-cons, All-nil, Contains-append_left, Contains-append_right, Contains-append_cases}
+use Rattle.std.proofs.lemmas.List.Elements.{All-contains, All-cons, All-nil, Contains-append_cases}
 use Rattle.std.proofs.lemmas.List.Folds.{flat_map-map}
 use Rattle.std.proofs.lemmas.List.Kept.{AllPairs-cons}
 use Rattle.std.proofs.lemmas.Map.Keys.{sorted_tail}
@@ -20,6 +19,7 @@ use Rattle.std.proofs.lemmas.Map.Text.{is_eq-slice_cmp}
 use Rattle.std.proofs.lemmas.Map.Views.{All-after_first}
 use Rattle.std.proofs.lemmas.Slice.Eq.{bytes_eq-Decides}
 use Rattle.kt_text.specs.Words.{Text}
+use Rattle.kt_list.proofs.general.Elements.{from_flat_map, in_first, in_flat_map, in_rest}
 use Rattle.kt_rules.specs.Entry.{Rule}
 use Rattle.kt_eval.specs.declared.fault.Fault.{Fault}
 use Rattle.kt_eval.specs.declared.stop.Stop.{Stop}
@@ -31,7 +31,7 @@ use Rattle.kt_graph.specs.nodes.Node.{Node, is_leaf, node_of}
 use Rattle.kt_graph.specs.faults.Paths.{canon_of, is_reserved, parts_of}
 use Rattle.kt_graph.specs.Reach.{IsGraph, IsReached, unmade_goal}
 use Rattle.kt_graph.proofs.lemmas.nodes.GroupLaw.{are_groups}
-use Rattle.kt_graph.proofs.lemmas.MemberLemmas.{Contains-cases, Contains-from_map, Contains-here, Contains-map, Contains-none, Contains-there}
+use Rattle.kt_graph.proofs.lemmas.MemberLemmas.{Contains-from_map, Contains-map, Contains-none}
 use Rattle.kt_graph.proofs.lemmas.faults.TroubleLemmas.{filter_there, found_nowhere, from_filter}
 use Rattle.kt_graph.proofs.lemmas.nodes.WholeLemmas.{mapped_itself}
 use Rattle.kt_ninja.specs.declared.plan.Plan.{Plan}
@@ -62,7 +62,7 @@ Differ names = AllPairs (λ (a b : Text). a ≢ b) names
 
 all_if : {A : Type 0} (P : A → Type 0) (xs : List A) → ((x : A) → Contains xs x → P x) → All P xs
 all_if P [] each = All-nil P
-all_if P (x ∷ xs) each = All-cons P x xs (each x (Contains-here x xs)) (all_if P xs (λ y has. each y (Contains-there x xs y has)))
+all_if P (x ∷ xs) each = All-cons P x xs (each x (in_first x xs)) (all_if P xs (λ y has. each y (in_rest x y xs has)))
 
 -- a name isn't less than itself
 pub not_less : (name other : Text) → order name other ≡ Less → name ≢ other
@@ -76,30 +76,12 @@ apart (name ∷ names) rest rises off differ =
     AllPairs-cons (λ (a b : Text). a ≢ b) name (names ++ rest)
     (all_if (λ (x : Text). name ≢ x) (names ++ rest) (λ x has. ⊎_elim
     (λ (later : Contains names x). not_less name x (All-contains (λ (q : Text). order name q ≡ Less) names x (All-after_first order name names rises) later))
-    (λ (after : Contains rest x) (same : name ≡ x). off name (Contains-here name names) (subst (λ (y : Text). Contains rest y) (sym same) after))
+    (λ (after : Contains rest x) (same : name ≡ x). off name (in_first name names) (subst (λ (y : Text). Contains rest y) (sym same) after))
     (Contains-append_cases names rest x has)))
-    (apart names rest (sorted_tail order name names rises) (λ x has after. off x (Contains-there name names x has) after) differ)
+    (apart names rest (sorted_tail order name names rises) (λ x has after. off x (in_rest name x names has) after) differ)
 
 no_pairs : AllPairs (λ (a b : Text). a ≢ b) []
 no_pairs i j d below within = absurd (omega arith)
-
--- ---- lists of lists
-
-pub from_flat : {A B : Type 0} (f : A → List B) (xs : List A) (y : B) → Contains (flat_map f xs) y → (x : A) × Contains xs x × Contains (f x) y
-from_flat f [] y has = Contains-none y has
-from_flat {A} {B} f (x ∷ xs) y has = ⊎_elim
-    (λ (here : Contains (f x) y). (x, Contains-here x xs, here))
-    (λ (there : Contains (flat_map f xs) y). let rest = from_flat f xs y there in (rest.0, Contains-there x xs rest.0 rest.1, rest.2))
-    (Contains-append_cases (f x) (flat_map f xs) y (subst (λ (l : List B). Contains l y) (flat_map-cons f x xs) has))
-
-pub to_flat : {A B : Type 0} (f : A → List B) (xs : List A) (x : A) (y : B) → Contains xs x → Contains (f x) y → Contains (flat_map f xs) y
-to_flat f [] x y has in_x = Contains-none x has
-to_flat {A} {B} f (first ∷ xs) x y has in_x =
-    subst (λ (l : List B). Contains l y) (sym (flat_map-cons f first xs))
-    (⊎_elim
-    (λ (same : first ≡ x). Contains-append_left (f first) (flat_map f xs) y (subst (λ (z : A). Contains (f z) y) (sym same) in_x))
-    (λ (later : Contains xs x). Contains-append_right (f first) (flat_map f xs) y (to_flat f xs x y later in_x))
-    (Contains-cases first xs x has))
 
 -- ---- the groups of a graph
 
@@ -148,17 +130,17 @@ module _ (rules : List Rule) (known goals : List Text) (nodes : List Node) (grap
       (apart (outs_of group) (flat_map outs_of groups)
       (All-contains (λ (one : List Node). IsStrictlySortedBy order (map name_in one)) (groups_of nodes) group law.members is_group)
       (λ name here after.
-      let other = from_flat outs_of groups name after in
+      let other = from_flat_map outs_of groups name after in
       let same : group ≡ other.0
-      = one_group group other.0 name is_group (within other.0 (Contains-there group groups other.0 other.1)) here other.2 in
+      = one_group group other.0 name is_group (within other.0 (in_rest group other.0 groups other.1)) here other.2 in
       not_less (leader_name group) (leader_name other.0)
       (All-contains (λ (q : Text). order (leader_name group) q ≡ Less) (map leader_name groups) (leader_name other.0)
       (All-after_first order (leader_name group) (map leader_name groups) rises) (Contains-map leader_name groups other.0 other.1))
       (ap leader_name same))
-      (differ_among groups (λ one has. within one (Contains-there group groups one has)) (sorted_tail order (leader_name group) (map leader_name groups) rises)))
+      (differ_among groups (λ one has. within one (in_rest group one groups has)) (sorted_tail order (leader_name group) (map leader_name groups) rises)))
     where
       is_group : Contains (groups_of nodes) group
-      is_group = within group (Contains-here group groups)
+      is_group = within group (in_first group groups)
 
   -- each group has a name
   begun : (group : List Node) → Contains (groups_of nodes) group → is_empty (outs_of group) ≡ false
@@ -173,7 +155,7 @@ module _ (rules : List Rule) (known goals : List Text) (nodes : List Node) (grap
 
   -- a goal is one of the names
   goal_named : unmade_goal rules known goals ≡ None → (goal : Text) → Contains goals goal → Contains (flat_map outs_of (groups_of nodes)) goal
-  goal_named all_made goal has = to_flat outs_of (groups_of nodes) (law.each node.0 made).group goal (law.each node.0 made).among
+  goal_named all_made goal has = in_flat_map outs_of (groups_of nodes) (law.each node.0 made).group goal (law.each node.0 made).among
       (subst (λ (name : Text). Contains (outs_of (law.each node.0 made).group) name) node.2
       (Contains-map name_in (law.each node.0 made).group node.0 (law.each node.0 made).stands))
     where
@@ -192,7 +174,7 @@ module _ (rules : List Rule) (known goals : List Text) (nodes : List Node) (grap
       (Contains-map name_in nodes node.0 (in_nodes node.0 (law.made group.0 node.0 group.1 node.1))))
     where
       group : (one : List Node) × Contains (groups_of nodes) one × Contains (outs_of one) name
-      group = from_flat outs_of (groups_of nodes) name has
+      group = from_flat_map outs_of (groups_of nodes) name has
 
       node : (one : Node) × Contains group.0 one × (one.name ≡ name)
       node = Contains-from_map name_in group.0 name group.2
@@ -222,8 +204,8 @@ all_begun : (statements : List Statement) → ((outs : List Text) → Contains (
     → list_all (λ (s : Statement). not (is_empty s.outs)) statements ≡ true
 all_begun [] each = refl
 all_begun (s ∷ statements) each =
-    ap (λ b. not b && list_all (λ (one : Statement). not (is_empty one.outs)) statements) (each s.outs (Contains-here s.outs (map outs_in statements)))
-    ∙ all_begun statements (λ outs has. each outs (Contains-there s.outs (map outs_in statements) outs has))
+    ap (λ b. not b && list_all (λ (one : Statement). not (is_empty one.outs)) statements) (each s.outs (in_first s.outs (map outs_in statements)))
+    ∙ all_begun statements (λ outs has. each outs (in_rest s.outs outs (map outs_in statements) has))
 
 pub always_reserved : is_reserved always_build ≡ true
 unfolding canon_of parts_of
@@ -274,7 +256,7 @@ module _ (rules : List Rule) (known goals : List Text) (nodes : List Node) (soun
         texts = t;
         different = AllPairs-cons (λ (a b : Text). a ≢ b) always_build (outputs statements) (all_if (λ (x : Text). always_build ≢ x) (outputs statements) always_apart) all_differ;
         defaults = all_if (λ (goal : Text). Contains (always_build ∷ outputs statements) goal) goals
-            (λ goal has. Contains-there always_build (outputs statements) goal (each_goal goal has));
+            (λ goal has. in_rest always_build goal (outputs statements) (each_goal goal has));
       }
 
 -- the plan of a sound graph can be written, if its texts can

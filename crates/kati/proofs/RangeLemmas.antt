@@ -1,26 +1,8 @@
 -- Parts of a list between two places.
-use Rattle.std.proofs.Common.{◌≡◌, ℕ, ◌-◌, ◌≤◌, List, [], ◌∷◌, ◌++◌, length, take, drop, Option, Some, None, sym, ap, ◌∙◌, arith, zero, suc, subst}
+use Rattle.std.proofs.Common.{◌≡◌, ℕ, ◌≤◌, List, [], ◌∷◌, ◌++◌, length, Option, Some, None, sym, ap, arith, zero, suc, subst}
 use Rattle.std.specs.Prelude.{slice_get}
-use Rattle.std.specs.List.{slice_range}
-use Rattle.std.proofs.Math.Seq.{drop-append_seam, take-length}
-use Rattle.std.proofs.lemmas.List.{drop-append-le, length-append, length-drop, take-append-le}
+use Rattle.std.proofs.lemmas.List.{length-append}
 use Rattle.kati.specs.inner.Ranges.{AreRanges}
-
-module _ {A : Type 0} (xs more : List A) where
-  -- a part of a list, if more comes after it
-  pub same_range : (start end : ℕ) → start ≤ end → end ≤ length xs → slice_range (xs ++ more) start end ≡ slice_range xs start end
-  same_range start end rises within =
-      ap (take (end - start)) (drop-append-le start xs more (omega (arith, rises, within)))
-      ∙ take-append-le (end - start) (drop start xs) more
-      (subst (λ n. end - start ≤ n) (sym (length-drop start xs)) (omega (arith, rises, within)))
-
-  -- the part after a list is what was added
-  pub last_range : (start end : ℕ) → start ≡ length xs → end ≡ length (xs ++ more) → slice_range (xs ++ more) start end ≡ more
-  last_range start end from upto =
-      ap (λ (n : ℕ). take (end - n) (drop n (xs ++ more))) from
-      ∙ ap (take (end - length xs)) (drop-append_seam xs more)
-      ∙ ap (λ (n : ℕ). take n more) (omega (arith, upto, length-append xs more))
-      ∙ take-length more
 
 module _ {A : Type 0} (start end : A → ℕ) where
   pub ranges_longer : (size longer : ℕ) (marks : List A) → size ≤ longer → AreRanges start end size marks → AreRanges start end longer marks

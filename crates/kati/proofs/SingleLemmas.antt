@@ -1,8 +1,9 @@
 -- The inputs of a single name are those of its statement as they are.
-use Rattle.std.proofs.Common.{◌≡◌, Bool, true, false, not, cond, ◌||◌, if◌then◌else◌, List, [], ◌∷◌, ◌++◌, filter, flat_map, refl, sym, ap, ◌∙◌, append-nil, true≢false}
+use Rattle.std.proofs.Common.{◌≡◌, Bool, true, false, not, cond, if◌then◌else◌, List, [], ◌∷◌, ◌++◌, filter, flat_map, refl, sym, ap, ◌∙◌, append-nil}
 use Rattle.std.specs.Prelude.{fold}
 use Rattle.std.specs.Cmp.Lexicographic.{pointwise}
 use Rattle.std.specs.Prelude.{nat_eq}
+use Rattle.std.proofs.lemmas.Bool.{or_from, or_parts}
 use Rattle.std.proofs.lemmas.List.{append_assoc}
 use Rattle.std.proofs.lemmas.List.Folds.{list_any-append}
 use Rattle.kt_text.specs.Words.{Text}
@@ -46,27 +47,20 @@ once_more names =
 
 -- ---- of fewer names
 
-both_false : (a b : Bool) → (a || b) ≡ false → (a ≡ false) × (b ≡ false)
-both_false false b e = (refl, e)
-both_false true b e = absurd (true≢false e)
-
-either_false : (a b : Bool) → a ≡ false → b ≡ false → (a || b) ≡ false
-either_false a b e f = ap (λ (x : Bool). x || b) e ∙ f
-
 abbrev NotAmong : List Text → List Text → Type 0
 NotAmong old kept = (name : Text) → is_among old name ≡ false → is_among kept name ≡ false
 
 one_passed : (old kept : List Text) (name : Text) → NotAmong old kept → NotAmong (old ++ name ∷ []) kept
 one_passed old kept name fewer other e =
-    fewer other (both_false (is_among old other) (is_among (name ∷ []) other)
+    fewer other (or_parts (is_among old other) (is_among (name ∷ []) other)
     (sym (list_any-append (pointwise nat_eq other) old (name ∷ [])) ∙ e)).0
 
 one_kept : (old kept : List Text) (name : Text) → NotAmong old kept → NotAmong (old ++ name ∷ []) (kept ++ name ∷ [])
 one_kept old kept name fewer other e =
-    let both = both_false (is_among old other) (is_among (name ∷ []) other)
+    let both = or_parts (is_among old other) (is_among (name ∷ []) other)
     (sym (list_any-append (pointwise nat_eq other) old (name ∷ [])) ∙ e) in
     list_any-append (pointwise nat_eq other) kept (name ∷ [])
-    ∙ either_false (is_among kept other) (is_among (name ∷ []) other) (fewer other both.0) both.1
+    ∙ or_from (is_among kept other) (is_among (name ∷ []) other) (fewer other both.0) both.1
 
 fewer_by : (p : Text → Bool) (kept : List Text) (name : Text) (names : List Text) (b : Bool) → is_among kept name ≡ false
     → AreNew kept (filter p names) → AreNew (kept ++ name ∷ []) (filter p names)

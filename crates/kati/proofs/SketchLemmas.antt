@@ -1,10 +1,8 @@
 -- A sketch as the code holds it.
-use Rattle.std.proofs.Common.{◌≡◌, ℕ, ◌-◌, ◌≤◌, Bool, true, List, [], ◌∷◌, ◌++◌, length, map, take, drop, Option, Some, None, refl, sym, ap, ◌∙◌, arith, zero, suc, subst, ◌||◌}
+use Rattle.std.proofs.Common.{◌≡◌, ℕ, ◌-◌, ◌≤◌, Bool, true, List, [], ◌∷◌, ◌++◌, length, map, take, drop, Some, None, refl, sym, ap, ◌∙◌, zero, suc, ◌||◌}
 use Rattle.std.specs.Prelude.{option_map, slice_get}
 use Rattle.std.specs.List.{list_all, list_any, slice_range}
 use Rattle.std.proofs.lemmas.Bool.{and_from, and_parts}
-use Rattle.std.proofs.Math.Seq.{drop-append_seam, take-length}
-use Rattle.std.proofs.lemmas.List.{drop-append-le, length-append, length-drop, take-append-le}
 use Rattle.std.proofs.lemmas.Option.{slice_get-map}
 use Rattle.kt_text.specs.Words.{Text}
 use Rattle.kt_recipe.specs.Views.{command_in}
@@ -12,7 +10,7 @@ use Rattle.kati.specs.declared.sketch.Mark.{Mark}
 use Rattle.kt_ninja.specs.Writable.{is_command_byte, is_made}
 use Rattle.kati.specs.Planning.{made_by}
 use Rattle.kati.specs.inner.Drawn.{AreWithin, Drawn, drawn_view, joined_view}
-use Rattle.kati.proofs.RangeLemmas.{last_range, same_range}
+use Rattle.kt_list.proofs.general.Ranges.{last_range, same_range}
 
 abbrev drawn_by : Mark → Text → Drawn
 drawn_by mark part = record { always = mark.always; joined = option_map (λ b. joined_view b.value) mark.joined; command = command_in part }

@@ -17,7 +17,7 @@ use Rattle.kt_graph.specs.nodes.Node.{Node, all_inputs, inputs_of, order_only_of
 use Rattle.kt_graph.specs.faults.Paths.{always_name, canon_of, is_reserved}
 use Rattle.kt_graph.specs.Reach.{HasEdge, IsInGroup, IsMade, IsReached, Leads}
 use Rattle.kt_graph.proofs.lemmas.nodes.MadeLemmas.{input_reached}
-use Rattle.kt_graph.proofs.lemmas.MemberLemmas.{Contains-cases, Contains-from_map, Contains-map, Contains-none}
+use Rattle.kt_graph.proofs.lemmas.MemberLemmas.{Contains-from_map, Contains-map, Contains-none}
 use Rattle.kt_graph.proofs.lemmas.faults.TroubleLemmas.{from_filter}
 use Rattle.kt_graph.proofs.lemmas.search.UnknownLemmas.{from_without_repeats}
 use Rattle.kt_ninja.specs.Plan.{outputs}
@@ -31,7 +31,8 @@ use Rattle.kati.specs.Sound.{IsSoundPlan, IsUnreserved, NeedsInput, NeedsItself,
 use Rattle.kati.specs.inner.Views.{GoalsEnd}
 use Rattle.kati.proofs.ExactLemmas.{are_graphs, goals_told, of_group}
 use Rattle.kati.proofs.MeaningLemmas.{meant}
-use Rattle.kati.proofs.PlanLemmas.{always_reserved, from_flat, in_nodes, law, name_in, node_is, outs_in, to_flat}
+use Rattle.kt_list.proofs.general.Elements.{first_or_rest, from_flat_map, in_flat_map}
+use Rattle.kati.proofs.PlanLemmas.{always_reserved, in_nodes, law, name_in, node_is, outs_in}
 
 -- ---- the inputs of a group's statement
 
@@ -43,20 +44,20 @@ pub record IsNeededBy (group : List Node) (input : Text) : Type 0 where
 
 joined_needed : (group : List Node) (input : Text) → Contains (joined_inputs group) input → IsNeededBy group input
 joined_needed group input has =
-    let from = from_flat inputs_of group input (from_without_repeats (flat_map inputs_of group) input has) in
+    let from = from_flat_map inputs_of group input (from_without_repeats (flat_map inputs_of group) input has) in
     record { member = from.0; among = from.1; needs = Contains-append_left (inputs_of from.0) (order_only_of from.0) input from.2 }
 
 order_only_needed : (group : List Node) (input : Text) → Contains (joined_order_only group) input → IsNeededBy group input
 order_only_needed group input has =
     let kept = from_filter (λ name. not (is_among (joined_inputs group) name)) (without_repeats (flat_map order_only_of group)) input has in
-    let from = from_flat order_only_of group input (from_without_repeats (flat_map order_only_of group) input kept.0) in
+    let from = from_flat_map order_only_of group input (from_without_repeats (flat_map order_only_of group) input kept.0) in
     record { member = from.0; among = from.1; needs = Contains-append_right (inputs_of from.0) (order_only_of from.0) input from.2 }
 
 implicit_is : (always : Bool) (input : Text) → Contains (implicit_of always) input → input ≡ always_build
 implicit_is true input has = ⊎_elim
     (λ (same : always_build ≡ input). sym same)
     (λ (none : Contains [] input). Contains-none input none)
-    (Contains-cases always_build [] input has)
+    (first_or_rest always_build input [] has)
 implicit_is false input has = Contains-none input has
 
 group_needs : (rules : List Rule) (group : List Node) (command : Option Text) (input : Text)
@@ -163,7 +164,7 @@ module _ (read : Read) (limit : ℕ) (known goals : List Text) (plan : Plan) (te
       other is = no_step name round.next is round.step
 
       made : IsMade read.book known goals name ⊎ (name ≡ always_build)
-      made = tells.only name (to_flat outs_in plan.statements round.step.statement name round.step.among round.step.makes)
+      made = tells.only name (in_flat_map outs_in plan.statements round.step.statement name round.step.among round.step.makes)
 
       circular : IsMade read.book known goals name → HasEdge read.book known goals name round.next → ⊥
       circular is_made edge = tells.graph.0.free.uncircled.uncircled name (record {

@@ -14,7 +14,7 @@ use Rattle.kt_graph.specs.Reach.{HasInput, IsGraph, IsReached}
 use Rattle.kt_graph.specs.nodes.Groups.{groups_of}
 use Rattle.kt_graph.specs.nodes.Node.{Node, all_inputs, inputs_of, order_only_of}
 use Rattle.kt_graph.proofs.lemmas.Membership.{all_pass, each_passes}
-use Rattle.kt_graph.proofs.lemmas.MemberLemmas.{Contains-from_map, Contains-here, Contains-map, Contains-there}
+use Rattle.kt_graph.proofs.lemmas.MemberLemmas.{Contains-from_map, Contains-map}
 use Rattle.kt_graph.proofs.lemmas.faults.TroubleLemmas.{from_filter}
 use Rattle.kt_graph.proofs.lemmas.nodes.MadeLemmas.{input_reached}
 use Rattle.kt_graph.proofs.lemmas.search.UnknownLemmas.{from_without_repeats}
@@ -27,7 +27,8 @@ use Rattle.kt_ninja.proofs.PrintedPieces.{all_both}
 use Rattle.kati.specs.Planning.{always_built, command_for, has_implicit, has_phony, implicit_of, joined_inputs, joined_order_only, made_by, outs_of, plan_groups, plan_of, statement_of, text_fault, unwritable_in, with_always_built}
 use Rattle.kati.specs.inner.Drawn.{Drawn, statements_drawn}
 use Rattle.kt_recipe.proofs.CommandLemmas.{gave_both}
-use Rattle.kati.proofs.PlanLemmas.{from_flat, in_nodes, law, name_in, node_is, statements_in}
+use Rattle.kt_list.proofs.general.Elements.{from_flat_map, in_first, in_rest}
+use Rattle.kati.proofs.PlanLemmas.{in_nodes, law, name_in, node_is, statements_in}
 
 implicit_pass : (always : Bool) → list_all is_name (implicit_of always) ≡ true
 implicit_pass true = refl
@@ -60,7 +61,7 @@ module _ (rules : List Rule) (known goals : List Text) (nodes : List Node) (grap
     needed_passes : (needed : Node → List Text) → ((node : Node) (input : Text) → Contains (needed node) input → Contains (all_inputs node) input)
         → (name : Text) → Contains (without_repeats (flat_map needed group)) name → is_name name ≡ true
     needed_passes needed among name has =
-        let from = from_flat needed group name (from_without_repeats (flat_map needed group) name has) in
+        let from = from_flat_map needed group name (from_without_repeats (flat_map needed group) name has) in
         input_passes from.0 name (member from.0 from.1) (among from.0 name from.2)
 
     names_pass : (command : Option Text) → list_all is_name (names_of (statement_of rules group command)) ≡ true
@@ -88,8 +89,8 @@ all_told p rules table limit (group ∷ groups) before said heard statements e a
     (λ command. plan_groups rules table limit groups (before ++ statement_of rules group command ∷ [])) heard statements e in
     let one = statement_of rules group both.given in
     all_told p rules table limit groups (before ++ one ∷ []) both.middle heard statements both.rest
-    (all_both p before (one ∷ []) all (and_from (p one) true (each group both.given (Contains-here group groups)) refl))
-    (λ other command has. each other command (Contains-there group groups other has))
+    (all_both p before (one ∷ []) all (and_from (p one) true (each group both.given (in_first group groups)) refl))
+    (λ other command has. each other command (in_rest group other groups has))
 
 -- the commands that are stored for groups are those of their statements
 made_pass : (groups : List (List Node)) (drawn : List Drawn) → list_all (λ (one : Drawn). is_made (made_by one.command)) drawn ≡ true

@@ -16,4 +16,6 @@ pub mod ReadBack
 pub mod Exact
 pub mod Sound
 pub mod Once
+pub mod Names
+pub mod NamesApart
 pub mod inner

@@ -5,9 +5,9 @@ ghost use Rattle.kati.specs.inner.Drawn.{inputs_drawn, order_only_drawn, stateme
 ghost use Rattle.kati.specs.inner.Shown.{names_view, part_view, plan_view};
 
 use crate::name_list::NameList;
-use crate::node_groups::NodeGroups;
 use crate::sketch::{Drawing, Sketch};
 use kt_graph::Node;
+use kt_list::Rows;
 use kt_ninja::{Listed, PlanView};
 use kt_rules::Name;
 
@@ -15,7 +15,8 @@ use kt_rules::Name;
 /// one text.
 #[derive(Drop)]
 pub(crate) struct GraphPlan<'g> {
-    pub groups: NodeGroups<'g>,
+    /// The nodes of each group, in order.
+    pub groups: Rows<Node<'g>>,
     /// What is stored for each group besides its nodes.
     pub sketch: Sketch,
     /// Whether the statement of `ALWAYS_BUILD` comes first.
@@ -39,7 +40,7 @@ impl<'g> GraphPlan<'g> {
         ensures { part_view result
             ≡ slice_get (statements_drawn self.now.groups self.now.sketch) place }
     {
-        match self.groups.get(place) {
+        match self.groups.row(place) {
             Some(nodes) => match self.sketch.get(place) {
                 Some(drawing) => Part::Group(nodes, drawing),
                 None => Part::Missing,

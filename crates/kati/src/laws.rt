@@ -2,6 +2,7 @@
 ghost use Rattle.kati.specs.Asked.{NamesAreAsked};
 ghost use Rattle.kati.specs.Exact.{PlansAreGraphs};
 ghost use Rattle.kati.specs.Limits.{OnlyCuts, OnlyCutsRuns};
+ghost use Rattle.kati.specs.NamesApart.{LinesTellNames};
 ghost use Rattle.kati.specs.Once.{HasAMeaning, HasOneMeaning};
 ghost use Rattle.kati.specs.ReadBack.{PlansReadBack};
 ghost use Rattle.kati.specs.Sound.{PlansAreSound};
@@ -44,4 +45,9 @@ pub fn names_are_asked()
 /// than as the output of its own statement and among implicit inputs.
 pub fn plans_are_sound()
     ensures { PlansAreSound }
+{}
+
+/// The lines of names without newlines identify the names: no other list of such names is written as the same text.
+pub fn lines_tell_names()
+    ensures { LinesTellNames }
 {}

@@ -10,7 +10,7 @@ pub mod laws;
 mod listing;
 mod makefile;
 mod name_list;
-mod node_groups;
+mod names;
 mod outcome;
 mod planning;
 mod program;
@@ -25,6 +25,7 @@ mod writing;
 
 pub use faults::RunFault;
 pub use kati_args::{ArgFault, Args, args_of};
+pub use names::asked_names;
 pub use outcome::Outcome;
 pub use program::{USAGE, finish, refuse, whole};
 pub use running::run;

@@ -17,13 +17,12 @@ ghost use Rattle.kati.specs.inner.Stops.{IsFaultOf};
 ghost use Rattle.kati.specs.inner.Views.{is_text_trouble};
 
 use crate::graph_plan::GraphPlan;
-use crate::node_groups::NodeGroups;
 use crate::sketch::Sketch;
 use crate::statements::sketch_group;
 use crate::words::stop_on;
 use kt_eval::{Makefile, Stop};
 use kt_graph::{Graph, Node};
-use kt_list::Sequence;
+use kt_list::{Rows, Sequence};
 use kt_ninja::{
     Listed, Plan, PlanView, Unwritable, copied_plan, name_can_be_written, texts_can_be_written,
 };
@@ -73,14 +72,14 @@ pub(crate) fn plan(
 }
 
 // The groups, one after another.
-fn all_groups<'g>(alloc: Global, graph: &'g Graph<'_>) -> Result<NodeGroups<'g>, AllocError>
+fn all_groups<'g>(alloc: Global, graph: &'g Graph<'_>) -> Result<Rows<Node<'g>>, AllocError>
     ensures { IfOk result (λ groups. groups ≡ groups_of graph.now) }
 {
     let mut left = graph.groups()?;
-    let mut groups = NodeGroups::new(alloc);
+    let mut groups = Rows::new(alloc);
     let mut group = Vec::new(alloc);
     while left.next_into(&mut group)? {
-        groups.push(&mut group)?;
+        groups.append_row(&mut group)?;
     }
     Ok(groups)
 }
@@ -90,7 +89,7 @@ fn sketched(
     alloc: Global,
     makefile: &Makefile,
     limit: u64,
-    groups: &NodeGroups<'_>,
+    groups: &Rows<Node<'_>>,
     messages: &mut Vec<Sequence<u8>>,
 ) -> Result<Sketch, Stop>
     ensures gives { Gives (λ sketch. statements_drawn groups.now sketch) result
@@ -108,7 +107,7 @@ fn sketch_groups(
     alloc: Global,
     book: &Book,
     commands: &Commands<'_>,
-    groups: &NodeGroups<'_>,
+    groups: &Rows<Node<'_>>,
     messages: &mut Vec<Sequence<u8>>,
 ) -> Result<Sketch, Stop>
     ensures gives { Gives (λ sketch. sketch) result messages.new.items
@@ -138,7 +137,7 @@ fn add_at(
     alloc: Global,
     book: &Book,
     commands: &Commands<'_>,
-    groups: &NodeGroups<'_>,
+    groups: &Rows<Node<'_>>,
     place: usize,
     command: &mut Vec<u8>,
     sketch: &mut Sketch,
@@ -150,7 +149,7 @@ fn add_at(
         (λ command. done (sketch.old ++ drawn_of book.now (get_or groups.now place []) command ∷ []))) }
     ensures asks_nothing { AsksNothing result }
 {
-    match groups.get(place) {
+    match groups.row(place) {
         Some(group) => add(alloc, book, commands, group, command, sketch, messages),
         None => Ok(()),
     }
@@ -215,7 +214,7 @@ fn has_writable_names(graph: &Graph) -> bool
     true
 }
 
-fn plan_of<'g>(groups: NodeGroups<'g>, sketch: Sketch, goals: Vec<Name>) -> GraphPlan<'g>
+fn plan_of<'g>(groups: Rows<Node<'g>>, sketch: Sketch, goals: Vec<Name>) -> GraphPlan<'g>
     requires { AlwaysFirst groups sketch }
     ensures { plan_view result ≡ plan_of (statements_drawn groups.entry sketch) goals.items }
 {

@@ -6,6 +6,7 @@ ghost use Rattle.kt_recipe.specs.Views.{command_in};
 ghost use Rattle.kati.specs.Planning.{made_by};
 ghost use Rattle.kati.specs.inner.Drawn.{drawing_view, drawn_view, joined_view};
 
+use kt_list::{Names, narrow};
 use kt_ninja::command_can_hold;
 use kt_rules::Name;
 use std::alloc::{AllocError, Global};
@@ -15,15 +16,15 @@ use std::marker::Model;
 /// The joined prerequisites of the members of a group.
 #[derive(Drop)]
 pub(crate) struct Joined {
-    pub inputs: Vec<Name>,
+    pub inputs: Names,
     pub order_only: Vec<Name>,
 }
 
 // What is stored for a group. Its command is between two places of the text of all commands.
 #[derive(Drop)]
 struct Mark {
-    start: usize,
-    end: usize,
+    start: u32,
+    end: u32,
     always: bool,
     joined: Option<Box<Joined>>,
 }
@@ -39,7 +40,8 @@ pub(crate) struct Drawing<'a> {
     pub command: &'a [u8],
 }
 
-/// What is stored for each group, in order. The commands of all groups are in one text.
+/// What is stored for each group, in order. The commands of all groups are in one text, which has at most 4,294,967,295
+/// bytes: more are refused as if memory were.
 #[derive(Drop)]
 pub(crate) struct Sketch {
     text: Vec<u8>,
@@ -101,11 +103,12 @@ impl Sketch {
           command = command_in command.now;
         } ∷ []) }
     {
-        let start = self.text.len();
+        let start = narrow(self.text.len())?;
         self.text.extend_from_slice(command)?;
+        let end = narrow(self.text.len())?;
         self.marks.push(Mark {
             start,
-            end: self.text.len(),
+            end,
             always,
             joined,
         })?;
@@ -138,7 +141,7 @@ fn drawing_of<'a>(text: &'a [u8], mark: &'a Mark) -> Drawing<'a>
     Drawing {
         always: mark.always,
         joined: joined_in(&mark.joined),
-        command: &text[mark.start..mark.end],
+        command: &text[mark.start as usize..mark.end as usize],
     }
 }
 

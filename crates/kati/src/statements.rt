@@ -1,6 +1,5 @@
 //! Stores the groups of a plan.
-ghost use Rattle.std.specs.Prelude.{◌≡◌, ◌&&◌, ◌++◌, ◌∷◌, [], filter, flat_map, fold, is_some, map, not, option_map};
-ghost use Rattle.std.specs.Prelude.{IfOk, OnOk};
+ghost use Rattle.std.specs.Prelude.{◌≡◌, ◌&&◌, ◌++◌, ◌∷◌, [], filter, flat_map, fold, is_some, not, option_map, IfOk, OnOk};
 ghost use Rattle.kt_rules.specs.Names.{is_among, with_name, without_repeats};
 ghost use Rattle.kt_graph.specs.nodes.Node.{inputs_of, order_only_of};
 ghost use Rattle.kt_recipe.specs.Views.{command_in};
@@ -8,8 +7,8 @@ ghost use Rattle.kati.specs.Planning.{has_phony, joined_inputs, joined_order_onl
 ghost use Rattle.kati.specs.inner.Drawn.{drawn_of, joined_of, joined_view};
 
 use crate::sketch::{Joined, Sketch};
-use indexmap::IndexSet;
 use kt_graph::{Inputs, Node};
+use kt_list::Names;
 use kt_rules::{Book, Name};
 use std::alloc::{AllocError, Global};
 use std::boxed::Box;
@@ -57,7 +56,6 @@ fn joined(alloc: Global, group: &[Node]) -> Result<Box<Joined>, AllocError>
 {
     let inputs = joined_inputs(alloc, group)?;
     let order_only = joined_order_only(alloc, group, &inputs)?;
-    let inputs = in_order(alloc, inputs)?;
     Ok(Box::new(alloc, Joined { inputs, order_only })?)
 }
 
@@ -70,63 +68,68 @@ fn has_phony(book: &Book, group: &[Node]) -> bool
 
 // The inputs of all, each once.
 #[tactic(auto, unfolding(kt_rules::specs::Names::without_repeats))]
-fn joined_inputs(alloc: Global, group: &[Node]) -> Result<IndexSet<Vec<u8>>, AllocError>
-    ensures { IfOk result (λ inputs. map (λ name. name.items) inputs.keys ≡ joined_inputs group.now) }
+fn joined_inputs(alloc: Global, group: &[Node]) -> Result<Names, AllocError>
+    ensures { IfOk result (λ inputs. inputs ≡ joined_inputs group.now) }
 {
-    let mut inputs = IndexSet::new(alloc);
+    let mut inputs = Names::new(alloc);
     for node in group {
-        add(alloc, &mut inputs, node.inputs())?;
+        add_all(&mut inputs, node.inputs())?;
     }
     Ok(inputs)
 }
 
 // The order-only inputs of all, each once, without the inputs.
-fn joined_order_only(
-    alloc: Global,
-    group: &[Node],
-    inputs: &IndexSet<Vec<u8>>,
-) -> Result<Vec<Name>, AllocError>
-    ensures { map (λ name. name.items) inputs.now.keys ≡ joined_inputs group.now
+fn joined_order_only(alloc: Global, group: &[Node], inputs: &Names) -> Result<Vec<Name>, AllocError>
+    ensures { inputs.now ≡ joined_inputs group.now
         → IfOk result (λ names. names.items ≡ joined_order_only group.now) }
 {
     let names = all_order_only(alloc, group)?;
-    let mut names = in_order(alloc, names)?;
-    names.retain(|name| !is_in(inputs, name.as_slice()));
-    Ok(names)
-}
-
-fn is_in(names: &IndexSet<Vec<u8>>, name: &[u8]) -> bool
-    ensures { result ≡ is_among (map (λ key. key.items) names.now.keys) name.now }
-{
-    names.contains(name)
+    others(alloc, names.as_slice(), inputs)
 }
 
 #[tactic(auto, unfolding(kt_rules::specs::Names::without_repeats))]
-fn all_order_only(alloc: Global, group: &[Node]) -> Result<IndexSet<Vec<u8>>, AllocError>
-    ensures { IfOk result (λ names. map (λ name. name.items) names.keys
-        ≡ without_repeats (flat_map order_only_of group.now)) }
+fn all_order_only(alloc: Global, group: &[Node]) -> Result<Names, AllocError>
+    ensures { IfOk result (λ names. names ≡ without_repeats (flat_map order_only_of group.now)) }
 {
-    let mut names = IndexSet::new(alloc);
+    let mut names = Names::new(alloc);
     for node in group {
-        add(alloc, &mut names, node.order_only())?;
+        add_all(&mut names, node.order_only())?;
     }
     Ok(names)
 }
 
 // Adds the names that aren't there.
-#[tactic(auto, using(kt_graph::proofs::NameKeys::key_added))]
-fn add(alloc: Global, set: &mut IndexSet<Vec<u8>>, names: Inputs) -> Result<(), AllocError>
-    ensures { OnOk result (map (λ name. name.items) set.new.keys
-        ≡ fold with_name (map (λ name. name.items) set.old.keys) names.entry) }
+fn add_all(set: &mut Names, names: Inputs) -> Result<(), AllocError>
+    ensures { OnOk result (set.new ≡ fold with_name set.old names.entry) }
 {
     for name in names {
-        set.insert(Vec::from_slice(alloc, name)?)?;
+        set.add(name)?;
     }
     Ok(())
 }
 
-fn in_order(alloc: Global, names: IndexSet<Vec<u8>>) -> Result<Vec<Name>, AllocError>
-    ensures { IfOk result (λ list. list.items ≡ map (λ name. name.items) names.keys) }
+// The names that aren't inputs.
+fn others(alloc: Global, names: &[Name], inputs: &Names) -> Result<Vec<Name>, AllocError>
+    ensures { IfOk result (λ list. list.items ≡ filter (λ name. not (is_among inputs.now name)) names.now) }
 {
-    names.into_iter().map(Name::from).collect(alloc)
+    let mut list = Vec::new(alloc);
+    for name in names {
+        add_other(alloc, &mut list, name.as_slice(), inputs)?;
+    }
+    Ok(list)
+}
+
+fn add_other(
+    alloc: Global,
+    list: &mut Vec<Name>,
+    name: &[u8],
+    inputs: &Names,
+) -> Result<(), AllocError>
+    ensures { OnOk result (list.new.items
+        ≡ list.old.items ++ filter (λ other. not (is_among inputs.now other)) (name.now ∷ [])) }
+{
+    if !inputs.contains(name) {
+        list.push(Name::copied(alloc, name)?)?;
+    }
+    Ok(())
 }

@@ -3,10 +3,10 @@
 
 ghost use Rattle.std.specs.Prelude.{map, string_bytes};
 ghost use Rattle.kati.specs.Devices.{devices};
-ghost use Rattle.kati_names.specs.Names.{AskedExits};
+ghost use Rattle.kati.specs.Names.{AskedExits};
 
+use kati::asked_names;
 use kati_host::{HostFiles, HostSink, words_of};
-use kati_names::asked_names;
 use kt_eval::Files;
 use kt_ninja::Sink;
 use std::alloc::Global;

@@ -6,6 +6,8 @@
 mod calls;
 mod in_memory;
 #[cfg(test)]
+mod names;
+#[cfg(test)]
 mod runs;
 
 pub use in_memory::{ran_in_memory, translated_in_memory};

@@ -88,7 +88,7 @@ draw_groups rules table limit (group ∷ groups) before = do
 -- ---- as the code stores it
 
 abbrev pub joined_view : HeldJoined → Joined
-joined_view joined = record { inputs = joined.inputs.items; order_only = joined.order_only.items }
+joined_view joined = record { inputs = joined.inputs; order_only = joined.order_only.items }
 
 -- the command of a mark is between its places in the text of all commands
 abbrev pub drawn_view : Text → Mark → Drawn

@@ -1,7 +1,5 @@
-use Rattle.std.proofs.Common.{◌∙◌, subst, rules}
+use Rattle.std.proofs.Common.{◌∙◌, rules}
 use Rattle.std.proofs.lemmas.Result.{err_from_is_err_and}
-use Rattle.kt_eval.specs.Outcome.{Fails, Outcome}
-use Rattle.kati.specs.inner.Drawn.{Drawn}
 use Rattle.kati.proofs.DrawnLemmas.{draw_next, draw_stops}
 use Rattle.kati.proofs.planning.sketch_groups.Goals as goal
 

@@ -1,9 +1,8 @@
-use Rattle.std.proofs.Common.{◌≡◌, Vec, Global, ℕ, map, drop, fold, flat_map}
+use Rattle.std.proofs.Common.{◌≡◌, drop, fold, flat_map}
 use Rattle.kt_rules.specs.Names.{with_name, without_repeats}
 use Rattle.kt_graph.specs.nodes.Node.{order_only_of}
 use Rattle.kati.proofs.statements.all_order_only.Given as goal
 
 abbrev pub invariant-loop-node : goal.invariant-loop-node
 invariant-loop-node l =
-    fold with_name (map (λ (key : Vec ℕ Global). key.items) l.names.keys) (flat_map order_only_of (drop l.node-index l.group))
-    ≡ without_repeats (flat_map order_only_of l.group)
+    fold with_name l.names (flat_map order_only_of (drop l.node-index l.group)) ≡ without_repeats (flat_map order_only_of l.group)

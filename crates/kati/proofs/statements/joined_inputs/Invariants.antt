@@ -1,9 +1,8 @@
-use Rattle.std.proofs.Common.{◌≡◌, Vec, Global, ℕ, map, drop, fold, flat_map}
+use Rattle.std.proofs.Common.{◌≡◌, drop, fold, flat_map}
 use Rattle.kt_rules.specs.Names.{with_name}
 use Rattle.kt_graph.specs.nodes.Node.{inputs_of}
 use Rattle.kati.specs.Planning.{joined_inputs}
 use Rattle.kati.proofs.statements.joined_inputs.Given as goal
 
 abbrev pub invariant-loop-node : goal.invariant-loop-node
-invariant-loop-node l =
-    fold with_name (map (λ (key : Vec ℕ Global). key.items) l.inputs.keys) (flat_map inputs_of (drop l.node-index l.group)) ≡ joined_inputs l.group
+invariant-loop-node l = fold with_name l.inputs (flat_map inputs_of (drop l.node-index l.group)) ≡ joined_inputs l.group

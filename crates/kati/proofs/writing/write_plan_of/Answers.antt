@@ -1,4 +1,4 @@
-use Rattle.std.proofs.Common.{refl, rules}
+use Rattle.std.proofs.Common.{rules}
 use Rattle.kt_eval.specs.reading.Machine.{traced}
 use Rattle.kati.specs.Devices.{devices}
 use Rattle.kati.specs.inner.Views.{EndMeans, found_view}

@@ -1,0 +1,63 @@
+-- What kati-asked writes, and how it ends (kati's own).
+use Rattle.std.specs.Prelude.{◌≡◌, ℕ, List, ◌++◌, None, Result, Ok, Err, codes}
+use Rattle.std.specs.List.{flat_map}
+use Rattle.kt_list.specs.Counters.{Rises}
+use Rattle.kt_text.specs.Words.{Text}
+use Rattle.kt_eval.specs.files.Files.{AgreeWith, Store}
+use Rattle.kt_ninja.specs.Written.{GrowsByFront, SinkSeen, Takes}
+use Rattle.kati_args.specs.declared.args.Args.{Args}
+use Rattle.kati.specs.declared.faults.RunFault.{RunFault}
+use Rattle.kati.specs.declared.faults.RunFault.TheVariants as faults
+use Rattle.kati.specs.declared.status.Status.{Status}
+use Rattle.kati.specs.Devices.{Devices, devices}
+use Rattle.kati.specs.Exits.{exit_code}
+use Rattle.kati.specs.AfterRun.{Blames, Exits, Leaves}
+use Rattle.kati.specs.ErrorOutput.{ReportsEnd}
+
+-- each name on a line of its own
+abbrev pub names_text : List Text → Text
+names_text names = flat_map (λ name. name ++ codes "\n") names
+
+-- the names after a run with this status: the output has all of them, or it failed and has a prefix of them, or memory
+-- ran out and it has nothing
+abbrev pub PutsNames : Status → Result Status RunFault → List Text → SinkSeen → SinkSeen → Type 0
+PutsNames status (Ok status') names old new = (status' ≡ status) × (new.failed ≡ old.failed)
+    × Takes old new (names_text names)
+PutsNames status (Err faults.WriteOut) names old new = Rises old.failed new.failed
+    × GrowsByFront old new (names_text names)
+PutsNames status (Err faults.Memory) names old new = new ≡ old
+PutsNames status (Err faults.WriteErr) names old new = ⊥
+PutsNames status (Err (faults.Read name)) names old new = ⊥
+
+-- how the program ends after a run: the names are written if the run came to its end, and otherwise nothing is; the
+-- run's own output, which nobody reads, doesn't fail
+abbrev pub NamesAfter : Result Status RunFault → Result Status RunFault → List Text → SinkSeen → SinkSeen → Type 0
+NamesAfter (Ok status) ended names old new = PutsNames status ended names old new
+NamesAfter (Err fault) ended names old new = (ended ≡ Err fault) × (new ≡ old)
+
+-- what is seen of an output that nobody reads
+abbrev pub nothing_seen : SinkSeen
+nothing_seen = record { written = None; failed = 0 }
+
+-- a run of kati with these arguments, whose output nobody reads; then the names that were asked for; then the exit
+-- status, and the line on the error output if the program didn't come to its end
+pub record NamingExits (args : Args) (code : ℕ) (old new : Devices) : Type 0 where
+  pub run : Result Status RunFault
+  pub ran : Devices
+  pub leaves : (store : Store) → AgreeWith store new.files.answers
+      → Leaves args store run (devices old.files nothing_seen old.err) ran
+  pub ended : Result Status RunFault
+  pub named : Devices
+  pub names : NamesAfter run ended ran.files.names old.out named.out
+  pub rest : (named.files ≡ ran.files) × (named.err ≡ ran.err)
+  pub blames : Blames ended old named
+  pub exit : code ≡ exit_code ended
+  pub told : ReportsEnd ended named new
+
+-- the line before kati's help
+abbrev pub help_lead : Text
+help_lead = codes "kati-asked writes the names that kati asks for:\n\n"
+
+-- the whole program: like kati, but for its run and the line before the help
+abbrev pub AskedExits : List Text → ℕ → Devices → Devices → Type 0
+AskedExits words code old new = Exits NamingExits help_lead words code old new

@@ -1,6 +1,0 @@
-//! Tests of kati_names, which call what it makes public. They stand in a crate of their own, since a crate that has
-//! tests is proved once more with them.
-#![tactic(auto)]
-
-#[cfg(test)]
-mod runs;

@@ -1,0 +1,246 @@
+//! Runs over memory, whose files and outputs may fail.
+use kati::asked_names;
+use kati_doubles::{files_of, sink_of, words_of};
+use kt_eval::MemFiles;
+use kt_ninja::MemSink;
+use kt_testing::put;
+use std::alloc::Global;
+use std::process::Abort;
+
+/// A run whose devices don't fail: its label, the words after the program's name, the files, the names that are
+/// written, the exit status, and the error output.
+type Row = (
+    &'static str,
+    &'static [&'static str],
+    &'static [(&'static str, &'static [u8])],
+    &'static [&'static str],
+    u8,
+    &'static [u8],
+);
+
+const RULE: &[u8] = b"a.o: a.c\n\tcc -c a.c -o a.o\n";
+
+const ROWS: [Row; 9] = [
+    (
+        "Makefile",
+        &[],
+        &[("Makefile", RULE)],
+        &["makefile", "Makefile"],
+        0,
+        b"",
+    ),
+    (
+        "makefile",
+        &[],
+        &[("makefile", RULE)],
+        &["makefile"],
+        0,
+        b"",
+    ),
+    // Absent names are among them, and one that is asked for twice.
+    (
+        "included and absent files",
+        &["-f", "m"],
+        &[
+            ("m", b"include a.mk\n-include b.mk\ninclude a.mk\nt: ; x\n"),
+            ("a.mk", b"-include c.mk\n"),
+        ],
+        &["m", "a.mk", "c.mk", "b.mk", "a.mk", "c.mk"],
+        0,
+        b"",
+    ),
+    (
+        "list of files",
+        &["--files", "l"],
+        &[
+            ("Makefile", b"%.o: %.c ; cc $<\nall: x.o\n"),
+            ("l", b"x.c\n"),
+        ],
+        &["l", "makefile", "Makefile"],
+        0,
+        b"",
+    ),
+    // The file to be checked is asked for last.
+    (
+        "checked file",
+        &["--check", "o"],
+        &[("Makefile", RULE)],
+        &["makefile", "Makefile", "o"],
+        1,
+        b"",
+    ),
+    (
+        "message",
+        &[],
+        &[("Makefile", b"$(info hi)\nt: ; x\n")],
+        &["makefile", "Makefile"],
+        0,
+        b"hi\n",
+    ),
+    // The names up to a fault of the makefile.
+    (
+        "fault after an absent file",
+        &[],
+        &[
+            ("Makefile", b"include a.mk\ninclude no.mk\ninclude b.mk\n"),
+            ("a.mk", b""),
+        ],
+        &["makefile", "Makefile", "a.mk", "no.mk"],
+        2,
+        b"Makefile:2: *** no file no.mk [E04]\n",
+    ),
+    (
+        "goal without a rule",
+        &["z"],
+        &[("Makefile", RULE)],
+        &["makefile", "Makefile"],
+        2,
+        b"kati: *** no rule for z [E27]\n",
+    ),
+    (
+        "bad macro word",
+        &["CC:=x"],
+        &[("Makefile", RULE)],
+        &[],
+        64,
+        b"kati: bad macro CC:=x\n",
+    ),
+];
+
+const CANNOT_WRITE: &[u8] = b"kati: cannot write\n";
+
+const HELP_LEAD: &[u8] = b"kati-asked writes the names that kati asks for:\n\n";
+
+/// Which read fails, or 0, and the room of each output and how much it takes in a call.
+type Devices = (u64, (usize, usize), (usize, usize));
+
+const AMPLE: (usize, usize) = (4096, 4096);
+
+/// The names, each on a line.
+fn lines(alloc: Global, names: &[&str]) -> Vec<u8> {
+    let mut text = Vec::new(alloc);
+    for name in names {
+        put(&mut text, name.as_bytes());
+        put(&mut text, b"\n");
+    }
+    text
+}
+
+/// An outcome as one text: the exit status, and what both outputs hold.
+fn outcome(alloc: Global, status: u8, out: &[u8], err: &[&[u8]]) -> Vec<u8> {
+    let mut told = Vec::new(alloc);
+    put(&mut told, &[status]);
+    put(&mut told, b"\nout: ");
+    put(&mut told, out);
+    put(&mut told, b"\nerr: ");
+    for part in err {
+        put(&mut told, part);
+    }
+    told
+}
+
+/// Calls. It stands apart so that what the contract says burdens no other proof.
+fn exit(
+    alloc: Global,
+    words: &[String],
+    files: &mut MemFiles,
+    out: &mut MemSink,
+    err: &mut MemSink,
+) -> u8 {
+    asked_names(alloc, words, files, out, err)
+}
+
+/// The outcome of the program on the row's words and files, with these devices.
+fn ended(rt: &impl Abort, alloc: Global, row: &Row, (nth, out, err): Devices) -> Vec<u8> {
+    let words = words_of(alloc, "kati-asked", row.1).expect(rt, "memory");
+    let mut files = files_of(alloc, row.2, nth).expect(rt, "memory");
+    let mut out = sink_of(alloc, out).expect(rt, "memory");
+    let mut err = sink_of(alloc, err).expect(rt, "memory");
+    let status = exit(alloc, words.as_slice(), &mut files, &mut out, &mut err);
+    outcome(alloc, status, out.as_slice(), &[err.as_slice()])
+}
+
+/// The run of a row with these devices ends so.
+fn check(
+    rt: &impl Abort,
+    alloc: Global,
+    row: &Row,
+    devices: Devices,
+    status: u8,
+    (out, err): (&[u8], &[&[u8]]),
+) {
+    let wanted = outcome(alloc, status, out, err);
+    let told = ended(rt, alloc, row, devices);
+    assert_eq!(rt; told.as_slice(), wanted.as_slice(), "{}", row.0);
+}
+
+#[test]
+fn writes_names_with_ample_room_and_by_a_byte_a_call(rt: HostRuntime) {
+    for row in ROWS {
+        let names = lines(rt.alloc(), row.3);
+        let told = [row.5];
+        let held = (names.as_slice(), told.as_slice());
+        check(&rt, rt.alloc(), &row, (0, AMPLE, AMPLE), row.4, held);
+        let slow = (4096, 1);
+        check(&rt, rt.alloc(), &row, (0, slow, slow), row.4, held);
+    }
+}
+
+/// After a read that fails no name is written: its own is reported.
+#[test]
+fn stops_at_each_read_that_fails(rt: HostRuntime) {
+    for row in ROWS {
+        for before in 0..row.3.len() {
+            let name = row.3[before];
+            let devices = (before as u64 + 1, AMPLE, AMPLE);
+            let told: [&[u8]; 3] = [b"kati: cannot read ", name.as_bytes(), b"\n"];
+            check(&rt, rt.alloc(), &row, devices, 3, (b"", &told));
+        }
+    }
+}
+
+/// An output that fails after any number of bytes holds these.
+#[test]
+fn stops_at_each_byte_of_the_output(rt: HostRuntime) {
+    for row in ROWS {
+        let names = lines(rt.alloc(), row.3);
+        for room in 0..names.len() {
+            let told = [row.5, CANNOT_WRITE];
+            let held = (&names[..room], told.as_slice());
+            check(&rt, rt.alloc(), &row, (0, (room, 4096), AMPLE), 3, held);
+        }
+    }
+}
+
+/// Of an error output that fails nothing more is written, and no name is written.
+#[test]
+fn stops_at_each_byte_of_the_error_output(rt: HostRuntime) {
+    for row in ROWS {
+        if row.4 < 64 {
+            for room in 0..row.5.len() {
+                let told = [&row.5[..room]];
+                let held = (b"".as_slice(), told.as_slice());
+                check(&rt, rt.alloc(), &row, (0, AMPLE, (room, 4096)), 3, held);
+            }
+        }
+    }
+}
+
+/// The help is kati's, under a line that says whose program it is.
+#[test]
+fn helps_as_kati_does(rt: HostRuntime) {
+    let row: Row = ("help", &["--help"], &[], &[], 0, b"");
+    let told = ended(&rt, rt.alloc(), &row, (0, AMPLE, AMPLE));
+    let wanted = outcome(rt.alloc(), 0, HELP_LEAD, &[]);
+    let lead = wanted.as_slice().strip_suffix(b"\nerr: ");
+    if let Some(lead) = lead {
+        assert!(rt; told.as_slice().starts_with(lead));
+        assert!(rt; told.len() > wanted.len() + 100);
+    } else {
+        assert!(rt; false);
+    }
+    let cut = (HELP_LEAD.len() - 1, 4096);
+    let told = [CANNOT_WRITE];
+    let held = (&HELP_LEAD[..cut.0], told.as_slice());
+    check(&rt, rt.alloc(), &row, (0, cut, AMPLE), 3, held);
+}
