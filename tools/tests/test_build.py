@@ -30,7 +30,8 @@ class Building(Tree):
         self.build("--no-ninja")
         self.assertEqual(self.made_anew(lambda: self.build("--no-ninja")), [])
         self.put("config.mk", "CC = cc\nCFLAGS = -O2\n")
-        self.assertEqual(self.made_anew(lambda: self.build("--no-ninja")), ["build.ninja", "translated.ninja"])
+        self.assertEqual(self.made_anew(lambda: self.build("--no-ninja")),
+                         ["asked.txt", "build.ninja", "translated.ninja"])
 
     def test_a_fault_keeps_the_build_of_before_and_has_katis_status(self):
         self.copy_example()

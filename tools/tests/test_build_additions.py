@@ -1,5 +1,13 @@
 """What kati-build adds to kati's text: where a file counts only if it changed, and header dependencies."""
-from support import Tree, kati, needs
+import sys
+import time
+
+from support import TOP, Tree, kati, needs
+
+from kati_tools import programs
+
+sys.path.insert(0, str(TOP / "scripts"))
+import large_makefiles  # noqa: E402
 
 
 class Built(Tree):
@@ -111,29 +119,103 @@ class NamedFiles(Built):
         self.assertFalse((self.top / "main.d").exists())
 
 
-@needs("kati", "ninja")
-class Time(Tree):
-    """What kati-build takes beside kati."""
+@needs("kati", "kati-asked")
+class AskedNames(Tree):
+    """kati-asked is run again only where what it tells may be something else."""
 
-    RULES = 100_000
+    def setUp(self):
+        super().setUp()
+        self.count = self.top.parent / "count"
+        self.count.write_text("")
+        self.program = self.top.parent / "kati-asked"
+        self.program.write_text(f"#!/bin/sh\necho >> {self.count}\nexec {programs.find('kati-asked')} \"$@\"\n")
+        self.program.chmod(0o755)
+        self.write(Makefile="include a.mk\n-include b.mk\nall: $(X) ; echo > all\n", a_mk="A = 1\n", x_c="")
+
+    def runs(self, *words):
+        """How often kati-asked runs in a run of kati-build, which begins when all files are older than the clock."""
+        time.sleep(0.1)
+        before = len(self.count.read_text())
+        ran = self.tool("kati-build", "--no-ninja", *words, KATI_ASKED=str(self.program))
+        self.assertEqual(ran.status, 0, ran.all)
+        return len(self.count.read_text()) - before
+
+    def is_watched(self, name):
+        return f"    {name}\n" in self.read("build.ninja").replace(" $\n", "\n")
+
+    def test_it_runs_where_a_makefile_or_a_word_has_changed(self):
+        self.assertEqual((self.runs(), self.runs()), (1, 0))
+        self.put("y.c", "")
+        self.assertEqual(self.runs(), 0)
+        self.assertIn("y.c\n", self.read("build.kati/files.txt"))
+        self.put("a.mk", "include c.mk\n")
+        self.put("c.mk", "")
+        self.assertEqual((self.runs(), self.runs()), (1, 0))
+        self.assertTrue(self.is_watched("c.mk"))
+        self.put("b.mk", "-include d.mk\n")
+        self.put("d.mk", "")
+        self.assertEqual((self.runs(), self.runs()), (1, 0))
+        self.assertTrue(self.is_watched("b.mk") and self.is_watched("d.mk"))
+        self.assertEqual((self.runs("X=x.c"), self.runs("X=x.c")), (1, 0))
+
+    def test_it_runs_where_the_program_is_another(self):
+        self.assertEqual((self.runs(), self.runs()), (1, 0))
+        self.program.write_text(self.program.read_text() + "\n")
+        self.assertEqual((self.runs(), self.runs()), (1, 0))
+
+    def test_it_runs_again_where_a_makefile_was_written_meanwhile(self):
+        self.program.write_text(self.program.read_text().replace("exec", "echo E = 1 >> a.mk\nexec"))
+        self.assertEqual((self.runs(), self.runs()), (1, 1))
+
+    def test_it_runs_again_where_it_failed(self):
+        self.program.write_text(self.program.read_text().replace("exec", "exit 1\nexec"))
+        self.assertEqual((self.runs(), self.runs()), (1, 1))
+
+
+@needs("kati", "kati-asked")
+class Time(Tree):
+    """What kati-build takes beside kati: processor time, as ninja has it translate again, with the same Python.
+
+    Both are run in turn, and the least of each counts: what else runs on the machine only adds to it. A round more is
+    taken where the bound isn't met, up to the most."""
+
+    FEWEST, MOST = 3, 10
 
     def processor_time(self, *words):
-        """The least processor time of three runs of a command, in seconds."""
-        least = float("inf")
-        for _ in range(3):
-            ran = self.run_in("bash", "-c", 'TIMEFORMAT="%U %S"; time "$@" > out', "-", *words)
-            self.assertEqual(ran.status, 0, ran.said)
-            least = min(least, sum(map(float, ran.said.split())))
-        return least
+        """The processor time of a command and all that it runs, in seconds."""
+        ran = self.run_in("bash", "-c", 'TIMEFORMAT="%U %S"; time "$@" > ../out', "-", *words)
+        self.assertEqual(ran.status, 0, ran.said)
+        return sum(map(float, ran.said.split()))
 
-    def test_it_is_a_small_multiple_for_many_rules(self):
-        # It is less than twice as much on a quiet machine. A busy one may make that twice as much again; statements
-        # built from the whole text take six times as much and more.
-        rules = "".join(f"t{one}: s{one}.c h{one % 100}.h\n\t$(CC) -o $@ $<\n" for one in range(self.RULES))
-        names = " ".join(f"t{one}" for one in range(self.RULES))
-        self.write(Makefile=f"CC = cc\nall: {names}\n{rules}",
-                   list_txt="".join(f"s{one}.c\n" for one in range(self.RULES)))
-        build = [self.tool_path("kati-build"), "--no-ninja", "--files-from", "list.txt"]
+    def assert_takes(self, bound, files, *words):
+        """kati-build with these words takes up to so many times what kati takes by the same list."""
+        for name, text in files.items():
+            self.put(name, text)
+        build = [sys.executable, "-S", self.tool_path("kati-build"), "--no-ninja", *words]
         self.assertEqual(self.run_in(*build).status, 0)
-        by_kati = self.processor_time(kati(), "--files", "list.txt")
-        self.assertLess(self.processor_time(*build), 4 * by_kati)
+        by_kati, by_build = [], []
+        while len(by_kati) < self.FEWEST or min(by_build) >= bound * min(by_kati) and len(by_kati) < self.MOST:
+            by_kati.append(self.processor_time(kati(), "--files", "build.kati/files.txt"))
+            by_build.append(self.processor_time(*build))
+        self.assertLess(min(by_build), bound * min(by_kati))
+
+    def listed(self, shape):
+        """The files of a large makefile, with the list of its sources."""
+        files, sources = shape
+        return {**files, "list.txt": "\n".join([*sources, ""])}
+
+    def test_it_is_at_most_twice_for_many_rules(self):
+        self.assert_takes(2, self.listed(large_makefiles.rules(100_000)), "--files-from", "list.txt")
+
+    def test_it_is_at_most_twice_where_kati_asked_tells_the_names(self):
+        # kati-asked takes as long as kati; it isn't run again where no makefile has changed.
+        self.assert_takes(2, self.listed(large_makefiles.modules(50_000)), "--files-from", "list.txt")
+
+    def test_it_is_little_more_for_names_above(self):
+        # Each name of a rule is looked at here, to find the folders: about twice, a little more by a fast kati.
+        count = 50_000
+        rules = "".join(f"t{one}: ../src/s{one}.c ../src/h{one % 100}.h\n\tcc -o $@ $<\n" for one in range(count))
+        (self.top.parent / "src").mkdir()
+        for one in range(count):
+            (self.top.parent / f"src/s{one}.c").touch()
+        self.assert_takes(2.5, {"Makefile": f"all: {' '.join(f't{one}' for one in range(count))}\n{rules}"})

@@ -68,6 +68,13 @@ class Faults(Tree):
             self.assertEqual(one.returncode, 2)
         self.assertEqual([path.name for path in self.top.iterdir()], ["Makefile"])
 
+    def test_a_folder_that_another_run_made_and_does_not_hold_yet(self):
+        # Of several runs one makes the folder, and another may be the first to hold it; neither leaves it.
+        self.write(Makefile="endif\n")
+        (self.top / "build.kati").mkdir()
+        self.one_line(self.tool("kati-build"), 2)
+        self.assertEqual([path.name for path in self.top.iterdir()], ["Makefile"])
+
     def test_a_run_that_waits_says_so(self):
         self.write(Makefile="out: ; echo > out\n")
         first = self.start("--no-ninja", KATI=self.around("sleep 2"))

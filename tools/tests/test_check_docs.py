@@ -49,7 +49,8 @@ class Spoiling(unittest.TestCase):
         return done.stdout
 
     def test_as_it_is(self):
-        self.check("options", "cases", "calls", "files", "specs", "crates", "lines", "gate", "picture", failed=0)
+        self.check("options", "cases", "calls", "files", "specs", "walk", "crates", "lines", "gate", "picture",
+                   failed=0)
 
     def test_an_option_that_only_the_code_has(self):
         self.spoil("crates/kati_args/src/command.rt", '.long("depth")', '.long("deep")')
@@ -114,6 +115,18 @@ class Spoiling(unittest.TestCase):
         self.spoil("docs/DESIGN.md", "`specs/Rows`", "`specs/Rowz`")
         said = self.check("specs", failed=1)
         self.assertIn("docs/DESIGN.md names definitions that aren't there: specs/Rowz\n", said)
+
+    def test_a_definition_of_another_crate(self):
+        self.spoil("docs/PROOFS.md", "`specs/RuleLine.antt`", "`specs/NinjaRead.antt`")
+        self.assertIn("specs/NinjaRead.antt of kt_rules", self.check("specs", failed=1))
+
+    def test_a_walk_that_goes_elsewhere(self):
+        for old, new, said in (("`line_marks`, kt_text `logical.rt`", "`line_marks`, kt_text `cut.rt`",
+                                "line_marks, kt_text cut.rt"),
+                               ("| `blocks_of` in `Blocks`", "| `blocks_of` in `Kinds`", "blocks_of in Kinds"),
+                               ("- **kt_text**: `Words`;", "- **kt_text**: `Wordz`;", "Wordz of kt_text")):
+            self.spoil("docs/DESIGN.md", old, new)
+            self.assertIn(f"    {said}\n", self.check("walk", failed=1))
 
     def test_a_crate_that_stands_on_another_one(self):
         self.spoil("crates.txt", "kt_syntax: kt_text bstr", "kt_syntax: kt_text kt_list bstr")

@@ -82,6 +82,12 @@ class Outside(Tree):
         self.assertEqual(self.run_there("ninja").status, 0)
         self.assertEqual(self.read("prog/a.o"), "old\n")
 
+    def test_an_absent_folder_of_the_highest_one_is_no_reason_to_translate(self):
+        self.lay("a.o:\n%.o: %.c /absent-for-kati/h.h\n\tcc -c -o $@ $<\n%.o: %.c\n\tcp $< $@\n")
+        self.assertEqual(self.run_there("kati-build").status, 0)
+        self.assertEqual(self.run_there("ninja").status, 0)
+        self.assertEqual(self.run_there("ninja").out, "ninja: no work to do.\n")
+
     def test_what_the_build_makes_there_is_no_source(self):
         self.lay("all: ../out/b.o\n../out/%.o: ../src/%.c\n\tmkdir -p ../out; cp $< $@\n%.x: ../out/%.o ; cp $< $@\n")
         self.assertEqual(self.run_there("kati-build").status, 0)

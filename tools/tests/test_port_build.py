@@ -1,8 +1,9 @@
 """kati-build --port, kati-port --values, and what keeps the values of kati-values.mk true."""
 import json
+import os
 import shutil
 
-from support import Tree, needs
+from support import TOOLS, TOP, Tree, kati, needs
 
 MAKEFILE = "include conf/a.mk\nS := $(wildcard *.c)\nout: $(S:.c=.x)\n\tcat $^ > out; echo $(N) $(U) >> out\n" \
     "%.x: %.c ; cat $< > $@\n"
@@ -153,6 +154,148 @@ class Building(Tree):
 
 
 @needs("kati", "kati-asked", "make", "ninja")
+class Again(Tree):
+    """When kati-build --port ports again, which is when it asks make."""
+
+    LOOP = "S := $(foreach d,src lib,$(wildcard $(d)/*.c))\nout: $(S) ; echo $^ > out\n"
+    CALLED = "in = $(wildcard $(1)/*.c)\nS := $(call in,src) $(call in,lib)\nout: $(S) ; echo $^ > out\n"
+
+    def setUp(self):
+        super().setUp()
+        self.count = self.top.parent / "count"
+        for name, text in {"make": f"echo >> {self.count}\nexec {shutil.which('make')}", "version": "echo 1;"}.items():
+            path = self.top.parent / "bin" / name
+            path.parent.mkdir(exist_ok=True)
+            path.write_text(f"#!/bin/sh\n{text} \"$@\"\n")
+            path.chmod(0o755)
+        self.environment = {"MAKE": str(self.top.parent / "bin/make"),
+                            "PATH": f"{self.top.parent / 'bin'}:{os.environ['PATH']}"}
+        for name in ("src/a.c", "lib/b.c"):
+            self.put(name, "")
+
+    def asks(self, *words, tool=None):
+        """Whether make is asked in a run, which must end well."""
+        self.count.write_text("")
+        build = [] if words[:1] == ("ninja",) else [tool or self.tool_path("kati-build"), "--port"]
+        ran = self.run_in(*build, *words, **self.environment)
+        self.assertEqual(ran.status, 0, ran.all)
+        return self.count.read_text() != ""
+
+    def test_values_that_hang_on_the_list_of_files(self):
+        for makefile in (self.LOOP, self.CALLED):
+            with self.subTest(makefile):
+                self.put("Makefile", makefile)
+                self.assertTrue(self.asks())
+                self.assertFalse(self.asks("ninja"))
+                self.assertEqual(self.read("out"), "src/a.c lib/b.c\n")
+                self.put("doc/new.c", "")
+                self.assertFalse(self.asks("ninja"))
+                self.put("src/c.c", "")
+                self.assertTrue(self.asks("ninja"))
+                self.assertFalse(self.asks("ninja"))
+                self.assertEqual(self.read("out"), "src/a.c src/c.c lib/b.c\n")
+                for name in ("src/c.c", "out", "doc/new.c", "build.ninja"):
+                    (self.top / name).unlink()
+
+    def test_a_wildcard_by_arguments_is_found_without_make(self):
+        self.put("Makefile", "define R\n$(1).out: ; echo $(if $(wildcard $(1).x),with,without) > $$@\nendef\n"
+                             "all: a.out b.out\n$(foreach n,a b,$(eval $(call R,$(n))))\n")
+        self.assertTrue(self.asks())
+        self.assertFalse(self.asks("ninja"))
+        self.put("b.x", "")
+        self.assertFalse(self.asks("ninja"))
+        self.assertEqual((self.read("a.out"), self.read("b.out")), ("without\n", "with\n"))
+
+    def test_patterns_among_the_names_of_rules_are_found_without_make(self):
+        self.put("Makefile", "D = .\nX = src/*.c made lib/*.c\nout: $(X) $(D)/src/* $(D)/lib/*.c ; echo $^ > out\n"
+                             "made: ; echo > made\n")
+        wanted = self.run_in("make", "-n").out
+        self.assertTrue(self.asks())
+        self.assertEqual(wanted, f"echo > made\necho {self.read('out').strip()} > out\n")
+        self.assertFalse(self.asks("ninja"))
+        self.put("src/c.c", "")
+        wanted = self.run_in("make", "-n", "-B").out
+        self.assertFalse(self.asks("ninja"))
+        self.assertEqual(wanted, f"echo > made\necho {self.read('out').strip()} > out\n")
+
+    def test_the_folders_of_patterns_are_watched_by_any_list(self):
+        self.put("list.txt", "")
+        for makefile in (self.LOOP, "S := $(wildcard src/*.c)\nout: $(S) lib/b.c ; echo $^ > out\n"):
+            with self.subTest(makefile):
+                self.put("Makefile", makefile)
+                self.asks("--files-from", "list.txt")
+                self.put("src/c.c", "")
+                self.asks("ninja")
+                self.assertEqual(self.read("out"), "src/a.c src/c.c lib/b.c\n")
+                for name in ("src/c.c", "out", "build.ninja"):
+                    (self.top / name).unlink()
+
+    def test_a_wildcard_that_stands_alone_and_in_a_loop(self):
+        self.put("Makefile", "A := $(wildcard src/*.c)\nB := $(foreach p,src/*.c lib/*.c,$(wildcard $(p)))\n"
+                             "out: $(B) ; echo $(A) $(B) > out\n")
+        self.asks()
+        self.put("src/c.c", "")
+        self.asks("ninja")
+        self.assertEqual(self.read("out"), "src/a.c src/c.c src/a.c src/c.c lib/b.c\n")
+
+    def test_a_branch_that_a_wildcard_opens_is_ported_too(self):
+        self.put("Makefile", "V := $(shell version)\nifneq ($(wildcard local.txt),)\nN := $(shell cat local.txt)\n"
+                             "endif\nout: src/a.c ; echo $(V) $(N) > out\n")
+        self.assertTrue(self.asks())
+        self.put("local.txt", "new\n")
+        self.assertTrue(self.asks("ninja"))
+        self.assertEqual(self.read("out"), "1 new\n")
+        self.assertFalse(self.asks("ninja"))
+
+    def test_all_is_asked_for_again_by_values(self):
+        self.put("Makefile", "V := $(shell version)\nout: src/a.c ; echo $(V) > out\n")
+        self.asks()
+        version = self.top.parent / "bin/version"
+        version.write_text(version.read_text().replace("1", "2"))
+        self.assertFalse(self.asks())
+        self.assertEqual(self.read("out"), "1\n")
+        self.assertTrue(self.asks("--values"))
+        self.assertEqual(self.read("out"), "2\n")
+        self.assertNotIn("--values", self.read("build.ninja"))
+        self.assertFalse(self.asks())
+
+    def test_all_of_a_written_makefile_is_asked_for_again_by_values(self):
+        self.put("Makefile", "V := $(shell version)\nout: src/a.c ; echo $(V) > out\n")
+        self.assertEqual(self.tool("kati-build", "--values").status, 64)
+        for words, value in ((["kati-port", "--write", "Makefile"], None), (["kati-build"], "1\n"),
+                             (["kati-build"], "1\n"), (["kati-build", "--values"], "2\n")):
+            ran = self.tool(*words, **self.environment)
+            self.assertEqual(ran.status, 0, ran.all)
+            self.assertTrue(value is None or self.read("out") == value)
+            version = self.top.parent / "bin/version"
+            version.write_text(version.read_text().replace("1", "2") if value else version.read_text())
+        self.assertIn("kati-build: kati-values.mk: 1 values are others\n", ran.said)
+
+    def test_other_tools_port_anew(self):
+        self.put("Makefile", "V := $(shell version)\nout: src/a.c ; echo $(V) > out\n")
+        room = self.top.parent / "installed"
+        shutil.copytree(TOP / "share/kati", room / "share/kati")
+        shutil.copytree(TOOLS, room / "tools", ignore=shutil.ignore_patterns("tests"))
+        tool = room / "tools/kati-build"
+        self.assertTrue(self.asks(tool=tool))
+        self.assertFalse(self.asks(tool=tool))
+        path = room / "share/kati/kati_tools/mending.py"
+        path.write_text(path.read_text() + "# Another version.\n")
+        self.assertTrue(self.asks(tool=tool))
+        self.assertFalse(self.asks(tool=tool))
+
+    def test_another_kati_ports_anew(self):
+        self.put("Makefile", "V := $(shell version)\nout: src/a.c ; echo $(V) > out\n")
+        program = self.top.parent / "kati"
+        self.environment["KATI"] = str(program)
+        for text in ("#!/bin/sh\n", "#!/bin/sh\n# Another one.\n"):
+            program.write_text(f"{text}exec {kati()} \"$@\"\n")
+            program.chmod(0o755)
+            self.assertTrue(self.asks())
+            self.assertFalse(self.asks())
+
+
+@needs("kati", "kati-asked", "make", "ninja")
 class Values(Tree):
     """kati-values.mk, once it is written."""
 
@@ -196,10 +339,21 @@ class Values(Tree):
         self.put("n.txt", "3\n")
         self.ninja()
         self.assertEqual(self.out(), "3 u1 a.c without\n")
+        self.assertNotIn("as before", self.tool("kati-build", MAKE="no/such/make").all)
         self.put("n.txt", "4\n")
         ran = self.run_in("ninja", MAKE="no/such/make")
         self.assertEqual(ran.status, 0, ran.all)
         self.assertIn("kati-values.mk is as before: no program no/such/make", ran.all)
+
+    def test_values_by_targets_are_asked_for_again(self):
+        self.put("Makefile", "all: a b\na b: ; echo $(if $(wildcard $@.x),with,without) > $@\n")
+        self.put("a.x", "")
+        self.assertEqual(self.tool("kati-port", "--write", "Makefile").status, 0)
+        (self.top / "a.x").unlink()
+        self.put("b.x", "")
+        self.assertEqual(self.tool("kati-port", "--values").status, 0)
+        self.assertEqual(self.tool("kati-build").status, 0)
+        self.assertEqual((self.read("a"), self.read("b")), ("without\n", "with\n"))
 
     def test_a_second_port_keeps_the_values(self):
         text = self.read("Makefile")
@@ -210,6 +364,20 @@ class Values(Tree):
         self.assertEqual(self.read("Makefile"), text + "\techo $(V_shell) >> out\n")
         self.assertIn("V_N := 1\n", self.read("kati-values.mk"))
         self.assertIn("V_shell := more\n", self.read("kati-values.mk"))
+
+    def test_goals_are_those_of_the_run(self):
+        self.put("Makefile", "ifeq ($(MAKECMDGOALS),debug)\nF = -g\nendif\nN := $(shell echo 1)\n"
+                             "all: ; echo $(F) $(N) '$(MAKECMDGOALS)' > out\ndebug: all\n")
+        wanted = {}
+        for goals in ([], ["debug"], ["all"]):
+            self.assertEqual(self.run_in("make", *goals).status, 0)
+            wanted[" ".join(goals)] = self.read("out")
+        self.assertEqual(len(set(wanted.values())), 3)
+        for ported in ([], ["debug"]):
+            self.assertEqual(self.tool("kati-port", "--write", "Makefile", *ported).status, 0)
+            for goal, text in wanted.items():
+                self.assertEqual(self.tool("kati-build", *goal.split()).status, 0)
+                self.assertEqual(self.read("out"), text)
 
     def test_without_such_a_file(self):
         shutil.rmtree(self.top)

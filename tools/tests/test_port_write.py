@@ -51,7 +51,10 @@ CONSTRUCTS = {
          ["S = $(V_S)", "V_S = s/*.c"]),
     "MAKEFILE_LIST": ({"Makefile": "D := $(dir $(abspath $(lastword $(MAKEFILE_LIST))))\nall: ; echo $(D) > out\n"},
                       ["MAKEFILE_LIST := $(filter-out kati-values.mk,$(MAKEFILE_LIST))"]),
-    "what tells of the run": ({"Makefile": "all: ; echo $(CURDIR) '$(MAKECMDGOALS)' $(HOME) > out\n"}, ["CURDIR := /"]),
+    "MAKEFILE_LIST alone": ({"Makefile": "D := $(lastword $(MAKEFILE_LIST))\nall: ; echo $(D) > out\n"},
+                            ["V_D := Makefile\n"]),
+    "what tells of the run": ({"Makefile": "all: ; echo $(CURDIR) '$(MAKECMDGOALS)' $(HOME) > out\n"},
+                              ["CURDIR := /", "MAKECMDGOALS :=\n"]),
     "a target's macro that isn't needed":
         ({"Makefile": "F = -O2\nall: ; echo $(F) > out\ndebug: F += -g\ndebug: all\n"},
          ["ifdef MAKE_VERSION\ndebug: F += -g\nendif\n"]),
@@ -68,6 +71,8 @@ CONSTRUCTS = {
         ({"Makefile": "X := 1\nF := '$$$$x'\nall: a b\na: F += $(X)\nb: Y := $(X)\nX := 2\n"
                       "a b: ; echo $(F) $(Y) > $@\n"},
          []),
+    "a private macro of a target":
+        ({"Makefile": "F = 0\nall: a\na: private F = 1\na: b ; echo $(F) > a\nb: ; echo $(F) > b\n"}, []),
     "a pattern's macro": ({"Makefile": "F = 0\nall: a.x b\n%.x: F = x\na.x b: ; echo $(F) > $@\n"}, []),
     "?= of a target": ({"Makefile": "F = 0\nall: a b\na: F ?= 1\nb: G ?= 2\na b: ; echo $(F) $(G) > $@\n"}, []),
     "export of a value": ({"Makefile": "export LANG_ = a \"b\" $$c\nall: ; echo \"$$LANG_\" > out\n"},
@@ -101,6 +106,9 @@ CONSTRUCTS = {
                            "c: d.c h.h\n\techo $< $^ > $@\n",
                "src/a.c": "", "b.c": "", "src/d.c": "", "inc/h.h": ""},
               ["ifndef MAKE_VERSION\n%.x: src/%.c"]),
+    "VPATH and a built-in rule":
+        ({"Makefile": "VPATH = src\nCC = sh cc.sh\nall: main.o\n\tcat main.o > out\n", "cc.sh": "echo $4 > $3\n",
+          "src/main.c": ""}, []),
     "vpath": ({"Makefile": "vpath %.c src\nall: a.x\n\tcat $< > out\n.SUFFIXES: .c .x\n.c.x:\n\techo $< > $@\n",
                "src/a.c": ""}, ["ifdef MAKE_VERSION\nvpath %.c src\nendif"]),
     ".SECONDEXPANSION":
@@ -108,7 +116,8 @@ CONSTRUCTS = {
           "1": "", "2": "", "3": ""}, ["else\na: 1 2\nb: 3\na b:\nendif\n"]),
     "a call that depends on the target":
         ({"Makefile": "all: a b\na b: ; echo $(if $(wildcard $@.c),with,without) > $@\n", "a.c": ""},
-         ["V_wildcard = $(V_wildcard_$@)", "V_wildcard_a := a.c\nV_wildcard_b :=\n"]),
+         ["V_wildcard = $(V_wildcard_$@)",
+          "# $(wildcard a.c)\nV_wildcard_a := a.c\n# $(wildcard b.c)\nV_wildcard_b :=\n"]),
     "a call that depends on an argument":
         ({"Makefile": "A = a\ndefine set\n$(if $(findstring undefined,$(origin $(1))),$(eval $(1) = $(2)))\nendef\n"
                       "$(call set,A,x)\n$(call set,B,y)\nall: ; echo $(A) $(B) > out\n"},
@@ -228,6 +237,12 @@ class Writing(Tree):
         self.assertEqual(self.tool("kati-build", "debug").status, 0)
         self.assertEqual(self.read("out"), "2 given\n")
 
+    def test_a_word_that_wins_over_the_makefile_is_told(self):
+        for words, is_told in (([], False), (["G=2"], False), (["F=2"], True)):
+            self.put_all({"Makefile": "override F = 1\nG = 1\nall: ; echo $(F) $(G)\n"})
+            said = self.port(*words).out
+            self.assertEqual("the word F=.. of the command line wins over the makefile for kati" in said, is_told)
+
     def test_what_shell_writes_is_told_and_not_here(self):
         self.put_all({"Makefile": "N := $(shell echo 1 | tee n.h)\nall: n.h ; echo $(N)\n"})
         self.assertIn("$(shell ..) writes n.h while make reads", self.port().out)
@@ -276,6 +291,16 @@ class Writing(Tree):
         wanted = self.built_by_make()
         self.port()
         self.assertIn("ifdef MAKE_VERSION\n.DEFAULT:\nelse\na:\nendif\n\techo $@ > $@\n", self.read("Makefile"))
+        self.assertEqual(self.built_by_make(), wanted)
+        self.assertEqual(self.tool("kati-build", "--builtin").status, 0)
+        self.assertEqual(tree_of(self.top), wanted)
+
+    def test_dependencies_that_make_makes(self):
+        self.put_all({"Makefile": "all: ; echo > out\ninclude depend.mk\ndepend.mk: ; echo 'all: x.h' > $@\n",
+                      "x.h": ""})
+        wanted = self.built_by_make()
+        self.port()
+        self.assertIn("ifdef MAKE_VERSION\ninclude depend.mk\nendif", self.read("Makefile"))
         self.assertEqual(self.built_by_make(), wanted)
         self.assertEqual(self.tool("kati-build", "--builtin").status, 0)
         self.assertEqual(tree_of(self.top), wanted)

@@ -51,8 +51,13 @@ class Running(unittest.TestCase):
         self.assertRegex(told, r"^\d\d passed, 0 failed\n$")
         self.assertEqual(status, 0)
 
+    def test_one_case(self):
+        told = self.ran("", KATI, "--case", "one rule", "--case", "double colon")
+        self.assertEqual(told, ("2 passed, 0 failed\n", 0))
+
     def test_wrong_usage(self):
         self.assertEqual(self.ran("", "--no-such-option")[1], 64)
+        self.assertEqual(self.ran("", KATI, "--case", "no such case")[1], 64)
 
 
 if __name__ == "__main__":

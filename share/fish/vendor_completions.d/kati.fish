@@ -33,6 +33,7 @@ for command in kati kati-asked kati-build kati-port kati-compare
     complete -c $command -s h -l help -d help
 end
 complete -c kati-build -l port -d 'builds by any GNU makefile, which stays as it is'
+complete -c kati-build -l values -d 'asks make again for what the machine tells'
 complete -c kati-build -s o -r -F -d 'the Ninja file'
 complete -c kati-build -l deps -d 'header dependencies of -MD and -MMD'
 complete -c kati-build -l no-ninja -d 'translates, and runs no ninja'

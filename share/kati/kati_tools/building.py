@@ -1,12 +1,10 @@
 """The command kati-build: translates a makefile, keeps the translation up to date, and runs ninja."""
 import os
-import shutil
 import signal
 import subprocess
 import sys
 
-from . import compile_commands, files, includes, insertions, ninja_text, one_at_a_time, sources, top_file, translating
-from . import words
+from . import files, includes, insertions, ninja_text, one_at_a_time, sources, top_file, translating, words
 from .programs import UNFORESEEN, Stop, bytes_of, ending, need, say
 
 TOOL = "kati-build"
@@ -27,6 +25,7 @@ files:
   build.kati/translated.ninja  what kati wrote; with --deps, where header dependencies are too
   build.kati/ported/           the makefiles that --port ported, and their values
   build.kati/files.txt         the list of the files that exist, as kati got it
+  build.kati/asked.txt         the files that kati asked for, as kati-asked told them
   build.kati/lock              what a run holds while it translates: one at a time, the next one waits
   build.kati/                  has ninja's own log too. It is named after FILE: .kati for .ninja
 
@@ -38,7 +37,8 @@ what is added:
   status isn't 0, the build of before is kept. kati's own text isn't asked of.
 
 which files are watched:
-  The program kati-asked, where it is found, tells each file that the translation asked for.
+  The program kati-asked, where it is found, tells each file that the translation asked for. It is
+  run again only where one of these or a word has changed.
   Without it, lines that begin with `include`, `-include` or `sinclude` are looked for. Of a name
   that holds a reference, each listed file that it could name is watched.
   The list of sources is made again when a folder that it is made from has changed. What the build
@@ -51,7 +51,8 @@ any GNU makefile:
   from; make is needed for that alone. Where kati's commands differ from make's, that is told.
   What $(wildcard ..) gave is found again at each translation, here and in a kati-values.mk that
   kati-port --write wrote; what $(shell ..) gave is asked for again when a file or folder that the
-  command names has changed.
+  command names has changed. --values asks for all of them again, also for what can't be seen to have
+  changed, as a program's version.
 
 header dependencies:
   --deps gives each statement whose command has -MD or -MMD the file that the compiler writes: that
@@ -84,12 +85,15 @@ exit status:
 def parser():
     """The command line of kati-build."""
     made = words.Parser(prog="kati-build", description=ABOUT, epilog=MORE, hint="; ninja's own stand after --",
-                        usage="kati-build [--port] [--files-from git|find|FILE] [--deps] [--builtin] [-o FILE]\n"
-                              "                  [--no-ninja] [--compile-commands] [--kati PROGRAM]\n"
+                        usage="kati-build [--port] [--values] [--files-from git|find|FILE] [--deps] [--builtin]\n"
+                              "                  [-o FILE] [--no-ninja] [--compile-commands] [--kati PROGRAM]\n"
                               "                  [--kati-asked PROGRAM] [KATI WORDS] [-- NINJA WORDS]")
     made.add_argument("--port", action="store_true",
                       help="builds by any GNU makefile: what kati refuses is ported in FILE's folder, and the makefile "
                            "stays as it is; see below")
+    made.add_argument("--values", action="store_true",
+                      help="asks make again for all that the makefiles ask the machine for, with --port or where a "
+                           "kati-values.mk is; see below")
     words.add_files_from(made)
     made.add_argument("--deps", action="store_true", help="header dependencies, see below")
     words.add_builtin(made)
@@ -151,14 +155,14 @@ class Build:
         return ["makefile"] if os.path.isfile("makefile") else ["makefile", "Makefile"]
 
     def names_asked(self):
-        """What the translation asks for; None where only a guess can tell. kati's list and its makefile for --builtin
-        are no sources."""
+        """What the translation asks for; None where only a guess can tell. kati's makefile for --builtin is no
+        source."""
         if self.asked.port:
             return self.translator.asked(self.program)
         if includes.includes_nothing(self.makefiles()):
             return self.makefiles()
         found = self.translator.asked(self.program)
-        own = {self.translator.list, self.translator.makefile if self.asked.builtin else None}
+        own = {self.translator.makefile if self.asked.builtin else None}
         own.update(os.path.join(self.room, one) for one in (translating.MACROS, translating.RULES))
         return None if found is None else [*(name for name in found if name not in own), *self.values_from]
 
@@ -169,6 +173,9 @@ class Build:
         if self.asked.port:
             from .ported_build import PortedTranslator
             return PortedTranslator(self.asked, self.room)
+        if self.asked.values and not os.path.isfile(translating.VALUES):
+            raise Stop(f"--values wants --port, or a {translating.VALUES} that kati-port --write wrote",
+                       words.WRONG_USAGE)
         if os.path.isfile(translating.VALUES):
             from . import kept_values
             kept_values.keep_true(self.asked, self.room)
@@ -187,10 +194,13 @@ class Build:
                 self.tidy(is_first)
 
     def tidy(self, is_first):
-        """Takes away what a run leaves that didn't come to its end: its new files; its folder where it made that."""
+        """Takes away what a run leaves that didn't come to its end: its new files; its folder where nothing was in
+        it."""
+        if not os.path.isdir(self.room):
+            return
         if is_first and not os.path.exists(self.translated):
-            shutil.rmtree(self.room, ignore_errors=True)
-        elif os.path.isdir(self.room):
+            one_at_a_time.remove(self.room)
+        else:
             for name in (name for name in os.listdir(self.room) if name.endswith(".new")):
                 files.remove(os.path.join(self.room, name))
 
@@ -199,21 +209,21 @@ class Build:
         before, old = files.read(self.list), files.read(self.translated) or ""
         asked = self.names_asked()
         listing = translating.listing(self.asked, self.output, self.room, asked)
-        kept = listing.names if before is None else before.split("\n")
-        found = self.translator.translate(listing, ninja_text.outputs(old), kept)
+        kept = listing.names if before is None else before.split("\n")[:-1]
+        found = self.translator.translate(listing, lambda: ninja_text.outputs(old), kept)
         sys.stderr.buffer.write(bytes_of(found.said))
         if found.status:
             self.say_kept(f"kati ended with status {found.status}")
             return found.status
         content = insertions.Content(found, self.asked.deps)
-        if content.text != old and not self.is_right(content):
+        is_new = content.text != old
+        if is_new and not self.is_right(content):
             return UNFORESEEN
         if asked is None:
             asked = includes.asked(self.makefiles(), listing.names)
-        made = top_file.normal(found.outputs)
-        names = top_file.watched(asked, listing, made, self.output)
-        top = top_file.text(self, names, made, content.text)
-        self.write(found, content, content.text != old, top)
+        names = top_file.watched(asked, listing, self.output)
+        top = top_file.text(self, names, found, content.text, is_new)
+        self.write(found, content, is_new, top)
         return 0
 
     def say_kept(self, words):
@@ -235,6 +245,7 @@ class Build:
         """Replaces the files of which the bytes differ; the one that ninja reads, with the text `top`, is the last."""
         files.settle(self.translator.list, self.list)
         if self.asked.compile_commands:
+            from . import compile_commands
             files.replace(compile_commands.NAME, compile_commands.text(found.statements), self.room)
         if is_new:
             files.put(files.staged(self.translated, content.text, self.room), self.translated)

@@ -12,6 +12,32 @@ def nearest_folder(name):
     return folder or "."
 
 
+def is_folder(entry):
+    """Whether an entry of a folder is one, or a link to one; a link that leads round isn't."""
+    try:
+        return entry.is_dir()
+    except OSError:
+        return False
+
+
+def entries(folder):
+    """The entries of a folder that are folders or lead to one, and the names of all others but links that lead
+    nowhere; none where it can't be read, or can have no such name."""
+    try:
+        with os.scandir(folder) as found:
+            all_entries = list(found)
+    except (OSError, ValueError):
+        return [], []
+    # Nearly all are files, which the folder itself tells.
+    others = [one for one in all_entries if not one.is_file(follow_symlinks=False)]
+    if not others:
+        return [], [one.name for one in all_entries]
+    folders = [one for one in others if is_folder(one)]
+    left = {one.name for one in folders}
+    left.update(one.name for one in others if one.name not in left and not os.path.exists(one.path))
+    return folders, [one.name for one in all_entries if one.name not in left]
+
+
 def read(path):
     """The text of a file, or None where it isn't there."""
     try:

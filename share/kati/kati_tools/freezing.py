@@ -40,10 +40,13 @@ class Freezer:
 
     def __init__(self, port):
         self.port = port
+        # The values that are calls by themselves, by their calls; those calls of which all values in a table can be
+        # found again; and the values that no probe told.
+        self.alone, self.in_tables, self.untold = {}, set(), set()
 
     def picked(self, call):
-        """The innermost reference round a call, itself included, that has one value, and the value; None where none
-        has."""
+        """The innermost reference round a call, itself included, that has one value, the value, and whether a probe
+        told it; None where none has."""
         probes, line = self.port.probes, call.line
         for span in call.chain:
             text = line.text[span[0]:span[1]]
@@ -51,10 +54,10 @@ class Freezer:
                 return None
             told = probes.told(line, span)
             if is_free(line, span) and len(told) == 1:
-                return span, told[0]
+                return span, told[0], True
             if is_free(line, span) and not told and not is_in(AUTOMATIC, text):
                 # make never asked for it here, as in a recipe that the goals don't need.
-                return span, self.port.run.value(joined(text)) or ""
+                return span, self.port.run.value(joined(text)) or "", False
         return None
 
     def line(self, line):
@@ -66,9 +69,10 @@ class Freezer:
         for call in calls:
             found = self.picked(call)
             if found and "\n" not in found[1]:
-                (start, end), value = found
-                text = joined(line.text[start:end])
-                edits[start, end] = self.reference(line, text, value)
+                (start, end), value, is_told = found
+                name = self.named(line, joined(line.text[start:end]), value, is_told)
+                self.alone.update({call: name} if (start, end) == call.chain[0] else {})
+                edits[start, end] = f"$({name})"
             elif not self.by_shell(call, edits) and not self.by_table(call, edits):
                 return False
         line.edits = edits
@@ -84,13 +88,33 @@ class Freezer:
             makes = joined(line.text[found.start() + 1:end]).replace("$$", "$")
             value = None if is_in(NUMBERED, makes) or is_in(AUTOMATIC, makes) else self.port.run.value(makes)
             if value is not None and "\n" not in value:
-                line.edits[found.start(), end] = "$" + self.reference(line, makes, value)
+                line.edits[found.start(), end] = f"$$({self.named(line, makes, value, False)})"
                 self.port.tell("frozen", found.group(1))
         return len(line.edits) > before
 
+    def named(self, line, makes, value, is_told):
+        """The name of a macro that is this text for make and this value for kati; where no probe told it, that is
+        kept."""
+        name = self.port.values.add(wanted_name(line, makes), makes, value, joined(makes))
+        self.untold.update([] if is_told else [name])
+        return name
+
     def reference(self, line, makes, value):
-        """A reference to a macro that is this text for make and this value for kati."""
-        return f"$({self.port.values.add(wanted_name(line, makes), makes, value, joined(makes))})"
+        """A reference to such a macro."""
+        return f"$({self.named(line, makes, value, True)})"
+
+    def patterns(self):
+        """The patterns that values hang on which aren't found again by themselves, as a wildcard in a loop or in a
+        macro that is called; and whether a value hangs on some that aren't known."""
+        values = {one.name: one for one in self.port.values.all}
+        plain = {name: found.group(1).split() for name, one in values.items()
+                 for found in [frozen_values.WILDCARD.fullmatch(one.source)] if found}
+        asked = set()
+        for call in set(self.port.probes.patterns) - self.in_tables:
+            found = self.port.probes.asked_of(call)
+            if any(one.split() != plain.get(self.alone.get(call)) for one in found):
+                asked |= found
+        return asked, any("wildcard" in values[name].makes and name not in plain for name in self.untold)
 
     def by_shell(self, call, edits):
         """A call of `shell` in a recipe that has several values: for kati the recipe's own shell does it."""
@@ -115,6 +139,11 @@ class Freezer:
         name = self.port.values.add(wanted_name(line, makes), makes, None, "by what it depends on", True)
         value = next(one for one in self.port.values.all if one.name == name)
         value.katis, value.table = f"$({name}_{key})", {f"{name}_{one}": told for one, told in table.items()}
+        patterns = {one: pattern for one, pattern in self.port.probes.asked_by(call).items()
+                    if not set(pattern) & set("$()\n") and frozen_values.fitting(pattern) == table.get(one, "").strip()}
+        value.sources = {f"{name}_{one}": f"$(wildcard {pattern})" for one, pattern in patterns.items() if one in table}
+        if set(patterns) == set(table):
+            self.in_tables.add(call)
         edits[span] = f"$({name})"
         return True
 

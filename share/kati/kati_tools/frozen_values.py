@@ -3,6 +3,7 @@
 Each value of kati's stands below a comment that says where it came from, so that it can be had again:
 
 - `# $(wildcard src/*.c)`: the files that fit, which the tools find by themselves;
+- `# names: src/*.c main.o`: names of a rule, patterns among them, the same;
 - `# $(shell cat version.txt) reads version.txt 1c291ca3`: what make was told while a file had this sum;
 - `# $(shell uname)`, and all else: what make was told when the file was written."""
 import glob
@@ -15,7 +16,7 @@ from .programs import bytes_of
 
 NAME = translating.VALUES
 TITLE = "# Written by kati-port, anew by kati-port --values: what make asks the machine for, and what it was told.\n"
-RUN = "tells of the run"
+RUN, NAMES = "tells of the run", "names: "
 HIDING = f"MAKEFILE_LIST := $(filter-out {NAME},$(MAKEFILE_LIST))"
 READS = re.compile(r"# \$\(shell .* reads (.*)")
 ENTRY = re.compile(r"# (.*)\n(\S+) (:?=) ?(.*)\n")
@@ -61,6 +62,11 @@ def fitting(patterns):
     return " ".join(found)
 
 
+def with_fitting(names):
+    """Names as make has them in a rule: a pattern is what it fits."""
+    return " ".join(filter(None, (fitting(one) if set(one) & set("*?[") else one for one in names.split())))
+
+
 def assigned(name, operator, text):
     """The line of an assignment."""
     return f"{name} {operator} {text}" if text else f"{name} {operator}"
@@ -68,18 +74,22 @@ def assigned(name, operator, text):
 
 class Value:
     """A macro of the file: make's text, kati's value, and what it came from. A deferred one is text that kati expands
-    where it stands, and may have a table of values by their names."""
+    where it stands, and may have a table of values by their names; `sources` says of some where they came from, so
+    that they stand by themselves."""
 
     def __init__(self, name, makes, katis, source, is_deferred=False):
         self.name, self.makes, self.katis, self.source, self.is_deferred = name, makes, katis, source, is_deferred
-        self.table = {}
+        self.table, self.sources = {}, {}
 
     def lines(self):
         """What stands of it in kati's branch."""
         text = self.katis if self.is_deferred else escaped(self.katis)
         operator = "=" if self.is_deferred else ":="
         return [f"# {self.source}", assigned(self.name, operator, text),
-                *(assigned(name, ":=", escaped(value)) for name, value in self.table.items())]
+                *(assigned(name, ":=", escaped(value)) for name, value in self.table.items()
+                  if name not in self.sources),
+                *(line for name, source in self.sources.items()
+                  for line in (f"# {source}", assigned(name, ":=", escaped(self.table[name]))))]
 
 
 class Values:
@@ -121,10 +131,10 @@ class Values:
 def renewed(text):
     """The text of such a file with the names that its wildcards fit now."""
     def again(found):
-        wildcard = WILDCARD.fullmatch(found.group(1))
-        if not wildcard or found.group(3) != ":=":
+        source, wildcard = found.group(1), WILDCARD.fullmatch(found.group(1))
+        if found.group(3) != ":=" or not wildcard and not source.startswith(NAMES):
             return found.group()
-        value = escaped(fitting(wildcard.group(1)))
+        value = escaped(fitting(wildcard.group(1)) if wildcard else with_fitting(source[len(NAMES):]))
         return f"# {found.group(1)}\n{assigned(found.group(2), ':=', value)}\n"
 
     return ENTRY.sub(again, text)
@@ -142,6 +152,11 @@ def read_by(text):
 
 
 def folders_of(text):
-    """The folders in which a wildcard of the values looks for files."""
-    lines = re.findall(r"^# \$\(wildcard ([^$()]*)\)$", text, re.MULTILINE)
-    return sorted({os.path.dirname(word) or "." for line in lines for word in line.split()})
+    """The folders in which a pattern of the values looks for files."""
+    found = re.findall(rf"^# (?:\$\(wildcard ([^$()]*)\)|{NAMES}(.*))$", text, re.MULTILINE)
+    return folders_of_patterns("".join(one) for one in found)
+
+
+def folders_of_patterns(texts):
+    """The folders in which patterns look for files."""
+    return sorted({os.path.dirname(word) or "." for text in texts for word in text.split()})

@@ -16,9 +16,14 @@ ENDING = re.compile(r"(?::[^=]*=|[ ,])%?([^ ,%(){}$:=]+)[)}]$")
 MOST = 2**20
 
 
+def without_continuations(text):
+    """A makefile's text with continued lines joined."""
+    return re.sub(r"\\\r?\n[ \t]*", " ", text)
+
+
 def joined(text):
     """The lines of a makefile, continued ones joined."""
-    return re.sub(r"\\\r?\n[ \t]*", " ", text).split("\n")
+    return without_continuations(text).split("\n")
 
 
 def pattern_of(name):

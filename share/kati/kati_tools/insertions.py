@@ -1,15 +1,19 @@
 """kati's text with the lines that kati-build adds to the blocks of statements: where header dependencies are, and
 that a file counts only where it changed."""
-from . import always_run, header_dependencies, ninja_text
+from . import always_run, ninja_text
 
 
 class Content:
     """A translation's text with these lines; `is_katis` says that there are none, so that it is kati's own."""
 
     def __init__(self, translation, has_headers):
-        headers = header_dependencies.Dependencies(translation.statements if has_headers else [])
-        added = always_run.lines(translation.text)
-        for number, lines in headers.lines().items():
-            added[number] = [*added.get(number, []), *lines]
-        self.doubts, self.is_katis = headers.doubts, not added
+        added, self.doubts = always_run.lines(translation.text), []
+        if has_headers:
+            # What it takes time to load is loaded only where it is needed.
+            from . import header_dependencies
+            headers = header_dependencies.Dependencies(translation.statements)
+            for number, lines in headers.lines().items():
+                added[number] = [*added.get(number, []), *lines]
+            self.doubts = headers.doubts
+        self.is_katis = not added
         self.text = ninja_text.with_lines(translation.text, added)

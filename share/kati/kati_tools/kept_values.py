@@ -26,7 +26,7 @@ def ask_make(asked):
 
 def keep_true(asked, room):
     """Makes values anew: what a wildcard fits, and what make says where a file has changed that a command names."""
-    if frozen_values.stale(values()):
+    if asked.values or frozen_values.stale(values()):
         ask_make(asked)
     if values():
         files.replace(frozen_values.NAME, frozen_values.renewed(values()), room)

@@ -1,5 +1,6 @@
 """What a makefile takes for granted that make has and kati hasn't: built-in rules, macros, and what it is told by
 its surroundings."""
+import os
 import re
 
 from . import files, includes
@@ -23,7 +24,7 @@ SOURCES = (".c", ".cc", ".C", ".cpp", ".s", ".S", ".o")
 
 def macros_of_share():
     """The names that share/kati assigns."""
-    return set(re.findall(r"^([A-Za-z_.]+) *=", files.read(SHARE / MACROS), re.MULTILINE))
+    return set(re.findall(r"^([A-Za-z_.]+) *=", files.read(os.path.join(SHARE, MACROS)), re.MULTILINE))
 
 
 def has_object_rule(rules):

@@ -14,6 +14,9 @@ OF_MAKEFILES = ("$(MAKEFILE_LIST)", "${MAKEFILE_LIST}")
 CALL = re.compile(r"\$[({]call[ \t]+([^,(){}$ \t]+)[ \t]*,")
 EVAL = re.compile(r"\$[({]eval[ \t]")
 FOREACH = re.compile(r"\$[({]foreach[ \t]+([^,]+),")
+WILDCARD = re.compile(r"\$[({]wildcard[ \t]+")
+# The numbers of probes of patterns begin here.
+FIRST_PATTERN = 1_000_000
 # A probe tells its number, what the value depends on, and the value.
 PROBE = f"kati_probe = $(info {ANSWER}$1 $3|$2{END})$2\n"
 
@@ -107,7 +110,7 @@ class Probes:
 
     def __init__(self, ported):
         refused = refused_macros(ported)
-        self.calls, self.numbers, self.values = {}, {}, {}
+        self.calls, self.numbers, self.values, self.patterns = {}, {}, {}, {}
         for line in (line for file in ported for line in file.lines):
             found = [] if line.joined.lstrip().startswith("#") else calls_in(line, lambda text: kind_of(text, refused))
             if found:
@@ -115,6 +118,9 @@ class Probes:
             for call in found:
                 for span in call.chain:
                     self.numbers.setdefault((line, *span), len(self.numbers))
+        # What each wildcard is asked for is told as well, by numbers of their own.
+        wildcards = [call for calls in self.calls.values() for call in calls if WILDCARD.match(call.text())]
+        self.patterns = {call: FIRST_PATTERN + number for number, call in enumerate(wildcards)}
 
     def of(self, line):
         """The refused calls of a line."""
@@ -124,6 +130,19 @@ class Probes:
         """What the reference at this place depends on, and its value, for each time that make asked for it."""
         found = self.values.get(self.numbers.get((line, *span)), [])
         return [tuple(one.split("|", 1)) for one in found]
+
+    def asked_of(self, call):
+        """The patterns that a wildcard was asked for, each once."""
+        return {one.split("|", 1)[1] for one in self.values.get(self.patterns[call], [])}
+
+    def asked_by(self, call):
+        """The pattern that a wildcard was asked for, by what it depends on; none where that doesn't settle it."""
+        found = {}
+        for one in self.values.get(self.patterns.get(call), []):
+            key, pattern = one.split("|", 1)
+            if found.setdefault(key, pattern) != pattern:
+                return {}
+        return found
 
     def told(self, line, span):
         """The values of the reference at this place, each once; none where make never asked for it."""
@@ -147,6 +166,12 @@ class Probes:
                 # first.
                 marks.setdefault(span[1], []).append((0, -span[0], f",{key_of(line, span)})"))
                 marks.setdefault(span[0], []).append((1, -span[1], f"$(call kati_probe,{number},"))
+        for call in (call for call in self.of(line) if call in self.patterns):
+            # `strip` takes commas as they are.
+            start, end = call.chain[0]
+            first = start + WILDCARD.match(call.text()).end()
+            marks.setdefault(first, []).append((1, 0, f"$(call kati_probe,{self.patterns[call]},$(strip "))
+            marks.setdefault(end - 1, []).append((0, 0, f"),{key_of(line, call.chain[0])})"))
         text, last = "", 0
         for at in sorted(marks):
             text += line.text[last:at] + "".join(mark for _, _, mark in sorted(marks[at]))

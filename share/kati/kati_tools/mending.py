@@ -2,8 +2,7 @@
 import os
 import re
 
-from . import freezing, makefile_text, mending_exports, mending_lines, second_expansion
-from .scanning import WILD
+from . import freezing, frozen_values, makefile_text, mending_exports, mending_lines, second_expansion
 
 
 def mend(port, fault):
@@ -94,20 +93,18 @@ def refused_name(port, fault):
 
 def freeze_words(port, line, name):
     """Replaces the words of a rule line that come to a name with a wildcard by what the names fit."""
-    if line.is_body or line.edits:
+    if line.is_body:
         return False
-    rule = makefile_text.Rule(line.joined)
+    rule, before = makefile_text.Rule(line.joined), len(line.edits)
     words = [word for word in dict.fromkeys(rule.targets + rule.needs) if "$" in word and word in line.text]
-    told = port.run.values([text for word in words for text in (word, f"$(wildcard {word})")])
-    for word, names, found in zip(words, told[::2], told[1::2]):
-        if name in map(plain_name, (names or "").split()):
-            at = line.text.index(word)
-            plain = [one for one in names.split() if not WILD.search(one)]
-            source = f"$(wildcard {names})" if all(map(os.path.lexists, plain)) else f"names: {names}"
-            macro = port.values.add("V_names", word, found or "", source)
+    for word, names in zip(words, port.run.values(words)):
+        at = line.text.index(word)
+        if name in map(plain_name, (names or "").split()) and (at, at + len(word)) not in line.edits:
+            source = f"{frozen_values.NAMES}{names}"
+            macro = port.values.add("V_names", word, frozen_values.with_fitting(names), source)
             line.edits[at, at + len(word)] = f"$({macro})"
             port.tell("frozen", "names with wildcards")
-    return bool(line.edits)
+    return len(line.edits) > before
 
 
 def plain_name(name):

@@ -45,9 +45,10 @@ def dropped_word(port, line, word):
 
 
 def tell_of_word(port, word, name):
-    """Says where a word of the command line wins for kati over what the makefile overrides."""
-    if word == "override":
-        port.note(f"a word {name}=.. of the command line wins over the makefile for kati, and not for make")
+    """Says where a word of this command line wins for kati over what the makefile overrides."""
+    given = {one.split("=", 1)[0].rstrip(":+?") for one in port.asked.macros}
+    if word == "override" and name in given:
+        port.note(f"the word {name}=.. of the command line wins over the makefile for kati, and not for make")
 
 
 def without_words(text):

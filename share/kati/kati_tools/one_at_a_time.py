@@ -5,6 +5,8 @@ import fcntl
 import os
 import time
 
+from . import files
+
 NAME = "lock"
 PAUSE = 0.02
 # A file system that has no locks: a run goes on without.
@@ -14,12 +16,11 @@ SAID_AFTER = 1
 
 
 def opened(room):
-    """The lock of a folder, opened, and whether the folder was made for it."""
+    """The lock of a folder, opened; the folder is made where it isn't there."""
     while True:
-        is_new = not os.path.isdir(room)
         os.makedirs(room, exist_ok=True)
         try:
-            return os.open(os.path.join(room, NAME), os.O_RDWR | os.O_CREAT, 0o666), is_new
+            return os.open(os.path.join(room, NAME), os.O_RDWR | os.O_CREAT, 0o666)
         except FileNotFoundError:
             # Another run took the folder away meanwhile; where it can't be made again, that is told above.
             time.sleep(PAUSE)
@@ -40,14 +41,14 @@ def is_held(lock, room):
 
 @contextlib.contextmanager
 def held(room, say_waiting):
-    """Holds a folder, which is made where it isn't there; gives whether it was made. `say_waiting` is called once,
-    where it takes long."""
+    """Holds a folder, which is made where it isn't there; gives whether nothing else is in it, whichever run made it.
+    `say_waiting` is called once, where it takes long."""
     begun, is_said = time.monotonic(), False
     while True:
-        lock, is_new = opened(room)
+        lock = opened(room)
         try:
             if is_held(lock, room):
-                yield is_new
+                yield os.listdir(room) == [NAME]
                 return
         finally:
             os.close(lock)
@@ -55,3 +56,19 @@ def held(room, say_waiting):
             say_waiting()
             is_said = True
         time.sleep(PAUSE)
+
+
+def remove(room):
+    """Takes away a folder that this run holds. The lock goes last: a run that makes a new one before the folder is
+    gone has it to itself, and takes it away in turn."""
+    for name in set(os.listdir(room)) - {NAME}:
+        path = os.path.join(room, name)
+        if os.path.isdir(path):
+            # What is hardly ever needed is loaded here, since it takes time.
+            import shutil
+            shutil.rmtree(path, ignore_errors=True)
+        else:
+            files.remove(path)
+    files.remove(os.path.join(room, NAME))
+    with contextlib.suppress(OSError):
+        os.rmdir(room)

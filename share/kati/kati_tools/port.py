@@ -128,7 +128,9 @@ class Port:
         names = [name for name in RUN if re.search(rf"\$[({{]{name}\b", text)]
         told = self.run.values([f"$({name})" for name in names]) if names else []
         assigned = {name for file in self.ported.values() for name, _ in file.definitions()}
-        self.of_the_run = {name: value for name, value in zip(names, told) if value and name not in assigned}
+        # Of another run there are goals, where this one has none.
+        self.of_the_run = {name: value or "" for name, value in zip(names, told)
+                           if (value or name == translating.GOALS) and name not in assigned}
 
     def freeze_lists_of_makefiles(self):
         """Freezes what is made of the list of makefiles, which is empty for kati without a fault."""
@@ -154,7 +156,7 @@ class Port:
         main = self.ported[self.makefile]
         asks_itself = any("MAKEFILE_LIST" in file.before for file in self.ported.values())
         main.tail = self.tail()
-        has_values = bool(self.values.all or self.of_the_run)
+        has_values = bool(self.values.all or any(self.of_the_run.values()))
         include = f"include {frozen_values.NAME}"
         is_new = has_values and include not in main.before.split("\n", 1)[0]
         main.head = [*([include] if is_new else []), *self.search.head()]
@@ -186,14 +188,14 @@ class Port:
         asked = argparse.Namespace(kati=self.asked.kati, makefile=self.makefile, builtin=True, depth=self.depth,
                                    words=[*self.asked.goals, *self.asked.macros], files_from=self.asked.files_from)
         # Faults in reading don't hang on the list, so it is made anew but where kati takes the makefile.
-        self.listing = self.listing or translating.listing(asked)
+        self.listing = self.listing or translating.listing(asked, names=list(self.ported))
         room = os.path.join(self.room, "kati")
         os.makedirs(room, exist_ok=True)
         with self.hiding(os.path.join(room, "hidden")):
             translator = translating.Translator(asked, room)
             found = translator.translate(self.listing)
             if found.status == 0:
-                self.listing = translating.listing(asked)
+                self.listing = translating.listing(asked, names=list(self.ported))
                 found = translator.translate(self.listing)
             return found
 

@@ -12,9 +12,9 @@ import re
 import shutil
 import tempfile
 
-from . import (files, frozen_values, includes, ninja_text, port, port_report, scratch_copy, sources, translating, words,
-               write_command)
-from .programs import Stop, bytes_of, find_kati, need, say
+from . import (asked_names, files, frozen_values, includes, ninja_text, port, port_report, scratch_copy, sources,
+               translating, words, write_command)
+from .programs import SHARE, Stop, bytes_of, find_kati, need, say
 
 TOOL = "kati-build"
 FOLDER, RECORD = "ported", "ported.json"
@@ -24,6 +24,16 @@ INCLUDE = re.compile(r"^([ \t]*(?:-include|sinclude|include)[ \t]+)([^#\n]*)", r
 def sum_of_names(names):
     """What tells a list of names from another."""
     return hashlib.sha256(bytes_of("\n".join(sorted(names)))).hexdigest()
+
+
+def sum_of_tools(kati):
+    """What tells these tools, and kati, from others, which may port otherwise."""
+    found = hashlib.sha256()
+    for folder in (SHARE, os.path.join(SHARE, "kati_tools")):
+        for name in sorted(name for name in os.listdir(folder) if name.endswith((".py", ".mk"))):
+            found.update(bytes_of(f"{name}\0{files.read(os.path.join(folder, name))}\0"))
+    program = os.stat(find_kati(kati))
+    return f"{found.hexdigest()} {program.st_size} {program.st_mtime_ns}"
 
 
 @contextlib.contextmanager
@@ -46,11 +56,12 @@ class Record:
         if self.makefile is None:
             raise Stop("no makefile", 2)
 
-    def now(self, names, depends_on_list):
-        """The record of a port of these files that is made now."""
+    def now(self, names, patterns, depends_on_list):
+        """The record of a port of these files, with values that hang on these patterns, that is made now."""
         listed = sum_of_names(sources.walk(set())[0]) if depends_on_list else None
         return {"words": [self.makefile, *self.asked.words], "depth": self.asked.depth, "list": listed,
-                "files": {name: frozen_values.sum_of(name) for name in names}}
+                "tools": sum_of_tools(self.asked.kati), "files": {name: frozen_values.sum_of(name) for name in names},
+                "wildcards": {one: sum_of_names(frozen_values.fitting(one).split()) for one in patterns}}
 
     def kept(self):
         """The record as it is kept; None where there is none."""
@@ -61,8 +72,10 @@ class Record:
 
     def is_true(self, kept):
         """Whether all is as it was."""
-        return kept is not None and all(
-            kept.get(key) == value for key, value in self.now(kept["files"], kept["list"] is not None).items())
+        if kept is None or "wildcards" not in kept:
+            return False
+        now = self.now(kept["files"], kept["wildcards"], kept["list"] is not None)
+        return all(kept.get(key) == value for key, value in now.items())
 
 
 class Ported:
@@ -70,14 +83,14 @@ class Ported:
 
     def __init__(self, asked, room):
         self.asked, self.room, self.record = asked, room, Record(asked, room)
-        self.stuck, self.folder = None, None
+        self.stuck, self.folder, self.is_new = None, None, False
 
     def bring_up(self):
         """Ports again where that is needed; else finds again what wildcards fit."""
         kept = self.record.kept()
         values = kept and os.path.join(self.room, FOLDER, kept["folder"], frozen_values.NAME)
         text = values and files.read(values)
-        if not self.record.is_true(kept) or text and frozen_values.stale(text):
+        if self.asked.values or not self.record.is_true(kept) or text and frozen_values.stale(text):
             self.port(kept)
             return
         self.folder = os.path.join(self.room, FOLDER, kept["folder"])
@@ -87,6 +100,7 @@ class Ported:
     def port(self, kept):
         """Ports in a copy, and writes what came of it."""
         need("make")
+        self.is_new = True
         asked = argparse.Namespace(makefile=self.record.makefile, goals=words.goals_of(self.asked.words),
                                    macros=words.macros_of(self.asked.words), kati=self.asked.kati,
                                    depth=self.asked.depth, files_from=self.asked.files_from, has_deps=True)
@@ -102,12 +116,12 @@ class Ported:
                 report = [copy.real_text(line) for line in told(made, translation)]
                 texts = {name: copy.real_text(text) for name, text in texts_of(made).items()}
             self.write(made, texts)
-        depends = any("wildcard" in one.makes and not frozen_values.WILDCARD.fullmatch(one.source)
-                      for one in made.values.all)
+        patterns, depends = made.freezer.patterns()
+        patterns = sorted(map(copy.real_text, patterns))
         named = {name for file in made.ported.values() for name in includes.named_in(file.before) if "*" not in name}
         names = sorted({*made.read, *(name for name in named if not os.path.exists(name))} - {frozen_values.NAME})
-        record = {**self.record.now(names, depends), "report": report, "folder": os.path.relpath(copy.top, copy.base),
-                  "made": sorted(made.read.intersection(made.made))}
+        record = {**self.record.now(names, patterns, depends), "report": report,
+                  "folder": os.path.relpath(copy.top, copy.base), "made": sorted(made.read.intersection(made.made))}
         files.replace(self.record.path, json.dumps(record, indent=1) + "\n", self.room)
         for line in report if kept is None or kept.get("report") != report else []:
             say(TOOL, line)
@@ -144,7 +158,9 @@ class Ported:
         own = {os.path.join(".", name) for name in own} | {frozen_values.NAME}
         found = [name for name in names if name not in own and not name.endswith(".new")]
         self.keep_absent(found)
-        return [*found, *self.record.kept()["files"], *frozen_values.read_by(text), *frozen_values.folders_of(text)]
+        kept = self.record.kept()
+        return [*found, *kept["files"], *frozen_values.read_by(text), *frozen_values.folders_of(text),
+                *frozen_values.folders_of_patterns(kept["wildcards"])]
 
 
 def texts_of(made):
@@ -181,24 +197,40 @@ class PortedTranslator(translating.Translator):
     """kati with its words, in the folder of the ported makefiles."""
 
     def __init__(self, asked, room):
-        self.ported = Ported(asked, room)
+        self.ported, self.place = Ported(asked, room), os.path.abspath(room)
         self.ported.bring_up()
-        self.list, self.makefile = os.path.abspath(os.path.join(room, "files.txt.new")), None
+        self.go_in()
+
+    def go_in(self):
+        """Makes this kati in the folder of the ported makefiles, as far as there are any."""
+        self.list, self.makefile = os.path.join(self.place, "files.txt.new"), None
         if self.ported.stuck is not None:
             sources.write_list([], self.list)
             return
-        given = argparse.Namespace(**vars(asked))
-        given.kati, given.makefile = find_kati(asked.kati), self.ported.record.makefile
+        given = argparse.Namespace(**vars(self.ported.asked))
+        given.kati, given.makefile = find_kati(given.kati), self.ported.record.makefile
         with inside(self.ported.folder):
             super().__init__(given, ".")
         self.folder = os.path.abspath(self.ported.folder)
-        self.list = os.path.abspath(os.path.join(room, "files.txt.new"))
+        self.list = os.path.join(self.place, "files.txt.new")
+        self.record = os.path.join(self.place, asked_names.RECORD)
 
-    def translate(self, listing, made=(), before=()):
+    def ports_again(self):
+        """Ports again what this run hasn't ported, and kati refuses: a value that was found again may have it take
+        another branch. Answers whether it did, and kati has makefiles now."""
+        if self.ported.is_new:
+            return False
+        self.ported.port(self.ported.record.kept())
+        self.go_in()
+        return self.ported.stuck is None
+
+    def translate(self, listing, made=set, before=()):
         """kati's translation; its fault where the port is stuck."""
+        found = None if self.ported.stuck is not None else super().translate(listing, made, before)
+        if found is not None and found.status == 2 and self.ports_again():
+            found = super().translate(listing, made, before)
         if self.ported.stuck is not None:
             return translating.Translation(2, "", self.ported.stuck, [])
-        found = super().translate(listing, made, before)
         return self.with_includes(found, listing, before) if found.status == 0 else found
 
     def with_includes(self, found, listing, before):
@@ -209,13 +241,15 @@ class PortedTranslator(translating.Translator):
         if not wanted:
             return found
         own, self.words = self.words, [*map(ninja_text.plain, goals), *wanted, *words.macros_of(self.words)]
-        more = super().translate(listing, found.outputs, before)
+        more = super().translate(listing, lambda: found.outputs, before)
         if more.status:
             self.words = own
-            return super().translate(listing, found.outputs, before)
+            return super().translate(listing, lambda: found.outputs, before)
         return more
 
     def asked(self, program, *more):
         """What the translation, the port and the values depend on."""
         found = None if self.ported.stuck is not None else super().asked(program, *more)
+        if found is None and program is not None and self.ports_again():
+            found = super().asked(program, *more)
         return [] if self.ported.stuck is not None else self.ported.watched(found or [])

@@ -3,13 +3,11 @@ import os
 import shutil
 import subprocess
 import sys
-import traceback
-from pathlib import Path
 
 # The folder of this package's parent: share/kati, in a checkout as where it is installed.
-SHARE = Path(__file__).resolve().parent.parent
+SHARE = os.path.dirname(os.path.dirname(os.path.realpath(__file__)))
 # The top of the checkout, or the prefix of the installation.
-TOP = SHARE.parent.parent
+TOP = os.path.dirname(os.path.dirname(SHARE))
 
 NO_FILE = 3
 # A fault of the tool itself, and an interrupt.
@@ -27,12 +25,12 @@ class Stop(Exception):
 def places(name):
     """Where a program of the project may be: beside the tool, in the checkout, and on PATH."""
     crate = name.replace("-", "_") if "-" in name else f"{name}_program"
-    yield Path(sys.argv[0]).resolve().parent / name
-    yield TOP / "bin" / name
-    yield TOP / "crates" / crate / "out" / crate
+    yield os.path.join(os.path.dirname(os.path.realpath(sys.argv[0])), name)
+    yield os.path.join(TOP, "bin", name)
+    yield os.path.join(TOP, "crates", crate, "out", crate)
     found = shutil.which(name)
     if found:
-        yield Path(found)
+        yield found
 
 
 def find(name, given=None):
@@ -45,8 +43,8 @@ def find(name, given=None):
             raise Stop(f"no program {named}")
         return os.path.abspath(found)
     for place in places(name):
-        if os.access(place, os.X_OK) and place.is_file():
-            return str(place.absolute())
+        if os.access(place, os.X_OK) and os.path.isfile(place):
+            return os.path.abspath(place)
     return None
 
 
@@ -130,6 +128,8 @@ def ending(tool, call, *given):
         say(tool, "interrupted")
         return INTERRUPTED
     except Exception as error:
+        # Loaded here alone, since it takes time and is hardly ever needed.
+        import traceback
         place = traceback.extract_tb(error.__traceback__)[-1]
         say(tool, f"a fault of this tool, at {os.path.basename(place.filename)}:{place.lineno}: "
                   f"{type(error).__name__}: {error}")

@@ -15,10 +15,11 @@ def renew(run, room, real_text):
     files.replace(frozen_values.NAME, before, room)
     if status:
         raise Stop(f"make ends with status {status}: {said.strip()}", 1)
-    told = make_run.answered(out)
+    told, own = make_run.answered(out), {one.name for one in file.entries}
     for number, one in enumerate(file.entries):
         pairs = [tuple(value.split("|", 1)) for value in told.get(number, [])]
         doubt = renew_entry(one, pairs, run, file.makes)
+        one.table = [line for line in one.table if ASSIGNED.match(line).group(1) not in own]
         doubts += [f"{one.name}: {doubt}"] if doubt else []
     return real_text(file.text()), doubts
 
@@ -34,8 +35,10 @@ def renew_entry(one, pairs, run, makes):
         return None
     elif frozen_values.WILDCARD.fullmatch(one.source):
         one.text = frozen_values.escaped(frozen_values.fitting(one.source[len("$(wildcard "):-1]))
-    elif one.source.startswith("names: "):
-        one.text = frozen_values.escaped(run.value(f"$(wildcard {makes[one.name]})") or "")
+    elif one.source.startswith(frozen_values.NAMES):
+        names = run.value(makes[one.name]) or ""
+        one.source = f"{frozen_values.NAMES}{names}"
+        one.text = frozen_values.escaped(frozen_values.with_fitting(names))
     elif len(values) > 1 or "\n" in "".join(values):
         return "make has no one value for it now; port the makefile again"
     else:

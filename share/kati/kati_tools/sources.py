@@ -1,5 +1,6 @@
 """The list of the files that exist, as kati wants it by --files."""
 import os
+import re
 
 from . import files, includes, outside
 from .programs import Stop, bytes_of, need, run
@@ -12,8 +13,8 @@ TRANSLATED = "translated.ninja"
 
 
 def without_newlines(names):
-    """The names that a list and a Ninja file can hold."""
-    return [name for name in names if "\n" not in name]
+    """The names that a list and a Ninja file can hold: nearly always all of them, which one look at them tells."""
+    return [name for name in names if "\n" not in name] if "\n" in "".join(names) else list(names)
 
 
 class Listing:
@@ -21,14 +22,15 @@ class Listing:
     list depends."""
 
     def __init__(self, names, certain=(), folders=(), watched=()):
-        self.names, self.certain = sorted(without_newlines(names)), set(certain)
+        self.names, self.certain = sorted(without_newlines(names)), certain
         self.folders, self.watched = without_newlines(folders), without_newlines(watched)
 
-    def without(self, made, before):
-        """The names without those that the build makes, but for those listed before, and those that are certain."""
-        dropped = set(made).intersection(self.names)
-        if dropped:
-            dropped.difference_update(self.certain, before)
+    def unsure(self, before):
+        """The names that may be there only because the build made them: not those listed before, nor the certain."""
+        return set() if self.names == before else set(self.names).difference(self.certain, before)
+
+    def without(self, dropped):
+        """The names without these."""
         return [name for name in self.names if name not in dropped] if dropped else self.names
 
 
@@ -37,25 +39,10 @@ def plain(name):
     return name[2:] if name.startswith("./") else name
 
 
-def is_folder(entry):
-    """Whether an entry of a folder is one, or a link to one; a link that leads round isn't."""
-    try:
-        return entry.is_dir()
-    except OSError:
-        return False
-
-
 def inside(folder):
-    """The names of the folders and of the files in a folder; none where it can't be read. Links that lead to folders
-    are neither."""
-    try:
-        with os.scandir(folder) as found:
-            entries = list(found)
-    except OSError:
-        return [], []
-    folders = {one.name: one for one in entries if is_folder(one)}
-    return (sorted(name for name, one in folders.items() if not one.is_symlink()),
-            [one.name for one in entries if one.name not in folders])
+    """The names of the folders and of the files in a folder. Links that lead to folders are neither."""
+    folders, names = files.entries(folder)
+    return sorted(one.name for one in folders if not one.is_symlink()), names
 
 
 def walk(skipped):
@@ -69,7 +56,8 @@ def walk(skipped):
             continue
         before = "" if at == "." else f"{at}/"
         folders.append(at)
-        names += [before + one for one in found if one not in OWN]
+        found = [one for one in found if one not in OWN] if not OWN.isdisjoint(found) else found
+        names += [before + one for one in found] if before else found
         left += [before + one for one in reversed(below) if one not in CONTROL and before + one not in skipped]
     return names, folders
 
@@ -100,17 +88,20 @@ def from_file(path):
     text = files.read(path)
     if text is None:
         raise Stop(f"no file {path}")
-    names = {line[:-1] if line.endswith("\r") else line for line in text.split("\n")}
-    return Listing(names - {""}, names, (), [path])
+    # In the order of the file, which is mostly sorted, or nearly.
+    names = list(dict.fromkeys(filter(None, re.sub(r"\r(?=\n|\Z)", "", text).split("\n"))))
+    return Listing(names, names, (), [path])
 
 
 def add_outside(found, makefiles, macros):
     """Adds what stands in the folders outside this one that makefiles name. One that isn't there would come into being
     in another."""
-    for folder in outside.folders(makefiles, macros):
-        found.names += outside.names(folder)
+    folders = outside.folders(makefiles, macros)
+    for folder in folders.all:
+        found.names += without_newlines(folders.files(folder))
         found.folders.append(folder if os.path.isdir(folder) else files.nearest_folder(folder))
-    found.names.sort()
+    if folders.all:
+        found.names.sort()
 
 
 def listing(source, output=None, room=None, makefile=None, macros=(), asked=None):
@@ -124,7 +115,8 @@ def listing(source, output=None, room=None, makefile=None, macros=(), asked=None
         found = Listing(names, (), folders)
     else:
         return from_file(source)
-    found.names = [name for name in found.names if name != output]
+    if output in found.names:
+        found.names.remove(output)
     if makefile:
         add_outside(found, includes.asked([makefile], found.names) if asked is None else asked, macros)
     return found

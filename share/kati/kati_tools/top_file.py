@@ -20,10 +20,11 @@ import shlex
 from . import files, ninja_text
 from .programs import bytes_of
 
-UNUSUAL = re.compile(r"^\./|/\.|//|/$")
+UNUSUAL = re.compile(r"^\./|/\.|//|/$", re.MULTILINE)
 FIRST_LINE = "# Written by kati-build, which writes it anew when the makefile changes.\n"
+SUMS = re.compile(r"# What kati wrote has the sum (\w+); with what it depends on (\w+)\.\n")
 TEMPLATE = FIRST_LINE + """\
-# What kati wrote has the sum {sum}.
+# What kati wrote has the sum {sum}; with what it depends on {whole}.
 builddir = {room}
 rule kati_build
  command = {command}
@@ -36,29 +37,47 @@ build {output}: kati_build{inputs}
 
 
 def normal(names):
-    """Names also as Ninja has them: only few differ."""
-    unusual = {os.path.normpath(name) for name in names if "/" in name and UNUSUAL.search(name)}
-    return names | unusual if unusual else names
+    """Names also as Ninja has them: only few differ, mostly none, which one look at all of them tells."""
+    if not UNUSUAL.search("\n".join(names)):
+        return names
+    return names | {os.path.normpath(name) for name in names if "/" in name and UNUSUAL.search(name)}
 
 
-def watched(asked, listing, made, output):
-    """The names that the translation depends on, each once: files that are there, and folders; none that the build
-    makes as a folder, of what it makes by `normal` names."""
-    names = [name if os.path.lexists(name) else files.nearest_folder(name) for name in asked]
+def plain(names):
+    """Names as Ninja has them, each once."""
+    joined = "\n".join(names)
+    if not UNUSUAL.search(joined) and "\n/" not in f"\n{joined}":
+        return list(dict.fromkeys(names))
     # Two slashes at the beginning, which Python keeps, are one for Ninja.
-    found = dict.fromkeys(re.sub("^//+", "/", os.path.normpath(name))
-                          for name in [*names, *listing.watched, *listing.folders])
-    return [name for name in found if name != os.path.normpath(output) and not (name in made and os.path.isdir(name))]
+    return list(dict.fromkeys(re.sub("^//+", "/", os.path.normpath(name)) for name in names))
 
 
-def text(build, names, made, content):
-    """The text of the file for a `Build`; `names` are those that it depends on, `made` what the text `content`
-    makes, by `normal` names."""
+def watched(asked, listing, output):
+    """The names that the translation depends on, each once: files that are there, and folders; but for the highest
+    folder, which Ninja takes for a name of no letters, and so for one that isn't there."""
+    names = [name if os.path.lexists(name) else files.nearest_folder(name) for name in asked]
+    found = plain([*names, *listing.watched, *listing.folders])
+    return [name for name in found if name not in (os.path.normpath(output), "/")]
+
+
+def text(build, names, translation, content, is_new):
+    """The text of the file for a `Build`; `names` are those that it depends on, but for folders that the build makes.
+
+    `content` is what kati wrote, by `translation`, with what was added to it. Where that isn't new, and the file that
+    is there was made from all the same, it stays: for this not even a sum of what kati wrote is needed."""
+    command, before = build.command(), files.read(build.output) or ""
+    sums = None if is_new else SUMS.search(before)
+    of_content = sums.group(1) if sums else hashlib.sha256(bytes_of(content)).hexdigest()
+    whole = hashlib.sha256(bytes_of("\0".join([of_content, TEMPLATE, build.makefile(), *command, "", *names])))
+    if sums and sums.group(2) == whole.hexdigest():
+        return before
+    made = normal(translation.outputs)
+    names = [name for name in names if not (name in made and os.path.isdir(name))]
     present = [ninja_text.escaped(name) for name in names if name not in made]
     return TEMPLATE.format(
-        sum=hashlib.sha256(bytes_of(content)).hexdigest(),
+        sum=of_content, whole=whole.hexdigest(),
         room=ninja_text.escaped_value(build.room),
-        command=ninja_text.escaped_value(" ".join(shlex.quote(word) for word in build.command())),
+        command=ninja_text.escaped_value(" ".join(shlex.quote(word) for word in command)),
         makefile=ninja_text.escaped_value(build.makefile()),
         output=ninja_text.escaped(build.output),
         inputs="".join(f" $\n    {ninja_text.escaped(name)}" for name in names),

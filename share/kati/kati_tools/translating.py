@@ -2,13 +2,13 @@
 import functools
 import os
 
-from . import files, ninja_text, sources
+from . import asked_names, files, ninja_text, sources
 from .programs import SHARE, Stop, find, find_kati, run, say
-from .words import WRONG_USAGE, macros_of
+from .words import WRONG_USAGE, goals_of, macros_of
 
 MACROS, RULES = "builtin-macros.mk", "builtin-rules.mk"
 # What kati-port writes beside a makefile.
-VALUES = "kati-values.mk"
+VALUES, GOALS = "kati-values.mk", "MAKECMDGOALS"
 # What is told by a list with what the build makes may change what the build makes; it doesn't go on for ever.
 ROUNDS = 4
 
@@ -51,10 +51,18 @@ def with_builtin(makefile, room):
         raise Stop(f"no makefile {name}", 2)
     os.makedirs(room, exist_ok=True)
     for copy, one in zip(copies, (MACROS, RULES)):
-        files.replace(copy, files.read(SHARE / one), room)
+        files.replace(copy, files.read(os.path.join(SHARE, one)), room)
     top = os.path.join(room, "with-builtin.mk")
     files.replace(top, "".join(f"include {one}\n" for one in three), room)
     return top
+
+
+def word_of_goals(given):
+    """The goals as a word for kati, where kati-port wrote down those of its own run, which make has anew in each."""
+    is_given = any(word.startswith(f"{GOALS}=") for word in given)
+    if is_given or f"\n{GOALS} :=" not in (files.read(VALUES) or ""):
+        return []
+    return [f"{GOALS}={' '.join(goals_of(given))}".replace("$", "$$")]
 
 
 class Translation:
@@ -83,10 +91,10 @@ class Translator:
         # The folder that kati runs in, where it isn't this one.
         self.room, self.folder = room, None
         self.makefile = with_builtin(asked.makefile, room) if asked.builtin else asked.makefile
-        self.list = os.path.join(room, "files.txt.new")
+        self.list, self.record = os.path.join(room, "files.txt.new"), os.path.join(room, asked_names.RECORD)
         self.options = ["--depth", str(asked.depth)] if asked.depth is not None else []
         self.options += ["-f", self.makefile] if self.makefile is not None else []
-        self.words = list(asked.words)
+        self.words = [*asked.words, *word_of_goals(asked.words)]
 
     def command(self, program, *more):
         """The words of a run of kati, or of kati-asked."""
@@ -97,18 +105,19 @@ class Translator:
         sources.write_list(names, self.list)
         return Translation(*run(self.command(self.kati), cwd=self.folder), names)
 
-    def translate(self, listing, made=(), before=()):
+    def translate(self, listing, made=set, before=()):
         """The translation by the files of a listing, but for what the build makes and `before` doesn't name.
 
-        `made` is what the build of before makes. A name that stands in the list because it was made once, and is
-        made no more, or that doesn't because of that, would tell kati otherwise than the disk: so what is made is
-        asked again until it stays."""
-        names = listing.without(set(made), before)
+        `made` is called for what the build of before makes, where that matters. A name that stands in the list because
+        it was made once, and is made no more, or that doesn't because of that, would tell kati otherwise than the disk:
+        so what is made is asked again until it stays."""
+        unsure = listing.unsure(before)
+        names = listing.without(unsure and unsure.intersection(made()))
         found = self.with_list(names)
         if found.status and names != listing.names:
             found = self.with_list(listing.names)
         for _ in range(ROUNDS):
-            names = listing.without(found.outputs, before)
+            names = listing.without(unsure and unsure.intersection(found.outputs))
             if found.status or names == found.names:
                 break
             found = self.with_list(names)
@@ -125,9 +134,8 @@ class Translator:
         are the same by any list."""
         if program is None:
             return None
-        sources.write_list([], self.list)
-        status, out, _ = run(self.command(program), cwd=self.folder)
-        return [name for name in out.split("\n") if name] if status == 0 else None
+        return asked_names.told(self.record, self.command(program), self.folder,
+                                lambda: sources.write_list([], self.list))
 
 
 def find_asked(given):
