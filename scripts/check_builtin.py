@@ -71,8 +71,8 @@ def is_ours(rule):
 def differences_of_texts():
     """How the two files differ from what make tells."""
     macros, rules = told_by_make()
-    our_macros = parts_of(files.read(programs.SHARE / translating.MACROS))[0]
-    our_rules = parts_of(files.read(programs.SHARE / translating.RULES))[1]
+    our_macros = parts_of(files.read(os.path.join(programs.SHARE, translating.MACROS)))[0]
+    our_rules = parts_of(files.read(os.path.join(programs.SHARE, translating.RULES)))[1]
     for name, value in our_macros.items():
         if macros.get(name) != value:
             yield f"{name} is {value!r}, and for make {macros.get(name)!r}"

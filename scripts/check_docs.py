@@ -4,13 +4,14 @@
 What is checked:
   options    those of kati, its manual page, README and the completions are the same, and those of kati-asked, whose
              words are kati's; those of each tool, its page and the completions, too
-  faults     each number in the code stands in docs/LANGUAGE.md, and the other way round; each example there gives its
-             fault
+  faults     the numbers in the code are those in docs/LANGUAGE.md; each example there gives its fault
   cases      the makefiles of docs/PORTING.md are those of the file porting.cases, in order; no two cases have one
              name, and none ends in a number in brackets
   calls      docs/PROOFS.md names a test for each public call that takes memory, which is there and calls it
   files      each file that a document names, and each link within the repository, leads somewhere
-  specs      each definition that a document names as specs/.. is there, in one of the crates
+  specs      each definition that a document names as specs/.. is there, in one of the crates; in docs/PROOFS.md in
+             the crate of its section
+  walk       the functions, types, definitions and modules that docs/DESIGN.md names stand where it says
   crates     crates.txt and the table of crates in docs/DESIGN.md say of each crate that it stands on the same ones
   lines      no line of a document has more than 120 columns, but in tables and output
   examples   each block of README.md, example/README.md and docs/USING.md that begins with ```console is run, in a copy
@@ -45,6 +46,7 @@ from pathlib import Path
 
 sys.dont_write_bytecode = True
 import crates_stated
+import definitions_stated
 import tested_calls
 from timing import picture
 
@@ -58,7 +60,6 @@ WIDTH = 120
 
 OPTION = re.compile(r"(?<![\w-])--?[A-Za-z][a-z-]*")
 NAMED = re.compile(r"(?:docs|scripts|crates|tools|share|example|\.ci)/[\w./*{},-]*|\b[A-Z]{3,}\.md\b")
-DEFINITION = re.compile(r"(?<![\w/])specs/[\w/]+(?:\.antt)?")
 FAULT = re.compile(r"\w+::\w+(?:\([^)]*\))? => \(?(\d+)\b")
 PROGRESS = re.compile(r"\[\d+/\d+\] ")
 MARK = "\x01done\x01"
@@ -300,11 +301,14 @@ def check_files(place, report):
 
 def check_specs(place, report):
     for path in place.documents():
-        named = dict.fromkeys(DEFINITION.findall(path.read_text(encoding="utf-8")))
-        missing = [name for name in named if not any(place.root.glob(f"crates/*/{name}"))
-                   and not any(place.root.glob(f"crates/*/{name}.antt"))]
+        missing = definitions_stated.unknown(place.root, path.read_text(encoding="utf-8"))
         report.check(not missing, f"{path.relative_to(place.root)} names definitions that aren't there: "
                      + ", ".join(missing))
+
+
+def check_walk(place, report):
+    missing = list(definitions_stated.differing(place.root))
+    report.check(not missing, "docs/DESIGN.md names what isn't there:", *missing)
 
 
 def check_crates(place, report):
@@ -426,8 +430,7 @@ def check_scripts(place, report):
 
 
 def check_gate(place, report):
-    last = [line for line in place.text(".ci/run").splitlines() if line.strip()][-1]
-    command = last.strip()[len("exec "):] if last.strip().startswith("exec ") else last.strip()
+    command = re.sub("^exec ", "", place.text(".ci/run").strip().splitlines()[-1])
     commands = re.findall(r"^\$ (.*)$", place.text("README.md"), re.MULTILINE)
     fine = ".ci/run" in commands or command in commands
     report.check(fine, f"README names neither .ci/run nor what it runs: {command}")
@@ -439,7 +442,7 @@ def check_picture(place, report):
 
 
 CHECKS = {"options": check_options, "faults": check_faults, "cases": check_cases, "calls": check_calls,
-          "files": check_files, "specs": check_specs, "crates": check_crates, "lines": check_lines,
+          "files": check_files, "specs": check_specs, "walk": check_walk, "crates": check_crates, "lines": check_lines,
           "examples": check_examples, "scripts": check_scripts, "gate": check_gate, "picture": check_picture}
 
 

@@ -7,11 +7,14 @@ name isn't looked at; the names that kati asks for aren't seen from outside.
 examples:
   scripts/run_cases.py crates/kati_program/out/kati_program     all of crates/kati_cases/data
   scripts/run_cases.py ./kati crates/kati_cases/data/porting.cases
+  scripts/run_cases.py ./kati --case 'one rule'
+
+scripts/try_cases.py tries the cases before a program is built.
 
 exit status:
   0   each case passed
   1   one failed
-  64  wrong usage"""
+  64  wrong usage, also a case that isn't there"""
 import argparse
 import glob
 import os
@@ -128,18 +131,23 @@ class Parser(argparse.ArgumentParser):
 def main():
     parser = Parser(description=__doc__, formatter_class=argparse.RawDescriptionHelpFormatter)
     parser.add_argument("program", metavar="PROGRAM", help="the built program")
+    parser.add_argument("--case", action="append", metavar="NAME", help="a case by its name; may stand several times")
     parser.add_argument("files", nargs="*", metavar="FILE.cases",
                         help="files of cases; without one all of the repository")
     words = parser.parse_args()
-    program = os.path.abspath(words.program)
+    program, asked = os.path.abspath(words.program), {name.encode() for name in words.case or ()}
+    paths = words.files or sorted(glob.glob(os.path.join(DATA, "*.cases")))
+    found = [(path, case) for path in paths for case in cases_in(path) if not asked or case[0][1] in asked]
+    missing = asked - {case[0][1] for _, case in found}
+    if missing:
+        parser.error("no case: " + b", ".join(sorted(missing)).decode())
     passed = failed = 0
-    for path in words.files or sorted(glob.glob(os.path.join(DATA, "*.cases"))):
-        for case in cases_in(path):
-            with tempfile.TemporaryDirectory() as folder:
-                wrong = faults_of(program, case, folder)
-            passed, failed = (passed, failed + 1) if wrong else (passed + 1, failed)
-            for line in wrong:
-                print("%s: %s: %s" % (os.path.basename(path), case[0][1].decode(), line))
+    for path, case in found:
+        with tempfile.TemporaryDirectory() as folder:
+            wrong = faults_of(program, case, folder)
+        passed, failed = (passed, failed + 1) if wrong else (passed + 1, failed)
+        for line in wrong:
+            print("%s: %s: %s" % (os.path.basename(path), case[0][1].decode(), line))
     print("%d passed, %d failed" % (passed, failed))
     return 1 if failed else 0
 

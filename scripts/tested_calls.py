@@ -5,7 +5,7 @@ memory, and where it is a whole program."""
 import re
 
 CRATES = ["kt_list", "kt_text", "kt_syntax", "kt_rules", "kt_eval", "kt_graph", "kt_recipe", "kt_ninja", "kati_args",
-          "kati", "kati_names"]
+          "kati"]
 PARAMETERS = r"(?:<(?:[^<>]|<[^<>]*>)*>)?"
 CALL = re.compile(r"^ *(?:pub )?fn (\w+)" + PARAMETERS + r"\(([^{;]*?)\)\s*->([^{;]*?)(?:\{|;|ensures|requires)",
                   re.MULTILINE)

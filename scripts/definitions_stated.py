@@ -1,0 +1,61 @@
+"""What documents name of the definitions, and docs/DESIGN.md of the code, for scripts/check_docs.py: definitions by
+their files, functions and types with their files, definitions with their modules, and the modules of each crate that
+are to be reviewed."""
+import re
+
+NAMED = re.compile(r"(?<![\w/])specs/[\w/]+(?:\.antt)?")
+SECTION = re.compile(r"^### (k\w+)\n(.*?)(?=^##)", re.MULTILINE | re.DOTALL)
+PLACED = re.compile(r"`(?:\w+::)?(\w+)`, (?:(k\w+) )?`([\w/]+\.rt)`")
+DEFINED = re.compile(r"`(\w+)` in (?:(k\w+) )?`(?:specs/)?([A-Z]\w*)`")
+REVIEWED = re.compile(r"^- \*\*(k\w+)\*\*:(.*?)(?=^- \*\*|^[^\s-])", re.MULTILINE | re.DOTALL)
+ITEM = r"\b(?:fn|struct|enum|trait|type|const) {}\b"
+DEFINITION = r"^ *(?:[a-z]+ )*{}\b"
+
+
+def without_file(root, text, crate="*"):
+    """The definitions that a text names as specs/.. and the crate, or any, doesn't have."""
+    for name in dict.fromkeys(NAMED.findall(text)):
+        if not any(root.glob(f"crates/{crate}/{name}")) and not any(root.glob(f"crates/{crate}/{name}.antt")):
+            yield name
+
+
+def unknown(root, text):
+    """The same, in a section under a crate's name, as docs/PROOFS.md has them, of this crate."""
+    missing = list(without_file(root, text))
+    for crate, part in SECTION.findall(text):
+        missing += [f"{name} of {crate}" for name in without_file(root, part, crate) if name not in missing]
+    return missing
+
+
+def holds(paths, pattern, name):
+    """Whether one of the files has a line that makes something of this name."""
+    made = re.compile(pattern.format(name), re.MULTILINE)
+    return any(made.search(path.read_text(encoding="utf-8")) for path in paths)
+
+
+def misplaced(root, text):
+    """The functions, types and definitions that aren't where the text says."""
+    for name, crate, file in PLACED.findall(text):
+        if not holds(root.glob(f"crates/{crate or '*'}/src/**/{file}"), ITEM, name):
+            yield f"{name}, {crate} {file}"
+    for name, crate, module in DEFINED.findall(text):
+        if not holds(root.glob(f"crates/{crate or '*'}/specs/**/{module}.antt"), DEFINITION, name):
+            yield f"{name} in {module}"
+
+
+def unreviewed(root, text):
+    """The modules and definitions to review that their crate doesn't have; a crate without any isn't looked at."""
+    for crate, part in REVIEWED.findall(text):
+        modules = list((root / "crates" / crate / "specs").rglob("*.antt"))
+        code = list((root / "crates" / crate / "src").rglob("*.rt"))
+        known = {path.stem for path in modules}
+        for name in re.findall(r"`(\w\w+)`", part):
+            if known and name not in known and not holds(modules, DEFINITION, name) and not holds(code, ITEM, name):
+                yield f"{name} of {crate}"
+
+
+def differing(root):
+    """What docs/DESIGN.md names and isn't there, a line each."""
+    text = (root / "docs/DESIGN.md").read_text(encoding="utf-8")
+    yield from misplaced(root, " ".join(text.split()))
+    yield from unreviewed(root, text)
