@@ -129,8 +129,8 @@ class Spoiling(unittest.TestCase):
             self.assertIn(f"    {said}\n", self.check("walk", failed=1))
 
     def test_a_crate_that_stands_on_another_one(self):
-        self.spoil("crates.txt", "kt_syntax: kt_text bstr", "kt_syntax: kt_text kt_list bstr")
-        self.assertIn("kt_syntax: kt_list kt_text | kt_text\n", self.check("crates", failed=1))
+        self.spoil("crates.txt", "kati_args: kt_list kt_text clap", "kati_args: kt_text kt_list kt_rules clap")
+        self.assertIn("kati_args: kt_list kt_rules kt_text | kt_list kt_text\n", self.check("crates", failed=1))
 
     def test_a_crate_that_the_table_lacks(self):
         self.spoil("docs/DESIGN.md", "| kati_host | the host's", "| kati_hosts | the host's")

@@ -274,6 +274,7 @@ class Again(Tree):
     def test_other_tools_port_anew(self):
         self.put("Makefile", "V := $(shell version)\nout: src/a.c ; echo $(V) > out\n")
         room = self.top.parent / "installed"
+        self.environment["KATI"] = str(kati())
         shutil.copytree(TOP / "share/kati", room / "share/kati")
         shutil.copytree(TOOLS, room / "tools", ignore=shutil.ignore_patterns("tests"))
         tool = room / "tools/kati-build"
