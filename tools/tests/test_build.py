@@ -358,7 +358,8 @@ class Headers(Tree):
     def test_where_the_compiler_writes_them(self):
         for recipe in ("cc -MMD -c a.c -o a.o", "cc -MD -c a.c", "cc -c -MMD -MF x.dep a.c -o a.o",
                        "cc -c -MD -MFx.dep -o a.o a.c", "@mkdir -p 'd d'; cc $(FLAGS) -MF 'd d/x' -c $< -o $@",
-                       "cc -Wp,-MMD,w.d -c a.c", "cc -MMD -MF t.tmp -c a.c -o a.o && mv -f t.tmp t.d",
+                       "cc -Wp,-MMD,w.d -c a.c", "cc -Wp,-MP,-MMD,w.d -c a.c",
+                       "cc -MMD -MF t.tmp -c a.c -o a.o && mv -f t.tmp t.d",
                        "cc -MMD -c a.c -o a.o; cp a.o b.o"):
             with self.subTest(recipe):
                 self.assertIn("a.o", self.built(recipe))

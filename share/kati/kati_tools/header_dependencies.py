@@ -1,10 +1,13 @@
 """Header dependencies: which file a compiler writes them to, and the lines that tell Ninja."""
 import os
+import re
 
 from . import ninja_text, shell_text
 
 FLAGS = ("-MD", "-MMD")
 UNKNOWN = set("$`*?[")
+# The preprocessor's words, of which others may stand before the one that names the file.
+WRITES_BY_PREPROCESSOR = re.compile(r"-Wp,(?:[^,]*,)*?-MM?D,([^,]+)")
 
 
 def after(words, flag):
@@ -30,8 +33,9 @@ def written_by(words):
     """The file to which a compiler's command writes dependencies: None if it writes none, and "" if that can't be
     told."""
     for word in words:
-        if word.startswith(("-Wp,-MD,", "-Wp,-MMD,")):
-            return word.split(",")[2]
+        named = WRITES_BY_PREPROCESSOR.match(word)
+        if named:
+            return named.group(1)
     if not any(flag in words for flag in FLAGS):
         return None
     named = after(words, "-MF")
