@@ -10,14 +10,15 @@ use std::{fs, slice};
 /// The maximum number of bytes, and of calls, for reading one file. It makes every read of a file end.
 const MOST: usize = 1_073_741_824;
 
-/// The number of bytes that one call reads. The block is cleared once for each file, which for a small file is most of
-/// the work.
+/// The number of bytes that one call reads.
 const BLOCK: usize = 16_384;
 
 /// The host's files, by paths from the current directory. What they answered takes no memory: only proofs read it.
 #[derive(Drop)]
 pub struct HostFiles<'a> {
     rt: &'a HostRuntime,
+    // What calls read into. It is cleared once, since for a small file that takes longer than the read.
+    block: [u8; BLOCK],
     answers: History<(String, Option<Vec<u8>>)>,
     asked: Vec<String>,
     failures: u64,
@@ -32,6 +33,7 @@ impl<'a> HostFiles<'a> {
     {
         HostFiles {
             rt,
+            block: [0; BLOCK],
             answers: History::new(),
             asked: Vec::new(rt.alloc()),
             failures: 0,
@@ -41,14 +43,17 @@ impl<'a> HostFiles<'a> {
 
 /// All bytes up to the reader's end, unless they are more than the bound. Which these are is known of a reader that
 /// states its bytes, as one over memory does; the host's files don't.
-fn read_to_end<R: Read>(rt: &HostRuntime, reader: &mut R) -> Result<Vec<u8>, FileFault>
+fn read_to_end<R: Read>(
+    rt: &HostRuntime,
+    block: &mut [u8; BLOCK],
+    reader: &mut R,
+) -> Result<Vec<u8>, FileFault>
     ensures bound { IfOk result (λ bytes. vec_len bytes ≤ MOST) }
     ensures all { IfOk result (λ bytes. IfSome (R.remaining reader.old) (λ all. bytes.items ≡ all)) }
 {
     let mut bytes = Vec::new(rt.alloc());
-    let mut block = [0u8; BLOCK];
     for _ in 0..MOST {
-        let count = reader.read(&mut block).map_err(|_| FileFault::Device)?;
+        let count = reader.read(block).map_err(|_| FileFault::Device)?;
         if count == 0 {
             return Ok(bytes);
         }
@@ -75,9 +80,13 @@ fn unopened(kind: ErrorKind) -> Result<Option<Vec<u8>>, FileFault>
 }
 
 /// The bytes of the file, or `None` if there is no file.
-fn read_file(rt: &HostRuntime, name: &str) -> Result<Option<Vec<u8>>, FileFault> {
+fn read_file(
+    rt: &HostRuntime,
+    block: &mut [u8; BLOCK],
+    name: &str,
+) -> Result<Option<Vec<u8>>, FileFault> {
     match fs::open(rt, name) {
-        Ok(mut file) => Ok(Some(read_to_end(rt, &mut file)?)),
+        Ok(mut file) => Ok(Some(read_to_end(rt, block, &mut file)?)),
         Err(error) => unopened(error.kind()),
     }
 }
@@ -143,7 +152,7 @@ impl<'a> Files for HostFiles<'a> {
             Ok(copy) => copy,
             Err(_) => return Err(FileFault::Memory),
         };
-        match read_file(self.rt, name) {
+        match read_file(self.rt, &mut self.block, name) {
             Ok(found) => self.answered(copy, found),
             Err(FileFault::Device) => self.failed(copy),
             Err(FileFault::Memory) => Err(FileFault::Memory),
