@@ -1,5 +1,6 @@
 -- Lemmas about what is wrong with a graph.
 pub mod PartLemmas
+pub mod PlainNameLemmas
 pub mod SpellingLemmas
 pub mod MarkLemmas
 pub mod CircleLemmas

@@ -16,6 +16,14 @@ use kt_list::Key;
 use kt_rules::Name;
 use std::alloc::{AllocError, Global};
 
+/// Whether a name is the canonical spelling of its file, and not the name that is reserved for kati. Takes no memory.
+pub(crate) fn is_plain(name: &[u8]) -> bool
+    ensures canonical { result ≡ true → canon_of name.now ≡ name.now }
+    ensures unreserved { result ≡ true → is_reserved name.now ≡ false }
+{
+    is_canonical(name) && !is_always(name)
+}
+
 /// Whether a name, made or not, is reserved for kati.
 pub(crate) fn has_always(alloc: Global, nodes: Nodes<'_>) -> Result<bool, AllocError>
     ensures { IfOk result (λ has. has ≡ list_any (λ node. is_reserved node.name) nodes.entry) }

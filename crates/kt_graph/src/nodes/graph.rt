@@ -1,6 +1,7 @@
 //! What makes each name that goals need, as the crates above see it.
 ghost use Rattle.std.specs.Prelude.{◌≡◌, ◌∷◌, [], All, List, MatchOption, bytes_eq, find, length, map, not, option_map};
-ghost use Rattle.std.specs.Prelude.{IfOk};
+ghost use Rattle.std.specs.Prelude.{IfOk, false, true};
+ghost use Rattle.std.specs.List.{list_any};
 ghost use Rattle.std.specs.Cmp.Lexicographic.{slice_cmp};
 ghost use Rattle.std.specs.Iterator.{YieldsFirstBy, item_count};
 ghost use Rattle.std.specs.List.Sorted.{IsStrictlySortedBy};
@@ -8,6 +9,7 @@ ghost use Rattle.std.specs.Ordering.{nat_cmp};
 ghost use Rattle.kt_text.specs.Words.{Text};
 ghost use Rattle.kt_rules.specs.Entry.{Rule};
 ghost use Rattle.kt_graph.specs.faults.Faults.{IsFileTrouble};
+ghost use Rattle.kt_graph.specs.faults.Paths.{canon_of, is_reserved};
 ghost use Rattle.kt_graph.specs.nodes.Groups.{groups_of};
 ghost use Rattle.kt_graph.specs.inner.faults.Files.{is_repeated, made_names};
 ghost use Rattle.kt_graph.specs.inner.nodes.Numbering.{HasNumbers};
@@ -19,7 +21,7 @@ ghost use Rattle.kt_graph.specs.faults.Views.{trouble_view};
 
 use crate::faults::cycles::first_circular;
 use crate::faults::edges::Edges;
-use crate::faults::files::{Files, are_canonical, has_always};
+use crate::faults::files::{Files, are_canonical, has_always, is_plain};
 use crate::faults::trouble::Trouble;
 use crate::known::Known;
 use crate::nodes::byte_order::byte_order;
@@ -203,6 +205,9 @@ impl<'a> Graph<'a> {
             → IsGraph rules known goals self.now
             → IsFileTrouble rules known goals (option_map trouble_view trouble)) }
     {
+        if self.has_plain_names() {
+            return Ok(None);
+        }
         if has_always(self.alloc, self.nodes())? {
             return Ok(Some(Trouble::Reserved));
         }
@@ -210,6 +215,20 @@ impl<'a> Graph<'a> {
             Some(name) => Ok(Some(Trouble::OneFile(name))),
             None => Ok(None),
         }
+    }
+
+    // Whether each name is the canonical spelling of its file, and none is the reserved one. They are asked in the order
+    // in which they were reached, in which they lie: in byte order each look would wait for memory. Takes no memory.
+    fn has_plain_names(&self) -> bool
+        ensures unreserved { result ≡ true → list_any (λ node. is_reserved node.name) self.now ≡ false }
+        ensures canonical { result ≡ true → All (λ name. canon_of name ≡ name) (made_names self.now) }
+    {
+        for number in 0..self.names.len() {
+            if !is_plain(name_of(&self.names, number)) {
+                return false;
+            }
+        }
+        true
     }
 
     // The first made name whose file has another made name, too.

@@ -1,0 +1,9 @@
+use Rattle.std.proofs.Common.{◌≡◌, ◌<◌, ℕ, false}
+use Rattle.kt_graph.specs.faults.Paths.{canon_of, is_reserved}
+use Rattle.kt_graph.specs.nodes.Views.{name_at}
+use Rattle.kt_graph.proofs.nodes.graph.Graph.has_plain_names.Given as goal
+
+abbrev pub invariant-loop-number : goal.invariant-loop-number
+invariant-loop-number l = (place : ℕ) → place < l.number
+    → (canon_of (name_at l.self-inside.names place) ≡ name_at l.self-inside.names place)
+    × (is_reserved (name_at l.self-inside.names place) ≡ false)
