@@ -57,7 +57,8 @@ fn run_check<F: Files, E: Sink>(
     err: &mut E,
 ) -> Result<Status, RunFault>
     ensures leaves { (out : SinkSeen) → args.now.check ≡ Some name.now
-        → (store : Store) → AgreeWith store (F.seen files.new).answers → Leaves args.now store result (devices (F.seen files.old) out (E.seen err.old))
+        → (store : Store) → AgreeWith store (F.seen files.new).answers
+        → Leaves args.now store result (devices (F.seen files.old) out (E.seen err.old))
         (devices (F.seen files.new) out (E.seen err.new)) }
     ensures blames { (out : SinkSeen) → Blames result (devices (F.seen files.old) out (E.seen err.old))
         (devices (F.seen files.new) out (E.seen err.new)) }

@@ -1,5 +1,6 @@
 //! Stores the groups of a plan.
-ghost use Rattle.std.specs.Prelude.{◌≡◌, ◌&&◌, ◌++◌, ◌∷◌, [], filter, flat_map, fold, is_some, not, option_map, IfOk, OnOk};
+ghost use Rattle.std.specs.Prelude.{◌≡◌, ◌&&◌, ◌++◌, ◌∷◌, [], filter, flat_map, fold, is_some, not, option_map};
+ghost use Rattle.std.specs.Prelude.{IfOk, OnOk};
 ghost use Rattle.kt_rules.specs.Names.{is_among, with_name, without_repeats};
 ghost use Rattle.kt_graph.specs.nodes.Node.{inputs_of, order_only_of};
 ghost use Rattle.kt_recipe.specs.Views.{command_in};

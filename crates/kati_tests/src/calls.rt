@@ -57,7 +57,8 @@ const ROWS: [Row; 7] = [
         messages: b"",
         means: Means::Plan(b"t,;=/bin/sh -c 'echo one' && { /bin/sh -c 'false' || :; };;;#>t,"),
         status: Status::Done,
-        out: b"# kati\nrule r0\n command = /bin/sh -c 'echo one' && { /bin/sh -c 'false' || :; }\nbuild t: r0\ndefault t\n",
+        out: b"# kati\nrule r0\n command = /bin/sh -c 'echo one' && { /bin/sh -c 'false' || :; }\n\
+            build t: r0\ndefault t\n",
         err: b"",
     },
     Row {
@@ -76,7 +77,9 @@ const ROWS: [Row; 7] = [
             b"all,;;x.o,;;#x.c,;=/bin/sh -c 'yacc x.y';x.y,;;#x.o,;=/bin/sh -c 'cc x.c';x.c,;;#>all,",
         ),
         status: Status::Done,
-        out: b"# kati\nbuild all: phony x.o\nrule r0\n command = /bin/sh -c 'yacc x.y'\nbuild x.c: r0 x.y\nrule r1\n command = /bin/sh -c 'cc x.c'\nbuild x.o: r1 x.c\ndefault all\n",
+        out: b"# kati\nbuild all: phony x.o\nrule r0\n command = /bin/sh -c 'yacc x.y'\n\
+            build x.c: r0 x.y\nrule r1\n command = /bin/sh -c 'cc x.c'\nbuild x.o: r1 x.c\n\
+            default all\n",
         err: b"",
     },
     Row {

@@ -88,7 +88,8 @@ const ROWS: [Row; 8] = [
         )],
         BOTH,
         0,
-        b"# kati\nrule r0\n command = /bin/sh -c 'cc a.c'\nbuild a: r0 a.c\nrule r1\n command = /bin/sh -c 'cc b.c'\nbuild b: r1 b.c\ndefault a b\n",
+        b"# kati\nrule r0\n command = /bin/sh -c 'cc a.c'\nbuild a: r0 a.c\n\
+          rule r1\n command = /bin/sh -c 'cc b.c'\nbuild b: r1 b.c\ndefault a b\n",
         b"",
     ),
     (
@@ -103,7 +104,9 @@ const ROWS: [Row; 8] = [
         ],
         &["l", "makefile", "Makefile"],
         0,
-        b"# kati\nbuild all: phony x.o\nrule r0\n command = /bin/sh -c 'yacc x.y'\nbuild x.c: r0 x.y\nrule r1\n command = /bin/sh -c 'cc x.c'\nbuild x.o: r1 x.c\ndefault all\n",
+        b"# kati\nbuild all: phony x.o\nrule r0\n command = /bin/sh -c 'yacc x.y'\n\
+          build x.c: r0 x.y\nrule r1\n command = /bin/sh -c 'cc x.c'\nbuild x.o: r1 x.c\n\
+          default all\n",
         b"",
     ),
     // Both outputs get something.

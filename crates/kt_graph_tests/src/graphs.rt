@@ -289,7 +289,9 @@ fn names_that_only_a_stem_makes(rt: HostRuntime) -> Result<(), Fail> {
             b"%.o: %.c;cc\nall: sources/of/the/whole/library/one.o two.o;ld",
             b"sources/of/the/whole/library/one.c\ntwo.c\n",
             b"all",
-            b"all : sources/of/the/whole/library/one.o two.o ;ld\nsources/of/the/whole/library/one.o : sources/of/the/whole/library/one.c ;cc\ntwo.o : two.c ;cc\n",
+            b"all : sources/of/the/whole/library/one.o two.o ;ld\n\
+              sources/of/the/whole/library/one.o : sources/of/the/whole/library/one.c ;cc\n\
+              two.o : two.c ;cc\n",
         ),
         (
             b"x.o y.o: %.o: %.c h.h ./%.h;cc\nall: y.o x.o",
