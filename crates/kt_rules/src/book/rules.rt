@@ -155,7 +155,7 @@ impl Rules {
             kind,
             has_recipe: recipe.is_some(),
             targets: narrow(targets.as_slice().len())?,
-            prerequisites: narrow(needs.prerequisites.as_slice().len())?,
+            prerequisites: narrow(needs.get().prerequisites.as_slice().len())?,
             pattern,
             place,
         };
@@ -165,7 +165,7 @@ impl Rules {
             &mut self.numbers,
             &mut self.lines,
             targets.as_slice(),
-            &needs,
+            needs.get(),
             recipe,
         )?;
         self.slots.push_reserved(Some(held));

@@ -1,0 +1,45 @@
+-- What reading a line with plain prerequisites comes down to.
+use Rattle.std.proofs.Common.{◌≡◌, Bool, true, false, true≢false, [], ◌∷◌, drop, None, refl, sym, ap, ◌∙◌, ⊎_elim}
+use Rattle.std.specs.Prelude.{◌||◌, nat_eq}
+use Rattle.std.specs.List.{list_any, starts_with}
+use Rattle.std.proofs.lemmas.Bool.{cases_Bool}
+use Rattle.std.proofs.lemmas.Bool.Decides.{Decides-eqb}
+use Rattle.std.proofs.lemmas.Slice.Eq.{starts_is}
+use Rattle.kt_text.specs.Match.{has_percent}
+use Rattle.kt_text.specs.Words.{Text}
+use Rattle.kt_rules.specs.declared.entry.Needs.{Needs}
+use Rattle.kt_rules.specs.declared.head.Separator.TheVariants.{Single}
+use Rattle.kt_rules.specs.declared.line.Line.{Line}
+use Rattle.kt_rules.specs.Entry.{read_line, tested_line}
+use Rattle.kt_rules.specs.RuleLine.{Head, after_double, head_of, line_of}
+use Rattle.kt_rules.specs.inner.Remembered.{IsLongCut, Names, ReadsAs, is_colon, long_line}
+use Rattle.kt_rules.specs.inner.Telling.{is_telling, signs_of}
+use Rattle.kt_rules.proofs.BackslashLemmas.{never_colon}
+use Rattle.kt_rules.proofs.SignLemmas.{signs_tell}
+
+-- without a colon there is no second one
+single : (after : Text) → list_any is_colon after ≡ false → after_double after ≡ None
+unfolding after_double
+single after none =
+    ⊎_elim (λ h.
+    let begins : after ≡ 58 ∷ drop 1 after = (starts_is Decides-eqb after (58 ∷ []) true (sym h)).0 refl in
+    absurd (true≢false (sym (ap (list_any is_colon) begins) ∙ none))) (λ h. rw h refl) (cases_Bool (starts_with nat_eq after (58 ∷ [])))
+
+alone : (b : Bool) → b ≡ (b || false)
+alone true = refl
+alone false = refl
+
+pub reads_long : (text targets after : Text) (needs : Needs) → IsLongCut text targets after → Names after needs
+    → ReadsAs text (long_line targets needs)
+unfolding read_line head_of
+reads_long text targets after needs cut names =
+    let head : Head = record { separator = Single; targets = targets; pattern = None; needs = after } in
+    let line : Line = (long_line targets needs).line in
+    let named : line ≡ line_of head = ap (λ (n : Needs). (long_line targets n).line) names.named in
+    let quiet : (long_line targets needs).signs ≡ signs_of head
+    = rw names.plain.quiet (ap (λ b. record { telling = b; percent = has_percent targets }) (alone (list_any is_telling targets))) in
+    record {
+      read = rw cut.filled (rw cut.cut (rw (cut.ungrouped, single after names.plain.uncut) (rw (never_colon after names.plain.uncut)
+          (ap tested_line (sym named)))));
+      told = signs_tell head (long_line targets needs).signs line quiet named;
+    }
