@@ -60,6 +60,7 @@ impl Line {
 }
 
 // The names of words, each at its first place. Most lines have one target.
+#[inline(always)]
 pub(crate) fn targets(
     alloc: Global,
     text: &[u8],
@@ -175,6 +176,7 @@ fn quoted_needs(alloc: Global, text: &[u8]) -> Result<Needs, AllocError>
 
 // The same for a text without a backslash.
 #[tactic(auto, using(crate::proofs::PlainLemmas::plain_needs_from), unfolding(crate::proofs::NeedsLemmas::needs_from))]
+#[inline(always)]
 pub(crate) fn plain_needs(alloc: Global, text: &[u8]) -> Result<Needs, AllocError>
     requires { list_any is_backslash text.now ≡ false }
     ensures { IfOk result (λ needs. needs ≡ needs_of (written_words text.now)) }

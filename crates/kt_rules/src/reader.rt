@@ -1,6 +1,7 @@
 //! Reads rule lines one after another.
-ghost use Rattle.std.specs.Prelude.{◌≡◌, IfOk, IfSome, None, IsTrue, Some, false, map};
+ghost use Rattle.std.specs.Prelude.{◌≡◌, ◌==◌, IfOk, IfSome, None, IsTrue, Some, false, map, not};
 ghost use Rattle.std.specs.List.{list_any};
+ghost use Rattle.std.specs.Simd.Lanes.{mask_l, zip2};
 ghost use Rattle.kt_text.specs.Match.{has_percent};
 ghost use Rattle.kt_text.specs.Words.{words_of};
 ghost use Rattle.kt_rules.specs.Entry.{is_nil, rule_of};
@@ -24,6 +25,7 @@ use kt_text::has_byte;
 use std::alloc::{AllocError, Global};
 use std::marker::Model;
 use std::rc::Rc;
+use std::simd::prelude::*;
 
 // The size from which on a text of prerequisites is remembered: to read a shorter one again costs less.
 const LONG: usize = 64;
@@ -93,6 +95,7 @@ impl RuleReader {
     }
 
     // The line of a text, if its prerequisites are long and plain.
+    #[inline(never)]
     fn long_line(&mut self, text: &[u8]) -> Result<Option<LongLine>, AllocError>
         ensures { IfOk result (λ found. IfSome found (ReadsAs text.now)) }
     {
@@ -110,7 +113,9 @@ impl RuleReader {
         ensures { IfOk result (λ found. IfSome found (Names text.now)) }
     {
         match &self.last {
-            Some(last) if last.text.as_slice() == text => Ok(Some(HeldNeeds::shared(&last.needs)?)),
+            Some(last) if are_same(last.text.as_slice(), text) => Ok(Some(HeldNeeds::shared(
+                &last.needs,
+            )?)),
             _ if is_plain(text) => Ok(Some(self.learned(text)?)),
             _ => Ok(None),
         }
@@ -170,4 +175,28 @@ fn is_plain(text: &[u8]) -> bool
     ensures { IsTrue result → IsPlain text.now }
 {
     !has_byte(text, b':') && !has_telling(text)
+}
+
+// Whether texts are the same, told by sixteen bytes at once.
+fn are_same(text: &[u8], other: &[u8]) -> bool
+    ensures { IsTrue result → text.now ≡ other.now }
+{
+    let mut left = text;
+    let mut right = other;
+    while left.len() >= 16 && right.len() >= 16 {
+        if differing(u8x16::from_slice(left), u8x16::from_slice(right)) != 0 {
+            return false;
+        }
+        left = &left[16..];
+        right = &right[16..];
+    }
+    left == right
+}
+
+// The bits of the bytes that differ.
+#[inline(always)]
+fn differing(left: u8x16, right: u8x16) -> u64
+    ensures { result ≡ mask_l (zip2 (λ byte other. not (byte == other)) left right) }
+{
+    left.simd_ne(right).to_bitmask()
 }

@@ -53,6 +53,7 @@ pub fn read_rule(
 }
 
 // The entry of a line, unless its names are refused.
+#[inline(always)]
 pub(crate) fn accepted(
     alloc: Global,
     line: Line,

@@ -98,10 +98,7 @@ impl Rules {
     {
         // The contract of `as_slice` makes known that the names differ.
         let _names = self.names.as_slice();
-        match self.names.get(number) {
-            Some(held) => held == name,
-            None => false,
-        }
+        has_name(&self.names, number, name)
     }
 
     /// Whether there may be rules with two colons.
@@ -329,11 +326,7 @@ fn note_names(names: &mut Names, numbers: &mut Rows<u32>, list: &[Name]) -> Resu
 {
     let alike = begins_alike(names, numbers, list);
     for name in list {
-        let guess = if alike {
-            number_before(numbers)
-        } else {
-            None
-        };
+        let guess = if alike { number_before(numbers) } else { None };
         note_name(names, numbers, guess, name.as_slice())?;
     }
     Ok(())
