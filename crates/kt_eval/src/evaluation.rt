@@ -16,7 +16,7 @@ use crate::state::{Found, Frame, Left};
 use crate::stop::Stop;
 use crate::value::Value;
 use kt_list::{Sequence, Shared};
-use kt_rules::{Entry, FaultKind, Place, read_rule};
+use kt_rules::{Entry, FaultKind, Place, RuleReader};
 use kt_syntax::{Operator, Term, Unterminated, recipe_text};
 use kt_text::TextFault;
 use std::alloc::{AllocError, Global};
@@ -31,6 +31,7 @@ pub(crate) struct Evaluation<'a, M: Scope, F: Files> {
     pub(crate) messages: Vec<Sequence<u8>>,
     pub(crate) place: Option<Place>,
     pub(crate) rule: Option<Entry>,
+    pub(crate) reader: RuleReader,
     pub(crate) files: &'a mut F,
 }
 
@@ -394,7 +395,7 @@ impl<'a, M: Scope, F: Files> Evaluation<'a, M, F> {
         ensures unfailed { self.new.failed ≡ self.old.failed }
     {
         let place = self.rule_place()?;
-        match read_rule(self.alloc, head, recipe, place) {
+        match self.reader.read(head, recipe, place) {
             Ok(rule) => {
                 self.rule = Some(rule);
                 Ok(())

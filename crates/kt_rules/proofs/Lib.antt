@@ -1,6 +1,7 @@
 pub mod BackslashLemmas
 mod WrittenLemmas
 mod DotLemmas
+mod ReaderLemmas
 mod ReadingLemmas
 pub mod NeedsLemmas
 pub mod PlainLemmas

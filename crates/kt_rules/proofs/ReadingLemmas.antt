@@ -1,6 +1,6 @@
 -- The rule of a line, from the results of the steps that read it.
-use Rattle.std.proofs.Common.{◌≡◌, ℕ, Bool, true, false, List, [], ◌∷◌, length, filter, refl, sym, ◌∙◌, ap, ⊎_elim}
-use Rattle.std.specs.Prelude.{◌==◌, if◌then◌else◌, Option, Some, None, Result, Ok, Err}
+use Rattle.std.proofs.Common.{◌≡◌, ℕ, true, false, List, [], ◌∷◌, filter, refl, sym, ◌∙◌, ap, ⊎_elim}
+use Rattle.std.specs.Prelude.{Option, Result, Ok, Err}
 use Rattle.std.specs.List.{list_all, onto_first, slice_split}
 use Rattle.std.proofs.lemmas.Bool.{cases_Bool}
 use Rattle.kt_text.specs.Words.{Text, is_nonempty, is_separator, words_of}
@@ -9,9 +9,9 @@ use Rattle.kt_rules.specs.declared.fault.RuleFault.{RuleFault}
 use Rattle.kt_rules.specs.declared.fault.RuleFault.TheVariants.{Memory, Refused}
 use Rattle.kt_rules.specs.declared.line.Line.{Line}
 use Rattle.kt_rules.specs.declared.place.Place.{Place}
-use Rattle.kt_rules.specs.Refusals.{Refusal, Fault, Answers, ReportsFault, fault_at}
-use Rattle.kt_rules.specs.RuleLine.{Head, head_of, line_of, line_refusal}
-use Rattle.kt_rules.specs.Entry.{Rule, empty_line, is_nil, read_line, rule_of, rule_with}
+use Rattle.kt_rules.specs.Refusals.{Refusal, Fault, Answers, ReportsFault, fault_at, faults_at}
+use Rattle.kt_rules.specs.RuleLine.{Head, head_of, line_of}
+use Rattle.kt_rules.specs.Entry.{Rule, empty_line, is_nil, read_line, rule_of, rule_with, rules_with, tested_line}
 
 -- a text of which each byte is a separator has no word
 some_first : (byte : ℕ) (parts : List Text) → is_nil (filter is_nonempty (onto_first byte parts)) ≡ false
@@ -47,16 +47,8 @@ module _ (text : Text) (recipe : Option Text) (place : Place) where
   unfolding rule_of read_line
   head_fault refusal filled head = rw (filled, ← head) refl
 
-  -- names that are refused
-  pub line_fault : (head : Head) (line : Line) (refusal : Refusal) → is_nil (words_of text) ≡ false → Ok head ≡ head_of text → line ≡ line_of head
-      → Some refusal ≡ line_refusal line → rule_of text recipe place ≡ Err (fault_at place refusal)
+  -- a head whose line is then tested
+  pub line_tested : (head : Head) (line : Line) → is_nil (words_of text) ≡ false → Ok head ≡ head_of text → line ≡ line_of head
+      → rule_of text recipe place ≡ faults_at place (rules_with (tested_line line) recipe place)
   unfolding rule_of read_line
-  line_fault head line refusal filled cut named told = rw (filled, ← cut, ← named, ← told) refl
-
-  -- a line that is accepted
-  pub line_rule : (head : Head) (line kept : Line) (rule : Rule) (is_empty : Bool) → is_nil (words_of text) ≡ false → Ok head ≡ head_of text
-      → line ≡ line_of head → None ≡ line_refusal line → (length line.targets == 0) ≡ is_empty
-      → kept ≡ (if is_empty then empty_line else line) → rule ≡ rule_with kept recipe place → rule_of text recipe place ≡ Ok rule
-  unfolding rule_of read_line
-  line_rule head line kept rule is_empty filled cut named told size keeps is =
-      rw (filled, ← cut, ← named, ← told, size) (ap Ok (sym (is ∙ ap (λ l. rule_with l recipe place) keeps)))
+  line_tested head line filled cut named = rw (filled, ← cut, ← named) refl

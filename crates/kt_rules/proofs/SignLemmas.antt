@@ -171,7 +171,7 @@ unfolding has_percent is_percent
 no_percent head none = targets_lack is_percent head.targets refl refl none
 
 -- without a telling byte a text has no backslash
-no_backslash_in : (text : Text) → list_any is_telling text ≡ false → list_any is_backslash text ≡ false
+pub no_backslash_in : (text : Text) → list_any is_telling text ≡ false → list_any is_backslash text ≡ false
 no_backslash_in text none = none_of_fewer is_telling is_backslash text (λ byte quiet. (none_of byte quiet).backslash) none
 
 pub plain_text_of_targets : (head : Head) (signs : Signs) → signs ≡ signs_of head → signs.telling ≡ false → list_any is_backslash head.targets ≡ false

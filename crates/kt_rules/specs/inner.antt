@@ -1,6 +1,8 @@
 -- What only contracts of private functions and proofs cite: none of this is needed to read the public contracts.
 pub mod Held
+pub mod Holding
 pub mod Lists
 pub mod Marks
+pub mod Remembered
 pub mod SuffixCuts
 pub mod Telling

@@ -73,10 +73,10 @@ fn tested_refusal(line: &Line) -> Option<&[u8]>
     if all_without_effect(line.targets.as_slice()) {
         return None;
     }
-    if let Some(name) = refused_among(line.needs.prerequisites.as_slice()) {
+    if let Some(name) = refused_among(line.needs.get().prerequisites.as_slice()) {
         return Some(name);
     }
-    refused_among(line.needs.order_only.as_slice())
+    refused_among(line.needs.get().order_only.as_slice())
 }
 
 fn refused_pattern(pattern: &Option<Name>) -> Option<&[u8]>
@@ -194,7 +194,8 @@ fn waits(line: &Line) -> bool
     if all_without_effect(line.targets.as_slice()) {
         return false;
     }
-    any_waits(line.needs.prerequisites.as_slice()) || any_waits(line.needs.order_only.as_slice())
+    any_waits(line.needs.get().prerequisites.as_slice())
+        || any_waits(line.needs.get().order_only.as_slice())
 }
 
 fn any_waits(names: &[Name]) -> bool

@@ -3,6 +3,7 @@ ghost use Rattle.std.specs.Prelude.{◌≡◌, ◌<◌, ◌^◌, [], ◌∷◌, 
 ghost use Rattle.kt_rules.specs.Entry.{needs_for, no_needs, with_line};
 ghost use Rattle.kt_rules.specs.Targets.{needs_view, target_view, targets_view};
 
+use crate::held_needs::HeldNeeds;
 use crate::listed::{Listed, ListedNeeds};
 use crate::needs::{NeedsView, shared_needs};
 use crate::place::Place;
@@ -84,7 +85,7 @@ pub struct Entry {
     /// The target pattern of a static pattern rule.
     pub(crate) pattern: StaticPattern,
     /// In a static pattern rule, before the stem is put in.
-    pub(crate) needs: Needs,
+    pub(crate) needs: HeldNeeds,
     pub(crate) recipe: Option<Vec<RecipeLine>>,
     pub(crate) place: Place,
 }
@@ -115,7 +116,7 @@ impl Entry {
         Targets {
             names: Listed::Own(self.targets.as_slice()),
             pattern: &self.pattern,
-            needs: ListedNeeds::of(&self.needs),
+            needs: ListedNeeds::of(self.needs.get()),
         }
     }
 
@@ -125,7 +126,7 @@ impl Entry {
     {
         match target.stem() {
             Some(stem) => NeedsView::stemmed(target.needs, stem),
-            None => shared_needs(&self.pattern, ListedNeeds::of(&self.needs)),
+            None => shared_needs(&self.pattern, ListedNeeds::of(self.needs.get())),
         }
     }
 

@@ -55,7 +55,7 @@ fn head_round<'a>(before: &'a [u8], after: &'a [u8]) -> Result<Head<'a>, Refusal
 
 // The targets of a group: the text before the `&`.
 #[tactic(auto, unfolding(crate::specs::RuleLine::group_targets))]
-fn group_targets(before: &[u8]) -> Option<&[u8]>
+pub(crate) fn group_targets(before: &[u8]) -> Option<&[u8]>
     ensures { option_map (λ targets. targets.now) result ≡ group_targets before.now }
 {
     if before.ends_with(b"&") {

@@ -8,6 +8,7 @@ ghost use Rattle.kt_rules.specs.RuleLine.{head_view, is_bar, line_of, needs_of};
 
 use crate::entry::{Name, Needs};
 use crate::head::{Head, Separator};
+use crate::held_needs::HeldNeeds;
 use crate::name::{named, without_dots};
 use crate::refused::are_same;
 use crate::signs::Signs;
@@ -28,7 +29,7 @@ pub(crate) struct Line {
     pub(crate) targets: Sequence<Name>,
     /// The target pattern of a static pattern rule.
     pub(crate) pattern: Option<Name>,
-    pub(crate) needs: Needs,
+    pub(crate) needs: HeldNeeds,
 }
 
 impl Line {
@@ -40,7 +41,7 @@ impl Line {
             separator: Separator::Single,
             targets: Sequence::from(Vec::new(alloc)),
             pattern: None,
-            needs: Needs::none(alloc),
+            needs: HeldNeeds::none(alloc),
         }
     }
 
@@ -53,13 +54,18 @@ impl Line {
             separator: head.separator,
             targets: targets(alloc, head.targets, signs.telling)?,
             pattern: pattern(alloc, head.pattern)?,
-            needs: needs(alloc, head.needs, signs.telling)?,
+            needs: HeldNeeds::own(needs(alloc, head.needs, signs.telling)?),
         })
     }
 }
 
 // The names of words, each at its first place. Most lines have one target.
-fn targets(alloc: Global, text: &[u8], quotes: bool) -> Result<Sequence<Name>, AllocError>
+#[inline(always)]
+pub(crate) fn targets(
+    alloc: Global,
+    text: &[u8],
+    quotes: bool,
+) -> Result<Sequence<Name>, AllocError>
     requires { quotes ≡ false → list_any is_backslash text.now ≡ false }
     ensures { IfOk result (λ names. names ≡ without_repeats (map name_of (written_words text.now))) }
 {
@@ -170,7 +176,8 @@ fn quoted_needs(alloc: Global, text: &[u8]) -> Result<Needs, AllocError>
 
 // The same for a text without a backslash.
 #[tactic(auto, using(crate::proofs::PlainLemmas::plain_needs_from), unfolding(crate::proofs::NeedsLemmas::needs_from))]
-fn plain_needs(alloc: Global, text: &[u8]) -> Result<Needs, AllocError>
+#[inline(always)]
+pub(crate) fn plain_needs(alloc: Global, text: &[u8]) -> Result<Needs, AllocError>
     requires { list_any is_backslash text.now ≡ false }
     ensures { IfOk result (λ needs. needs ≡ needs_of (written_words text.now)) }
 {

@@ -3,8 +3,10 @@ ghost use Rattle.std.specs.Prelude.{◌≡◌, false, option_map, IfOk};
 ghost use Rattle.std.specs.List.{list_all, list_any};
 ghost use Rattle.kt_text.specs.Match.{has_percent};
 ghost use Rattle.kt_text.specs.Words.{is_separator, words_of};
-ghost use Rattle.kt_rules.specs.Refusals.{Answers};
-ghost use Rattle.kt_rules.specs.Entry.{is_nil, kind_of, recipe_of, rule_of, rule_with};
+ghost use Rattle.kt_rules.specs.Refusals.{Answers, faults_at};
+ghost use Rattle.kt_rules.specs.Entry.{is_nil, kind_of, recipe_of, rule_of, rule_with, rules_with};
+ghost use Rattle.kt_rules.specs.Entry.{tested_line};
+ghost use Rattle.kt_rules.specs.inner.Telling.{Tells};
 
 use crate::checking::{any_percent, line_refusal};
 use crate::entry::{Entry, Kind, RecipeLine, first_line};
@@ -44,7 +46,24 @@ pub fn read_rule(
         Err(refusal) => return Err(refusal.at(alloc, place)),
     };
     let signs = Signs::of(&head);
-    let line = Line::of(alloc, &head, signs)?;
+    match Line::of(alloc, &head, signs) {
+        Ok(line) => accepted(alloc, line, signs, recipe, place),
+        Err(AllocError) => Err(RuleFault::Memory),
+    }
+}
+
+// The entry of a line, unless its names are refused.
+#[inline(always)]
+pub(crate) fn accepted(
+    alloc: Global,
+    line: Line,
+    signs: Signs,
+    recipe: Option<Sequence<u8>>,
+    place: Place,
+) -> Result<Entry, RuleFault>
+    requires { Tells signs line }
+    ensures { Answers result (faults_at place (rules_with (tested_line line) recipe place)) }
+{
     if let Some(refusal) = line_refusal(&line, signs) {
         return Err(refusal.at(alloc, place));
     }
@@ -56,7 +75,7 @@ pub fn read_rule(
 
 // Whether the text has no word.
 #[tactic(auto, using(crate::proofs::ReadingLemmas::blank_words))]
-fn is_blank(text: &[u8]) -> bool
+pub(crate) fn is_blank(text: &[u8]) -> bool
     ensures { result ≡ is_nil (words_of text.now) }
 {
     has_separators_only(text)

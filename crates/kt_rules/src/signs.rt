@@ -35,7 +35,7 @@ impl Signs {
 
 // The same as `kt_text::has_percent`, but quicker for a short text, as most texts of targets are.
 #[tactic(auto, unfolding(kt_text::specs::Match::has_percent, kt_text::specs::Match::is_percent))]
-fn holds_percent(targets: &[u8]) -> bool
+pub(crate) fn holds_percent(targets: &[u8]) -> bool
     ensures { result ≡ has_percent targets.now }
 {
     has_byte(targets, b'%')
@@ -51,7 +51,7 @@ fn pattern_tells(pattern: Option<&[u8]>) -> bool
 }
 
 // Whether the text has a telling byte. A short text is looked through byte by byte, a longer one by many at once.
-fn has_telling(text: &[u8]) -> bool
+pub(crate) fn has_telling(text: &[u8]) -> bool
     ensures { result ≡ list_any is_telling text.now }
 {
     if text.len() < 32 {

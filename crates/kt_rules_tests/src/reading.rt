@@ -1,6 +1,6 @@
 //! Rule lines by the GNU make manual and by the rows that kati is to read.
 use crate::telling::{put_fault, put_needs, put_place};
-use kt_rules::{Entry, Kind, TargetView, dotless, without_dots};
+use kt_rules::{Entry, Kind, RuleFault, RuleReader, TargetView, dotless, without_dots};
 use kt_rules_doubles::{place_of, rule_of, text_of};
 use kt_testing::put;
 use std::alloc::{AllocError, Global};
@@ -41,12 +41,24 @@ fn put_entry(alloc: Global, told: &mut Vec<u8>, entry: &Entry) {
 
 /// What `read_rule` tells of a head: the entry, or the fault as a line.
 pub(crate) fn told(alloc: Global, head: &[u8]) -> Vec<u8> {
+    told_of(alloc, rule_of(alloc, head, None, 7))
+}
+
+fn told_of(alloc: Global, read: Result<Entry, RuleFault>) -> Vec<u8> {
     let mut told = Vec::new(alloc);
-    match rule_of(alloc, head, None, 7) {
+    match read {
         Ok(entry) => put_entry(alloc, &mut told, &entry),
         Err(fault) => put_fault(&mut told, &fault),
     }
     told
+}
+
+/// What a reader tells of its next head.
+fn told_next(alloc: Global, reader: &mut RuleReader, head: &[u8]) -> Vec<u8> {
+    match place_of(alloc, 7) {
+        Ok(place) => told_of(alloc, reader.read(head, None, place)),
+        Err(_refused) => Vec::new(alloc),
+    }
 }
 
 fn tells(rt: &impl Abort, alloc: Global, rows: &[(&[u8], &[u8])]) {
@@ -337,4 +349,83 @@ fn removes_leading_dots(rt: HostRuntime) -> Result<(), Fail> {
         assert_eq!(rt; owned.as_slice(), left, "of {name:?}");
     }
     Ok(())
+}
+
+/// Heads that one reader reads one after another, and what it tells of each.
+const HEADS: [(&[u8], &[u8]); 17] = [
+    (
+        b"x: include/of_thirty_two_letters.h1 include/of_thirty_two_letters.h2",
+        b"one x<include/of_thirty_two_letters.h1,include/of_thirty_two_letters.h2,|>",
+    ),
+    (
+        b"y ./z: include/of_thirty_two_letters.h1 include/of_thirty_two_letters.h2",
+        b"one y<include/of_thirty_two_letters.h1,include/of_thirty_two_letters.h2,|> z<include/of_thirty_two_letters.h1,include/of_thirty_two_letters.h2,|>",
+    ),
+    (
+        b"x:: include/of_thirty_two_letters.h1 include/of_thirty_two_letters.h2",
+        b"two x<include/of_thirty_two_letters.h1,include/of_thirty_two_letters.h2,|>",
+    ),
+    (
+        b"x&: include/of_thirty_two_letters.h1 include/of_thirty_two_letters.h2",
+        b"all x<include/of_thirty_two_letters.h1,include/of_thirty_two_letters.h2,|>",
+    ),
+    (
+        b"x: include/of_thirty_two_letters.h1 | include/of_thirty_two_letters.h2",
+        b"one x<include/of_thirty_two_letters.h1,|include/of_thirty_two_letters.h2,>",
+    ),
+    (
+        b"%.o: include/of_thirty_two_letters.h1 | include/of_thirty_two_letters.h2",
+        b"any %.o<include/of_thirty_two_letters.h1,|include/of_thirty_two_letters.h2,>",
+    ),
+    (
+        b"*: include/of_thirty_two_letters.h1 | include/of_thirty_two_letters.h2",
+        b"m:7 20 refused name *",
+    ),
+    (
+        b": include/of_thirty_two_letters.h1 | include/of_thirty_two_letters.h2",
+        b"one",
+    ),
+    (
+        b".WAIT: include/of_thirty_two_letters.h1 | include/of_thirty_two_letters.h2",
+        b"m:7 22 refused target .WAIT",
+    ),
+    (
+        b"x: include/of_thirty_two_letters.h1 include/of_thirty_two_letters.h2 *",
+        b"m:7 20 refused name *",
+    ),
+    (
+        b"x: include/of_thirty_two_letters.h1 | include/of_thirty_two_letters.h2",
+        b"one x<include/of_thirty_two_letters.h1,|include/of_thirty_two_letters.h2,>",
+    ),
+    (
+        b"x: include/of_thirty_two_letters.h1 include/of_thirty_two_letters.h2 .WAIT",
+        b"m:7 22 refused target .WAIT",
+    ),
+    (
+        b"x: include/of_thirty_two_letters.h1 include/of_thirty_two_letters.h2 .WAIT",
+        b"m:7 22 refused target .WAIT",
+    ),
+    (
+        b".POSIX: include/of_thirty_two_letters.h1 include/of_thirty_two_letters.h2 .WAIT",
+        b"one .POSIX<include/of_thirty_two_letters.h1,include/of_thirty_two_letters.h2,.WAIT,|>",
+    ),
+    (
+        b"x.o: %.o: include/of_thirty_two_letters.h1 include/of_thirty_two_letters.h2",
+        b"one x.o[x]<include/of_thirty_two_letters.h1,include/of_thirty_two_letters.h2,|>",
+    ),
+    (b"x: y", b"one x<y,|>"),
+    (
+        b"x: include/of_thirty_two_letters.h1 include/of_thirty_two_letters.h2",
+        b"one x<include/of_thirty_two_letters.h1,include/of_thirty_two_letters.h2,|>",
+    ),
+];
+
+#[test]
+fn reads_again_what_it_remembers(rt: HostRuntime) {
+    let alloc = rt.alloc();
+    let mut reader = RuleReader::new(alloc);
+    for row in HEADS {
+        let told = told_next(alloc, &mut reader, row.0);
+        assert_eq!(&rt; told.as_slice(), row.1, "of {:?}", row.0);
+    }
 }

@@ -9,7 +9,7 @@ use crate::macros::automatic::Automatic;
 use crate::macros::scope::Frozen;
 use crate::stop::Stop;
 use kt_list::Sequence;
-use kt_rules::Place;
+use kt_rules::{Place, RuleReader};
 use std::alloc::{AllocError, Global};
 
 impl Macros {
@@ -45,6 +45,7 @@ impl Macros {
             messages: before,
             place,
             rule: None,
+            reader: RuleReader::new(alloc),
             files: &mut files,
         };
         let result = evaluation.expand_here(limit, text);
@@ -55,6 +56,7 @@ impl Macros {
             messages: after,
             place: _place,
             rule: _rule,
+            reader: _reader,
             files,
         } = evaluation;
         let _ = &*files;

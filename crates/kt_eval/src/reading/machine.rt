@@ -17,7 +17,7 @@ use crate::macros::{Flavour, Macro, Macros, Origin};
 use crate::stop::Stop;
 use crate::value::Value;
 use kt_list::Sequence;
-use kt_rules::Book;
+use kt_rules::{Book, RuleReader};
 use std::alloc::{AllocError, Global};
 use std::marker::Model;
 use std::mem;
@@ -192,6 +192,7 @@ fn read_once<F: Files>(
         messages,
         place: None,
         rule: None,
+        reader: RuleReader::new(alloc),
         files,
     };
     let result = evaluation.read_first(limit, names);
@@ -202,6 +203,7 @@ fn read_once<F: Files>(
         messages,
         place: _place,
         rule: _rule,
+        reader: _reader,
         files,
     } = evaluation;
     let _ = &*files;

@@ -1,6 +1,6 @@
 //! The rules of a book, which stores each name once.
 ghost use Rattle.std.specs.Prelude.{◌≡◌, ◌++◌, ◌∷◌, [], ◌<◌, All, drop, flat_map, get_or, length, option_map, set, take};
-ghost use Rattle.std.specs.Prelude.{ℕ, IfSome, IsTrue, List, None, false, OnErr, OnOk, Some, unwrap_or};
+ghost use Rattle.std.specs.Prelude.{ℕ, slice_get, IfOk, IfSome, IsTrue, List, None, false, OnErr, OnOk, Some, unwrap_or};
 ghost use Rattle.std.specs.List.{Contains};
 ghost use Rattle.kt_list.specs.Names.{place_of};
 ghost use Rattle.kt_text.specs.Words.{Text};
@@ -18,6 +18,9 @@ use crate::entry::{Entry, Name, Needs, RecipeLine};
 use kt_list::{Names, Rows, narrow};
 use std::alloc::{AllocError, Global};
 use std::marker::Model;
+
+// From how many names on a list is compared with that of the rule before.
+const MANY: usize = 8;
 
 /// Rules in slots, some of which are empty, and numbered names, all names of the rules among them.
 #[derive(Drop)]
@@ -95,10 +98,7 @@ impl Rules {
     {
         // The contract of `as_slice` makes known that the names differ.
         let _names = self.names.as_slice();
-        match self.names.get(number) {
-            Some(held) => held == name,
-            None => false,
-        }
+        has_name(&self.names, number, name)
     }
 
     /// Whether there may be rules with two colons.
@@ -155,7 +155,7 @@ impl Rules {
             kind,
             has_recipe: recipe.is_some(),
             targets: narrow(targets.as_slice().len())?,
-            prerequisites: narrow(needs.prerequisites.as_slice().len())?,
+            prerequisites: narrow(needs.get().prerequisites.as_slice().len())?,
             pattern,
             place,
         };
@@ -165,7 +165,7 @@ impl Rules {
             &mut self.numbers,
             &mut self.lines,
             targets.as_slice(),
-            &needs,
+            needs.get(),
             recipe,
         )?;
         self.slots.push_reserved(Some(held));
@@ -315,25 +315,75 @@ fn note_all(
 }
 
 // Adds the numbers of names to the last row. If memory runs out, some may be added.
+//
+// In many makefiles line after line has the same long list of prerequisites: then a number is that of the row before, at
+// the same place, and is told without hashing.
 fn note_names(names: &mut Names, numbers: &mut Rows<u32>, list: &[Name]) -> Result<(), AllocError>
     ensures noted { OnOk result ((front : List (List ℕ)) (before : List Text)
         → GotRow names.old front numbers.old before → GotRow names.new front numbers.new (before ++ list.now)) }
     ensures kept { (front : List (List ℕ)) → HasOneMore front numbers.old → HasOneMore front numbers.new }
     ensures grown { GotNames names.old names.new }
 {
+    let alike = begins_alike(names, numbers, list);
     for name in list {
-        note_name(names, numbers, name.as_slice())?;
+        let guess = if alike { number_before(numbers) } else { None };
+        note_name(names, numbers, guess, name.as_slice())?;
     }
     Ok(())
 }
 
-fn note_name(names: &mut Names, numbers: &mut Rows<u32>, name: &[u8]) -> Result<(), AllocError>
+// Whether a long list begins with the name that stands at its place in the row before. Nothing is promised of it.
+fn begins_alike(names: &Names, numbers: &Rows<u32>, list: &[Name]) -> bool {
+    if list.len() < MANY {
+        return false;
+    }
+    match (list.first(), number_before(numbers)) {
+        (Some(first), Some(guess)) => has_name(names, guess as usize, first.as_slice()),
+        _ => false,
+    }
+}
+
+// The number in the row before the last, at the place that comes next in the last. Nothing is promised of it.
+fn number_before(numbers: &Rows<u32>) -> Option<u32> {
+    let last = numbers.len().checked_sub(1)?;
+    let before = last.checked_sub(1)?;
+    let place = numbers.row(last)?.len();
+    numbers.row(before)?.get(place).copied()
+}
+
+fn note_name(
+    names: &mut Names,
+    numbers: &mut Rows<u32>,
+    guess: Option<u32>,
+    name: &[u8],
+) -> Result<(), AllocError>
     ensures noted { OnOk result ((front : List (List ℕ)) (before : List Text)
         → GotRow names.old front numbers.old before → GotRow names.new front numbers.new (before ++ name.now ∷ [])) }
     ensures kept { (front : List (List ℕ)) → HasOneMore front numbers.old → HasOneMore front numbers.new }
     ensures grown { GotNames names.old names.new }
 {
-    let number = names.number(name)?;
+    let number = number_by(names, guess, name)?;
     numbers.push(narrow(number)?)?;
     Ok(())
+}
+
+// The number of a name: the guess, where it is right.
+fn number_by(names: &mut Names, guess: Option<u32>, name: &[u8]) -> Result<usize, AllocError>
+    ensures numbered { IfOk result (λ number. slice_get names.new number ≡ Some name.now) }
+    ensures grown { GotNames names.old names.new }
+{
+    match guess {
+        Some(guess) if has_name(names, guess as usize, name) => Ok(guess as usize),
+        _ => names.number(name),
+    }
+}
+
+// Whether a number is that of a name, told without hashing.
+fn has_name(names: &Names, number: usize, name: &[u8]) -> bool
+    ensures { IsTrue result → slice_get names.now number ≡ Some name.now }
+{
+    match names.get(number) {
+        Some(held) => held == name,
+        None => false,
+    }
 }

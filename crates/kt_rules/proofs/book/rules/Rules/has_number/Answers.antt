@@ -1,16 +1,13 @@
-use Rattle.std.proofs.Common.{◌≡◌, ◌∙◌, List, Option, Some, sym, ap, subst}
-use Rattle.std.proofs.lemmas.Slice.Eq.{bytes_eq-Decides}
+use Rattle.std.proofs.Common.{◌≡◌, List, Option, Some, subst}
 use Rattle.kt_text.specs.Words.{Text}
 use Rattle.kt_list.specs.Names.{place_of}
 use Rattle.kt_rules.specs.Entry.{Rule}
 use Rattle.kt_rules.proofs.NoteLemmas.{place_at}
 use Rattle.kt_rules.proofs.book.rules.Rules.has_number.Goals as goal
 
-pub returns-in-Some : goal.returns-in-Some
-returns-in-Some c = λ same.
+pub returns : goal.returns
+returns c = λ same.
     let names = c.self.inside.names in
     let name = c.args.name.now in
-    let held = c.in-Some.held.now in
-    let one : held ≡ name = (bytes_eq-Decides held name).0 (sym c.eq.ensures ∙ same) in
     subst (λ (both : List Text × List (Option Rule)). place_of both.0 name ≡ Some c.args.number) c.self.view_is
-    (place_at names name c.args.number c.as_slice-names.ensures.differ (sym c.in-Some.ensures ∙ ap Some one))
+    (place_at names name c.args.number c.as_slice-names.ensures.differ (c.has_name.ensures same))

@@ -3,6 +3,7 @@ use Rattle.kt_list.proofs.general.Places.{is_some-map}
 use Rattle.kt_text.specs.Words.{Text}
 use Rattle.kt_text.proofs.BegunLemmas.{on_err}
 use Rattle.kt_rules.specs.declared.book.held_rule.HeldRule.{HeldRule}
+use Rattle.kt_rules.specs.declared.entry.Needs.{Needs}
 use Rattle.kt_rules.specs.Entry.{Rule}
 use Rattle.kt_rules.specs.Suffixes.{all_needs}
 use Rattle.kt_rules.specs.inner.Held.{slots_held}
@@ -35,7 +36,7 @@ invariant_of-self-2 c =
       place = entry.place;
     } in
     pushed_held held.names new.names held.numbers new.numbers held.lines new.lines held.slots.items c.push_reserved.new.self.items held.kinds lines rule
-    (c.as_slice-3.result.now ++ all_needs entry.needs) added.grown c.self.invariant added.numbered added.lined
+    (c.as_slice-3.result.now ++ all_needs c.get-2.result.now) added.grown c.self.invariant added.numbered added.lined
     (c.push_reserved.ensures.items ∙ ap (λ (slots : List (Option HeldRule)). slots ++ Some rule ∷ []) c.in_ok-reserve.ensures.items)
     c.with-self-inside.result c.with-self-inside.ensures.kept c.with-self-inside.ensures.added
 
@@ -55,11 +56,12 @@ returns-clause-pushed c =
       place = entry.place;
     } in
     pushed_rule held.names new.names held.numbers new.numbers held.lines new.lines held.slots.items c.push_reserved.new.self.items held.kinds (unwrap_or recipe []) rule
-    (c.as_slice-3.result.now ++ all_needs entry.needs) added.grown c.self.invariant added.numbered added.lined
+    (c.as_slice-3.result.now ++ all_needs c.get-2.result.now) added.grown c.self.invariant added.numbered added.lined
     (c.push_reserved.ensures.items ∙ ap (λ (slots : List (Option HeldRule)). slots ++ Some rule ∷ []) c.in_ok-reserve.ensures.items)
     entry.targets entry.needs recipe
-    (ap (λ (targets : List Text). targets ++ all_needs entry.needs) c.as_slice-3.ensures)
+    (ap (λ (targets : List Text). targets ++ all_needs c.get-2.result.now) c.as_slice-3.ensures
+    ∙ ap (λ (needs : Needs). entry.targets ++ all_needs needs) c.get-2.ensures)
     (c.in_ok-narrow.ensures ∙ ap length c.as_slice.ensures)
-    (c.in_ok-narrow-2.ensures ∙ ap length c.as_slice-2.ensures)
+    (c.in_ok-narrow-2.ensures ∙ ap length c.as_slice-2.ensures ∙ ap (λ (needs : Needs). length needs.prerequisites) c.get.ensures)
     (c.is_some.ensures ∙ sym (is_some-map (λ own. own.items) entry.recipe)) refl
     ∙ (λ j. ap (λ (both : List Text × List (Option Rule)). both.1) c.self.view_is j ++ Some (c.entry.view_is j) ∷ [])

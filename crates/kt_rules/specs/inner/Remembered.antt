@@ -1,0 +1,48 @@
+-- The prerequisites that a reader of rule lines remembers (kati's own).
+use Rattle.std.specs.Prelude.{◌≡◌, ◌==◌, Bool, false, ℕ, None, Some, map}
+use Rattle.std.specs.List.{list_any}
+use Rattle.kt_text.specs.Match.{has_percent}
+use Rattle.kt_text.specs.Words.{Text, words_of}
+use Rattle.kt_rules.specs.declared.entry.Needs.{Needs}
+use Rattle.kt_rules.specs.declared.head.Separator.TheVariants.{Single}
+use Rattle.kt_rules.specs.declared.reader.LongLine.{LongLine}
+use Rattle.kt_rules.specs.Entry.{is_nil, read_line, tested_line}
+use Rattle.kt_rules.specs.Names.{name_of, without_repeats, written_words}
+use Rattle.kt_rules.specs.RuleLine.{colon_cut, group_targets, needs_of}
+use Rattle.kt_rules.specs.inner.Telling.{Tells, is_telling}
+
+abbrev pub is_colon : ℕ → Bool
+is_colon byte = byte == 58
+
+-- a text without a colon and without a telling byte
+pub record IsPlain (text : Text) : Type 0 where
+  pub uncut : list_any is_colon text ≡ false
+  pub quiet : list_any is_telling text ≡ false
+
+-- the text is plain, and these are its prerequisites
+pub record Names (text : Text) (needs : Needs) : Type 0 where
+  pub plain : IsPlain text
+  pub named : needs ≡ needs_of (written_words text)
+
+-- reading the text comes down to the tests of the line, of which the signs tell
+pub record ReadsAs (text : Text) (long : LongLine) : Type 0 where
+  pub read : read_line text ≡ tested_line long.line
+  pub told : Tells long.signs long.line
+
+-- the text is cut at its first colon into these, and makes no group
+pub record IsLongCut (text targets needs : Text) : Type 0 where
+  pub filled : is_nil (words_of text) ≡ false
+  pub cut : colon_cut text ≡ Some (targets, needs)
+  pub ungrouped : group_targets targets ≡ None
+
+-- the line of a text of targets with plain prerequisites
+abbrev pub long_line : Text → Needs → LongLine
+long_line text needs = record {
+  line = record {
+    separator = Single;
+    targets = without_repeats (map name_of (written_words text));
+    pattern = None;
+    needs = needs;
+  };
+  signs = record { telling = list_any is_telling text; percent = has_percent text };
+}

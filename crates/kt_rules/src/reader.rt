@@ -1,0 +1,202 @@
+//! Reads rule lines one after another.
+ghost use Rattle.std.specs.Prelude.{◌≡◌, ◌==◌, IfOk, IfSome, None, IsTrue, Some, false, map, not};
+ghost use Rattle.std.specs.List.{list_any};
+ghost use Rattle.std.specs.Simd.Lanes.{mask_l, zip2};
+ghost use Rattle.kt_text.specs.Match.{has_percent};
+ghost use Rattle.kt_text.specs.Words.{words_of};
+ghost use Rattle.kt_rules.specs.Entry.{is_nil, rule_of};
+ghost use Rattle.kt_rules.specs.Names.{name_of, without_repeats, written_words};
+ghost use Rattle.kt_rules.specs.Refusals.{Answers};
+ghost use Rattle.kt_rules.specs.RuleLine.{colon_cut, group_targets, needs_of};
+ghost use Rattle.kt_rules.specs.inner.Remembered.{IsLongCut, IsPlain, Names, ReadsAs, long_line};
+ghost use Rattle.kt_rules.specs.inner.Telling.{is_telling};
+
+use crate::cutting::colon_cut;
+use crate::entry::{Entry, Needs};
+use crate::fault::RuleFault;
+use crate::head::{Separator, group_targets};
+use crate::held_needs::HeldNeeds;
+use crate::line::{Line, plain_needs, targets};
+use crate::place::Place;
+use crate::reading::{accepted, is_blank, read_rule};
+use crate::signs::{Signs, has_telling, holds_percent};
+use kt_list::Sequence;
+use kt_text::has_byte;
+use std::alloc::{AllocError, Global};
+use std::marker::Model;
+use std::rc::Rc;
+use std::simd::prelude::*;
+
+// The size from which on a text of prerequisites is remembered: to read a shorter one again costs less.
+const LONG: usize = 64;
+
+/// Reads rule lines as entries.
+///
+/// Where a line has the same long text of prerequisites as an earlier one, as `$(HEADERS)` gives in line after line, the
+/// text isn't read again, and the entries hold the same prerequisites together.
+#[derive(Drop)]
+pub struct RuleReader {
+    alloc: Global,
+    last: Option<Remembered>,
+}
+
+impl Model for RuleReader {
+    ghost Value = { Unit {0} };
+
+    ghost view = { λ reader. tt };
+}
+
+// The last long text of prerequisites without a byte that needs a second look.
+#[derive(Drop)]
+struct Remembered {
+    text: Vec<u8>,
+    needs: Rc<Needs>,
+}
+
+impl Model for Remembered {
+    ghost use Rattle.std.specs.Prelude.{List, ℕ};
+
+    ghost Value = { List ℕ };
+
+    ghost use Rattle.kt_rules.specs.inner.Remembered.{Names};
+
+    ghost view = { λ last. last.text.items };
+
+    ghost invariant = { λ last. Names last.text.items last.needs.value };
+}
+
+// A line with long prerequisites, and what its text tells of its names.
+#[derive(Drop)]
+struct LongLine {
+    line: Line,
+    signs: Signs,
+}
+
+impl RuleReader {
+    /// A reader that has read nothing yet.
+    pub fn new(alloc: Global) -> RuleReader {
+        RuleReader { alloc, last: None }
+    }
+
+    /// The entry of a rule line, as [`read_rule`] reads it.
+    pub fn read(
+        &mut self,
+        text: &[u8],
+        recipe: Option<Sequence<u8>>,
+        place: Place,
+    ) -> Result<Entry, RuleFault>
+        ensures { Answers result (rule_of text.now recipe place) }
+    {
+        match self.long_line(text) {
+            Ok(Some(long)) => accepted(self.alloc, long.line, long.signs, recipe, place),
+            Ok(None) => read_rule(self.alloc, text, recipe, place),
+            Err(AllocError) => Err(RuleFault::Memory),
+        }
+    }
+
+    // The line of a text, if its prerequisites are long and plain.
+    #[inline(never)]
+    fn long_line(&mut self, text: &[u8]) -> Result<Option<LongLine>, AllocError>
+        ensures { IfOk result (λ found. IfSome found (ReadsAs text.now)) }
+    {
+        match long_cut(text) {
+            None => Ok(None),
+            Some((targets, needs)) => match self.needs(needs)? {
+                None => Ok(None),
+                Some(needs) => Ok(Some(LongLine::of(self.alloc, targets, needs)?)),
+            },
+        }
+    }
+
+    // The prerequisites of a text, if it is plain.
+    fn needs(&mut self, text: &[u8]) -> Result<Option<HeldNeeds>, AllocError>
+        ensures { IfOk result (λ found. IfSome found (Names text.now)) }
+    {
+        match &self.last {
+            Some(last) if are_same(last.text.as_slice(), text) => Ok(Some(HeldNeeds::shared(
+                &last.needs,
+            )?)),
+            _ if is_plain(text) => Ok(Some(self.learned(text)?)),
+            _ => Ok(None),
+        }
+    }
+
+    // The prerequisites of a plain text, which is remembered.
+    #[tactic(auto, using(crate::proofs::SignLemmas::no_backslash_in))]
+    fn learned(&mut self, text: &[u8]) -> Result<HeldNeeds, AllocError>
+        requires { IsPlain text.now }
+        ensures { IfOk result (Names text.now) }
+    {
+        let needs = Rc::new(self.alloc, plain_needs(self.alloc, text)?)?;
+        let held = HeldNeeds::shared(&needs)?;
+        let text = Vec::from_slice(self.alloc, text)?;
+        self.last = Some(Remembered { text, needs });
+        Ok(held)
+    }
+}
+
+impl LongLine {
+    // The line of a text of targets, with plain prerequisites.
+    #[tactic(auto, using(crate::proofs::SignLemmas::no_backslash_in))]
+    fn of(alloc: Global, text: &[u8], needs: HeldNeeds) -> Result<LongLine, AllocError>
+        ensures { IfOk result (λ long. long ≡ long_line text.now needs) }
+    {
+        let signs = Signs {
+            telling: has_telling(text),
+            percent: holds_percent(text),
+        };
+        let line = Line {
+            separator: Separator::Single,
+            targets: targets(alloc, text, signs.telling)?,
+            pattern: None,
+            needs,
+        };
+        Ok(LongLine { line, signs })
+    }
+}
+
+// The texts before and after the first colon of a line, unless it makes a group or the prerequisites are short.
+fn long_cut(text: &[u8]) -> Option<(&[u8], &[u8])>
+    ensures { IfSome result (λ cut. IsLongCut text.now cut.0.now cut.1.now) }
+{
+    if text.len() < LONG || is_blank(text) {
+        return None;
+    }
+    let (before, after) = colon_cut(text)?;
+    if after.len() < LONG || group_targets(before).is_some() {
+        None
+    } else {
+        Some((before, after))
+    }
+}
+
+// Whether a text has no colon and no telling byte.
+fn is_plain(text: &[u8]) -> bool
+    ensures { IsTrue result → IsPlain text.now }
+{
+    !has_byte(text, b':') && !has_telling(text)
+}
+
+// Whether texts are the same, told by sixteen bytes at once.
+fn are_same(text: &[u8], other: &[u8]) -> bool
+    ensures { IsTrue result → text.now ≡ other.now }
+{
+    let mut left = text;
+    let mut right = other;
+    while left.len() >= 16 && right.len() >= 16 {
+        if differing(u8x16::from_slice(left), u8x16::from_slice(right)) != 0 {
+            return false;
+        }
+        left = &left[16..];
+        right = &right[16..];
+    }
+    left == right
+}
+
+// The bits of the bytes that differ.
+#[inline(always)]
+fn differing(left: u8x16, right: u8x16) -> u64
+    ensures { result ≡ mask_l (zip2 (λ byte other. not (byte == other)) left right) }
+{
+    left.simd_ne(right).to_bitmask()
+}
