@@ -2,7 +2,7 @@
 use Rattle.std.proofs.Common.{◌≡◌, ℕ, zero, suc, not, ◌+◌, ◌-◌, ◌<◌, ◌≤◌, List, [], ◌∷◌, ◌++◌, All, Option, Some, length, take, drop, get_or, slice_get, refl, sym, ap, ◌∙◌, subst, arith}
 use Rattle.std.proofs.lemmas.List.{append-nil, append_assoc, drop-append-le, get_or_append_left, get_or_at, length-append, length-drop, map-append, take-append-le}
 use Rattle.std.proofs.lemmas.List.Elements.{All-drop, All-head, All-push, All-tail, All-take, All-weaker}
-use Rattle.std.proofs.lemmas.Option.{get_or_from_slice_get, slice_get-get_or, slice_get_within}
+use Rattle.std.proofs.lemmas.Option.{slice_get-get_or}
 use Rattle.std.proofs.Math.Seq.{drop-append_seam}
 use Rattle.kt_graph.specs.declared.nodes.node.NodeKind.{NodeKind}
 use Rattle.kt_graph.specs.declared.nodes.stored.Head.{Head}
@@ -117,9 +117,6 @@ nodes_push parts new_parts rows new_rows heads head node grew h is =
 pub more_none : {A : Type 0} (xs : List A) → HasMore xs xs
 more_none xs = ([], sym (append-nil xs))
 
-pub more_one : {A : Type 0} (xs new more : List A) → new ≡ xs ++ more → HasMore xs new
-more_one xs new more is = (more, is)
-
 pub more_after : {A : Type 0} (xs ys zs : List A) → HasMore xs ys → HasMore ys zs → HasMore xs zs
 more_after xs ys zs first second =
     (first.0 ++ second.0, second.1 ∙ ap (λ l. l ++ second.0) first.1 ∙ append_assoc xs first.0 second.0)
@@ -150,40 +147,6 @@ grew_part parts new rows part is within = record {
   more_rows = more_none rows;
   within = λ h. subst (All (IsPartWithin (length rows))) (sym is) (All-push (IsPartWithin (length rows)) parts part h within);
 }
-
--- two rows stay where they are
-pub rows_of_longer : (rows new : List (List ℕ)) (first second : List ℕ) (place : ℕ) → HasMore rows new → AreRowsOf rows first second place
-    → AreRowsOf new first second place
-rows_of_longer rows new first second place more h =
-    let both = rows_longer rows more.0 place h.within in
-    record {
-      within = omega (arith, h.within, longer rows new more);
-      one = ap (λ (l : List (List ℕ)). get_or l place []) more.1 ∙ both.0 ∙ h.one;
-      other = ap (λ (l : List (List ℕ)). get_or l (place + 1) []) more.1 ∙ both.1 ∙ h.other;
-    }
-
--- two rows that are there
-pub rows_found : (rows : List (List ℕ)) (first second : List ℕ) (place : ℕ) → slice_get rows place ≡ Some first → slice_get rows (place + 1) ≡ Some second
-    → AreRowsOf rows first second place
-rows_found rows first second place one two = record {
-  within = slice_get_within rows (place + 1) second two;
-  one = get_or_from_slice_get rows place first [] one;
-  other = get_or_from_slice_get rows (place + 1) second [] two;
-}
-
--- two rows were added
-pub rows_added : (rows middle new : List (List ℕ)) (first second : List ℕ) (place : ℕ) → place ≡ length rows → middle ≡ rows ++ first ∷ []
-    → new ≡ middle ++ second ∷ [] → HasMore rows new × AreRowsOf new first second place
-rows_added rows middle new first second place at one two =
-    let whole : new ≡ rows ++ first ∷ second ∷ [] = two ∙ ap (λ (l : List (List ℕ)). l ++ second ∷ []) one ∙ append_assoc rows (first ∷ []) (second ∷ []) in (
-      (first ∷ second ∷ [], whole),
-      record {
-        within = omega (arith, at, ap length whole, length-append rows (first ∷ second ∷ []));
-        one = ap (λ (l : List (List ℕ)). get_or l place []) whole ∙ get_or_at rows first (second ∷ []) [] place (sym at);
-        other = ap (λ (l : List (List ℕ)). get_or l (place + 1) []) two
-            ∙ get_or_at middle second [] [] (place + 1) (omega (arith, at, ap length one, length-append rows (first ∷ [])));
-      },
-    )
 
 pub parts_same : (rows new : List (List ℕ)) (parts : List HeldPart) → All (IsPartWithin (length rows)) parts → HasMore rows new
     → parts_stored new parts ≡ parts_stored rows parts
@@ -229,14 +192,6 @@ head_from parts rows new start kind made_with head is_kind made low begin end al
           ∙ ap (λ l. node_from kind (parts_stored rows last) made_with l (get_or new (head.inputs + 1) [])) inputs.one
           ∙ ap (λ l. node_from kind (parts_stored rows last) made_with (input_numbers (parts_stored rows last)) l) inputs.other;
     }
-
--- the last parts are those that were added
-pub added_from : (parts new : List HeldPart) (rows more : List (List ℕ)) (start : ℕ) (expected : List StoredPart) (kind : NodeKind) (made_with : Option ℕ) (head : Head)
-    → start ≡ length parts → PutsParts parts new rows expected → IsHeadOf new more (node_with kind made_with (parts_stored rows (drop start new))) head
-    → IsHeadOf new more (node_with kind made_with expected) head
-added_from parts new rows more start expected kind made_with head at puts h =
-    subst (λ ps. IsHeadOf new more (node_with kind made_with ps) head)
-    (ap (parts_stored rows) (ap (λ s. drop s new) at ∙ ap (drop (length parts)) puts.put ∙ drop-append_seam parts puts.more) ∙ puts.are) h
 
 -- a node that is there, by its number
 pub stored_there : (nodes : List StoredNode) (number : ℕ) → number < length nodes → slice_get nodes number ≡ Some (stored_at nodes number)
