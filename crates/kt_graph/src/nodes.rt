@@ -9,14 +9,15 @@ pub(crate) mod graph;
 mod graph_builder;
 mod grouping;
 mod inferring;
-mod named;
+mod inputs;
+mod needing;
 pub(crate) mod node;
 pub(crate) mod numbering;
+mod part;
 mod reached;
 mod reached_name;
 mod stem;
 pub(crate) mod stored;
-mod stored_node;
 
 pub use graph::{Graph, Nodes};
 pub use grouping::Groups;

@@ -6,7 +6,7 @@ pub mod ReachedNames
 pub mod BuildingLemmas
 pub mod ReachLemmas
 pub mod InferringLemmas
-pub mod StoredNodeLemmas
+pub mod InputLemmas
 pub mod StoredLemmas
 pub mod BuilderLemmas
 pub mod StepLemmas

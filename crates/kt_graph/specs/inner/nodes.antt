@@ -1,8 +1,9 @@
 -- Nodes as the code holds them: before they have numbers, with numbers, and while they are found.
 pub mod GraphBuilder
 pub mod Stems
+pub mod Inputs
 pub mod Stored
-pub mod Named
+pub mod Needed
 pub mod Numbering
 pub mod Reached
 pub mod Inferring

@@ -10,26 +10,24 @@ ghost use Rattle.kt_rules.specs.Slots.{rule_view};
 ghost use Rattle.kt_rules.specs.Suffixes.{suffixes_of};
 ghost use Rattle.kt_graph.specs.inner.nodes.Building.{IsCut};
 ghost use Rattle.kt_graph.specs.inner.nodes.Inferring.{Infers, InfersFrom, inferred_node};
-ghost use Rattle.kt_graph.specs.inner.nodes.Named.{named_view, needed_by};
+ghost use Rattle.kt_graph.specs.inner.nodes.Needed.{needing_view, single_node};
 ghost use Rattle.kt_graph.specs.nodes.Node.{double_node, explicit_node, node_by, node_of, node_with, plain_node};
 ghost use Rattle.kt_graph.specs.nodes.Node.{searched};
-ghost use Rattle.kt_graph.specs.inner.nodes.Numbering.{IsMaking, SaysNode};
-ghost use Rattle.kt_graph.specs.inner.nodes.GraphBuilder.{ReachesMore, IsBegun, IsOver, IsBuilt};
+ghost use Rattle.kt_graph.specs.inner.nodes.Numbering.{IsMaking};
+ghost use Rattle.kt_graph.specs.inner.nodes.GraphBuilder.{BuildsNode, IsBegun, IsBuilt, IsOver, ReachesMore};
 ghost use Rattle.kt_graph.specs.inner.nodes.Reached.{reached_text};
-ghost use Rattle.kt_graph.specs.inner.nodes.Stored.{node_held};
 ghost use Rattle.kt_graph.specs.nodes.Views.{instance_view};
 
 use crate::known::Known;
-use crate::nodes::building::{
-    Used, double_node, explicit_node, has_double, plain_node, used_rule, with_needs,
-};
+use crate::nodes::building::{Used, double_parts, group_of, has_double, kind_without, used_rule};
 use crate::nodes::inferring::Inferred;
-use crate::nodes::named::{Named, NamedPart};
+use crate::nodes::needing::Needing;
 use crate::nodes::node::{Instance, NodeKind};
 use crate::nodes::numbering::NameNumbers;
+use crate::nodes::part::{Maker, Numbered, Part};
 use crate::nodes::reached_name::ReachedName;
+use crate::nodes::stem::Stem;
 use crate::nodes::stored::StoredNodes;
-use crate::nodes::stored_node::BuiltNode;
 use crate::search::choice::Chosen;
 use crate::search::finding::Finder;
 use indexmap::IndexSet;
@@ -49,6 +47,8 @@ pub(crate) struct GraphBuilder<'a> {
     pub(crate) numbers: NameNumbers<'a>,
     pub(crate) nodes: StoredNodes<'a>,
     pub(crate) instances: IndexSet<Instance>,
+    // Those of the node that is being built.
+    needs: Numbered,
 }
 
 impl<'a> GraphBuilder<'a> {
@@ -69,6 +69,7 @@ impl<'a> GraphBuilder<'a> {
             numbers: NameNumbers::new(alloc, book.name_table())?,
             nodes: StoredNodes::new(alloc),
             instances: IndexSet::new(alloc),
+            needs: Numbered::none(alloc),
         })
     }
 
@@ -85,9 +86,9 @@ impl<'a> GraphBuilder<'a> {
         ensures { OnOk result ((goals : List Text) → IsBegun goals self.old
             → IsBuilt self.old.book.now self.old.known.now goals self.new) }
     {
+        let mut rules = Vec::new(self.alloc);
         while let Some(name) = self.next_name()? {
-            let node = self.build(&name)?;
-            self.nodes.push(node)?;
+            self.build(&name, &mut rules)?;
         }
         Ok(())
     }
@@ -102,32 +103,30 @@ impl<'a> GraphBuilder<'a> {
         self.numbers.name(self.nodes.len())
     }
 
-    // The node of a name. The names that it needs become reached.
+    // Adds the node of a name. The names that it needs become reached.
     #[tactic(auto, unfolding(crate::specs::nodes::Node::node_of))]
-    fn build(&mut self, name: &ReachedName<'a>) -> Result<BuiltNode<'a>, AllocError>
+    fn build(
+        &mut self,
+        name: &ReachedName<'a>,
+        rules: &mut Vec<TargetRule<'a>>,
+    ) -> Result<(), AllocError>
         requires { IsOver self.old }
-        ensures says { IfOk result (λ node. SaysNode self.new.numbers self.new.instances.keys
-            (node_of self.old.book.now self.old.known.now (reached_text name.now)) (node_held node)) }
-        ensures grown { OnOk result (ReachesMore self.old
-            (needed_by (node_of self.old.book.now self.old.known.now (reached_text name.now))) self.new) }
+        ensures { OnOk result (BuildsNode self.old (node_of self.old.book.now self.old.known.now
+            (reached_text name.now)) self.new) }
     {
-        let rules = self.rules(name)?;
+        self.find_rules(name, rules)?;
         self.build_by(name, rules.as_slice())
     }
 
-    // The node of a name that has these explicit rules.
+    // The same for a name that has these explicit rules.
     fn build_by(
         &mut self,
         name: &ReachedName<'a>,
         rules: &[TargetRule<'a>],
-    ) -> Result<BuiltNode<'a>, AllocError>
+    ) -> Result<(), AllocError>
         requires { IsOver self.old }
-        ensures says { IfOk result (λ node. SaysNode self.new.numbers self.new.instances.keys
-            (node_with self.old.book.now self.old.known.now (reached_text name.now) (map rule_view rules.now))
-            (node_held node)) }
-        ensures grown { OnOk result (ReachesMore self.old
-            (needed_by (node_with self.old.book.now self.old.known.now (reached_text name.now)
-            (map rule_view rules.now))) self.new) }
+        ensures { OnOk result (BuildsNode self.old (node_with self.old.book.now self.old.known.now
+            (reached_text name.now) (map rule_view rules.now)) self.new) }
     {
         if has_double(rules) {
             return self.double_node(rules);
@@ -138,44 +137,43 @@ impl<'a> GraphBuilder<'a> {
         }
     }
 
-    fn double_node(&mut self, rules: &[TargetRule<'a>]) -> Result<BuiltNode<'a>, AllocError>
-        ensures says { IfOk result (λ node. (name : Text)
-            → SaysNode self.new.numbers self.new.instances.keys
-            (double_node (suffixes_of self.old.book.now) name (map rule_view rules.now)) (node_held node)) }
-        ensures grown { OnOk result ((name : Text)
-            → ReachesMore self.old (needed_by (double_node (suffixes_of self.old.book.now) name
-            (map rule_view rules.now)))
-            self.new) }
+    fn double_node(&mut self, rules: &[TargetRule<'a>]) -> Result<(), AllocError>
+        ensures { OnOk result ((name : Text) → BuildsNode self.old (double_node
+            (suffixes_of self.old.book.now) name (map rule_view rules.now)) self.new) }
     {
-        let named = double_node(self.alloc, self.book, rules)?;
-        self.hold(named)
+        let parts = double_parts(self.alloc, self.book, &mut self.numbers, rules)?;
+        self.nodes.push_double(self.alloc, parts)
     }
 
-    fn explicit_node(&mut self, used: Used<'a, '_>) -> Result<BuiltNode<'a>, AllocError>
-        ensures says { IfOk result (λ node. (name : Text) (rules : List (Rule × HeldTarget)) → IsCut rules used.entry
-            → SaysNode self.new.numbers self.new.instances.keys (explicit_node (suffixes_of self.old.book.now) name
-            rules (rule_view used.entry.rule)) (node_held node)) }
-        ensures grown { OnOk result ((name : Text) (rules : List (Rule × HeldTarget)) → IsCut rules used.entry
-            → ReachesMore self.old (needed_by (explicit_node (suffixes_of self.old.book.now) name rules
-            (rule_view used.entry.rule))) self.new) }
+    fn explicit_node(&mut self, used: Used<'a, '_>) -> Result<(), AllocError>
+        ensures { OnOk result ((name : Text) (rules : List (Rule × HeldTarget)) → IsCut rules used.entry
+            → BuildsNode self.old (explicit_node (suffixes_of self.old.book.now) name rules
+            (rule_view used.entry.rule)) self.new) }
     {
-        let named = explicit_node(self.alloc, self.book, used)?;
-        self.hold(named)
+        let rule = used.rule;
+        let making = group_of(self.alloc, rule.entry)?;
+        let needing = Needing::after(rule.needs(), used.earlier, used.later);
+        let part = Part::of_rule(self.book, rule);
+        self.hold(NodeKind::Explicit, part, needing, making)
     }
 
-    // The explicit rules of a name.
-    fn rules(&self, name: &ReachedName<'a>) -> Result<Vec<TargetRule<'a>>, AllocError>
-        ensures { IfOk result (λ rules. map rule_view rules.items
+    // Puts the explicit rules of a name in place of others.
+    fn find_rules(
+        &self,
+        name: &ReachedName<'a>,
+        rules: &mut Vec<TargetRule<'a>>,
+    ) -> Result<(), AllocError>
+        ensures { OnOk result (map rule_view rules.new.items
             ≡ explicit_rules self.now.book.now (reached_text name.now)) }
     {
-        let mut rules = Vec::new(self.alloc);
+        rules.clear();
         for rule in self.explicit(name) {
             rules.push(rule)?;
         }
-        Ok(rules)
+        Ok(())
     }
 
-    // The same without a copy. A name that stands in the book isn't hashed: its number there tells its rules.
+    // The explicit rules of a name. One that stands in the book isn't hashed: its number there tells its rules.
     fn explicit(&self, name: &ReachedName<'a>) -> Explicit<'a>
         ensures { result ≡ explicit_rules self.now.book.now (reached_text name.now) }
     {
@@ -185,19 +183,16 @@ impl<'a> GraphBuilder<'a> {
         }
     }
 
-    // The node of a name whose rules have no recipe.
+    // Adds the node of a name whose rules have no recipe.
     fn searched_node(
         &mut self,
         name: &ReachedName<'a>,
         rules: &[TargetRule<'a>],
-    ) -> Result<BuiltNode<'a>, AllocError>
+    ) -> Result<(), AllocError>
         requires { IsOver self.old }
-        ensures says { IfOk result (λ node. SaysNode self.new.numbers self.new.instances.keys
-            (node_by self.old.book.now (reached_text name.now) (map rule_view rules.now) None
-            (searched self.old.book.now self.old.known.now (reached_text name.now))) (node_held node)) }
-        ensures grown { OnOk result (ReachesMore self.old
-            (needed_by (node_by self.old.book.now (reached_text name.now) (map rule_view rules.now) None
-            (searched self.old.book.now self.old.known.now (reached_text name.now)))) self.new) }
+        ensures { OnOk result (BuildsNode self.old (node_by self.old.book.now (reached_text name.now)
+            (map rule_view rules.now) None
+            (searched self.old.book.now self.old.known.now (reached_text name.now))) self.new) }
     {
         match self.inferred(name.as_slice())? {
             Some(inferred) => self.implicit_node(inferred, rules),
@@ -209,17 +204,16 @@ impl<'a> GraphBuilder<'a> {
         &mut self,
         name: &ReachedName<'a>,
         rules: &[TargetRule<'a>],
-    ) -> Result<BuiltNode<'a>, AllocError>
-        ensures says { IfOk result (λ node. SaysNode self.new.numbers self.new.instances.keys
-            (plain_node (suffixes_of self.old.book.now) (reached_text name.now) (map rule_view rules.now)
-            (is_phony self.old.book.now (reached_text name.now))) (node_held node)) }
-        ensures grown { OnOk result (ReachesMore self.old
-            (needed_by (plain_node (suffixes_of self.old.book.now) (reached_text name.now) (map rule_view rules.now)
-            (is_phony self.old.book.now (reached_text name.now)))) self.new) }
+    ) -> Result<(), AllocError>
+        ensures { OnOk result (BuildsNode self.old (plain_node (suffixes_of self.old.book.now)
+            (reached_text name.now) (map rule_view rules.now)
+            (is_phony self.old.book.now (reached_text name.now))) self.new) }
     {
         let is_phony = self.book.is_phony(name.as_slice());
-        let named = plain_node(self.alloc, self.book, name, rules, is_phony)?;
-        self.hold(named)
+        let needing = Needing::of_rules(rules);
+        let stem = Stem::of_name(self.alloc, self.book, name)?;
+        let part = Part { recipe: None, stem };
+        self.hold(kind_without(rules, is_phony), part, needing, None)
     }
 
     // The prerequisites of the chosen rule come first.
@@ -227,12 +221,9 @@ impl<'a> GraphBuilder<'a> {
         &mut self,
         inferred: Inferred<'a>,
         rules: &[TargetRule<'a>],
-    ) -> Result<BuiltNode<'a>, AllocError>
-        ensures says { IfOk result (λ node. (name : Text)
-            → SaysNode self.new.numbers self.new.instances.keys
-            (inferred_node name (map rule_view rules.now) inferred.entry) (node_held node)) }
-        ensures grown { OnOk result ((name : Text)
-            → ReachesMore self.old (needed_by (inferred_node name (map rule_view rules.now) inferred.entry)) self.new) }
+    ) -> Result<(), AllocError>
+        ensures { OnOk result ((name : Text) → BuildsNode self.old (inferred_node name
+            (map rule_view rules.now) inferred.entry) self.new) }
     {
         let Inferred {
             recipe,
@@ -240,21 +231,16 @@ impl<'a> GraphBuilder<'a> {
             needs: first,
             making,
         } = inferred;
-        let needs = with_needs(self.alloc, NeedsView::of(&first), rules)?;
-        let part = NamedPart {
-            recipe,
-            stem,
-            needs,
-        };
-        let named = Named::of_part(self.alloc, NodeKind::Implicit, part, making)?;
-        self.hold(named)
+        let needing = Needing::after(NeedsView::of(&first), rules, &[]);
+        let part = Part { recipe, stem };
+        self.hold(NodeKind::Implicit, part, needing, making)
     }
 
     // What the pattern rule that makes a name gives it; for a phony name there is no search.
     fn inferred(&mut self, name: &[u8]) -> Result<Option<Inferred<'a>>, AllocError>
         requires { IsOver self.old }
         ensures tells { IfOk result (InfersFrom (searched self.old.book.now self.old.known.now name.now)) }
-        ensures kept { OnOk result (ReachesMore self.old [] self.new) }
+        ensures kept { OnOk result (ReachesMore self.old [] [] self.new) }
     {
         if self.book.is_phony(name) {
             return Ok(None);
@@ -275,21 +261,21 @@ impl<'a> GraphBuilder<'a> {
         }
     }
 
-    // A node with numbers for its names. The names that it needs become reached.
-    fn hold(&mut self, named: Named<'a, '_>) -> Result<BuiltNode<'a>, AllocError>
-        ensures says { IfOk result (λ node. (name : Text)
-            → SaysNode self.new.numbers self.new.instances.keys (named_view name named.entry) (node_held node)) }
-        ensures grown { OnOk result ((name : Text)
-            → ReachesMore self.old (needed_by (named_view name named.entry)) self.new) }
+    // Adds a node with one part. The names that it needs become reached.
+    fn hold(
+        &mut self,
+        kind: NodeKind,
+        part: Part<'a>,
+        needing: Needing<'_, '_, 'a>,
+        making: Option<Instance>,
+    ) -> Result<(), AllocError>
+        ensures { OnOk result ((name : Text) → BuildsNode self.old (single_node name kind part.entry
+            (needing_view needing.entry) (option_map instance_view making)) self.new) }
     {
-        let Named {
-            kind,
-            parts,
-            making,
-        } = named;
-        let parts = self.numbers.parts(parts)?;
+        self.numbers.number_needs(needing, &mut self.needs)?;
         let made_with = self.making(making)?;
-        BuiltNode::new(self.alloc, kind, parts, made_with)
+        let maker = Maker { kind, made_with };
+        self.nodes.push(self.alloc, maker, part, &self.needs)
     }
 
     // The number of a making, if there is one.

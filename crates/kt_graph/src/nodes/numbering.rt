@@ -1,24 +1,24 @@
 //! Numbers for names.
-ghost use Rattle.std.specs.Prelude.{◌≡◌, ◌^◌, ◌+◌, ◌<◌, ◌++◌, [], List, Some, bytes_eq, flat_map, fold, is_some};
+ghost use Rattle.std.specs.Prelude.{◌≡◌, ◌^◌, ◌+◌, ◌<◌, ◌++◌, [], Some, bytes_eq, fold, is_some};
 ghost use Rattle.std.specs.Prelude.{length, map, option_map, slice_get, IfOk, OnOk};
 ghost use Rattle.std.specs.List.{IsDistinct};
 ghost use Rattle.kt_list.specs.Names.{is_among, place_of};
-ghost use Rattle.kt_text.specs.Words.{Text};
 ghost use Rattle.kt_rules.specs.Names.{with_name};
+ghost use Rattle.kt_rules.specs.Slots.{rule_view};
 ghost use Rattle.kt_rules.specs.Suffixes.{all_needs};
-ghost use Rattle.kt_rules.specs.Targets.{names_view, needed_view, needs_view};
-ghost use Rattle.kt_graph.specs.inner.nodes.Named.{part_named, put_together};
-ghost use Rattle.kt_graph.specs.inner.nodes.Numbering.{SaysNeeds, SaysPart, SayParts, StandFor};
+ghost use Rattle.kt_rules.specs.Targets.{names_view, needed_view};
+ghost use Rattle.kt_graph.specs.inner.nodes.Needed.{first_needs, needing_as, needing_view, rules_needs};
+ghost use Rattle.kt_graph.specs.inner.nodes.Numbering.{AddsNumbers, SaysNeeds};
 ghost use Rattle.kt_graph.specs.inner.nodes.Reached.{reached_text};
-ghost use Rattle.kt_graph.specs.inner.nodes.Stored.{HasMore, part_held, parts_held};
+ghost use Rattle.kt_graph.specs.inner.nodes.Stored.{HasMore};
 ghost use Rattle.kt_graph.specs.nodes.Views.{name_at};
 
-use crate::nodes::named::NamedPart;
+use crate::nodes::needing::{Needing, Sort, needed_as};
+use crate::nodes::part::Numbered;
 use crate::nodes::reached::Reached;
 use crate::nodes::reached_name::ReachedName;
-use crate::nodes::stored_node::{Numbered, Part};
 use kt_list::{Names, narrow};
-use kt_rules::{Name, NeededName, NeededNames, NeedsView};
+use kt_rules::{Name, NeededName, NeededNames, NeedsView, TargetRule};
 use std::alloc::{AllocError, Global};
 use std::marker::Model;
 
@@ -161,79 +161,65 @@ impl<'a> NameNumbers<'a> {
         Ok(())
     }
 
-    /// Parts with numbers for names. The names that they need become reached.
-    pub(crate) fn parts<'r>(
+    /// The numbers of prerequisites, in place of those that were there. The names become reached.
+    pub(crate) fn number_needs(
         &mut self,
-        parts: Vec<NamedPart<'r, '_>>,
-    ) -> Result<Vec<Part<'r>>, AllocError>
-        ensures say { IfOk result (λ numbered. SayParts self.new (map part_named parts.entry.items)
-            (parts_held numbered.items)) }
-        ensures reached { OnOk result (self.new
-            ≡ fold with_name self.old (flat_map (λ part. all_needs (part_named part).needs) parts.entry.items)) }
+        needing: Needing<'_, '_, '_>,
+        numbered: &mut Numbered,
+    ) -> Result<(), AllocError>
+        ensures says { OnOk result (SaysNeeds self.new (needing_view needing.entry)
+            numbered.new.prerequisites.items numbered.new.order_only.items) }
+        ensures reached { OnOk result (self.new ≡ fold with_name self.old (all_needs (needing_view needing.entry))) }
     {
-        let mut numbered = Vec::with_capacity(self.alloc, parts.len())?;
-        for part in parts {
-            numbered.push(self.part(part)?)?;
+        numbered.prerequisites.clear();
+        numbered.order_only.clear();
+        self.add_needs(needing, Sort::Prerequisite, &mut numbered.prerequisites)?;
+        self.add_needs(needing, Sort::OrderOnly, &mut numbered.order_only)
+    }
+
+    // Adds the numbers of prerequisites of one sort at the end.
+    fn add_needs(
+        &mut self,
+        needing: Needing<'_, '_, '_>,
+        sort: Sort,
+        numbers: &mut Vec<u32>,
+    ) -> Result<(), AllocError>
+        ensures { OnOk result (AddsNumbers self.old numbers.old.items (needing_as sort needing.entry)
+            self.new numbers.new.items) }
+    {
+        self.add_first(needing.first, sort, numbers)?;
+        self.add_rules(needing.earlier, sort, numbers)?;
+        self.add_rules(needing.later, sort, numbers)
+    }
+
+    fn add_first(
+        &mut self,
+        first: Option<NeedsView<'_>>,
+        sort: Sort,
+        numbers: &mut Vec<u32>,
+    ) -> Result<(), AllocError>
+        ensures { OnOk result (AddsNumbers self.old numbers.old.items (first_needs sort first.entry)
+            self.new numbers.new.items) }
+    {
+        match first {
+            Some(needs) => self.add_names(numbers, needed_as(needs, sort)),
+            None => Ok(()),
         }
-        Ok(numbered)
     }
 
-    fn part<'r>(&mut self, part: NamedPart<'r, '_>) -> Result<Part<'r>, AllocError>
-        ensures says { IfOk result (λ held. SaysPart self.new (part_named part.entry) (part_held held)) }
-        ensures reached { OnOk result (self.new ≡ fold with_name self.old (all_needs (part_named part.entry).needs)) }
+    fn add_rules(
+        &mut self,
+        rules: &[TargetRule],
+        sort: Sort,
+        numbers: &mut Vec<u32>,
+    ) -> Result<(), AllocError>
+        ensures { OnOk result (AddsNumbers self.old numbers.old.items (rules_needs sort
+            (map rule_view rules.now)) self.new numbers.new.items) }
     {
-        let NamedPart {
-            recipe,
-            stem,
-            needs,
-        } = part;
-        let needs = self.needs(needs.as_slice())?;
-        Ok(Part {
-            recipe,
-            stem,
-            needs,
-        })
-    }
-
-    // The prerequisites of several rules, joined.
-    fn needs(&mut self, rules: &[NeedsView<'_>]) -> Result<Numbered, AllocError>
-        ensures says { IfOk result (λ needs. SaysNeeds self.new (put_together (map needs_view rules.now))
-            needs.prerequisites.items needs.order_only.items) }
-        ensures reached { OnOk result (self.new
-            ≡ fold with_name self.old (all_needs (put_together (map needs_view rules.now)))) }
-    {
-        let prerequisites = self.prerequisites(rules)?;
-        let order_only = self.order_only(rules)?;
-        Ok(Numbered {
-            prerequisites,
-            order_only,
-        })
-    }
-
-    fn prerequisites(&mut self, rules: &[NeedsView<'_>]) -> Result<Vec<u32>, AllocError>
-        ensures say { IfOk result (λ numbers. StandFor self.new (flat_map
-            (λ needs. (needs_view needs).prerequisites) rules.now) numbers.items) }
-        ensures reached { OnOk result (self.new
-            ≡ fold with_name self.old (flat_map (λ needs. (needs_view needs).prerequisites) rules.now)) }
-    {
-        let mut numbers = Vec::new(self.alloc);
-        for needs in rules {
-            self.add_names(&mut numbers, needs.prerequisites())?;
+        for rule in rules {
+            self.add_names(numbers, needed_as(rule.needs(), sort))?;
         }
-        Ok(numbers)
-    }
-
-    fn order_only(&mut self, rules: &[NeedsView<'_>]) -> Result<Vec<u32>, AllocError>
-        ensures say { IfOk result (λ numbers. StandFor self.new (flat_map
-            (λ needs. (needs_view needs).order_only) rules.now) numbers.items) }
-        ensures reached { OnOk result (self.new
-            ≡ fold with_name self.old (flat_map (λ needs. (needs_view needs).order_only) rules.now)) }
-    {
-        let mut numbers = Vec::new(self.alloc);
-        for needs in rules {
-            self.add_names(&mut numbers, needs.order_only())?;
-        }
-        Ok(numbers)
+        Ok(())
     }
 
     // Adds the numbers of names at the end.
@@ -242,9 +228,8 @@ impl<'a> NameNumbers<'a> {
         numbers: &mut Vec<u32>,
         names: NeededNames<'_>,
     ) -> Result<(), AllocError>
-        ensures say { OnOk result ((earlier : List Text) → StandFor self.old earlier numbers.old.items
-            → StandFor self.new (earlier ++ names_view names.entry) numbers.new.items) }
-        ensures reached { OnOk result (self.new ≡ fold with_name self.old (names_view names.entry)) }
+        ensures { OnOk result (AddsNumbers self.old numbers.old.items (names_view names.entry)
+            self.new numbers.new.items) }
     {
         numbers.reserve(names.len())?;
         for name in names {

@@ -1,13 +1,17 @@
 //! Nodes as the graph holds them, in three lists, with numbers for names.
-ghost use Rattle.std.specs.Prelude.{◌≡◌, ◌++◌, ◌∷◌, ◌<◌, ◌^◌, [], All, IfOk, OnOk, length, option_map, slice_get};
-ghost use Rattle.kt_graph.specs.inner.nodes.Stored.{ArePartsOf, Grew, HasMore, IsHeadOf, IsPartWithin, IsSpanOf};
-ghost use Rattle.kt_graph.specs.inner.nodes.Stored.{IsWithin, PutsPart, cut, node_held, part_held, part_seen};
-ghost use Rattle.kt_graph.specs.inner.nodes.Stored.{parts_held, stored_at};
+ghost use Rattle.std.specs.Prelude.{◌≡◌, ◌++◌, ◌∷◌, ◌<◌, ◌≤◌, ◌^◌, [], All, IfOk, OnOk, drop, get_or, length};
+ghost use Rattle.std.specs.Prelude.{option_map, slice_get, true, Some, None};
+ghost use Rattle.kt_graph.specs.declared.nodes.node.NodeKind.TheVariants.{DoubleColon};
+ghost use Rattle.kt_graph.specs.inner.nodes.Stored.{input_numbers, order_only_numbers};
+ghost use Rattle.kt_graph.specs.inner.nodes.Stored.{AreRowsOf, Grew, HasMore, IsHeadOf, IsPartWithin, IsWithin};
+ghost use Rattle.kt_graph.specs.inner.nodes.Stored.{PutsParts, cut, node_with, part_held, part_seen};
+ghost use Rattle.kt_graph.specs.inner.nodes.Stored.{parts_held, parts_stored, stored_at};
 
+use crate::nodes::inputs::{has_own_inputs, input_set, order_only_set};
 use crate::nodes::node::NodeKind;
+use crate::nodes::part::{Maker, Numbered, NumberedPart, Part};
 use crate::nodes::stem::Stem;
-use crate::nodes::stored_node::{BuiltNode, Part};
-use kt_list::narrow;
+use kt_list::{Rows, narrow};
 use kt_rules::RecipeLine;
 use std::alloc::{AllocError, Global};
 use std::marker::Model;
@@ -19,8 +23,8 @@ use std::marker::Model;
 pub(crate) struct StoredNodes<'a> {
     heads: Vec<Head>,
     parts: Vec<HeldPart<'a>>,
-    // The prerequisites of parts, and the inputs of nodes if they differ.
-    numbers: Vec<u32>,
+    // The prerequisites of parts, and the inputs of nodes if they differ: two rows each, the second order-only.
+    rows: Rows<u32>,
 }
 
 /// A node without its lists.
@@ -29,8 +33,8 @@ pub(crate) struct Head {
     kind: NodeKind,
     made_with: Option<u32>,
     parts: Span,
-    inputs: Span,
-    order_only: Span,
+    // The first of the two rows of its inputs.
+    inputs: u32,
 }
 
 /// A part without its lists.
@@ -38,8 +42,8 @@ pub(crate) struct Head {
 pub(crate) struct HeldPart<'a> {
     recipe: Option<&'a [RecipeLine]>,
     stem: Stem<'a>,
-    prerequisites: Span,
-    order_only: Span,
+    // The first of the two rows of its prerequisites.
+    pub(crate) needs: u32,
 }
 
 /// The places of a list in a vector for all nodes.
@@ -64,9 +68,9 @@ impl<'a> Model for StoredNodes<'a> {
 
     ghost Value = { List StoredNode };
 
-    ghost view = { λ nodes. nodes_stored nodes.parts.items nodes.numbers.items nodes.heads.items };
+    ghost view = { λ nodes. nodes_stored nodes.parts.items nodes.rows nodes.heads.items };
 
-    ghost invariant = { λ nodes. AreStored nodes.parts.items nodes.numbers.items nodes.heads.items };
+    ghost invariant = { λ nodes. AreStored nodes.parts.items nodes.rows nodes.heads.items };
 }
 
 impl<'a> StoredNodes<'a> {
@@ -76,7 +80,7 @@ impl<'a> StoredNodes<'a> {
         StoredNodes {
             heads: Vec::new(alloc),
             parts: Vec::new(alloc),
-            numbers: Vec::new(alloc),
+            rows: Rows::new(alloc),
         }
     }
 
@@ -88,11 +92,32 @@ impl<'a> StoredNodes<'a> {
         self.heads.len()
     }
 
-    /// Adds a node at the end. With more than 4,294,967,295 numbers or parts, the error is out of memory.
-    pub(crate) fn push(&mut self, node: BuiltNode<'a>) -> Result<(), AllocError>
-        ensures { OnOk result (self.new ≡ self.old ++ node_held node.entry ∷ []) }
+    /// Adds a node with one part at the end. Here and below, with more than 4,294,967,295 numbers or parts, the error is
+    /// out of memory.
+    pub(crate) fn push(
+        &mut self,
+        alloc: Global,
+        maker: Maker,
+        part: Part<'a>,
+        needs: &Numbered,
+    ) -> Result<(), AllocError>
+        ensures { OnOk result (self.new ≡ self.old ++ node_with maker.kind maker.made_with
+            (part_held part.entry needs.now ∷ []) ∷ []) }
     {
-        let head = put_node(&mut self.parts, &mut self.numbers, node)?;
+        let head = put_node(alloc, &mut self.parts, &mut self.rows, maker, part, needs)?;
+        self.heads.push(head)?;
+        Ok(())
+    }
+
+    /// Adds a double-colon node at the end.
+    pub(crate) fn push_double(
+        &mut self,
+        alloc: Global,
+        parts: Vec<NumberedPart<'a>>,
+    ) -> Result<(), AllocError>
+        ensures { OnOk result (self.new ≡ self.old ++ node_with DoubleColon None (parts_held parts.entry.items) ∷ []) }
+    {
+        let head = put_double(alloc, &mut self.parts, &mut self.rows, parts)?;
         self.heads.push(head)?;
         Ok(())
     }
@@ -136,8 +161,8 @@ impl<'a> StoredNodes<'a> {
         Some(SeenPart {
             recipe: part.recipe,
             stem: &part.stem,
-            prerequisites: cut(self.numbers.as_slice(), part.prerequisites),
-            order_only: cut(self.numbers.as_slice(), part.order_only),
+            prerequisites: row_at(&self.rows, part.needs as usize),
+            order_only: row_at(&self.rows, part.needs as usize + 1),
         })
     }
 
@@ -146,7 +171,7 @@ impl<'a> StoredNodes<'a> {
         ensures { result.now ≡ (stored_at self.now number).inputs }
     {
         match self.heads.get(number) {
-            Some(head) => cut(self.numbers.as_slice(), head.inputs),
+            Some(head) => row_at(&self.rows, head.inputs as usize),
             None => &[],
         }
     }
@@ -156,7 +181,7 @@ impl<'a> StoredNodes<'a> {
         ensures { result.now ≡ (stored_at self.now number).order_only }
     {
         match self.heads.get(number) {
-            Some(head) => cut(self.numbers.as_slice(), head.order_only),
+            Some(head) => row_at(&self.rows, head.inputs as usize + 1),
             None => &[],
         }
     }
@@ -170,94 +195,182 @@ fn cut<T>(items: &[T], span: Span) -> &[T]
     &items[span.start as usize..span.end as usize]
 }
 
-// Adds the lists of a node at the end of those of the others.
-fn put_node<'a>(
-    parts: &mut Vec<HeldPart<'a>>,
-    numbers: &mut Vec<u32>,
-    node: BuiltNode<'a>,
-) -> Result<Head, AllocError>
-    requires { All (IsPartWithin (length numbers.old.items)) parts.old.items }
-    ensures grew { Grew parts.old.items numbers.old.items parts.new.items numbers.new.items }
-    ensures head { IfOk result (IsHeadOf parts.new.items numbers.new.items (node_held node.entry)) }
+/// The numbers in a row.
+#[inline(always)]
+pub(crate) fn row_at(rows: &Rows<u32>, place: usize) -> &[u32]
+    ensures { result.now ≡ get_or rows.now place [] }
 {
-    let made_with = narrow_making(node.made_with)?;
-    let span = put_parts(parts, numbers, node.parts)?;
-    let inputs = put_inputs(parts.as_slice(), numbers, span, node.inputs.as_slice())?;
-    let order_only = put(numbers, node.order_only.as_slice())?;
+    match rows.row(place) {
+        Some(row) => row,
+        None => &[],
+    }
+}
+
+// Adds the lists of a node with one part at the end of those of the others.
+fn put_node<'a>(
+    alloc: Global,
+    parts: &mut Vec<HeldPart<'a>>,
+    rows: &mut Rows<u32>,
+    maker: Maker,
+    part: Part<'a>,
+    needs: &Numbered,
+) -> Result<Head, AllocError>
+    requires { All (IsPartWithin (length rows.old)) parts.old.items }
+    ensures grew { Grew parts.old.items rows.old parts.new.items rows.new }
+    ensures head { IfOk result (IsHeadOf parts.new.items rows.new (node_with maker.kind maker.made_with
+        (part_held part.entry needs.now ∷ []))) }
+{
+    let start = parts.len();
+    put_part(parts, rows, part, needs)?;
+    head_from(alloc, parts.as_slice(), rows, start, maker)
+}
+
+// Adds the lists of a double-colon node at the end of those of the others.
+fn put_double<'a>(
+    alloc: Global,
+    held: &mut Vec<HeldPart<'a>>,
+    rows: &mut Rows<u32>,
+    parts: Vec<NumberedPart<'a>>,
+) -> Result<Head, AllocError>
+    requires { All (IsPartWithin (length rows.old)) held.old.items }
+    ensures grew { Grew held.old.items rows.old held.new.items rows.new }
+    ensures head { IfOk result (IsHeadOf held.new.items rows.new (node_with DoubleColon None
+        (parts_held parts.entry.items))) }
+{
+    let start = held.len();
+    put_parts(held, rows, parts)?;
+    let maker = Maker {
+        kind: NodeKind::DoubleColon,
+        made_with: None,
+    };
+    head_from(alloc, held.as_slice(), rows, start, maker)
+}
+
+// The node whose parts begin at a place and are the last ones.
+fn head_from(
+    alloc: Global,
+    held: &[HeldPart],
+    rows: &mut Rows<u32>,
+    start: usize,
+    maker: Maker,
+) -> Result<Head, AllocError>
+    requires within { All (IsPartWithin (length rows.old)) held.now }
+    requires begins { start ≤ length held.now }
+    ensures grew { HasMore rows.old rows.new }
+    ensures head { IfOk result (IsHeadOf held.now rows.new (node_with maker.kind maker.made_with
+        (parts_stored rows.old (drop start held.now)))) }
+{
+    let made_with = narrow_making(maker.made_with)?;
+    let parts = span_of(start, held.len())?;
+    let inputs = put_inputs(alloc, &held[start..], rows)?;
     Ok(Head {
-        kind: node.kind,
+        kind: maker.kind,
         made_with,
-        parts: span,
+        parts,
         inputs,
-        order_only,
     })
 }
 
 // Adds parts at the end.
 fn put_parts<'a>(
     held: &mut Vec<HeldPart<'a>>,
-    numbers: &mut Vec<u32>,
-    parts: Vec<Part<'a>>,
-) -> Result<Span, AllocError>
-    requires { All (IsPartWithin (length numbers.old.items)) held.old.items }
-    ensures grew { Grew held.old.items numbers.old.items held.new.items numbers.new.items }
-    ensures span { IfOk result (ArePartsOf held.new.items numbers.new.items (parts_held parts.entry.items)) }
+    rows: &mut Rows<u32>,
+    parts: Vec<NumberedPart<'a>>,
+) -> Result<(), AllocError>
+    requires { All (IsPartWithin (length rows.old)) held.old.items }
+    ensures grew { Grew held.old.items rows.old held.new.items rows.new }
+    ensures put { OnOk result (PutsParts held.old.items held.new.items rows.new (parts_held parts.entry.items)) }
 {
-    let start = held.len();
-    for part in parts {
-        put_part(held, numbers, part)?;
+    for one in parts {
+        put_part(held, rows, one.part, &one.needs)?;
     }
-    span_of(start, held.len())
+    Ok(())
 }
 
 // Adds a part at the end.
 fn put_part<'a>(
     held: &mut Vec<HeldPart<'a>>,
-    numbers: &mut Vec<u32>,
+    rows: &mut Rows<u32>,
     part: Part<'a>,
+    needs: &Numbered,
 ) -> Result<(), AllocError>
-    ensures grew { Grew held.old.items numbers.old.items held.new.items numbers.new.items }
-    ensures put { OnOk result (PutsPart held.old.items held.new.items numbers.new.items (part_held part.entry)) }
+    ensures grew { Grew held.old.items rows.old held.new.items rows.new }
+    ensures put { OnOk result (PutsParts held.old.items held.new.items rows.new (part_held part.entry needs.now ∷ [])) }
 {
-    let prerequisites = put(numbers, part.needs.prerequisites.as_slice())?;
-    let order_only = put(numbers, part.needs.order_only.as_slice())?;
+    let needs = put_needs(
+        held.as_slice(),
+        rows,
+        needs.prerequisites.as_slice(),
+        needs.order_only.as_slice(),
+    )?;
     held.push(HeldPart {
         recipe: part.recipe,
         stem: part.stem,
-        prerequisites,
-        order_only,
+        needs,
     })?;
     Ok(())
 }
 
-// Adds inputs at the end, unless they are the prerequisites of the only part, whose places then serve for both.
-fn put_inputs(
+// The rows of prerequisites. Those of the last part serve for both if they are the same, as among targets of one rule.
+fn put_needs(
     held: &[HeldPart],
-    numbers: &mut Vec<u32>,
-    parts: Span,
-    inputs: &[u32],
-) -> Result<Span, AllocError>
-    requires parts { IsWithin (length held.now) parts }
-    requires within { All (IsPartWithin (length numbers.old.items)) held.now }
-    ensures grew { HasMore numbers.old.items numbers.new.items }
-    ensures span { IfOk result (IsSpanOf numbers.new.items inputs.now) }
+    rows: &mut Rows<u32>,
+    prerequisites: &[u32],
+    order_only: &[u32],
+) -> Result<u32, AllocError>
+    ensures grew { HasMore rows.old rows.new }
+    ensures are { IfOk result (AreRowsOf rows.new prerequisites.now order_only.now) }
 {
-    if let [part] = cut(held, parts) {
-        if cut(numbers.as_slice(), part.prerequisites) == inputs {
-            return Ok(part.prerequisites);
+    if let [.., last] = held {
+        if are_rows(rows, last.needs, prerequisites, order_only) {
+            return Ok(last.needs);
         }
     }
-    put(numbers, inputs)
+    put_rows(rows, prerequisites, order_only)
 }
 
-// Adds numbers at the end.
-fn put(numbers: &mut Vec<u32>, more: &[u32]) -> Result<Span, AllocError>
-    ensures grew { HasMore numbers.old.items numbers.new.items }
-    ensures span { IfOk result (IsSpanOf numbers.new.items more.now) }
+// Whether these are the rows from a place on.
+fn are_rows(rows: &Rows<u32>, place: u32, first: &[u32], second: &[u32]) -> bool
+    ensures { result ≡ true → AreRowsOf rows.now first.now second.now place }
 {
-    let start = numbers.len();
-    numbers.extend_from_slice(more)?;
-    span_of(start, numbers.len())
+    is_row(rows, place as usize, first) && is_row(rows, place as usize + 1, second)
+}
+
+fn is_row(rows: &Rows<u32>, place: usize, numbers: &[u32]) -> bool
+    ensures { result ≡ true → slice_get rows.now place ≡ Some numbers.now }
+{
+    match rows.row(place) {
+        Some(row) => row == numbers,
+        None => false,
+    }
+}
+
+// Adds two rows at the end.
+fn put_rows(rows: &mut Rows<u32>, first: &[u32], second: &[u32]) -> Result<u32, AllocError>
+    ensures grew { HasMore rows.old rows.new }
+    ensures are { IfOk result (AreRowsOf rows.new first.now second.now) }
+{
+    let place = narrow(rows.len())?;
+    rows.push_row(first)?;
+    rows.push_row(second)?;
+    Ok(place)
+}
+
+// The rows of the inputs of parts. If these are the prerequisites of the only part, its rows serve for both.
+fn put_inputs(alloc: Global, held: &[HeldPart], rows: &mut Rows<u32>) -> Result<u32, AllocError>
+    requires { All (IsPartWithin (length rows.old)) held.now }
+    ensures grew { HasMore rows.old rows.new }
+    ensures are { IfOk result (AreRowsOf rows.new (input_numbers (parts_stored rows.old held.now))
+        (order_only_numbers (parts_stored rows.old held.now))) }
+{
+    if let [part] = held {
+        if has_own_inputs(alloc, rows, part)? {
+            return Ok(part.needs);
+        }
+    }
+    let inputs = input_set(alloc, rows, held)?;
+    let order_only = order_only_set(alloc, rows, held, &inputs)?;
+    put_rows(rows, inputs.as_slice(), order_only.as_slice())
 }
 
 // The span from one place to another.

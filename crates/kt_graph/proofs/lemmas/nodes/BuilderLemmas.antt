@@ -17,11 +17,11 @@ use Rattle.kt_graph.specs.declared.nodes.reached_name.ReachedName.{ReachedName}
 use Rattle.kt_graph.specs.inner.nodes.Stored.{StoredPart}
 use Rattle.kt_graph.specs.inner.nodes.Stored.{StoredNode}
 use Rattle.kt_graph.specs.search.Candidates.{Candidate}
-use Rattle.kt_graph.specs.inner.nodes.Named.{needed_by}
+use Rattle.kt_graph.specs.inner.nodes.Needed.{needed_by}
 use Rattle.kt_graph.specs.nodes.Node.{Instance, Node, Part, all_inputs, node_by, node_of}
 use Rattle.kt_graph.specs.inner.nodes.Numbering.{AreBelow, HasNumbers, IsMaking, IsNumbered, Says, SaysNode, SaysPart, SayParts, StandFor}
 use Rattle.kt_graph.specs.Reach.{IsReached}
-use Rattle.kt_graph.specs.inner.nodes.GraphBuilder.{IsBegun, IsDone, IsOver, IsUnderWay, ReachesMore}
+use Rattle.kt_graph.specs.inner.nodes.GraphBuilder.{BuildsNode, IsBegun, IsDone, IsOver, IsUnderWay}
 use Rattle.kt_graph.specs.inner.nodes.Reached.{reached_text}
 use Rattle.kt_graph.specs.nodes.Views.{instance_at, instance_view, name_at, names_at, part_view}
 use Rattle.kt_graph.proofs.lemmas.nodes.NumberLemmas.{names_grow, parts_kept, place_kept}
@@ -157,30 +157,29 @@ pub record HasBuilt (start now : GraphBuilder) : Type 0 where
   pub known_names : now.known ≡ start.known
   pub right : (goals : List Text) → IsBegun goals start → IsUnderWay start.book.now start.known.now goals now.numbers now.instances.keys now.nodes
 
-pub built_more : (start now built : GraphBuilder) (nodes : List StoredNode) (name : Text) (node : StoredNode) → HasBuilt start now
-    → slice_get now.numbers (length now.nodes) ≡ Some name → ReachesMore now (needed_by (node_of now.book.now now.known.now name)) built
-    → SaysNode built.numbers built.instances.keys (node_of now.book.now now.known.now name) node → nodes ≡ built.nodes ++ node ∷ []
-    → HasBuilt start (record built { nodes = nodes })
-built_more start now built nodes name node h at grown says pushed = record {
-  over = record {
-    rules = grown.finder_rules ∙ h.over.rules ∙ ap (λ (x : Bor (List Rule)). patterns_of x.now) (sym grown.book);
-    known_names = grown.finder_names ∙ h.over.known_names ∙ ap (λ (x : Bor (List Text)). x.now) (sym grown.known_names);
-  };
-  book = grown.book ∙ h.book;
-  known_names = grown.known_names ∙ h.known_names;
-  right = λ goals begins.
-      stored_under start.book.now now.book.now start.known.now now.known.now goals now.numbers built.numbers now.instances.keys built.instances.keys now.nodes nodes name node
-      (ap (λ (x : Bor (List Rule)). x.now) h.book) (ap (λ (x : Bor (List Text)). x.now) h.known_names) (h.right goals begins) at
-      grown.instances grown.names says (pushed ∙ ap (λ (v : List StoredNode). v ++ node ∷ []) grown.nodes);
-}
+pub built_more : (start now built : GraphBuilder) (name : Text) → HasBuilt start now → slice_get now.numbers (length now.nodes) ≡ Some name
+    → BuildsNode now (node_of now.book.now now.known.now name) built → HasBuilt start built
+built_more start now built name h at builds =
+    let grown = builds.grown in
+    record {
+      over = record {
+        rules = grown.finder_rules ∙ h.over.rules ∙ ap (λ (x : Bor (List Rule)). patterns_of x.now) (sym grown.book);
+        known_names = grown.finder_names ∙ h.over.known_names ∙ ap (λ (x : Bor (List Text)). x.now) (sym grown.known_names);
+      };
+      book = grown.book ∙ h.book;
+      known_names = grown.known_names ∙ h.known_names;
+      right = λ goals begins.
+          stored_under start.book.now now.book.now start.known.now now.known.now goals now.numbers built.numbers now.instances.keys built.instances.keys now.nodes built.nodes name builds.node
+          (ap (λ (x : Bor (List Rule)). x.now) h.book) (ap (λ (x : Bor (List Text)). x.now) h.known_names) (h.right goals begins) at
+          grown.instances grown.names builds.says grown.nodes;
+    }
 
 -- fewer nodes are left
-pub fewer_left : (names : List Text) (nodes built more : List StoredNode) (name : Text) (node : StoredNode) (limit : ℕ) → slice_get names (length nodes) ≡ Some name
-    → length names < limit → built ≡ nodes → more ≡ built ++ node ∷ [] → limit - length more < limit - length nodes
-fewer_left names nodes built more name node limit at small same pushed =
-    let one : length more ≡ length built + 1 = ap length pushed ∙ length_push built node in
-    let none : length built ≡ length nodes = ap length same in
-    omega (arith, one, none, small, slice_get_within names (length nodes) name at)
+pub fewer_left : (names : List Text) (nodes more : List StoredNode) (name : Text) (node : StoredNode) (limit : ℕ) → slice_get names (length nodes) ≡ Some name
+    → length names < limit → more ≡ nodes ++ node ∷ [] → limit - length more < limit - length nodes
+fewer_left names nodes more name node limit at small pushed =
+    let one : length more ≡ length nodes + 1 = ap length pushed ∙ length_push nodes node in
+    omega (arith, one, small, slice_get_within names (length nodes) name at)
 
 -- ---- at the end
 

@@ -1,30 +1,21 @@
--- The rule whose recipe is used, with those before and after it, and the joined prerequisites of rules.
-use Rattle.std.proofs.Common.{◌≡◌, ℕ, suc, zero, Bool, true, false, not, cond, ◌+◌, ◌-◌, ◌<◌, ◌≤◌, List, [], ◌∷◌, ◌++◌, length, map, filter, take, drop, get_or, Option, Some, None, option_map, refl, sym, ap, ◌∙◌, arith, rules}
+-- The rule whose recipe is used, with those before and after it, and what rules need together.
+use Rattle.std.proofs.Common.{◌≡◌, ℕ, suc, zero, Bool, true, false, not, cond, ◌+◌, ◌-◌, ◌<◌, ◌≤◌, List, [], ◌∷◌, ◌++◌, length, map, filter, fold, take, drop, get_or, Option, Some, None, refl, sym, ap, ◌∙◌, arith, rules}
 use Rattle.std.specs.List.{before_last, after_last, last_or, suffix_len}
-use Rattle.std.proofs.lemmas.List.{append_assoc, drop_at, get_or-append_right, get_or_at, length-append, length-take, length_push, map-append, take-append-drop, take_all, take_at, take_more, take_rest}
+use Rattle.std.proofs.lemmas.List.{append-nil, append_assoc, drop_at, get_or-append_right, get_or_at, length-append, length-take, length_push, map-append, take-append-drop, take_all, take_at, take_more, take_rest}
+use Rattle.std.proofs.lemmas.List.Concat.{flat_map-append}
 use Rattle.std.proofs.lemmas.List.Elements.{filter-append}
-use Rattle.std.proofs.lemmas.List.Folds.{flat_map-map}
-use Rattle.std.proofs.lemmas.List.Sums.{suffix_len_is}
+use Rattle.std.proofs.lemmas.List.Sums.{fold-append, suffix_len_is}
+use Rattle.kt_rules.specs.declared.book.target_rule.TargetRule.{TargetRule}
 use Rattle.kt_rules.specs.declared.entry.Needs.{Needs}
 use Rattle.kt_rules.specs.declared.entry.Target.{Target}
-use Rattle.kt_rules.specs.Entry.{Rule, needs_for}
+use Rattle.kt_rules.specs.Entry.{Rule, needs_for, no_needs}
+use Rattle.kt_rules.specs.Names.{with_name}
+use Rattle.kt_rules.specs.Suffixes.{all_needs}
 use Rattle.kt_text.specs.Words.{Text}
 use Rattle.kt_rules.specs.Book.{has_recipe}
-use Rattle.kt_rules.specs.Targets.{needs_view}
-use Rattle.kt_graph.specs.declared.nodes.named.Named.{Named}
-use Rattle.kt_graph.specs.declared.nodes.named.NamedPart.{NamedPart}
-use Rattle.kt_graph.specs.declared.nodes.node.NodeKind.TheVariants.{Explicit}
-use Rattle.kt_graph.specs.inner.nodes.Named.{named_view, needs_of_each, part_named, put_together}
-use Rattle.kt_graph.specs.nodes.Node.{bare_part, explicit_node, group_of, joined_needs, kind_without, needs_after, other_rules, part_of, plain_node, suffix_stem}
-use Rattle.kt_graph.specs.nodes.Views.{instance_view}
-
--- the prerequisites of rules, joined, in the terms of a node
-pub together_is : (rules : List (Rule × Target)) → put_together (needs_of_each rules) ≡ joined_needs rules
-unfolding joined_needs
-together_is rules =
-    let first = flat_map-map (λ (n : Needs). n.prerequisites) (λ (made : Rule × Target). needs_for made.0 made.1) rules in
-    let second = flat_map-map (λ (n : Needs). n.order_only) (λ (made : Rule × Target). needs_for made.0 made.1) rules in
-    cc
+use Rattle.kt_graph.specs.declared.nodes.needing.Sort.TheVariants.{OrderOnly, Prerequisite}
+use Rattle.kt_graph.specs.inner.nodes.Needed.{joined_after, needed_as, needed_by_parts, rules_needs}
+use Rattle.kt_graph.specs.nodes.Node.{Part, joined_needs, needs_after, other_rules}
 
 -- ---- the last that passes
 
@@ -92,39 +83,54 @@ used_at p f all left x within some at passes none =
       ap (after_last p) told ∙ found.2 ∙ ap (map f) (sym later),
     )
 
--- ---- nodes
+-- ---- what rules need together
 
--- the node of a name without recipe
-pub plain_told : (suffixes : List Text) (name : Text) (rules : List (Rule × Target)) (phony : Bool) (named : Named) (part : NamedPart)
-    → named.kind ≡ kind_without rules phony → named.parts.items ≡ part ∷ [] → named.making ≡ None
-    → part.recipe ≡ None → part.stem ≡ suffix_stem suffixes name → map needs_view part.needs.items ≡ needs_of_each rules
-    → named_view name named ≡ plain_node suffixes name rules phony
-plain_told suffixes name rules phony named part kind parts making recipe stem blocks =
-    let needs : put_together (map needs_view part.needs.items) ≡ joined_needs rules = ap put_together blocks ∙ together_is rules in
-    let lines : option_map (λ lines. lines.now) part.recipe ≡ None = ap (option_map (λ lines. lines.now)) recipe in
-    let one : part_named part ≡ bare_part suffixes name (joined_needs rules) = cc in
-    let all : map part_named named.parts.items ≡ bare_part suffixes name (joined_needs rules) ∷ [] = ap (map part_named) parts ∙ ap (λ p. p ∷ []) one in
-    let made : option_map instance_view named.making ≡ None = ap (option_map instance_view) making in
-    cc
+abbrev needs_from : List Text → List Text → Needs
+needs_from prerequisites order_only = record { prerequisites = prerequisites; order_only = order_only }
+
+pub joined_told : (first : Needs) (earlier later : List (Rule × Target)) → joined_after first earlier later ≡ needs_after first (joined_needs (earlier ++ later))
+unfolding joined_needs
+joined_told first earlier later =
+    let one = flat_map-append (λ (made : Rule × Target). needed_as Prerequisite (needs_for made.0 made.1)) earlier later in
+    let other = flat_map-append (λ (made : Rule × Target). needed_as OrderOnly (needs_for made.0 made.1)) earlier later in
+    ap (λ l. needs_from (first.prerequisites ++ l) (joined_after first earlier later).order_only) (sym one)
+    ∙ ap (λ l. needs_from (first.prerequisites ++ rules_needs Prerequisite (earlier ++ later)) (first.order_only ++ l)) (sym other)
+
+-- without rules
+pub joined_own : (first : Needs) → joined_after first [] [] ≡ first
+joined_own first =
+    ap (λ l. needs_from l (first.order_only ++ [])) (append-nil first.prerequisites) ∙ ap (λ l. needs_from first.prerequisites l) (append-nil first.order_only)
+
+-- without later ones
+pub joined_first : (first : Needs) (rules : List (Rule × Target)) → joined_after first rules [] ≡ needs_after first (joined_needs rules)
+joined_first first rules = joined_told first rules [] ∙ ap (λ l. needs_after first (joined_needs l)) (append-nil rules)
+
+-- without first ones, too
+pub joined_alone : (rules : List (Rule × Target)) → joined_after no_needs rules [] ≡ joined_needs rules
+joined_alone rules = joined_first no_needs rules
 
 -- the prerequisites of the rule whose recipe is used come first
-used_needs : (used : Rule × Target) (rules earlier later : List (Rule × Target)) → before_last has_recipe rules ≡ earlier → after_last has_recipe rules ≡ later
-    → put_together (needs_for used.0 used.1 ∷ (needs_of_each earlier ++ needs_of_each later)) ≡ needs_after (needs_for used.0 used.1) (joined_needs (other_rules rules))
-used_needs used rules earlier later before after =
-    let blocks : needs_of_each earlier ++ needs_of_each later ≡ needs_of_each (other_rules rules)
-    = sym (map-append (λ (made : Rule × Target). needs_for made.0 made.1) earlier later)
-    ∙ ap (λ l. needs_of_each (l ++ later)) (sym before) ∙ ap (λ l. needs_of_each (before_last has_recipe rules ++ l)) (sym after) in
-    ap (λ l. put_together (needs_for used.0 used.1 ∷ l)) blocks ∙ ap (needs_after (needs_for used.0 used.1)) (together_is (other_rules rules))
-
--- the node of a name whose rules have a recipe
-pub explicit_told : (suffixes : List Text) (name : Text) (rules earlier later : List (Rule × Target)) (used : Rule × Target) (named : Named) (part : NamedPart) (blocks : List Needs)
-    → named.kind ≡ Explicit → named.parts.items ≡ part ∷ [] → option_map instance_view named.making ≡ group_of used.0
-    → part_named part ≡ part_of suffixes used (put_together blocks)
-    → blocks ≡ needs_for used.0 used.1 ∷ (needs_of_each earlier ++ needs_of_each later)
+pub used_needs : (first : Needs) (used : Rule × Target) (rules earlier later : List (Rule × Target)) → first ≡ needs_for used.0 used.1
     → before_last has_recipe rules ≡ earlier → after_last has_recipe rules ≡ later
-    → named_view name named ≡ explicit_node suffixes name rules used
-explicit_told suffixes name rules earlier later used named part blocks kind parts making says needed before after =
-    let needs = ap put_together needed ∙ used_needs used rules earlier later before after in
-    let all : map part_named named.parts.items ≡ part_of suffixes used (needs_after (needs_for used.0 used.1) (joined_needs (other_rules rules))) ∷ []
-    = ap (map part_named) parts ∙ ap (λ p. p ∷ []) (says ∙ ap (part_of suffixes used) needs) in
-    cc
+    → joined_after first earlier later ≡ needs_after (needs_for used.0 used.1) (joined_needs (other_rules rules))
+used_needs first used rules earlier later is before after =
+    joined_told first earlier later ∙ ap (λ f. needs_after f (joined_needs (earlier ++ later))) is
+    ∙ ap (λ l. needs_after (needs_for used.0 used.1) (joined_needs (l ++ later))) (sym before)
+    ∙ ap (λ l. needs_after (needs_for used.0 used.1) (joined_needs (before_last has_recipe rules ++ l))) (sym after)
+
+-- ---- the parts of a double-colon node
+
+pub one_more_part : {A : Type 0} (f : Rule × Target → A) (g : TargetRule → Rule × Target) (rules : List TargetRule) (i : ℕ) (rule : TargetRule) → i < length rules → rule ≡ get_or rules i rule
+    → map f (map g (take (i + 1) rules)) ≡ map f (map g (take i rules)) ++ f (g rule) ∷ []
+one_more_part f g rules i rule h at =
+    ap (λ (l : List TargetRule). map f (map g l)) (take_more rules i rule h)
+    ∙ ap (λ (r : TargetRule). map f (map g (take i rules ++ r ∷ []))) (sym at)
+    ∙ ap (map f) (map-append g (take i rules) (rule ∷ []))
+    ∙ map-append f (map g (take i rules)) (g rule ∷ [])
+
+pub needed_more : (names middle new : List Text) (parts : List Part) (part : Part) → middle ≡ fold with_name names (needed_by_parts parts)
+    → new ≡ fold with_name middle (all_needs part.needs) → new ≡ fold with_name names (needed_by_parts (parts ++ part ∷ []))
+needed_more names middle new parts part one other =
+    other ∙ ap (λ l. fold with_name l (all_needs part.needs)) one ∙ sym (fold-append with_name names (needed_by_parts parts) (all_needs part.needs))
+    ∙ ap (λ l. fold with_name names (needed_by_parts parts ++ l)) (sym (append-nil (all_needs part.needs)))
+    ∙ ap (fold with_name names) (sym (flat_map-append (λ (p : Part). all_needs p.needs) parts (part ∷ [])))

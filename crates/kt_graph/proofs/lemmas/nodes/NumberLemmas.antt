@@ -1,18 +1,15 @@
 -- Numbers for names: what holds of numbers stays when more names are reached.
-use Rattle.std.proofs.Common.{◌≡◌, ℕ, suc, zero, Bool, true, false, ◌+◌, ◌<◌, ◌≤◌, if◌then◌else◌, List, [], ◌∷◌, ◌++◌, length, map, fold, take, drop, get_or, Some, slice_get, refl, sym, ap, subst, ◌∙◌, arith}
+use Rattle.std.proofs.Common.{◌≡◌, ℕ, suc, zero, Bool, true, false, ◌+◌, ◌<◌, ◌≤◌, if◌then◌else◌, List, [], ◌∷◌, ◌++◌, length, map, fold, take, get_or, Some, slice_get, refl, sym, ap, subst, ◌∙◌, arith}
 use Rattle.std.specs.List.{flat_map}
-use Rattle.std.proofs.lemmas.List.{append-nil, append_assoc, map-append, take_more, drop_more}
+use Rattle.std.proofs.lemmas.List.{append-nil, append_assoc, map-append, take_more}
 use Rattle.std.proofs.lemmas.List.Concat.{flat_map-append}
-use Rattle.std.proofs.lemmas.List.Folds.{flat_map-map}
 use Rattle.std.proofs.lemmas.List.Sums.{fold-append}
 use Rattle.kt_text.specs.Words.{Text}
 use Rattle.kt_rules.specs.declared.entry.Needs.{Needs}
 use Rattle.kt_rules.specs.Names.{is_among, with_name}
-use Rattle.kt_rules.specs.Suffixes.{all_needs}
 use Rattle.kt_graph.specs.nodes.Node.{Part}
 use Rattle.kt_graph.specs.inner.nodes.Stored.{StoredPart}
-use Rattle.kt_graph.specs.inner.nodes.Named.{put_together}
-use Rattle.kt_graph.specs.inner.nodes.Numbering.{StandFor, SaysNeeds, SaysPart, SayParts}
+use Rattle.kt_graph.specs.inner.nodes.Numbering.{AddsNumbers, StandFor, SaysNeeds, SaysPart, SayParts}
 
 -- no name is among none
 pub none_among : (names : List Text) (name : Text) → length names ≤ 0 → is_among names name ≡ false
@@ -104,76 +101,59 @@ pub parts_more : (names new needed : List Text) (expected : List Part) (parts : 
 parts_more names new needed expected parts one part grown h last =
     parts_push new expected parts one part (subst (λ l. SayParts l expected parts) (sym grown) (parts_kept names needed expected parts h)) last
 
--- ---- loops
+-- ---- steps
 
--- the names from a place on, where one more is reached
-pub reach_more : (names new all : List Text) (i : ℕ) (name : Text) → i < length all → name ≡ get_or all i name → new ≡ with_name names name
-    → fold with_name new (drop (i + 1) all) ≡ fold with_name names (drop i all)
-reach_more names new all i name h at grown =
-    ap (λ l. fold with_name l (drop (i + 1) all)) grown
-    ∙ sym (ap (λ l. fold with_name names l) (drop_more all i name h ∙ ap (λ x. x ∷ drop (i + 1) all) (sym at)))
+pub adds_none : (names : List Text) (numbers : List ℕ) → AddsNumbers names numbers [] names numbers
+adds_none names numbers = record { reached = refl; say = λ earlier h. subst (λ l. StandFor names l numbers) (sym (append-nil earlier)) h }
 
--- the numbers of names up to a place, after earlier ones
-pub names_said : (names new earlier all : List Text) (i : ℕ) (name : Text) (numbers more : List ℕ) (number : ℕ) → i < length all → name ≡ get_or all i name
-    → new ≡ with_name names name → slice_get new number ≡ Some name → more ≡ numbers ++ number ∷ []
-    → StandFor names (earlier ++ take i all) numbers → StandFor new (earlier ++ take (i + 1) all) more
-names_said names new earlier all i name numbers more number h at grown put pushed said =
-    let e : (earlier ++ take i all) ++ name ∷ [] ≡ earlier ++ take (i + 1) all
-    = append_assoc earlier (take i all) (name ∷ []) ∙ ap (λ x. earlier ++ (take i all ++ x ∷ [])) at ∙ ap (λ l. earlier ++ l) (sym (take_more all i name h)) in
-    subst (λ l. StandFor new l more) e
-    (subst (λ l. StandFor new ((earlier ++ take i all) ++ name ∷ []) l) (sym pushed)
-    (stand_more names new (earlier ++ take i all) name numbers number grown put said))
-
--- the numbers of the names before the remaining ones, after earlier numbers
-abbrev pub IsSaid : List Text → List Text → List Text → List Text → List ℕ → Type 0
-IsSaid names earlier all left numbers = (done : List Text) × (done ++ left ≡ all) × StandFor names (earlier ++ done) numbers
-
-pub said_start : (names earlier all left : List Text) (numbers : List ℕ) → left ≡ all → StandFor names earlier numbers → IsSaid names earlier all left numbers
-said_start names earlier all left numbers is said = ([], is, subst (λ l. StandFor names l numbers) (sym (append-nil earlier)) said)
-
-pub said_more : (names new earlier all left rest : List Text) (name : Text) (numbers more : List ℕ) (number : ℕ) → left ≡ name ∷ rest
-    → new ≡ with_name names name → slice_get new number ≡ Some name → more ≡ numbers ++ number ∷ []
-    → IsSaid names earlier all left numbers → IsSaid new earlier all rest more
-said_more names new earlier all left rest name numbers more number is grown put pushed said = (
-  said.0 ++ name ∷ [],
-  append_assoc said.0 (name ∷ []) rest ∙ sym (ap (λ l. said.0 ++ l) is) ∙ said.1,
-  subst (λ l. StandFor new l more) (append_assoc earlier said.0 (name ∷ []))
-      (subst (λ l. StandFor new ((earlier ++ said.0) ++ name ∷ []) l) (sym pushed)
-      (stand_more names new (earlier ++ said.0) name numbers number grown put said.2)),
-)
-
-pub said_end : (names earlier all left : List Text) (numbers : List ℕ) → left ≡ [] → IsSaid names earlier all left numbers → StandFor names (earlier ++ all) numbers
-said_end names earlier all left numbers none said =
-    let whole : said.0 ≡ all = sym (append-nil said.0) ∙ sym (ap (λ l. said.0 ++ l) none) ∙ said.1 in
-    subst (λ l. StandFor names (earlier ++ l) numbers) whole said.2
-
--- the prerequisites of rules, with the order-only ones last
-pub needs_reached : {B : Type 0} (of : B → Needs) (rules : List B) (old mid new : List Text) → mid ≡ fold with_name old (flat_map (λ r. (of r).prerequisites) rules)
-    → new ≡ fold with_name mid (flat_map (λ r. (of r).order_only) rules)
-    → new ≡ fold with_name old (all_needs (put_together (map of rules)))
-needs_reached of rules old mid new first second =
-    second ∙ ap (λ l. fold with_name l (flat_map (λ r. (of r).order_only) rules)) first
-    ∙ sym (fold-append with_name old (flat_map (λ r. (of r).prerequisites) rules) (flat_map (λ r. (of r).order_only) rules))
-    ∙ ap (λ l. fold with_name old (l ++ flat_map (λ r. (of r).order_only) rules)) (sym (flat_map-map (λ (n : Needs). n.prerequisites) of rules))
-    ∙ ap (λ l. fold with_name old (flat_map (λ (n : Needs). n.prerequisites) (map of rules) ++ l)) (sym (flat_map-map (λ (n : Needs). n.order_only) of rules))
-
-pub needs_said : {B : Type 0} (of : B → Needs) (rules : List B) (mid new : List Text) (these those : List ℕ)
-    → new ≡ fold with_name mid (flat_map (λ r. (of r).order_only) rules)
-    → StandFor mid (flat_map (λ r. (of r).prerequisites) rules) these
-    → StandFor new (flat_map (λ r. (of r).order_only) rules) those
-    → SaysNeeds new (put_together (map of rules)) these those
-needs_said of rules mid new these those grown first second = record {
-  prerequisites =
-      subst (λ l. StandFor new l these) (sym (flat_map-map (λ (n : Needs). n.prerequisites) of rules))
-      (subst (λ l. StandFor l (flat_map (λ r. (of r).prerequisites) rules) these) (sym grown)
-      (stand_kept mid (flat_map (λ r. (of r).order_only) rules) (flat_map (λ r. (of r).prerequisites) rules) these first));
-  order_only = subst (λ l. StandFor new l those) (sym (flat_map-map (λ (n : Needs). n.order_only) of rules)) second;
+pub adds_after : (names middle new first second : List Text) (numbers some more : List ℕ) → AddsNumbers names numbers first middle some → AddsNumbers middle some second new more
+    → AddsNumbers names numbers (first ++ second) new more
+adds_after names middle new first second numbers some more one other = record {
+  reached = other.reached ∙ ap (λ l. fold with_name l second) one.reached ∙ sym (fold-append with_name names first second);
+  say = λ earlier h. subst (λ l. StandFor new l more) (append_assoc earlier first second) (other.say (earlier ++ first) (one.say earlier h));
 }
 
--- the prerequisites of one more part
-pub part_reached : {B : Type 0} (needed : B → List Text) (parts : List B) (part : B) (old mid new : List Text) → mid ≡ fold with_name old (flat_map needed parts)
-    → new ≡ fold with_name mid (needed part) → new ≡ fold with_name old (flat_map needed (parts ++ part ∷ []))
-part_reached needed parts part old mid new first second =
-    second ∙ ap (λ l. fold with_name l (needed part)) first ∙ sym (fold-append with_name old (flat_map needed parts) (needed part))
-    ∙ ap (λ l. fold with_name old (flat_map needed parts ++ l)) (sym (append-nil (needed part)))
-    ∙ ap (λ l. fold with_name old l) (sym (flat_map-append needed parts (part ∷ [])))
+-- the numbers of the names before the remaining ones
+abbrev pub AddsUpTo : List Text → List ℕ → List Text → List Text → List Text → List ℕ → Type 0
+AddsUpTo names numbers all left new more = (done : List Text) × (done ++ left ≡ all) × AddsNumbers names numbers done new more
+
+pub added_more : (names middle new all left rest : List Text) (name : Text) (numbers some more : List ℕ) (number : ℕ) → left ≡ name ∷ rest
+    → new ≡ with_name middle name → slice_get new number ≡ Some name → more ≡ some ++ number ∷ []
+    → AddsUpTo names numbers all left middle some → AddsUpTo names numbers all rest new more
+added_more names middle new all left rest name numbers some more number is grown put pushed h = (
+  h.0 ++ name ∷ [],
+  append_assoc h.0 (name ∷ []) rest ∙ sym (ap (λ l. h.0 ++ l) is) ∙ h.1,
+  adds_after names middle new h.0 (name ∷ []) numbers some more h.2 (record {
+    reached = grown;
+    say = λ earlier stand.
+        subst (λ l. StandFor new (earlier ++ name ∷ []) l) (sym pushed) (stand_more middle new earlier name some number grown put stand);
+  }),
+)
+
+pub added_all : (names new all left : List Text) (numbers more : List ℕ) → left ≡ [] → AddsUpTo names numbers all left new more → AddsNumbers names numbers all new more
+added_all names new all left numbers more none h =
+    subst (λ l. AddsNumbers names numbers l new more) (sym (append-nil h.0) ∙ ap (λ l. h.0 ++ l) (sym none) ∙ h.1) h.2
+
+-- what the elements up to a place and one more give
+pub taken_more : {A B : Type 0} (f : B → List Text) (g : A → B) (xs : List A) (i : ℕ) (x : A) → i < length xs → x ≡ get_or xs i x
+    → flat_map f (map g (take (i + 1) xs)) ≡ flat_map f (map g (take i xs)) ++ f (g x)
+taken_more {A} f g xs i x h at =
+    ap (λ (l : List A). flat_map f (map g l)) (take_more xs i x h)
+    ∙ ap (λ y. flat_map f (map g (take i xs ++ y ∷ []))) (sym at)
+    ∙ ap (flat_map f) (map-append g (take i xs) (x ∷ []))
+    ∙ flat_map-append f (map g (take i xs)) (g x ∷ [])
+    ∙ ap (λ l. flat_map f (map g (take i xs)) ++ l) (append-nil (f (g x)))
+
+-- ---- prerequisites of both sorts
+
+pub both_said : (names middle new first second : List Text) (none also some numbers : List ℕ) → none ≡ [] → also ≡ [] → AddsNumbers names none first middle some
+    → AddsNumbers middle also second new numbers → SaysNeeds new (record { prerequisites = first; order_only = second }) some numbers
+both_said names middle new first second none also some numbers empty empty_too one other = record {
+  prerequisites = subst (λ l. StandFor l first some) (sym other.reached) (stand_kept middle second first some (one.say [] (ap (map (slice_get names)) empty)));
+  order_only = other.say [] (ap (map (slice_get middle)) empty_too);
+}
+
+pub both_reached : (names middle new first second : List Text) (none more some numbers : List ℕ) → AddsNumbers names none first middle some
+    → AddsNumbers middle more second new numbers → new ≡ fold with_name names (first ++ second)
+both_reached names middle new first second none more some numbers one other =
+    other.reached ∙ ap (λ l. fold with_name l second) one.reached ∙ sym (fold-append with_name names first second)

@@ -8,7 +8,7 @@ use Rattle.indexmap.proofs.CallerLemmas.{Contains-list_any}
 use Rattle.kt_text.specs.Words.{Text}
 use Rattle.kt_rules.specs.Entry.{Rule}
 use Rattle.kt_rules.specs.Names.{is_among, with_name, without_repeats}
-use Rattle.kt_graph.specs.inner.nodes.Named.{needed_by}
+use Rattle.kt_graph.specs.inner.nodes.Needed.{needed_by}
 use Rattle.kt_graph.specs.nodes.Node.{Node, all_inputs, inputs_of, node_of, order_only_of}
 use Rattle.kt_graph.specs.Reach.{HasInput, IsReached, Leads}
 use Rattle.kt_graph.proofs.lemmas.nodes.NumberLemmas.{names_grow}

@@ -1,30 +1,27 @@
 -- Steps of the work list, one after another, and which node a name has.
-use Rattle.std.proofs.Common.{◌≡◌, true, false, ◌≤◌, if◌then◌else◌, List, [], ◌∷◌, length, map, fold, take, Option, option_map, Result, Ok, Err, IfOk, OnOk, sym, ap, subst, ◌∙◌, arith}
+use Rattle.std.proofs.Common.{◌≡◌, Bool, true, false, ◌≤◌, if◌then◌else◌, ℕ, List, [], ◌∷◌, ◌++◌, length, map, fold, take, Option, None, option_map, refl, sym, ap, subst, ◌∙◌, arith}
 use Rattle.std.specs.List.{list_any}
-use Rattle.std.proofs.lemmas.List.{length-take, take-take}
-use Rattle.std.proofs.lemmas.Result.{IfOk-weaker, on_ok_weaker}
+use Rattle.std.proofs.lemmas.List.{append-nil, length-take, take-take, take_all}
 use Rattle.kt_text.specs.Words.{Text}
+use Rattle.kt_rules.specs.declared.entry.Needs.{Needs}
 use Rattle.kt_rules.specs.declared.entry.Target.{Target}
 use Rattle.kt_rules.specs.Book.{explicit_rules, is_double}
 use Rattle.kt_rules.specs.Entry.{Rule}
 use Rattle.kt_rules.specs.Names.{with_name}
-use Rattle.kt_rules.specs.Suffixes.{suffixes_of}
-use Rattle.kt_rules.specs.Targets.{needs_view}
-use Rattle.kt_graph.specs.declared.nodes.inferring.Inferred.{Inferred}
-use Rattle.kt_graph.specs.declared.nodes.named.Named.{Named}
-use Rattle.kt_graph.specs.declared.nodes.named.NamedPart.{NamedPart}
-use Rattle.kt_graph.specs.declared.nodes.node.NodeKind.TheVariants.{Implicit}
-use Rattle.kt_graph.specs.declared.nodes.node.Instance.{Instance as Held}
-use Rattle.kt_graph.specs.declared.nodes.stored_node.BuiltNode.{BuiltNode}
-use Rattle.kt_graph.specs.inner.nodes.Stored.{node_held}
+use Rattle.kt_rules.specs.Suffixes.{all_needs, suffixes_of}
 use Rattle.kt_graph.specs.declared.nodes.graph_builder.GraphBuilder.{GraphBuilder}
+use Rattle.kt_graph.specs.declared.nodes.node.NodeKind.{NodeKind}
+use Rattle.kt_graph.specs.declared.nodes.node.NodeKind.TheVariants.{DoubleColon, Implicit}
+use Rattle.kt_graph.specs.declared.nodes.inferring.Inferred.{Inferred}
 use Rattle.kt_graph.specs.inner.nodes.Inferring.{inferred_node}
-use Rattle.kt_graph.specs.inner.nodes.Named.{named_view, needed_by, needs_of_each, part_named, put_together}
-use Rattle.kt_graph.specs.nodes.Node.{Node, double_node, joined_needs, needs_after, node_by, node_of, node_with, searched, used_rule}
-use Rattle.kt_graph.specs.inner.nodes.Numbering.{SaysNode}
-use Rattle.kt_graph.specs.inner.nodes.GraphBuilder.{ReachesMore}
 use Rattle.kt_graph.specs.nodes.Views.{instance_view}
-use Rattle.kt_graph.proofs.lemmas.nodes.BuildingLemmas.{together_is}
+use Rattle.kt_graph.specs.declared.nodes.part.Numbered.{Numbered}
+use Rattle.kt_graph.specs.declared.nodes.part.Part.{Part as NewPart}
+use Rattle.kt_graph.specs.inner.nodes.Needed.{needed_by, needed_by_parts, part_with, single_node}
+use Rattle.kt_graph.specs.inner.nodes.Stored.{StoredNode, StoredPart, node_with, part_held}
+use Rattle.kt_graph.specs.nodes.Node.{Instance, Node, Part, bare_part, double_node, joined_needs, kind_without, needs_after, node_by, node_of, node_with as node_given, own_part, plain_node, searched, suffix_stem, used_rule}
+use Rattle.kt_graph.specs.inner.nodes.Numbering.{IsMaking, SayParts, SaysNeeds}
+use Rattle.kt_graph.specs.inner.nodes.GraphBuilder.{BuildsNode, ReachesMore}
 
 -- ---- steps
 
@@ -34,69 +31,125 @@ beginning xs ys zs first second =
     sym (take-take (length xs) (length ys) zs within) ∙ ap (take (length xs)) second ∙ first
 
 -- a search, and then a step
-pub grows_after : (old middle new : GraphBuilder) (needed : List Text) → ReachesMore old [] middle → ReachesMore middle needed new → ReachesMore old needed new
-grows_after old middle new needed first second = record {
-  book = second.book ∙ first.book;
-  known_names = second.known_names ∙ first.known_names;
-  finder_rules = second.finder_rules ∙ first.finder_rules;
-  finder_names = second.finder_names ∙ first.finder_names;
-  nodes = second.nodes ∙ first.nodes;
-  names = second.names ∙ ap (λ l. fold with_name l needed) first.names;
-  instances = beginning old.instances.keys middle.instances.keys new.instances.keys first.instances second.instances;
+pub builds_after : (old middle new : GraphBuilder) (expected : Node) → ReachesMore old [] [] middle → BuildsNode middle expected new → BuildsNode old expected new
+builds_after old middle new expected first second =
+    let grown = second.grown in
+    record {
+      node = second.node;
+      grown = record {
+        book = grown.book ∙ first.book;
+        known_names = grown.known_names ∙ first.known_names;
+        finder_rules = grown.finder_rules ∙ first.finder_rules;
+        finder_names = grown.finder_names ∙ first.finder_names;
+        nodes = grown.nodes ∙ ap (λ l. l ++ second.node ∷ []) (first.nodes ∙ append-nil old.nodes);
+        names = grown.names ∙ ap (λ l. fold with_name l (needed_by expected)) first.names;
+        instances = beginning old.instances.keys middle.instances.keys new.instances.keys first.instances grown.instances;
+      };
+      says = second.says;
+    }
+
+-- a node with one part
+pub holds_node : (old middle : GraphBuilder) (names : List Text) (numbered : Numbered) (nodes : List StoredNode) (name : Text) (kind : NodeKind) (part : NewPart) (needs : Needs)
+    (making : Option Instance) (made_with : Option ℕ) → middle ≡ record old { numbers = names; needs = numbered; instances = middle.instances }
+    → names ≡ fold with_name old.numbers (all_needs needs) → SaysNeeds names needs numbered.prerequisites.items numbered.order_only.items
+    → take (length old.instances.keys) middle.instances.keys ≡ old.instances.keys → IsMaking middle.instances.keys making made_with
+    → nodes ≡ middle.nodes ++ node_with kind made_with (part_held part middle.needs ∷ []) ∷ []
+    → BuildsNode old (single_node name kind part needs making) (record middle { nodes = nodes })
+holds_node old middle names numbered nodes name kind part needs making made_with others reached says kept made pushed =
+    let node = node_with kind made_with (part_held part middle.needs ∷ []) in
+    record {
+      node = node;
+      grown = record {
+        book = ap (λ (s : GraphBuilder). s.book) others;
+        known_names = ap (λ (s : GraphBuilder). s.known) others;
+        finder_rules = ap (λ (s : GraphBuilder). s.finder.rules) others;
+        finder_names = ap (λ (s : GraphBuilder). s.finder.known) others;
+        nodes = pushed ∙ ap (λ (s : GraphBuilder). s.nodes ++ node ∷ []) others;
+        names = ap (λ (s : GraphBuilder). s.numbers) others ∙ reached ∙ ap (fold with_name old.numbers) (sym (append-nil (all_needs needs)));
+        instances = kept;
+      };
+      says = record {
+        kind = refl;
+        parts = (
+          record {
+            recipe = refl;
+            stem = refl;
+            needs = subst (λ (s : GraphBuilder). SaysNeeds s.numbers needs s.needs.prerequisites.items s.needs.order_only.items) (sym others) says;
+          },
+          tt,
+        );
+        making = made;
+        inputs = refl;
+        order_only = refl;
+      };
+    }
+
+-- a double-colon node
+pub holds_double : (old : GraphBuilder) (names : List Text) (nodes : List StoredNode) (suffixes : List Text) (name : Text) (rules : List (Rule × Target)) (parts : List StoredPart)
+    → names ≡ fold with_name old.numbers (needed_by_parts (map (own_part suffixes) rules)) → SayParts names (map (own_part suffixes) rules) parts
+    → nodes ≡ old.nodes ++ node_with DoubleColon None parts ∷ []
+    → BuildsNode old (double_node suffixes name rules) (record old { numbers = names; nodes = nodes })
+holds_double old names nodes suffixes name rules parts reached say pushed = record {
+  node = node_with DoubleColon None parts;
+  grown = record {
+    book = refl;
+    known_names = refl;
+    finder_rules = refl;
+    finder_names = refl;
+    nodes = pushed;
+    names = reached;
+    instances = take_all (length old.instances.keys) old.instances.keys (omega arith);
+  };
+  says = record { kind = refl; parts = say; making = record { numbers = tt; told = refl }; inputs = refl; order_only = refl };
 }
+
+abbrev node_from : Text → NodeKind → Part → Option Instance → Node
+node_from name kind part made_with = record { name = name; kind = kind; parts = part ∷ []; made_with = made_with }
+
+-- what a node with one part is
+pub single_told : (name : Text) (kind : NodeKind) (part : NewPart) (needs given : Needs) (making made_with : Option Instance) (expected : Part)
+    → needs ≡ given → part_with part given ≡ expected → making ≡ made_with
+    → single_node name kind part needs making ≡ record { name = name; kind = kind; parts = expected ∷ []; made_with = made_with }
+single_told name kind part needs given making made_with expected is told made =
+    ap (λ n. single_node name kind part n making) is
+    ∙ ap (λ p. node_from name kind p making) told
+    ∙ ap (λ m. node_from name kind expected m) made
+
+-- the node of a name without recipe
+pub plain_told : (suffixes : List Text) (name : Text) (rules : List (Rule × Target)) (phony given : Bool) (kind : NodeKind) (part : NewPart) (needs : Needs)
+    → kind ≡ kind_without rules phony → phony ≡ given → part.recipe ≡ None → part.stem ≡ suffix_stem suffixes name → needs ≡ joined_needs rules
+    → single_node name kind part needs None ≡ plain_node suffixes name rules given
+plain_told suffixes name rules phony given kind part needs is same recipe stem joined =
+    let lines : option_map (λ lines. lines.now) part.recipe ≡ None = ap (option_map (λ lines. lines.now)) recipe in
+    let one : part_with part needs ≡ bare_part suffixes name (joined_needs rules) = cc in
+    ap (λ k. single_node name k part needs None) (is ∙ ap (kind_without rules) same) ∙ ap (λ p. node_from name (kind_without rules given) p None) one
+
+-- that of a chosen rule
+pub implicit_told : (name : Text) (rules : List (Rule × Target)) (inferred : Inferred) (part : NewPart) (needs : Needs)
+    → part.recipe ≡ inferred.recipe → part.stem ≡ inferred.stem → needs ≡ needs_after inferred.needs (joined_needs rules)
+    → single_node name Implicit part needs (option_map instance_view inferred.making) ≡ inferred_node name rules inferred
+implicit_told name rules inferred part needs recipe stem joined =
+    let lines : option_map (λ lines. lines.now) part.recipe ≡ option_map (λ lines. lines.now) inferred.recipe = ap (option_map (λ lines. lines.now)) recipe in
+    cc
 
 -- ---- which node
 
 -- that of the rules with two colons
 pub double_with : (rules : List Rule) (known : List Text) (name : Text) (made : List (Rule × Target)) → list_any (λ rule. is_double rule.0.kind) made ≡ true
-    → double_node (suffixes_of rules) name made ≡ node_with rules known name made
+    → double_node (suffixes_of rules) name made ≡ node_given rules known name made
 double_with rules known name made double =
     sym (ap (λ b. if b then double_node (suffixes_of rules) name made else node_by rules name made (used_rule made) (searched rules known name)) double)
 
 -- that of the rules with one colon
 pub single_with : (rules : List Rule) (known : List Text) (name : Text) (made : List (Rule × Target)) (used : Option (Rule × Target))
     → list_any (λ rule. is_double rule.0.kind) made ≡ false → used_rule made ≡ used
-    → node_by rules name made used (searched rules known name) ≡ node_with rules known name made
+    → node_by rules name made used (searched rules known name) ≡ node_given rules known name made
 single_with rules known name made used single found =
     sym (ap (λ o. node_by rules name made o (searched rules known name)) found)
     ∙ sym (ap (λ b. if b then double_node (suffixes_of rules) name made else node_by rules name made (used_rule made) (searched rules known name)) single)
 
 -- that of the explicit rules
 pub node_is : (rules : List Rule) (known : List Text) (name : Text) (made : List (Rule × Target)) → made ≡ explicit_rules rules name
-    → node_with rules known name made ≡ node_of rules known name
+    → node_given rules known name made ≡ node_of rules known name
 unfolding node_of
-node_is rules known name made is = ap (node_with rules known name) is
-
--- that of a chosen rule
-pub implicit_told : (name : Text) (rules : List (Rule × Target)) (inferred : Inferred) (named : Named) (part : NamedPart)
-    → named.kind ≡ Implicit → named.parts.items ≡ part ∷ [] → named.making ≡ inferred.making
-    → part.recipe ≡ inferred.recipe → part.stem ≡ inferred.stem → map needs_view part.needs.items ≡ inferred.needs ∷ needs_of_each rules
-    → named_view name named ≡ inferred_node name rules inferred
-implicit_told name rules inferred named part kind parts making recipe stem blocks =
-    let needs : put_together (map needs_view part.needs.items) ≡ needs_after inferred.needs (joined_needs rules)
-    = ap put_together blocks ∙ ap (needs_after inferred.needs) (together_is rules) in
-    let lines = ap (option_map (λ lines. lines.now)) recipe in
-    let all = ap (map part_named) parts in
-    let made = ap (option_map instance_view) making in
-    cc
-
--- ---- what is said of another node
-
--- what holds anyway holds if there is a result
-pub always_ok : {T E P : Type 0} (result : Result T E) → P → OnOk result P
-always_ok (Ok x) p = p
-always_ok (Err e) p = tt
-
--- where the nodes are equal
-pub said_too : {E : Type 0} (result : Result BuiltNode E) (names : List Text) (instances : List Held) (told expected : Text → Node)
-    → ((name : Text) → told name ≡ expected name) → IfOk result (λ node. (name : Text) → SaysNode names instances (told name) (node_held node))
-    → IfOk result (λ node. (name : Text) → SaysNode names instances (expected name) (node_held node))
-said_too result names instances told expected same said =
-    IfOk-weaker result (λ node. (name : Text) → SaysNode names instances (told name) (node_held node)) (λ node. (name : Text) → SaysNode names instances (expected name) (node_held node))
-    (λ node h name. subst (λ n. SaysNode names instances n (node_held node)) (same name) (h name)) said
-
-pub grown_too : {E : Type 0} (result : Result BuiltNode E) (old new : GraphBuilder) (told expected : Text → Node)
-    → ((name : Text) → told name ≡ expected name) → OnOk result ((name : Text) → ReachesMore old (needed_by (told name)) new)
-    → OnOk result ((name : Text) → ReachesMore old (needed_by (expected name)) new)
-grown_too result old new told expected same grown =
-    on_ok_weaker result (λ h name. subst (λ n. ReachesMore old (needed_by n) new) (same name) (h name)) grown
+node_is rules known name made is = ap (node_given rules known name) is

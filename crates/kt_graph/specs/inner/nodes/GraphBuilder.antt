@@ -1,5 +1,5 @@
 -- The names reached so far, and the nodes of the first of them, as the code holds them (kati's own).
-use Rattle.std.specs.Prelude.{◌≡◌, ℕ, ◌≤◌, List, [], length, fold, take, All, Some, slice_get}
+use Rattle.std.specs.Prelude.{◌≡◌, ℕ, ◌≤◌, List, [], ◌∷◌, ◌++◌, length, fold, take, All, Some, slice_get}
 use Rattle.std.specs.List.{Contains}
 use Rattle.kt_text.specs.Words.{Text}
 use Rattle.kt_rules.specs.Book.{patterns_of}
@@ -8,7 +8,8 @@ use Rattle.kt_rules.specs.Names.{with_name}
 use Rattle.kt_graph.specs.declared.nodes.node.Instance.{Instance as Held}
 use Rattle.kt_graph.specs.inner.nodes.Stored.{StoredNode}
 use Rattle.kt_graph.specs.declared.nodes.graph_builder.GraphBuilder.{GraphBuilder}
-use Rattle.kt_graph.specs.nodes.Node.{node_of}
+use Rattle.kt_graph.specs.inner.nodes.Needed.{needed_by}
+use Rattle.kt_graph.specs.nodes.Node.{Node, node_of}
 use Rattle.kt_graph.specs.inner.nodes.Numbering.{Says, SaysNode}
 use Rattle.kt_graph.specs.Reach.{IsReached}
 use Rattle.kt_graph.specs.nodes.Views.{name_at}
@@ -18,15 +19,21 @@ pub record IsOver (builder : GraphBuilder) : Type 0 where
   pub rules : builder.finder.rules ≡ patterns_of builder.book.now
   pub known_names : builder.finder.known ≡ builder.known.now
 
--- names are reached; those reached before and the makings keep their numbers, and all else stays
-pub record ReachesMore (old : GraphBuilder) (needed : List Text) (new : GraphBuilder) : Type 0 where
+-- names are reached and nodes added; those before and the makings keep their numbers, and all else stays
+pub record ReachesMore (old : GraphBuilder) (needed : List Text) (added : List StoredNode) (new : GraphBuilder) : Type 0 where
   pub book : new.book ≡ old.book
   pub known_names : new.known ≡ old.known
   pub finder_rules : new.finder.rules ≡ old.finder.rules
   pub finder_names : new.finder.known ≡ old.finder.known
-  pub nodes : new.nodes ≡ old.nodes
+  pub nodes : new.nodes ≡ old.nodes ++ added
   pub names : new.numbers ≡ fold with_name old.numbers needed
   pub instances : take (length old.instances.keys) new.instances.keys ≡ old.instances.keys
+
+-- the expected node comes after the others, and what it needs is reached
+pub record BuildsNode (old : GraphBuilder) (expected : Node) (new : GraphBuilder) : Type 0 where
+  pub node : StoredNode
+  pub grown : ReachesMore old (needed_by expected) (node ∷ []) new
+  pub says : SaysNode new.numbers new.instances.keys expected node
 
 -- goals are reached, and no node is built yet
 pub record IsBegun (goals : List Text) (builder : GraphBuilder) : Type 0 where

@@ -1,28 +1,13 @@
 -- Names and nodes by numbers, as the code holds them (kati's own).
-use Rattle.std.specs.Prelude.{◌≡◌, ℕ, ◌<◌, Bool, true, not, ◌&&◌, nat_eq, nat_lt, List, [], ◌∷◌, ◌++◌, length, map}
-use Rattle.std.specs.Prelude.{filter, flat_map, fold, All, Option, Some, IfSome, slice_get, if◌then◌else◌}
-use Rattle.std.specs.List.{AllZip, list_any}
+use Rattle.std.specs.Prelude.{◌≡◌, ℕ, ◌<◌, List, ◌++◌, length, map, fold, All, Option, Some, IfSome, slice_get}
+use Rattle.std.specs.List.{AllZip}
 use Rattle.kt_text.specs.Words.{Text}
 use Rattle.kt_rules.specs.declared.entry.Needs.{Needs}
+use Rattle.kt_rules.specs.Names.{with_name}
 use Rattle.kt_graph.specs.declared.nodes.node.Instance.{Instance as Held}
-use Rattle.kt_graph.specs.declared.nodes.stored_node.Part.{Part as HeldPart}
-use Rattle.kt_graph.specs.inner.nodes.Stored.{StoredNode, StoredPart}
+use Rattle.kt_graph.specs.inner.nodes.Stored.{StoredNode, StoredPart, input_numbers, order_only_numbers}
 use Rattle.kt_graph.specs.nodes.Node.{Instance, Node, Part}
 use Rattle.kt_graph.specs.nodes.Views.{instance_at, name_at, node_view}
-
--- numbers with one more at the end, unless they have it already
-abbrev pub with_number : List ℕ → ℕ → List ℕ
-with_number numbers number = if list_any (nat_eq number) numbers then numbers else numbers ++ number ∷ []
-
--- the first number is greater than a given one, and each other number than the one before it
-unfoldable pub rise_after : ℕ → List ℕ → Bool
-rise_after last [] = true
-rise_after last (number ∷ numbers) = nat_lt last number && rise_after number numbers
-
--- each number is greater than the one before it
-unfoldable pub rise : List ℕ → Bool
-rise [] = true
-rise (first ∷ numbers) = rise_after first numbers
 
 abbrev pub AreBelow : ℕ → List ℕ → Type 0
 AreBelow count numbers = All (λ number. number < count) numbers
@@ -31,27 +16,6 @@ AreBelow count numbers = All (λ number. number < count) numbers
 pub record IsNumbered (count : ℕ) (part : StoredPart) : Type 0 where
   pub prerequisites : AreBelow count part.prerequisites
   pub order_only : AreBelow count part.order_only
-
--- the prerequisites of parts, each once
-abbrev pub input_numbers : List StoredPart → List ℕ
-input_numbers parts = fold with_number [] (flat_map (λ part. part.prerequisites) parts)
-
--- the numbers that aren't among others
-abbrev pub numbers_without : List ℕ → List ℕ → List ℕ
-numbers_without others numbers = filter (λ number. not (list_any (nat_eq number) others)) numbers
-
--- the order-only prerequisites of parts, each once and without the inputs
-abbrev pub order_only_numbers : List StoredPart → List ℕ
-order_only_numbers parts =
-    fold with_number [] (numbers_without (input_numbers parts) (flat_map (λ part. part.order_only) parts))
-
--- the same for parts that aren't stored yet
-abbrev pub inputs_held : List HeldPart → List ℕ
-inputs_held parts = fold with_number [] (flat_map (λ part. part.needs.prerequisites.items) parts)
-
-abbrev pub order_only_held : List HeldPart → List ℕ
-order_only_held parts =
-    fold with_number [] (numbers_without (inputs_held parts) (flat_map (λ part. part.needs.order_only.items) parts))
 
 -- all numbers of a node are those of names and makings; its inputs are the prerequisites of its parts, each once
 pub record HasNumbers (names makings : ℕ) (node : StoredNode) : Type 0 where
@@ -71,6 +35,11 @@ pub record Says (names : List Text) (instances : List Held) (name : Text) (expec
 -- the numbers are those of the names
 abbrev pub StandFor : List Text → List Text → List ℕ → Type 0
 StandFor names expected numbers = map (slice_get names) numbers ≡ map Some expected
+
+-- the numbers of more names were added, and the names are reached
+pub record AddsNumbers (names : List Text) (numbers : List ℕ) (added new : List Text) (more : List ℕ) : Type 0 where
+  pub reached : new ≡ fold with_name names added
+  pub say : (earlier : List Text) → StandFor names earlier numbers → StandFor new (earlier ++ added) more
 
 pub record SaysNeeds (names : List Text) (expected : Needs) (needed others : List ℕ) : Type 0 where
   pub prerequisites : StandFor names expected.prerequisites needed

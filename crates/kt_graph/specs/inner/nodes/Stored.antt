@@ -1,16 +1,19 @@
 -- Nodes as the graph holds them: with numbers for names, and with the lists of all nodes in one (kati's own).
-use Rattle.std.specs.Prelude.{◌≡◌, ℕ, ◌≤◌, List, [], ◌++◌, ◌∷◌, length, map, All, Option, None, option_map, get_or}
+use Rattle.std.specs.Prelude.{◌≡◌, ℕ, ◌≤◌, ◌<◌, ◌+◌, List, [], ◌++◌, length, map, All, Option, None, option_map}
+use Rattle.std.specs.Prelude.{flat_map, fold, get_or}
 use Rattle.std.specs.List.{slice_range}
 use Rattle.kt_text.specs.Words.{Text}
 use Rattle.kt_rules.specs.declared.entry.RecipeLine.{RecipeLine}
 use Rattle.kt_graph.specs.declared.nodes.node.NodeKind.{NodeKind}
 use Rattle.kt_graph.specs.declared.nodes.node.NodeKind.TheVariants.{Leaf}
-use Rattle.kt_graph.specs.declared.nodes.stored_node.Part.{Part}
-use Rattle.kt_graph.specs.declared.nodes.stored_node.BuiltNode.{BuiltNode}
+use Rattle.kt_graph.specs.declared.nodes.part.Numbered.{Numbered}
+use Rattle.kt_graph.specs.declared.nodes.part.NumberedPart.{NumberedPart}
+use Rattle.kt_graph.specs.declared.nodes.part.Part.{Part}
 use Rattle.kt_graph.specs.declared.nodes.stored.Head.{Head}
 use Rattle.kt_graph.specs.declared.nodes.stored.HeldPart.{HeldPart}
 use Rattle.kt_graph.specs.declared.nodes.stored.SeenPart.{SeenPart}
 use Rattle.kt_graph.specs.declared.nodes.stored.Span.{Span}
+use Rattle.kt_graph.specs.inner.nodes.Inputs.{numbers_without, with_number}
 
 -- a recipe with the stem and prerequisites for its automatic macros; the prerequisites in order and with repeats
 pub record StoredPart : Type 0 where
@@ -37,55 +40,65 @@ stored_at nodes number = get_or nodes number (record {
   order_only = [];
 })
 
+-- the prerequisites of parts, each once
+abbrev pub input_numbers : List StoredPart → List ℕ
+input_numbers parts = fold with_number [] (flat_map (λ part. part.prerequisites) parts)
+
+-- the order-only prerequisites of parts, each once and without the inputs
+abbrev pub order_only_numbers : List StoredPart → List ℕ
+order_only_numbers parts =
+    fold with_number [] (numbers_without (input_numbers parts) (flat_map (λ part. part.order_only) parts))
+
+-- a node with these parts
+abbrev pub node_with : NodeKind → Option ℕ → List StoredPart → StoredNode
+node_with kind made_with parts = record {
+  kind = kind;
+  parts = parts;
+  made_with = made_with;
+  inputs = input_numbers parts;
+  order_only = order_only_numbers parts;
+}
+
 -- ---- before they are stored
 
-abbrev pub part_held : Part → StoredPart
-part_held part = record {
+abbrev pub part_held : Part → Numbered → StoredPart
+part_held part needs = record {
   recipe = option_map (λ lines. lines.now) part.recipe;
   stem = part.stem;
-  prerequisites = part.needs.prerequisites.items;
-  order_only = part.needs.order_only.items;
+  prerequisites = needs.prerequisites.items;
+  order_only = needs.order_only.items;
 }
 
-abbrev pub parts_held : List Part → List StoredPart
-parts_held parts = map part_held parts
-
-abbrev pub node_held : BuiltNode → StoredNode
-node_held node = record {
-  kind = node.kind;
-  parts = parts_held node.parts.items;
-  made_with = node.made_with;
-  inputs = node.inputs.items;
-  order_only = node.order_only.items;
-}
+abbrev pub parts_held : List NumberedPart → List StoredPart
+parts_held parts = map (λ one. part_held one.part one.needs) parts
 
 -- ---- in one list
 
 abbrev pub cut : {A : Type 0} → List A → Span → List A
 cut items span = slice_range items span.start span.end
 
-abbrev pub part_stored : List ℕ → HeldPart → StoredPart
-part_stored numbers part = record {
+abbrev pub part_stored : List (List ℕ) → HeldPart → StoredPart
+part_stored rows part = record {
   recipe = option_map (λ lines. lines.now) part.recipe;
   stem = part.stem;
-  prerequisites = cut numbers part.prerequisites;
-  order_only = cut numbers part.order_only;
+  prerequisites = get_or rows part.needs [];
+  order_only = get_or rows (part.needs + 1) [];
 }
 
-abbrev pub parts_stored : List ℕ → List HeldPart → List StoredPart
-parts_stored numbers parts = map (part_stored numbers) parts
+abbrev pub parts_stored : List (List ℕ) → List HeldPart → List StoredPart
+parts_stored rows parts = map (part_stored rows) parts
 
-abbrev pub node_stored : List HeldPart → List ℕ → Head → StoredNode
-node_stored parts numbers head = record {
+abbrev pub node_stored : List HeldPart → List (List ℕ) → Head → StoredNode
+node_stored parts rows head = record {
   kind = head.kind;
-  parts = parts_stored numbers (cut parts head.parts);
+  parts = parts_stored rows (cut parts head.parts);
   made_with = head.made_with;
-  inputs = cut numbers head.inputs;
-  order_only = cut numbers head.order_only;
+  inputs = get_or rows head.inputs [];
+  order_only = get_or rows (head.inputs + 1) [];
 }
 
-abbrev pub nodes_stored : List HeldPart → List ℕ → List Head → List StoredNode
-nodes_stored parts numbers heads = map (node_stored parts numbers) heads
+abbrev pub nodes_stored : List HeldPart → List (List ℕ) → List Head → List StoredNode
+nodes_stored parts rows heads = map (node_stored parts rows) heads
 
 abbrev pub part_seen : SeenPart → StoredPart
 part_seen part = record {
@@ -100,19 +113,18 @@ pub record IsWithin (count : ℕ) (span : Span) : Type 0 where
   pub rises : span.start ≤ span.end
   pub ends : span.end ≤ count
 
-pub record IsPartWithin (count : ℕ) (part : HeldPart) : Type 0 where
-  pub prerequisites : IsWithin count part.prerequisites
-  pub order_only : IsWithin count part.order_only
+-- so is each of two rows
+abbrev pub IsPartWithin : ℕ → HeldPart → Type 0
+IsPartWithin count part = part.needs + 1 < count
 
-pub record IsHeadWithin (many_parts many_numbers : ℕ) (head : Head) : Type 0 where
+pub record IsHeadWithin (many_parts many_rows : ℕ) (head : Head) : Type 0 where
   pub parts : IsWithin many_parts head.parts
-  pub inputs : IsWithin many_numbers head.inputs
-  pub order_only : IsWithin many_numbers head.order_only
+  pub inputs : head.inputs + 1 < many_rows
 
--- all places are in the lists of parts and numbers
-pub record AreStored (parts : List HeldPart) (numbers : List ℕ) (heads : List Head) : Type 0 where
-  pub parts_within : All (IsPartWithin (length numbers)) parts
-  pub heads_within : All (IsHeadWithin (length parts) (length numbers)) heads
+-- all places are in the lists of parts and rows
+pub record AreStored (parts : List HeldPart) (rows : List (List ℕ)) (heads : List Head) : Type 0 where
+  pub parts_within : All (IsPartWithin (length rows)) parts
+  pub heads_within : All (IsHeadWithin (length parts) (length rows)) heads
 
 -- ---- steps
 
@@ -120,31 +132,26 @@ pub record AreStored (parts : List HeldPart) (numbers : List ℕ) (heads : List 
 abbrev pub HasMore : {A : Type 0} → List A → List A → Type 0
 HasMore {A} old new = (more : List A) × (new ≡ old ++ more)
 
--- parts and numbers were added at the end
-pub record Grew (parts : List HeldPart) (numbers : List ℕ) (new_parts : List HeldPart)
-    (new_numbers : List ℕ) : Type 0 where
+-- parts and rows were added at the end
+pub record Grew (parts : List HeldPart) (rows : List (List ℕ)) (new_parts : List HeldPart)
+    (new_rows : List (List ℕ)) : Type 0 where
   pub more_parts : HasMore parts new_parts
-  pub more_numbers : HasMore numbers new_numbers
-  pub within : All (IsPartWithin (length numbers)) parts → All (IsPartWithin (length new_numbers)) new_parts
+  pub more_rows : HasMore rows new_rows
+  pub within : All (IsPartWithin (length rows)) parts → All (IsPartWithin (length new_rows)) new_parts
 
--- the places of some numbers
-pub record IsSpanOf (numbers expected : List ℕ) (span : Span) : Type 0 where
-  pub within : IsWithin (length numbers) span
-  pub are : cut numbers span ≡ expected
+-- the place of two rows
+pub record AreRowsOf (rows : List (List ℕ)) (first second : List ℕ) (place : ℕ) : Type 0 where
+  pub within : place + 1 < length rows
+  pub one : get_or rows place [] ≡ first
+  pub other : get_or rows (place + 1) [] ≡ second
 
--- the places of some parts
-pub record ArePartsOf (parts : List HeldPart) (numbers : List ℕ) (expected : List StoredPart)
-    (span : Span) : Type 0 where
-  pub within : IsWithin (length parts) span
-  pub are : parts_stored numbers (cut parts span) ≡ expected
-
--- one part was added at the end
-pub record PutsPart (parts new_parts : List HeldPart) (numbers : List ℕ) (expected : StoredPart) : Type 0 where
-  pub part : HeldPart
-  pub put : new_parts ≡ parts ++ part ∷ []
-  pub is : part_stored numbers part ≡ expected
+-- parts were added at the end
+pub record PutsParts (parts new_parts : List HeldPart) (rows : List (List ℕ)) (expected : List StoredPart) : Type 0 where
+  pub more : List HeldPart
+  pub put : new_parts ≡ parts ++ more
+  pub are : parts_stored rows more ≡ expected
 
 -- a node without its lists
-pub record IsHeadOf (parts : List HeldPart) (numbers : List ℕ) (expected : StoredNode) (head : Head) : Type 0 where
-  pub within : IsHeadWithin (length parts) (length numbers) head
-  pub is : node_stored parts numbers head ≡ expected
+pub record IsHeadOf (parts : List HeldPart) (rows : List (List ℕ)) (expected : StoredNode) (head : Head) : Type 0 where
+  pub within : IsHeadWithin (length parts) (length rows) head
+  pub is : node_stored parts rows head ≡ expected

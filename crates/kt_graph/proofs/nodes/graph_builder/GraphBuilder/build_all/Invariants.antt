@@ -2,8 +2,8 @@ use Rattle.std.proofs.Common.{◌-◌, ◌^◌, length}
 use Rattle.kt_graph.proofs.lemmas.nodes.BuilderLemmas.{HasBuilt}
 use Rattle.kt_graph.proofs.nodes.graph_builder.GraphBuilder.build_all.Given as goal
 
-abbrev pub invariant-loop-name : goal.invariant-loop-name
-invariant-loop-name l = HasBuilt l.fn.self l.self
+abbrev pub invariant-loop-rules : goal.invariant-loop-rules
+invariant-loop-rules l = HasBuilt l.fn.self l.self
 
-abbrev pub decreases-loop-name : goal.decreases-loop-name
-decreases-loop-name l = 2 ^ 63 - length l.self.nodes
+abbrev pub decreases-loop-rules : goal.decreases-loop-rules
+decreases-loop-rules l = 2 ^ 63 - length l.self.nodes

@@ -1,23 +1,18 @@
-use Rattle.std.proofs.Common.{◌∙◌, ap, sym, fold}
-use Rattle.std.proofs.lemmas.List.Folds.{flat_map-map}
-use Rattle.kt_rules.specs.Names.{with_name}
-use Rattle.kt_rules.specs.Suffixes.{all_needs}
-use Rattle.kt_graph.specs.declared.nodes.graph_builder.GraphBuilder.{GraphBuilder}
-use Rattle.kt_graph.specs.inner.nodes.Named.{part_named}
-use Rattle.kt_graph.specs.nodes.Node.{Part}
-use Rattle.kt_graph.proofs.lemmas.nodes.StepLemmas.{always_ok}
+use Rattle.std.proofs.Common.{◌≡◌, ◌++◌, ◌∷◌, []}
+use Rattle.std.proofs.lemmas.Result.{on_ok_weaker}
+use Rattle.std.specs.Option.{option_map}
+use Rattle.kt_graph.specs.inner.nodes.Needed.{needing_view}
+use Rattle.kt_graph.specs.inner.nodes.Stored.{node_with, part_held}
+use Rattle.kt_graph.specs.nodes.Views.{instance_view}
+use Rattle.kt_graph.proofs.lemmas.nodes.StepLemmas.{holds_node}
 use Rattle.kt_graph.proofs.nodes.graph_builder.GraphBuilder.hold.Goals as goal
 
-pub returns-clause-grown : goal.returns-clause-grown
-returns-clause-grown c =
-    let others = c.in_ok-made_with.ensures.others in
-    always_ok c.new.result (λ name. record {
-      book = ap (λ (s : GraphBuilder). s.book) others;
-      known_names = ap (λ (s : GraphBuilder). s.known) others;
-      finder_rules = ap (λ (s : GraphBuilder). s.finder.rules) others;
-      finder_names = ap (λ (s : GraphBuilder). s.finder.known) others;
-      nodes = ap (λ (s : GraphBuilder). s.nodes) others;
-      names = ap (λ (s : GraphBuilder). s.numbers) others ∙ c.in_ok-parts.ensures.reached
-          ∙ ap (fold with_name c.args.self.now.numbers) (sym (flat_map-map (λ (part : Part). all_needs part.needs) part_named c.args.named.parts.items));
-      instances = c.in_ok-made_with.ensures.kept;
-    })
+pub returns : goal.returns
+returns c =
+    let middle = c.making.new.self in
+    let made_with = c.in_ok-made_with.made_with in
+    on_ok_weaker c.push.result
+    (λ (h : c.push.new.self ≡ middle.nodes ++ node_with c.args.kind made_with (part_held c.args.part middle.needs ∷ []) ∷ []) name.
+    holds_node c.args.self.now middle c.number_needs.new.self c.number_needs.new.numbered c.push.new.self name c.args.kind c.args.part
+    (needing_view c.args.needing) (option_map instance_view c.args.making) made_with c.in_ok-made_with.ensures.others
+    c.in_ok-number_needs.ensures.reached c.in_ok-number_needs.ensures.says c.in_ok-made_with.ensures.kept c.in_ok-made_with.ensures.making h) c.push.ensures

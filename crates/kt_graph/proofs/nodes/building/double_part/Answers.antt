@@ -1,0 +1,28 @@
+use Rattle.std.proofs.Common.{◌≡◌, ◌∙◌, ap, fold, subst}
+use Rattle.kt_rules.specs.Entry.{needs_for}
+use Rattle.kt_rules.specs.Names.{with_name}
+use Rattle.kt_rules.specs.Slots.{rule_view}
+use Rattle.kt_rules.specs.Suffixes.{all_needs}
+use Rattle.kt_rules.specs.Targets.{needs_view}
+use Rattle.kt_graph.specs.inner.nodes.Needed.{needing_view}
+use Rattle.kt_graph.specs.inner.nodes.Numbering.{SaysNeeds}
+use Rattle.kt_graph.specs.nodes.Node.{Part}
+use Rattle.kt_graph.proofs.lemmas.nodes.BuildingLemmas.{joined_own}
+use Rattle.kt_graph.proofs.nodes.building.double_part.Goals as goal
+
+pub returns-clause-says : goal.returns-clause-says
+returns-clause-says c =
+    let made = rule_view c.args.rule in
+    let needs = needs_for made.0 made.1 in
+    let numbered = c.number_needs.new.numbered in
+    let told : needing_view c.after-needing.result ≡ needs = c.after-needing.ensures ∙ joined_own (needs_view c.needs.result) ∙ c.needs.ensures in
+    record {
+      recipe = ap (λ (p : Part). p.recipe) (c.of_rule.ensures needs);
+      stem = ap (λ (p : Part). p.stem) (c.of_rule.ensures needs);
+      needs = subst (λ n. SaysNeeds c.number_needs.new.self n numbered.prerequisites.items numbered.order_only.items) told c.in_ok-number_needs.ensures.says;
+    }
+
+pub returns-clause-reached : goal.returns-clause-reached
+returns-clause-reached c =
+    c.in_ok-number_needs.ensures.reached
+    ∙ ap (λ n. fold with_name c.args.names.now (all_needs n)) (c.after-needing.ensures ∙ joined_own (needs_view c.needs.result) ∙ c.needs.ensures)

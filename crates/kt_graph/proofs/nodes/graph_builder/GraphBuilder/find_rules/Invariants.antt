@@ -1,0 +1,8 @@
+use Rattle.std.proofs.Common.{◌≡◌, ◌++◌, map}
+use Rattle.kt_rules.specs.Book.{explicit_rules}
+use Rattle.kt_rules.specs.Slots.{rule_view}
+use Rattle.kt_graph.specs.inner.nodes.Reached.{reached_text}
+use Rattle.kt_graph.proofs.nodes.graph_builder.GraphBuilder.find_rules.Given as goal
+
+abbrev pub invariant-loop-rule : goal.invariant-loop-rule
+invariant-loop-rule l = map rule_view l.rules.items ++ l.rule-iterator ≡ explicit_rules l.self.book.now (reached_text l.name)

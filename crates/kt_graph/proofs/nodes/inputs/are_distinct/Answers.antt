@@ -1,0 +1,17 @@
+use Rattle.std.proofs.Common.{sym, ◌∙◌, ap, subst}
+use Rattle.std.specs.List.Sorted.{IsPermutation}
+use Rattle.kt_graph.specs.inner.nodes.Inputs.{rise}
+use Rattle.kt_graph.proofs.lemmas.nodes.InputLemmas.{differ_distinct, rising_distinct, sorted_distinct}
+use Rattle.kt_graph.proofs.nodes.inputs.are_distinct.Goals as goal
+
+pub returns-then-rise : goal.returns-then-rise
+returns-then-rise c = λ _. rising_distinct c.args.numbers.now (sym c.rise.ensures ∙ c.if-rise.true)
+
+pub returns : goal.returns
+returns c = λ told.
+    let moved = subst (λ xs. IsPermutation xs c.sort_unstable.new.self.items) c.in_ok-sorted.ensures.items c.sort_unstable.ensures.permutation in
+    sorted_distinct c.args.numbers.now c.sort_unstable.new.self.items moved
+    (ap rise (sym c.as_slice.ensures.value) ∙ sym c.rise-2.ensures ∙ told)
+
+pub returns-then-numbers-le-FEW : goal.returns-then-numbers-le-FEW
+returns-then-numbers-le-FEW c = λ told. differ_distinct c.args.numbers.now (sym c.differ.ensures ∙ told)
