@@ -1,7 +1,8 @@
 //! The names that the rules of a book mention.
 ghost use Rattle.std.specs.Prelude.{◌≡◌, ◌||◌, List, bytes_eq, codes, false, find, flat_map, get_or, length};
-ghost use Rattle.std.specs.Prelude.{option_map, IfOk, OnOk};
+ghost use Rattle.std.specs.Prelude.{option_map, unwrap_or, IfOk, OnOk};
 ghost use Rattle.kt_text.specs.Words.{Text};
+ghost use Rattle.kt_list.specs.Names.{place_of};
 ghost use Rattle.kt_rules.specs.Known.{named_by, named_with};
 ghost use Rattle.kt_rules.specs.Entry.{needs_for};
 ghost use Rattle.kt_rules.specs.Names.{is_among};
@@ -89,6 +90,19 @@ impl<'a> BookNames<'a> {
             Some(number) => self.marks.has_number(number),
             None => self.marks.others.contains(name),
         }
+    }
+
+    /// The names as they are held: all names of the book, a mark for each by its number, and other names.
+    pub fn marked(&self) -> (&Names, &[bool], &Names)
+        ensures { (name : Text) → is_among self.now name
+            ≡ unwrap_or (option_map (λ number. get_or result.1.now number false) (place_of result.0.now name))
+            (is_among result.2.now name) }
+    {
+        (
+            self.rules.names(),
+            self.marks.numbers.as_slice(),
+            &self.marks.others,
+        )
     }
 }
 
