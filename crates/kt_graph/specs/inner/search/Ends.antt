@@ -1,5 +1,6 @@
 -- Rules by the ends of their targets, as the code holds them (kati's own).
-use Rattle.std.specs.Prelude.{◌≡◌, ℕ, ◌-◌, ◌≤◌, ◌++◌, false, All, List, drop, length, filter_map, slice_get, Option, Some}
+use Rattle.std.specs.Prelude.{◌≡◌, ℕ, ◌-◌, ◌≤◌, ◌++◌, false, All, List, drop, length, filter_map}
+use Rattle.std.specs.Prelude.{slice_get, Option, Some}
 use Rattle.std.specs.List.{Contains}
 use Rattle.std.specs.Option.{option_and_then}
 use Rattle.kt_text.specs.Words.{Text}
