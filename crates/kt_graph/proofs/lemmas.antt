@@ -4,3 +4,4 @@ pub mod nodes
 pub mod faults
 pub mod Membership
 pub mod MemberLemmas
+pub mod EndMarkLemmas

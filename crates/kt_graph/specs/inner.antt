@@ -2,3 +2,4 @@
 pub mod search
 pub mod nodes
 pub mod faults
+pub mod EndMarks

@@ -1,10 +1,15 @@
 //! The names that the search takes to exist.
-ghost use Rattle.std.specs.Prelude.{◌≡◌, fold, IfOk, OnOk};
+ghost use Rattle.std.specs.Prelude.{◌≡◌, ◌≤◌, ◌++◌, false, fold, length, IfOk, OnOk};
 ghost use Rattle.kt_rules.specs.Names.{is_among, with_name};
+ghost use Rattle.kt_text.specs.Words.{Text};
 ghost use Rattle.kt_graph.specs.Known.{known_names, listed_names};
+ghost use Rattle.kt_graph.specs.inner.EndMarks.{AreMarked, KeepsEnds, with_end};
+
+mod end_marks;
 
 use crate::nodes::numbering::NameNumbers;
 use bstr::ByteSlice;
+use end_marks::EndMarks;
 use kt_rules::{Book, BookNames, without_dots};
 use std::alloc::{AllocError, Global};
 use std::marker::Model;
@@ -17,6 +22,8 @@ pub struct Known<'a> {
     book: BookNames<'a>,
     // The names of the list of files.
     list: NameNumbers<'a>,
+    // Marks for the ends of both.
+    ends: EndMarks,
 }
 
 impl<'a> Model for Known<'a> {
@@ -25,8 +32,11 @@ impl<'a> Model for Known<'a> {
     ghost Value = { List (List ℕ) };
 
     ghost use Rattle.kt_rules.specs.Names.{with_name};
+    ghost use Rattle.kt_graph.specs.inner.EndMarks.{AreMarked};
 
     ghost view = { λ known. fold with_name known.list known.book };
+
+    ghost invariant = { λ known. AreMarked known.ends.marks.items (fold with_name known.list known.book) };
 }
 
 impl<'a> Known<'a> {
@@ -38,28 +48,61 @@ impl<'a> Known<'a> {
         // Without a list, no name of the book is one of its names.
         let room = if files.is_empty() { 0 } else { table.len() };
         let mut list = NameNumbers::with_room(alloc, table, room)?;
-        add_listed(&mut list, files)?;
+        let mut ends = EndMarks::none(alloc)?;
+        add_listed(&mut list, &mut ends, files)?;
         let book = book.names()?;
-        Ok(Known { book, list })
+        mark_named(&mut ends, &book);
+        Ok(Known { book, list, ends })
     }
 
     /// Whether a name is known. Takes no memory.
-    #[tactic(auto, using(kt_rules::proofs::BookLemmas::among_fold))]
     pub fn contains(&self, name: &[u8]) -> bool
+        ensures { result ≡ is_among self.now name.now }
+    {
+        self.ends.is_marked(name) && self.has(name)
+    }
+
+    // The same, by looking the name up.
+    #[tactic(auto, using(kt_rules::proofs::BookLemmas::among_fold))]
+    fn has(&self, name: &[u8]) -> bool
         ensures { result ≡ is_among self.now name.now }
     {
         self.list.contains(name) || self.book.contains(name)
     }
+
+    /// Whether a known name may end with a text of at least two bytes. Takes no memory.
+    pub(crate) fn may_end(&self, end: &[u8]) -> bool
+        ensures { result ≡ false → 2 ≤ length end.now → (front : Text) → is_among self.now (front ++ end.now) ≡ false }
+    {
+        self.ends.is_marked(end)
+    }
 }
 
-// Adds the names of a list, one per line.
+// Marks the ends of a book's names.
+fn mark_named(ends: &mut EndMarks, book: &BookNames<'_>)
+    ensures kept { KeepsEnds ends.old.marks.items ends.new.marks.items }
+    ensures marked { AreMarked ends.new.marks.items book.now }
+{
+    let (names, chosen, others) = book.marked();
+    ends.mark_chosen(names, chosen);
+    ends.mark_all(others);
+}
+
+// Adds the names of a list, one per line, and marks their ends.
 #[tactic(auto, unfolding(crate::specs::Known::listed_names))]
-fn add_listed(names: &mut NameNumbers<'_>, files: &[u8]) -> Result<(), AllocError>
-    ensures { OnOk result (names.new ≡ fold with_name names.old (listed_names files.now)) }
+fn add_listed(
+    names: &mut NameNumbers<'_>,
+    ends: &mut EndMarks,
+    files: &[u8],
+) -> Result<(), AllocError>
+    ensures added { OnOk result (names.new ≡ fold with_name names.old (listed_names files.now)) }
+    ensures marked { OnOk result (ends.new.marks.items ≡ fold with_end ends.old.marks.items (listed_names files.now)) }
 {
     for name in files.lines() {
         if !name.is_empty() {
-            names.add(without_dots(name))?;
+            let name = without_dots(name);
+            names.add(name)?;
+            ends.mark(name);
         }
     }
     Ok(())

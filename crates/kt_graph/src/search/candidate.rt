@@ -80,7 +80,7 @@ fn left_out(pattern: &[u8], name: &[u8]) -> usize
     }
 }
 
-fn has_slash(text: &[u8]) -> bool
+pub(crate) fn has_slash(text: &[u8]) -> bool
     ensures { result ≡ has_slash text.now }
 {
     memchr(b'/', text).is_some()

@@ -75,8 +75,8 @@ impl Ends {
     }
 }
 
-// The text after the first percent sign of a pattern.
-fn end_of(pattern: &[u8]) -> &[u8]
+/// The text after the first percent sign of a pattern.
+pub(crate) fn end_of(pattern: &[u8]) -> &[u8]
     ensures { result.now ≡ pattern_back pattern.now }
 {
     match memchr(b'%', pattern) {

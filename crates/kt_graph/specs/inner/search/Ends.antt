@@ -1,5 +1,6 @@
 -- Rules by the ends of their targets, as the code holds them (kati's own).
-use Rattle.std.specs.Prelude.{◌≡◌, ℕ, ◌-◌, ◌≤◌, All, List, drop, length, filter_map, slice_get, Option, Some}
+use Rattle.std.specs.Prelude.{◌≡◌, ℕ, ◌-◌, ◌≤◌, ◌++◌, false, All, List, drop, length, filter_map}
+use Rattle.std.specs.Prelude.{slice_get, Option, Some}
 use Rattle.std.specs.List.{Contains}
 use Rattle.std.specs.Option.{option_and_then}
 use Rattle.kt_text.specs.Words.{Text}
@@ -8,7 +9,7 @@ use Rattle.kt_rules.specs.declared.entry.Target.{Target}
 use Rattle.kt_rules.specs.Entry.{Rule}
 use Rattle.kt_rules.specs.Indexes.{noted_at}
 use Rattle.kt_graph.specs.declared.search.ends.Ends.{Ends}
-use Rattle.kt_graph.specs.search.Candidates.{Candidate, candidate_of}
+use Rattle.kt_graph.specs.search.Candidates.{Candidate, candidate_of, has_slash}
 
 -- the numbers at an end
 abbrev pub numbers_at : Ends → Text → List ℕ
@@ -51,3 +52,10 @@ candidate_numbered rules name number = option_and_then (λ rule. candidate_of nu
 
 abbrev pub candidates_numbered : List Rule → Text → List ℕ → List Candidate
 candidates_numbered rules name numbers = filter_map (candidate_numbered rules name) numbers
+
+-- a text ends with two bytes, none of which is a slash
+pub record IsFixedEnd (text end : Text) : Type 0 where
+  pub front : Text
+  pub cut : text ≡ front ++ end
+  pub two : length end ≡ 2
+  pub plain : has_slash end ≡ false

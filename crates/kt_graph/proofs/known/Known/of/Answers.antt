@@ -5,7 +5,15 @@ use Rattle.kt_text.specs.Words.{Text}
 use Rattle.kt_rules.specs.Names.{with_name, without_repeats}
 use Rattle.kt_rules.specs.Suffixes.{suffixes_of}
 use Rattle.kt_graph.specs.Known.{known_names, listed_names, named_by}
+use Rattle.kt_graph.proofs.lemmas.EndMarkLemmas.{both_marked}
 use Rattle.kt_graph.proofs.known.Known.of.Goals as goal
+
+pub invariant_of-result : goal.invariant_of-result
+invariant_of-result c =
+    let listed = listed_names c.args.files.now in
+    both_marked c.in_ok-ends.ends.marks.items c.add_listed.new.ends.marks.items c.mark_named.new.ends.marks.items listed c.add_listed.new.names
+    c.in_ok-book.book (c.in_ok-add_listed.ensures.added ∙ ap (λ (names : List Text). fold with_name names listed) c.in_ok-list.ensures)
+    c.in_ok-add_listed.ensures.marked c.mark_named.ensures.kept c.mark_named.ensures.marked
 
 pub returns : goal.returns
 unfolding known_names without_repeats
@@ -14,5 +22,5 @@ returns c =
     let listed = listed_names c.args.files.now in
     let named = flat_map (named_by (suffixes_of rules)) rules in
     ap (fold with_name c.add_listed.new.names) c.in_ok-book.ensures
-    ∙ ap (λ (names : List Text). fold with_name names named) (c.in_ok-add_listed.ensures ∙ ap (λ (names : List Text). fold with_name names listed) c.in_ok-list.ensures)
+    ∙ ap (λ (names : List Text). fold with_name names named) (c.in_ok-add_listed.ensures.added ∙ ap (λ (names : List Text). fold with_name names listed) c.in_ok-list.ensures)
     ∙ sym (fold-append with_name [] listed named)
