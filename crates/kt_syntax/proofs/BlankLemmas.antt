@@ -1,10 +1,12 @@
 -- Lines that begin with their comment, or hold nothing.
-use Rattle.std.proofs.Common.{◌≡◌, Bool, true, [], ◌∷◌, refl}
+use Rattle.std.proofs.Common.{◌≡◌, ◌∙◌, Bool, false, true, [], ◌∷◌, refl, sym, ap}
 use Rattle.std.proofs.lemmas.Bool.{eqb-true}
-use Rattle.kt_text.specs.Words.{Text}
-use Rattle.kt_syntax.specs.Kinds.{before_comment, blank, kind_of, kind_within}
+use Rattle.kt_text.specs.Words.{Text, is_blank}
+use Rattle.kt_text.proofs.CondensedLemmas.{without_newline}
+use Rattle.kt_syntax.specs.Comments.{begins_comment}
+use Rattle.kt_syntax.specs.Kinds.{before_comment, blank, kind_of, kind_within, line_kind}
 use Rattle.kt_syntax.specs.Mask.{mask_from, mask_of, more_masked}
-use Rattle.kt_syntax.specs.inner.Leading.{begins_comment}
+use Rattle.kt_syntax.proofs.CondensedBegins.{begins_alike}
 
 comment_kind : (text : Text) (tab : Bool) → blank ≡ kind_of (35 ∷ text) tab
 unfolding kind_of kind_within before_comment mask_of mask_from more_masked
@@ -14,3 +16,11 @@ pub comment_is_blank : (text : Text) (tab : Bool) → begins_comment text ≡ tr
 unfolding kind_of kind_within before_comment mask_of mask_from
 comment_is_blank [] tab h = refl
 comment_is_blank (byte ∷ text) tab h = rw (eqb-true byte 35 h) (comment_kind text tab)
+
+-- condensing leaves such a begin as it is
+pub comment_line : (line : Text) → begins_comment line ≡ true → line_kind line false ≡ blank
+unfolding is_blank
+comment_line [] h = ap (λ text. kind_of text false) (without_newline [] refl) ∙ sym (comment_is_blank [] false refl)
+comment_line (byte ∷ line) h =
+    let begun = begins_alike 35 line (record { blank = refl; backslash = refl; newline = refl; return = refl }) in
+    rw (eqb-true byte 35 h) (ap (λ text. kind_of text false) begun.1 ∙ sym (comment_kind begun.0 false))

@@ -2,10 +2,11 @@
 ghost use Rattle.std.specs.Prelude.{◌≡◌, ◌≤◌, ◌+◌, drop, false, length, take, true, is_some, IfSome, option_map};
 ghost use Rattle.std.specs.Prelude.{MatchOption};
 ghost use Rattle.std.specs.Str.{bytes_eq};
-ghost use Rattle.kt_syntax.specs.Kinds.{assignment_parts, block_word, directive_of, ends_name, include_word};
+ghost use Rattle.kt_syntax.specs.Kinds.{assignment_parts, blank, block_word, directive_of, ends_name, include_word};
 ghost use Rattle.kt_syntax.specs.Kinds.{is_refused_word, kind_by_word, kind_of, kind_view, name_end, operator_of};
 ghost use Rattle.kt_syntax.specs.Kinds.{line_kind, worded};
-ghost use Rattle.kt_syntax.specs.inner.Leading.{begins_comment, may_be_word};
+ghost use Rattle.kt_syntax.specs.Comments.{begins_comment};
+ghost use Rattle.kt_syntax.specs.inner.Leading.{may_be_word};
 ghost use Rattle.kt_syntax.specs.Mask.{mask_of};
 ghost use Rattle.kt_syntax.specs.inner.Places.{ArePartsAt, IsBetween, StandsWithin, first_symbols};
 
@@ -43,11 +44,14 @@ pub fn classify_text(text: &[u8], tab: bool) -> Form<'_>
     }
 }
 
-// Whether nothing stands before the comment, not even a blank.
-fn begins_comment(text: &[u8]) -> bool
-    ensures { result ≡ begins_comment text.now }
+/// Whether a line is empty or begins with its comment, before which not even a blank stands: such a line is blank.
+///
+/// Few other lines are, and it takes one look. GNU make manual, "What Makefiles Contain".
+pub fn begins_comment(line: &[u8]) -> bool
+    ensures value { result ≡ begins_comment line.now }
+    ensures kind { result ≡ true → line_kind line.now false ≡ blank }
 {
-    matches!(text, [] | [b'#', ..])
+    matches!(line, [] | [b'#', ..])
 }
 
 // The same, where the line's begin doesn't tell that it is a directive of blocks.

@@ -30,7 +30,7 @@ pub use cut::terms;
 pub use flat::Blocks;
 pub use form::{Directive, Form, Operator};
 pub use heads::{RuleParts, TargetSpecific, rule_parts};
-pub use kind::{classify, classify_text};
+pub use kind::{begins_comment, classify, classify_text};
 pub use line_text::LineText;
 pub use nesting::{blocks, marked_blocks};
 pub use part::{Missing, Stray};

@@ -44,10 +44,6 @@ abbrev pub IsQuietWord : Text → Text → Text → Type 0
 IsQuietWord word after text =
     (text ≡ word ++ after) × (list_all (λ byte. not (is_loud byte)) word ≡ true) × (0 < length word)
 
-abbrev pub begins_comment : Text → Bool
-begins_comment [] = true
-begins_comment (byte ∷ text) = byte == 35
-
 abbrev pub begins_slash : Text → Bool
 begins_slash [] = false
 begins_slash (byte ∷ text) = byte == 92
