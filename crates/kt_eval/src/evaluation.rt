@@ -20,6 +20,7 @@ use kt_rules::{Entry, FaultKind, Place, RuleReader};
 use kt_syntax::{Operator, Term, Unterminated, recipe_text};
 use kt_text::TextFault;
 use std::alloc::{AllocError, Global};
+use std::borrow::CowSlice;
 use std::marker::Model;
 
 /// The state of an evaluation.
@@ -229,6 +230,7 @@ impl<'a, M: Scope, F: Files> Evaluation<'a, M, F> {
     ghost use Rattle.kt_eval.specs.Step.{Blames, GoesOn, Keeps, files_of};
     ghost use Rattle.kt_eval.specs.files.Files.{AgreeWith, Store};
     ghost use Rattle.kt_eval.specs.macros.Macros.{assigning, find, set_by_makefile};
+    ghost use Rattle.std.specs.Cow.{cow_slice_items};
     ghost use Rattle.kt_eval.specs.inner.Views.{assigning_view, front_view, raw_view};
 
     // Moves to a line of a source. All lines of an `eval` are at the place of the `eval`.
@@ -293,15 +295,15 @@ impl<'a, M: Scope, F: Files> Evaluation<'a, M, F> {
     // Sets a macro to a text, after an old value and a space if an old value is given.
     pub(crate) fn set_macro(
         &mut self,
-        name: Vec<u8>,
+        name: &[u8],
         flavour: Flavour,
         front: Option<Value>,
-        text: Vec<u8>,
+        text: CowSlice<'_, u8>,
     ) -> Result<(), AllocError>
         requires { M.writable ≡ true }
         ensures done { OnOk result (self.new
             ≡ record self.old {
-              world = set_macro name.items (set_by_makefile flavour (front_view front ++ text.items))
+              world = set_macro name.now (set_by_makefile flavour (front_view front ++ cow_slice_items text.entry))
                   self.old.world;
             }) }
         ensures kept { Keeps self.old self.new }
@@ -310,9 +312,12 @@ impl<'a, M: Scope, F: Files> Evaluation<'a, M, F> {
         ensures asked { self.new.world.asked ≡ self.old.world.asked }
     {
         match front {
-            Some(front) => self.macros.append(name, flavour, front, &text).unwrap(),
+            Some(front) => self
+                .macros
+                .append(name, flavour, front, text.as_slice())
+                .unwrap(),
             None => {
-                let value = Value::from_vec(text)?;
+                let value = Value::from_text(self.alloc, text)?;
                 let value = Macro::of_makefile(flavour, value);
                 self.macros.put(name, value).unwrap()
             }

@@ -9,6 +9,7 @@ mod expansion;
 pub(crate) mod frames;
 mod function;
 mod pure;
+mod sole;
 mod text_functions;
 
 pub use function::Function;

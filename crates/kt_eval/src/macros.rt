@@ -101,7 +101,7 @@ impl Macro {
 }
 
 // Whether a value needs no expansion: it is immediate, or it has no dollar and a level is left.
-fn is_plain(below: u64, flavour: Flavour, value: &[u8]) -> bool
+pub(crate) fn is_plain(below: u64, flavour: Flavour, value: &[u8]) -> bool
     ensures { result ≡ is_plain below flavour value.now }
 {
     match flavour {
@@ -186,7 +186,22 @@ impl Macros {
         ensures set { OnOk result (self.new ≡ put name.items value self.old) }
         ensures refused { OnErr result (self.new ≡ self.old) }
     {
-        self.entries.insert(Text::from(name), value)?;
+        self.enter(Text::from(name), value)
+    }
+
+    // The same for a name that is copied.
+    pub(crate) fn set(&mut self, name: &[u8], value: Macro) -> Result<(), AllocError>
+        ensures { OnOk result (self.new ≡ put name.now value self.old) }
+    {
+        let name = Text::copied(self.alloc, name)?;
+        self.enter(name, value)
+    }
+
+    fn enter(&mut self, name: Text, value: Macro) -> Result<(), AllocError>
+        ensures set { OnOk result (self.new ≡ put name value self.old) }
+        ensures refused { OnErr result (self.new ≡ self.old) }
+    {
+        self.entries.insert(name, value)?;
         Ok(())
     }
 
@@ -194,24 +209,24 @@ impl Macros {
     // grows in place, since the macro's own share is dropped first.
     pub(crate) fn append(
         &mut self,
-        name: Vec<u8>,
+        name: &[u8],
         flavour: Flavour,
         front: Value,
         text: &[u8],
     ) -> Result<(), AllocError>
         ensures { OnOk result (self.new
-            ≡ put name.items (set_by_makefile flavour ((front ++ codes " ") ++ text.now)) self.old) }
+            ≡ put name.now (set_by_makefile flavour ((front ++ codes " ") ++ text.now)) self.old) }
     {
         let alloc = self.alloc;
         let mut longer = Macro::of_makefile(flavour, front);
-        match self.entries.get_mut(Key(name.as_slice())) {
+        match self.entries.get_mut(Key(name)) {
             Some(entry) => {
                 *entry = longer;
                 entry.append(alloc, text)
             }
             None => {
                 longer.append(alloc, text)?;
-                self.insert(name, longer)
+                self.set(name, longer)
             }
         }
     }

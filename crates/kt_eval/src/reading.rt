@@ -130,9 +130,40 @@ impl<'a, M: Scope, F: Files> Evaluation<'a, M, F> {
     {
         let mut place = page.first();
         'lines: while let Some(step) = page.step(place) {
-            place = self.read_step(below, page, place, step)?;
+            place = self.read_next(below, page, place, step)?;
         }
         Ok(())
+    }
+
+    // Passes the comments from a place on, then reads a line or tests a conditional, and returns the place to continue
+    // from.
+    #[cycle(evaluate)]
+    #[tactic(auto)]
+    pub(crate) fn read_next(
+        &mut self,
+        below: u64,
+        page: &Page<'_>,
+        place: usize,
+        step: Step,
+    ) -> Result<usize, Stop>
+        requires writable { M.writable ≡ true }
+        requires step { slice_get page.now.blocks.steps place ≡ Some step }
+        requires reads { ReadsOn page.now.blocks.steps place step }
+        requires ahead { IsAhead place (length page.now.blocks.steps) step }
+        requires within { place < length page.now.blocks.steps }
+        ensures ahead { IfOk result (λ at. (place < at) × (at ≤ length page.now.blocks.steps)) }
+        ensures goes_on { (store : Store) → AgreeWith store self.new.answers → IfOk result
+            (λ at. reading_from M.writable store below page.now place self.old.world
+            ≡ reading_from M.writable store below page.now at self.new.world) }
+        ensures fails { (store : Store) → AgreeWith store self.new.answers → IfErr result (λ stop. Fails stop self.new.world
+            (reading_from M.writable store below page.now place self.old.world)) }
+        ensures cut { (store : Store) → AgreeWith store self.new.answers → IfCut result (GoesOn self.new.world
+            (left_of (reading_from M.writable store below page.now place self.old.world))) }
+        ensures kept { Keeps self.old self.new }
+        ensures blames { Blames result (files_of self.old) (files_of self.new) }
+    {
+        let at = page.past_comments(place, step);
+        self.read_step(below, page, at, step)
     }
 
     // Reads the line at a place, or tests a conditional, and returns the place to continue from.

@@ -1,8 +1,10 @@
 //! Texts that macros, bindings and arguments hold.
 ghost use Rattle.std.specs.Prelude.{◌≡◌, ◌++◌, IfOk, OnErr, OnOk};
+ghost use Rattle.std.specs.Cow.{cow_slice_items};
 
 use kt_list::{Shared, ShortText};
 use std::alloc::{AllocError, Global};
+use std::borrow::CowSlice;
 use std::marker::Model;
 
 /// The value of a macro, a bound word or an argument. A short one lies in the value itself and takes no memory; a long
@@ -51,6 +53,16 @@ impl Value {
                 form: Form::Short(short),
             }),
             None => Value::long(bytes),
+        }
+    }
+
+    // The bytes of a text, copied where they are borrowed.
+    pub(crate) fn from_text(alloc: Global, text: CowSlice<'_, u8>) -> Result<Value, AllocError>
+        ensures { IfOk result (λ value. value ≡ cow_slice_items text.entry) }
+    {
+        match text {
+            CowSlice::Borrowed(bytes) => Value::copied(alloc, bytes),
+            CowSlice::Owned(bytes) => Value::from_vec(bytes),
         }
     }
 

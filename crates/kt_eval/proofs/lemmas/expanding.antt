@@ -6,6 +6,7 @@ pub mod RowLemmas
 pub mod FrameLemmas
 pub mod AppendingLemmas
 pub mod PureLemmas
+pub mod SoleLemmas
 pub mod SplitLemmas
 pub mod BalancedLemmas
 pub mod DoublingLemmas

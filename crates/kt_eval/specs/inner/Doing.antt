@@ -1,7 +1,8 @@
 -- What each method of an evaluation that expands or reads promises (kati's own).
-use Rattle.std.specs.Prelude.{ℕ, Bool, Result}
+use Rattle.std.specs.Prelude.{◌≡◌, ℕ, Bool, Result}
 use Rattle.kt_syntax.specs.Reading.{left_at}
 use Rattle.kt_eval.specs.declared.stop.Stop.{Stop}
+use Rattle.kt_eval.specs.State.{World}
 use Rattle.kt_eval.specs.Outcome.{Gives, IfCut, left_of}
 use Rattle.kt_eval.specs.Step.{Blames, GoesOn, Keeps, Seen, Step, files_of}
 use Rattle.kt_eval.specs.expanding.Expansion.{Evaluator}
@@ -26,6 +27,12 @@ pub record DoesIn {A B : Type 0} (see : A → B) (writable : Bool) (levels : ℕ
 -- the same for a step that asks the store only through its evaluator
 abbrev pub Does : {A B : Type 0} → (A → B) → Bool → ℕ → (Evaluator → Step B) → Result A Stop → Seen → Seen → Type 0
 Does see writable levels step result old new = DoesIn see writable levels (λ _. step) result old new
+
+-- what is left of a page from one place on does what is left from another on does
+abbrev pub ReadsAlike : Sheet → (place other : ℕ) → Type 0
+ReadsAlike sheet place other =
+    (e : Evaluator) (w : World) → read_items e sheet (left_at sheet.blocks.steps place) w
+    ≡ read_items e sheet (left_at sheet.blocks.steps other) w
 
 -- the rest of a page, from the line at a place on
 abbrev pub reading_from : Bool → Store → ℕ → Sheet → ℕ → Step (Unit {0})

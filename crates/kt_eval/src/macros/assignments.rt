@@ -19,6 +19,7 @@ use crate::stop::Stop;
 use kt_rules::FaultKind;
 use kt_syntax::{Form, Operator, plain};
 use kt_text::is_separator;
+use std::borrow::CowSlice;
 
 fn is_bad_name(name: &[u8]) -> bool
     ensures { result ≡ is_bad_name name.now }
@@ -38,27 +39,27 @@ impl<'a, M: Scope, F: Files> Evaluation<'a, M, F> {
     pub(crate) fn assign(
         &mut self,
         below: u64,
-        name: Vec<u8>,
+        name: &[u8],
         text: &[u8],
         does: Assigning,
     ) -> Result<(), Stop>
         requires { M.writable ≡ true }
         ensures { Does (λ u. u) M.writable below
-            (λ e. assign e name.items text.now (assigning_view does)) result self.old self.new }
+            (λ e. assign e name.now text.now (assigning_view does)) result self.old self.new }
     {
         match does {
             Assigning::Keeps => Ok(()),
             Assigning::Defers(front) => {
-                let text = Vec::from_slice(self.alloc, text)?;
+                let text = CowSlice::Borrowed(text);
                 Ok(self.set_macro(name, Flavour::Deferred, front, text)?)
             }
             Assigning::Expands(front) => {
-                let x = self.expand_here(below, text)?;
+                let x = self.expand_text(below, text)?;
                 Ok(self.set_macro(name, Flavour::Immediate, front, x)?)
             }
             Assigning::Escapes => {
-                let x = self.expand_here(below, text)?;
-                let x = doubled(self.alloc, &x)?;
+                let x = self.expand_text(below, text)?;
+                let x = CowSlice::Owned(doubled(self.alloc, x.as_slice())?);
                 Ok(self.set_macro(name, Flavour::Deferred, None, x)?)
             }
         }
@@ -71,16 +72,16 @@ impl<'a, M: Scope, F: Files> Evaluation<'a, M, F> {
         below: u64,
         operator: Operator,
         text: &[u8],
-        name: Vec<u8>,
+        name: &[u8],
     ) -> Result<(), Stop>
         requires { M.writable ≡ true }
         ensures { Does (λ u. u) M.writable below
-            (λ e. assign_named e operator text.now name.items) result self.old self.new }
+            (λ e. assign_named e operator text.now name.now) result self.old self.new }
     {
-        if is_bad_name(&name) {
+        if is_bad_name(name) {
             return Err(Stop::Fault(self.fault(FaultKind::BadMacroName, b"")?));
         }
-        let does = self.assigning(operator, &name)?;
+        let does = self.assigning(operator, name)?;
         self.assign(below, name, text, does)
     }
 
@@ -101,8 +102,8 @@ impl<'a, M: Scope, F: Files> Evaluation<'a, M, F> {
         if operator == Operator::Shell {
             return Err(Stop::Fault(self.fault(FaultKind::RefusedForm, b"!=")?));
         }
-        let name = self.expand_here(below, name)?;
-        self.assign_named(below, operator, text, name)
+        let name = self.expand_text(below, name)?;
+        self.assign_named(below, operator, text, name.as_slice())
     }
 
     // Text after the operator of a define is ignored.

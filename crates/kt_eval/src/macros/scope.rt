@@ -53,22 +53,22 @@ pub(crate) trait Scope {
         ensures { option_map (λ entry. entry.now) result ≡ find name.now (table self.now) };
 
     // Sets a macro, if macros may be set.
-    fn put(&mut self, name: Vec<u8>, value: Macro) -> Option<Result<(), AllocError>>
+    fn put(&mut self, name: &[u8], value: Macro) -> Option<Result<(), AllocError>>
         ensures set { MatchOption result (writable ≡ false)
-            (λ done. OnOk done (table self.new ≡ put name.items value (table self.old))) }
+            (λ done. OnOk done (table self.new ≡ put name.now value (table self.old))) }
         ensures kept_automatic { automatic self.new ≡ automatic self.old }
         ensures kept_book { book self.new ≡ book self.old };
 
     // Sets a macro to `front`, a space and a text, if macros may be set.
     fn append(
         &mut self,
-        name: Vec<u8>,
+        name: &[u8],
         flavour: Flavour,
         front: Value,
         text: &[u8],
     ) -> Option<Result<(), AllocError>>
         ensures set { MatchOption result (writable ≡ false) (λ done. OnOk done (table self.new
-            ≡ put name.items (set_by_makefile flavour ((front ++ codes " ") ++ text.now)) (table self.old))) }
+            ≡ put name.now (set_by_makefile flavour ((front ++ codes " ") ++ text.now)) (table self.old))) }
         ensures kept_automatic { automatic self.new ≡ automatic self.old }
         ensures kept_book { book self.new ≡ book self.old };
 
@@ -121,13 +121,13 @@ impl Scope for Makefile {
         self.macros.get(name)
     }
 
-    fn put(&mut self, name: Vec<u8>, value: Macro) -> Option<Result<(), AllocError>> {
-        Some(self.macros.insert(name, value))
+    fn put(&mut self, name: &[u8], value: Macro) -> Option<Result<(), AllocError>> {
+        Some(self.macros.set(name, value))
     }
 
     fn append(
         &mut self,
-        name: Vec<u8>,
+        name: &[u8],
         flavour: Flavour,
         front: Value,
         text: &[u8],
@@ -193,13 +193,13 @@ impl<'a, A: Automatic> Scope for Frozen<'a, A> {
         self.macros.get(name)
     }
 
-    fn put(&mut self, _name: Vec<u8>, _value: Macro) -> Option<Result<(), AllocError>> {
+    fn put(&mut self, _name: &[u8], _value: Macro) -> Option<Result<(), AllocError>> {
         None
     }
 
     fn append(
         &mut self,
-        _name: Vec<u8>,
+        _name: &[u8],
         _flavour: Flavour,
         _front: Value,
         _text: &[u8],

@@ -59,8 +59,26 @@ impl<'a, M: Scope, F: Files> Evaluation<'a, M, F> {
     }
 
     #[cycle(evaluate)]
-    #[tactic(auto, using(crate::proofs::Steps::expanded_goes), unfolding(crate::specs::reading::Conditionals::are_equal))]
+    #[tactic(auto)]
     pub(crate) fn are_equal(
+        &mut self,
+        below: u64,
+        compared: Option<Compared<'_>>,
+    ) -> Result<bool, Stop>
+        requires { M.writable ≡ true }
+        ensures { Does (λ b. b) M.writable below
+            (λ e. are_equal e (option_map compared_view compared.entry)) result self.old self.new }
+    {
+        match self.plainly_equal(below, compared) {
+            Some(same) => Ok(same),
+            None => self.expanded_equal(below, compared),
+        }
+    }
+
+    // The same for any texts, by a text of its own for each that has a dollar.
+    #[cycle(evaluate)]
+    #[tactic(auto, using(crate::proofs::Steps::expanded_goes), unfolding(crate::specs::reading::Conditionals::are_equal))]
+    pub(crate) fn expanded_equal(
         &mut self,
         below: u64,
         compared: Option<Compared<'_>>,

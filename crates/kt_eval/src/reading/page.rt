@@ -1,17 +1,19 @@
 //! A text that is read, with its lines and blocks.
-ghost use Rattle.std.specs.Prelude.{◌≡◌, ◌+◌, ◌<◌, ◌≤◌, ℕ, Bool, length, map, IfOk, IfSome, None, Some};
+ghost use Rattle.std.specs.Prelude.{◌≡◌, ◌+◌, ◌<◌, ◌≤◌, ◌^◌, ℕ, Bool, false, length, map, true, IfOk, IfSome, None, Some};
 ghost use Rattle.std.specs.List.{slice_get, slice_range};
 ghost use Rattle.kt_syntax.specs.Reading.{IsAhead, ReadsOn, left_at};
 ghost use Rattle.kt_syntax.specs.Blocks.{none, tree_of};
 ghost use Rattle.kt_syntax.specs.declared.step.Step.TheVariants as step;
+ghost use Rattle.kt_syntax.specs.Kinds.{blank, line_kind};
 ghost use Rattle.kt_syntax.specs.Roles.{line_text};
 ghost use Rattle.kt_text.specs.Lines.{AreInOrder, logical_lines_of};
 ghost use Rattle.kt_eval.specs.macros.Assignments.{body_text};
 ghost use Rattle.kt_eval.specs.reading.Reading.{line_at, sheet_of};
+ghost use Rattle.kt_eval.specs.inner.Doing.{ReadsAlike};
 ghost use Rattle.kt_eval.specs.inner.Views.{raw_view};
 
 use kt_list::Shared;
-use kt_syntax::{Blocks, Missing, Step, marked_blocks};
+use kt_syntax::{Blocks, Missing, Step, begins_comment, marked_blocks};
 use kt_text::{Line, Mark, condensed};
 use std::alloc::{AllocError, Global};
 use std::marker::Model;
@@ -107,6 +109,60 @@ impl<'a> Page<'a> {
         ensures done { result ≡ None → left_at self.now.blocks.steps place ≡ none }
     {
         self.blocks.get(place)
+    }
+
+    // The last of the lines, from one on, of which each but the last is blank at its first byte and comes before an
+    // ordinary line: reading such a line only moves the place, and the next one moves it too.
+    pub(crate) fn past_comments(&self, place: usize, step: Step) -> usize
+        requires step { slice_get self.now.blocks.steps place ≡ Some step }
+        requires reads { ReadsOn self.now.blocks.steps place step }
+        requires ahead { IsAhead place (length self.now.blocks.steps) step }
+        requires within { place < length self.now.blocks.steps }
+        ensures step { slice_get self.now.blocks.steps result ≡ Some step }
+        ensures reads { ReadsOn self.now.blocks.steps result step }
+        ensures ahead { IsAhead result (length self.now.blocks.steps) step }
+        ensures within { result < length self.now.blocks.steps }
+        ensures after { place ≤ result }
+        ensures same { ReadsAlike self.now place result }
+    {
+        let mut at = place;
+        while self.is_passed(at) {
+            at += 1;
+        }
+        at
+    }
+
+    // Whether a line is blank at its first byte, and comes before an ordinary line.
+    fn is_passed(&self, place: usize) -> bool
+        ensures within { result ≡ true → place + 1 < length self.now.blocks.steps }
+        ensures fits { result ≡ true → place + 1 < 2 ^ 64 }
+        ensures line { result ≡ true → slice_get self.now.blocks.steps place ≡ Some step.Line }
+        ensures next { result ≡ true → slice_get self.now.blocks.steps (place + 1) ≡ Some step.Line }
+        ensures reads { result ≡ true → ReadsOn self.now.blocks.steps (place + 1) step.Line }
+        ensures tab { result ≡ true → (line_at self.now.lines place).tab ≡ false }
+        ensures blank { result ≡ true → line_kind (line_at self.now.lines place).text false ≡ blank }
+    {
+        place < self.lines.len()
+            && self.begins_comment(place)
+            && self.is_ordinary(place + 1)
+            && self.is_ordinary(place)
+    }
+
+    // Whether the step of a line is to read it by itself.
+    fn is_ordinary(&self, place: usize) -> bool
+        ensures within { result ≡ true → place < length self.now.blocks.steps }
+        ensures step { result ≡ true → slice_get self.now.blocks.steps place ≡ Some step.Line }
+        ensures reads { result ≡ true → ReadsOn self.now.blocks.steps place step.Line }
+    {
+        matches!(self.blocks.get(place), Some(Step::Line))
+    }
+
+    fn begins_comment(&self, place: usize) -> bool
+        ensures tab { result ≡ true → (line_at self.now.lines place).tab ≡ false }
+        ensures kind { result ≡ true → line_kind (line_at self.now.lines place).text false ≡ blank }
+    {
+        let line = self.line(place);
+        !line.tab && begins_comment(line.text)
     }
 
     // The branch that begins at a place, if the place is before `after`, where reading continues after all branches:

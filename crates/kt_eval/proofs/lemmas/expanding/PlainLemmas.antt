@@ -109,7 +109,7 @@ asked_is : (mark : Mark) (name : Text) → list_all is_name_byte name ≡ true �
 unfolding asked_of
 asked_is mark name is = rw (eq-eqb (position_or_len is_separator name) (length name) (no_separator name is)) refl
 
-plainly_is : (e : Evaluator) (mark : Mark) (name : Text) (w : World) → names_plainly mark name ≡ true
+pub plainly_is : (e : Evaluator) (mark : Mark) (name : Text) (w : World) → names_plainly mark name ≡ true
     → referred e (asked_by mark name) w ≡ value_of e (lookup name w) w
 unfolding asked_by names_plainly
 plainly_is e Byte name w is =

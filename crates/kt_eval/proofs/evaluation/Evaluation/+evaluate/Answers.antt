@@ -1,10 +1,10 @@
-use Rattle.std.proofs.Common.{◌≡◌, ◌∙◌, ap, arith, List, rules, subst, sym}
+use Rattle.std.proofs.Common.{◌≡◌, ◌∙◌, ap, arith, length, List, rules, subst, sym}
 use Rattle.kt_text.specs.Words.{Text}
 use Rattle.kt_syntax.specs.Reading.{left_at}
 use Rattle.kt_syntax.specs.Terms.{token_of}
 use Rattle.kt_eval.specs.expanding.Expansion.{expanded}
 use Rattle.kt_eval.specs.inner.Views.{compared_view}
-use Rattle.kt_eval.specs.Outcome.{Gave, Outcome, left_of}
+use Rattle.kt_eval.specs.Outcome.{Fails, Gave, IfCut, Outcome, left_of}
 use Rattle.kt_eval.specs.State.{World, lookup}
 use Rattle.kt_eval.specs.Step.{GoesOn}
 use Rattle.kt_eval.specs.files.Files.{AgreeWith, Store}
@@ -14,9 +14,10 @@ use Rattle.kt_eval.specs.inner.Plain.{put_of}
 use Rattle.kt_eval.proofs.lemmas.expanding.AppendingLemmas.{put_gives, value_fails, value_front, value_gives, whole_gives, term_fails, term_gives}
 use Rattle.kt_eval.proofs.lemmas.expanding.PlainLemmas.{value_put, value_expanded}
 use Rattle.kt_eval.proofs.lemmas.StepLemmas.{call_by_name_front, rule_of_parts_front}
-use Rattle.std.specs.Prelude.{Some, option_map, map}
+use Rattle.std.specs.Prelude.{IfErr, IfOk, Some, option_map, map}
 use Rattle.kt_eval.specs.expanding.Levels.{evaluator}
 use Rattle.kt_eval.specs.reading.Reading.{read_items}
+use Rattle.kt_eval.proofs.lemmas.reading.CommentLemmas.{ahead_from}
 use Rattle.kt_eval.proofs.lemmas.reading.ReadingLemmas.{first_taken}
 use Rattle.kt_eval.proofs.evaluation.Evaluation.+evaluate.Goals as goal
 
@@ -223,8 +224,8 @@ read_rule-returns-in_err-head g t c =
       blames = search rules;
     }
 
-pub are_equal-returns-in_err-x : goal.are_equal-returns-in_err-x
-are_equal-returns-in_err-x g t c =
+pub expanded_equal-returns-in_err-x : goal.expanded_equal-returns-in_err-x
+expanded_equal-returns-in_err-x g t c =
     let p = err_from_is_err_and c.from_residual.result c.from_residual.ensures.1 in
     let early = λ (store : Store) (agrees : AgreeWith store c.expand_text.new.self.answers).
     (equal_fails g.M.Scope.writable store c.args.below c.in_err-x.field-0.0 c.args.self.now.world c.expand_text.new.self.world (compared_view c.in-Some.compared) (c.in_err-x.ensures.gives store agrees, c.in_err-x.ensures.cut store agrees)) in
@@ -410,3 +411,34 @@ read_items-lines-init g t c =
       within = c.first-place.ensures.within;
       rest = λ store agrees. ap (λ items. read_items (e store) c.args.page.now items c.args.self.now.world) c.first-place.ensures.whole;
     }
+
+pub are_equal-returns-in-Some : goal.are_equal-returns-in-Some
+are_equal-returns-in-Some g t c = record {
+  gives = λ store agrees. c.in-Some.ensures g.M.Scope.writable store;
+  cut = λ store agrees. tt;
+  kept = search rules;
+  blames = search rules;
+}
+
+pub read_next-returns-clause-ahead : goal.read_next-returns-clause-ahead
+read_next-returns-clause-ahead g t c = ahead_from c.args.place c.past_comments-at.result (length c.args.page.now.blocks.steps) c.read_step.result c.past_comments-at.ensures.after c.read_step.ensures.ahead
+
+pub read_next-returns-clause-goes_on : goal.read_next-returns-clause-goes_on
+read_next-returns-clause-goes_on g t c = λ store agrees.
+    let e = evaluator g.M.Scope.writable store c.args.below in
+    subst
+    (λ (o : Outcome World (Unit {0})).
+    IfOk c.read_step.result (λ at. o ≡ read_items e c.args.page.now (left_at c.args.page.now.blocks.steps at) c.read_step.new.self.world))
+    (sym (c.past_comments-at.ensures.same e c.args.self.now.world)) (c.read_step.ensures.goes_on store agrees)
+
+pub read_next-returns-clause-fails : goal.read_next-returns-clause-fails
+read_next-returns-clause-fails g t c = λ store agrees.
+    let e = evaluator g.M.Scope.writable store c.args.below in
+    subst (λ (o : Outcome World (Unit {0})). IfErr c.read_step.result (λ stop. Fails stop c.read_step.new.self.world o))
+    (sym (c.past_comments-at.ensures.same e c.args.self.now.world)) (c.read_step.ensures.fails store agrees)
+
+pub read_next-returns-clause-cut : goal.read_next-returns-clause-cut
+read_next-returns-clause-cut g t c = λ store agrees.
+    let e = evaluator g.M.Scope.writable store c.args.below in
+    subst (λ (o : Outcome World (Unit {0})). IfCut c.read_step.result (GoesOn c.read_step.new.self.world (left_of o)))
+    (sym (c.past_comments-at.ensures.same e c.args.self.now.world)) (c.read_step.ensures.cut store agrees)

@@ -116,26 +116,29 @@ decreases-read_rule g l = 64 * l.below + 11
 abbrev pub decreases-is_defined : goal.decreases-is_defined
 decreases-is_defined g l = 64 * l.below + 11
 
+abbrev pub decreases-expanded_equal : goal.decreases-expanded_equal
+decreases-expanded_equal g l = 64 * l.below + 11
+
 abbrev pub decreases-are_equal : goal.decreases-are_equal
-decreases-are_equal g l = 64 * l.below + 11
+decreases-are_equal g l = 64 * l.below + 12
 
 abbrev pub decreases-holds : goal.decreases-holds
-decreases-holds g l = 64 * l.below + 12
+decreases-holds g l = 64 * l.below + 13
 
 abbrev pub decreases-worded_holds : goal.decreases-worded_holds
-decreases-worded_holds g l = 64 * l.below + 13
+decreases-worded_holds g l = 64 * l.below + 14
 
 abbrev pub decreases-text_holds : goal.decreases-text_holds
-decreases-text_holds g l = 64 * l.below + 14
+decreases-text_holds g l = 64 * l.below + 15
 
 abbrev pub decreases-else_holds : goal.decreases-else_holds
-decreases-else_holds g l = 64 * l.below + 15
+decreases-else_holds g l = 64 * l.below + 16
 
 abbrev pub decreases-line_holds : goal.decreases-line_holds
-decreases-line_holds g l = 64 * l.below + 16
+decreases-line_holds g l = 64 * l.below + 17
 
 abbrev pub decreases-branch_holds : goal.decreases-branch_holds
-decreases-branch_holds g l = 64 * l.below + 17
+decreases-branch_holds g l = 64 * l.below + 18
 
 abbrev pub decreases-include_named : goal.decreases-include_named
 decreases-include_named g l = 64 * l.below + 1
@@ -171,31 +174,34 @@ abbrev pub decreases-read_define_form : goal.decreases-read_define_form
 decreases-read_define_form g l = 64 * l.below + 15
 
 abbrev pub decreases-read_conditional : goal.decreases-read_conditional
-decreases-read_conditional g l = 64 * l.below + 18
+decreases-read_conditional g l = 64 * l.below + 19
 
 abbrev pub decreases-read_step : goal.decreases-read_step
-decreases-read_step g l = 64 * l.below + 19
+decreases-read_step g l = 64 * l.below + 20
+
+abbrev pub decreases-read_next : goal.decreases-read_next
+decreases-read_next g l = 64 * l.below + 21
 
 abbrev pub decreases-read_items : goal.decreases-read_items
-decreases-read_items g l = 64 * l.below + 20
+decreases-read_items g l = 64 * l.below + 22
 
 abbrev pub decreases-read_page : goal.decreases-read_page
-decreases-read_page g l = 64 * l.below + 21
+decreases-read_page g l = 64 * l.below + 23
 
 abbrev pub decreases-read_text : goal.decreases-read_text
-decreases-read_text g l = 64 * l.below + 22
+decreases-read_text g l = 64 * l.below + 24
 
 abbrev pub decreases-read_held : goal.decreases-read_held
-decreases-read_held g l = 64 * l.below + 23
+decreases-read_held g l = 64 * l.below + 25
 
 abbrev pub decreases-read_file : goal.decreases-read_file
-decreases-read_file g l = 64 * l.below + 23
+decreases-read_file g l = 64 * l.below + 25
 
 abbrev pub decreases-read_included : goal.decreases-read_included
-decreases-read_included g l = 64 * l.below + 24
+decreases-read_included g l = 64 * l.below + 26
 
 abbrev pub decreases-included : goal.decreases-included
-decreases-included g l = 64 * l.below + 25
+decreases-included g l = 64 * l.below + 27
 
 abbrev pub invariant-expand_here-terms : goal.invariant-expand_here-terms
 invariant-expand_here-terms g l =

@@ -1,0 +1,53 @@
+-- A line that is blank only moves the place, and the next line moves it too.
+use Rattle.std.proofs.Common.{◌≡◌, ℕ, ◌+◌, ◌<◌, ◌≤◌, false, List, Some, arith, refl, sym, ap, ◌∙◌}
+use Rattle.std.specs.Prelude.{Err, IfOk, Ok, Result, unwrap_or}
+use Rattle.kt_eval.specs.declared.stop.Stop.{Stop}
+use Rattle.std.specs.List.{slice_get}
+use Rattle.kt_syntax.specs.Blocks.{Items, line}
+use Rattle.kt_syntax.specs.Kinds.{blank, line_kind}
+use Rattle.kt_syntax.specs.Reading.{ReadsOn, left_at}
+use Rattle.kt_syntax.specs.declared.step.Step.{Step as Found}
+use Rattle.kt_syntax.specs.declared.step.Step.TheVariants as step
+use Rattle.kt_eval.specs.declared.reading.page.Source.{Source}
+use Rattle.kt_eval.specs.declared.reading.page.Source.TheVariants.{File, Held}
+use Rattle.kt_eval.specs.State.{World}
+use Rattle.kt_eval.specs.Outcome.{Gave, then_do}
+use Rattle.kt_eval.specs.expanding.Expansion.{Evaluator}
+use Rattle.kt_eval.specs.reading.Reading.{Raw, Sheet, at_line, at_number, line_at, read_items, read_kind, read_line}
+use Rattle.kt_eval.specs.inner.Doing.{ReadsAlike}
+
+-- the last move counts
+moved_again : (source : Source) (number other : ℕ) (w : World) → at_number source other (at_number source number w) ≡ at_number source other w
+unfolding at_number
+moved_again Held number other w = refl
+moved_again (File name) number other w = refl
+
+blank_read : (e : Evaluator) (raw : Raw) (w : World) → raw.tab ≡ false → line_kind raw.text false ≡ blank → read_line e raw w ≡ Gave w tt
+unfolding read_line read_kind
+blank_read e raw w tab kind = rw (tab, kind) refl
+
+passed_line : (e : Evaluator) (sheet : Sheet) (place at : ℕ) (next : Items) (w : World)
+    → read_line e (line_at sheet.lines place) (at_line sheet place w) ≡ Gave (at_line sheet place w) tt
+    → read_items e sheet (line place (line at next)) w ≡ read_items e sheet (line at next) w
+unfolding read_items
+passed_line e sheet place at next w read =
+    rw read
+    (ap (λ v. then_do (read_line e (line_at sheet.lines at) v) (λ _. read_items e sheet next))
+    (moved_again sheet.source (line_at sheet.lines place).number (line_at sheet.lines at).number w))
+
+pub comment_passed : (sheet : Sheet) (place : ℕ) → ReadsOn sheet.blocks.steps place step.Line → ReadsOn sheet.blocks.steps (place + 1) step.Line
+    → (line_at sheet.lines place).tab ≡ false → line_kind (line_at sheet.lines place).text false ≡ blank → ReadsAlike sheet place (place + 1)
+comment_passed sheet place first second tab kind = λ e w.
+    let next = left_at sheet.blocks.steps (place + 1 + 1) in
+    ap (λ items. read_items e sheet items w) (first ∙ ap (line place) second)
+    ∙ passed_line e sheet place (place + 1) next w (blank_read e (line_at sheet.lines place) (at_line sheet place w) tab kind)
+    ∙ sym (ap (λ items. read_items e sheet items w) second)
+
+pub one_step : (steps : List Found) (place : ℕ) (found other : Found) → slice_get steps place ≡ Some found → slice_get steps place ≡ Some other → found ≡ other
+one_step steps place found other is too = ap (λ s. unwrap_or s found) (sym is ∙ too)
+
+-- what comes after a later place comes after an earlier one
+pub ahead_from : (place at end : ℕ) (result : Result ℕ Stop) → place ≤ at → IfOk result (λ next. (at < next) × (next ≤ end))
+    → IfOk result (λ next. (place < next) × (next ≤ end))
+ahead_from place at end (Ok next) le ahead = (omega (arith, le, ahead.0), ahead.1)
+ahead_from place at end (Err stop) le ahead = tt

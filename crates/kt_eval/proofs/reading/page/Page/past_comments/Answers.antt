@@ -1,0 +1,20 @@
+use Rattle.std.proofs.Common.{◌≡◌, Some, ap, arith, sym, ◌∙◌}
+use Rattle.kt_syntax.specs.declared.step.Step.TheVariants as step
+use Rattle.kt_eval.proofs.lemmas.reading.CommentLemmas.{comment_passed, one_step}
+use Rattle.kt_eval.proofs.reading.page.Page.past_comments.Goals as goal
+
+pub loop-at-preserved : goal.loop-at-preserved
+loop-at-preserved c =
+    let passed = c.is_passed.ensures in
+    let test = c.loop-at-test.true in
+    let is : c.args.step ≡ step.Line = one_step c.args.self.now.blocks.steps c.loop-at.at c.args.step step.Line c.loop-at.invariant.step (passed.line test) in
+    record {
+      step = passed.next test ∙ ap Some (sym is);
+      reads = rw is (passed.reads test);
+      ahead = rw is tt;
+      within = passed.within test;
+      after = omega (arith, c.loop-at.invariant.after);
+      same = λ e w.
+          c.loop-at.invariant.same e w
+          ∙ comment_passed c.args.self.now c.loop-at.at (rw is at c.loop-at.invariant.reads) (passed.reads test) (passed.tab test) (passed.blank test) e w;
+    }
