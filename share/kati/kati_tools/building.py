@@ -4,7 +4,7 @@ import signal
 import subprocess
 import sys
 
-from . import files, includes, insertions, ninja_text, one_at_a_time, sources, top_file, translating, words
+from . import files, includes, insertions, ninja_text, one_at_a_time, own_files, top_file, translating, words
 from .programs import UNFORESEEN, Stop, bytes_of, ending, need, say
 
 TOOL = "kati-build"
@@ -115,7 +115,7 @@ def refuse_words(asked, output):
         raise Stop("a word with a newline, which no Ninja file can hold", words.WRONG_USAGE)
     translating.refuse_passing(asked.makefile)
     there = files.read(output)
-    if there and not there.startswith((top_file.FIRST_LINE, KATIS_FIRST_LINE)):
+    if there and not there.startswith((own_files.FIRST_LINE, KATIS_FIRST_LINE)):
         raise Stop(f"{output} isn't kati-build's: remove it, or name another file by -o", words.WRONG_USAGE)
 
 
@@ -124,8 +124,8 @@ class Build:
 
     def __init__(self, asked):
         self.asked, self.output = asked, os.path.normpath(asked.output)
-        self.room = os.path.splitext(self.output)[0] + ".kati"
-        self.translated = os.path.join(self.room, sources.TRANSLATED)
+        self.room = os.path.splitext(self.output)[0] + own_files.ENDING
+        self.translated = os.path.join(self.room, own_files.TRANSLATED)
         self.list = os.path.join(self.room, "files.txt")
         refuse_words(asked, self.output)
         self.values_from = []
@@ -185,7 +185,7 @@ class Build:
     def translate(self):
         """Makes the translation and the file that ninja reads, alone in the folder; answers the status."""
         def say_waiting():
-            say(TOOL, f"waits for another run that has {os.path.join(self.room, one_at_a_time.NAME)}")
+            say(TOOL, f"waits for another run that has {os.path.join(self.room, own_files.LOCK)}")
         with one_at_a_time.held(self.room, say_waiting) as is_first:
             try:
                 self.translator = self.new_translator()

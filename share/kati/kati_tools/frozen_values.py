@@ -11,7 +11,7 @@ import hashlib
 import os
 import re
 
-from . import files, ported_text, translating
+from . import files, own_files, ported_text, sources, translating
 from .programs import bytes_of
 
 NAME = translating.VALUES
@@ -32,10 +32,17 @@ def escaped(value):
     return value + "$()" if value.endswith(("\\", " ", "\t")) else value
 
 
+def names_below(folder):
+    """The names of the files below a folder, as the copy of it has them in which make is asked."""
+    for at, folders, names in os.walk(folder):
+        folders[:] = [one for one in folders if one not in sources.CONTROL and not own_files.is_own(at, one)]
+        yield from (os.path.join(at, one) for one in names if not own_files.is_own(at, one))
+
+
 def sum_of(name):
     """What tells a file, or the names in a folder, from what it was, in short."""
     if os.path.isdir(name):
-        text = "\n".join(sorted(os.path.join(at, one) for at, _, names in os.walk(name) for one in names))
+        text = "\n".join(sorted(names_below(name)))
     else:
         text = files.read(name) if os.path.isfile(name) else None
     return "none" if text is None else hashlib.sha256(bytes_of(text)).hexdigest()[:8]
@@ -53,12 +60,12 @@ def files_of_command(command):
 
 
 def fitting(patterns):
-    """What make's `wildcard` gives for patterns."""
+    """What make's `wildcard` gives for patterns where kati-build hasn't run."""
     found = []
     for pattern in patterns.split():
         # A name that begins with a dot fits only a pattern that does; glob has it so too.
         names = glob.glob(pattern) if set(pattern) & set("*?[") else [pattern] * os.path.lexists(pattern)
-        found += sorted(names, key=bytes_of)
+        found += sorted((name for name in names if not own_files.is_below(name)), key=bytes_of)
     return " ".join(found)
 
 

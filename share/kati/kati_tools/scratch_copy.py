@@ -7,7 +7,7 @@ import os
 import re
 import shutil
 
-from . import sources
+from . import own_files, sources
 
 ABOVE = re.compile(r"(?<![\w.])(?:\.\./)*\.\.(?![\w.])")
 NAMED_ABOVE = re.compile(r"(?<![\w.])((?:\.\./)+)([\w+@-][\w.+@-]*)")
@@ -24,16 +24,14 @@ def copy_file(source, to):
 def copy_folder(source, to):
     """Copies a folder, without what version control keeps and what kati-build wrote; links stay links."""
     for at, folders, names in os.walk(source):
-        if sources.TRANSLATED in names:
-            folders[:] = []
-            continue
         there = os.path.normpath(os.path.join(to, os.path.relpath(at, source)))
         os.makedirs(there, exist_ok=True)
+        folders[:] = [name for name in folders if not own_files.is_own(at, name)]
         for name in [name for name in folders if name in sources.CONTROL or os.path.islink(os.path.join(at, name))]:
             folders.remove(name)
             leads = os.path.join(at, name) if name in sources.CONTROL else os.readlink(os.path.join(at, name))
             os.symlink(os.path.abspath(leads) if name in sources.CONTROL else leads, os.path.join(there, name))
-        for name in names:
+        for name in (name for name in names if not own_files.is_own(at, name)):
             copy_file(os.path.join(at, name), os.path.join(there, name))
         shutil.copystat(at, there)
 
@@ -72,7 +70,8 @@ class Copy:
             if not here.startswith(self.base):
                 return
             for name in os.listdir(real):
-                if name != own and not os.path.lexists(os.path.join(here, name)):
+                is_there = name == own or os.path.lexists(os.path.join(here, name))
+                if not is_there and not own_files.is_own(real, name):
                     os.symlink(os.path.join(real, name), os.path.join(here, name))
 
     def copy_above(self, name):

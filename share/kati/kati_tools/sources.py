@@ -2,14 +2,13 @@
 import os
 import re
 
-from . import files, includes, outside
+from . import files, includes, outside, own_files
 from .programs import Stop, bytes_of, need, run
 
 # Folders of version control hold no sources.
 CONTROL = {".git", ".hg", ".svn"}
 # The tools' own files are no sources either.
 OWN = {".ninja_log", ".ninja_deps", ".ninja_lock"}
-TRANSLATED = "translated.ninja"
 
 
 def without_newlines(names):
@@ -52,7 +51,7 @@ def walk(skipped):
     while left:
         at = left.pop()
         below, found = inside(at)
-        if TRANSLATED in found:
+        if own_files.TRANSLATED in found:
             continue
         before = "" if at == "." else f"{at}/"
         folders.append(at)
