@@ -112,6 +112,15 @@ class Building(Tree):
         self.assertEqual(self.read("prog/out"), "one two\n")
         self.assertEqual(self.read("mk/one.mk"), "A := $(shell echo one)\n")
 
+    def test_a_rule_that_needs_a_file_outside_by_a_value(self):
+        self.put("Makefile", "T := $(shell pwd)/..\nall: a.o\n%.o: %.c $(T)/inc/a.h\n\tcat $^ > $@\n")
+        self.put("../inc/a.h", "h\n")
+        self.assertNotIn("differ", self.build())
+        self.assertEqual(self.read("a.o"), "a.c\nh\n")
+        self.put("../inc/a.h", "i\n")
+        self.ninja()
+        self.assertEqual(self.read("a.o"), "a.c\ni\n")
+
     def test_header_dependencies_that_a_compiler_writes(self):
         self.put("Makefile", "S := $(shell echo main)\nCFLAGS += -MMD\nprog: $(S).o\n\tcc -o $@ $^\n"
                              "-include $(S).d\n")

@@ -278,6 +278,15 @@ class Writing(Tree):
         self.assertIn("V_A := 7\n", self.read("prog/kati-values.mk"))
         self.assertIn("V_wildcard := ../lib/v.h\n", self.read("prog/kati-values.mk"))
 
+    def test_a_rule_that_needs_a_file_outside_by_a_value(self):
+        self.put_all({"Makefile": "T := $(shell pwd)/..\nall: a.o\n%.o: %.c $(T)/inc/a.h\n\tcat $^ > $@\n",
+                      "a.c": "c\n", "../inc/a.h": "h\n"})
+        said = self.port().out
+        self.assertIn("kati's commands are make's", said)
+        self.assertEqual(self.built_by_make()["a.o"], "c\nh\n")
+        self.assertEqual(self.tool("kati-build", "--builtin").status, 0)
+        self.assertEqual(self.read("a.o"), "c\nh\n")
+
     def test_an_include_has_makes_calls_for_others_that_read_it(self):
         self.put_all({"a.mk": "A := $(shell echo 1)\n", "Makefile": "include a.mk\nall: ; echo $(A)\n",
                       "other.mk": "include a.mk\nall: ; echo other $(A)\n"})

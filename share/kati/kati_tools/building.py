@@ -208,7 +208,7 @@ class Build:
         """The same, where no other run is in the folder."""
         before, old = files.read(self.list), files.read(self.translated) or ""
         asked = self.names_asked()
-        listing = translating.listing(self.asked, self.output, self.room, asked)
+        listing = translating.listing(self.asked, self.output, self.room, self.translator.makefiles(asked))
         kept = listing.names if before is None else before.split("\n")[:-1]
         found = self.translator.translate(listing, lambda: ninja_text.outputs(old), kept)
         sys.stderr.buffer.write(bytes_of(found.said))

@@ -188,14 +188,15 @@ class Port:
         asked = argparse.Namespace(kati=self.asked.kati, makefile=self.makefile, builtin=True, depth=self.depth,
                                    words=[*self.asked.goals, *self.asked.macros], files_from=self.asked.files_from)
         # Faults in reading don't hang on the list, so it is made anew but where kati takes the makefile.
-        self.listing = self.listing or translating.listing(asked, names=list(self.ported))
+        names = [*self.ported, frozen_values.NAME]
+        self.listing = self.listing or translating.listing(asked, names=names)
         room = os.path.join(self.room, "kati")
         os.makedirs(room, exist_ok=True)
         with self.hiding(os.path.join(room, "hidden")):
             translator = translating.Translator(asked, room)
             found = translator.translate(self.listing)
             if found.status == 0:
-                self.listing = translating.listing(asked, names=list(self.ported))
+                self.listing = translating.listing(asked, names=names)
                 found = translator.translate(self.listing)
             return found
 

@@ -247,6 +247,10 @@ class PortedTranslator(translating.Translator):
             return super().translate(listing, lambda: found.outputs, before)
         return more
 
+    def makefiles(self, asked):
+        """The ported makefiles, by whose values a path outside is known."""
+        return [os.path.join(at, name) for at, _, names in os.walk(os.path.join(self.place, FOLDER)) for name in names]
+
     def asked(self, program, *more):
         """What the translation, the port and the values depend on."""
         found = None if self.ported.stuck is not None else super().asked(program, *more)

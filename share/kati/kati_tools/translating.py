@@ -129,6 +129,11 @@ class Translator:
         status, _, said = run(self.command(self.kati, "--check", os.path.abspath(path)), cwd=self.folder)
         return status, said
 
+    def makefiles(self, asked):
+        """The names of the makefiles by which the files that exist are listed, of those that the translation asks
+        for."""
+        return asked
+
     def asked(self, program):
         """The names that the translation asks for, in order, by kati-asked; None where that is absent or fails. They
         are the same by any list."""
