@@ -306,63 +306,6 @@ class Again(Tree):
 
 
 @needs("kati", "kati-asked", "make", "ninja")
-class OwnFiles(Tree):
-    """What kati-build writes isn't there for make: the values are those that make has where kati-build never ran."""
-
-    FOLDERS = "S := $(wildcard */) $(wildcard ../tree/b*) $(wildcard */lock src/*/) $(wildcard build.ninja other.*)\n"
-    LOOP = "T := $(foreach p,b* o*/ src/*/,$(wildcard $(p)))\nall: ; echo $(S) $(T) > ../out\n"
-
-    def setUp(self):
-        super().setUp()
-        for name in ("src/a/x", "b.c", "build.c", "mine.kati/x", "mine.ninja"):
-            self.put(name, "")
-
-    def wanted(self, makefile):
-        """Writes a makefile, and keeps what make makes by it."""
-        self.put("Makefile", makefile)
-        self.assertEqual(self.run_in("make").status, 0)
-        self.makes = self.read("../out")
-
-    def builds(self, *words):
-        """Builds anew, and sees that it is what make made."""
-        (self.top.parent / "out").unlink()
-        ran = self.run_in(*words)
-        self.assertEqual(ran.status, 0, ran.all)
-        self.assertEqual(self.read("../out"), self.makes)
-
-    def test_by_a_port(self):
-        self.wanted("A := $(wildcard *)\n" + self.FOLDERS + self.LOOP.replace("(S)", "(S) $(A)"))
-        for words in ((), (), ("-o", "other.ninja"), ("-o", "other.ninja"), ("--values",), ()):
-            with self.subTest(words):
-                self.builds(self.tool_path("kati-build"), "--port", *words)
-        self.builds("ninja")
-        self.builds("ninja", "-f", "other.ninja")
-
-    def test_by_a_written_makefile(self):
-        self.wanted(self.FOLDERS + self.LOOP)
-        self.assertEqual(self.tool("kati-build", "--port", "-o", "other.ninja").status, 0)
-        ran = self.tool("kati-port", "--write", "Makefile")
-        self.assertIn("kati's commands are make's", ran.out, ran.all)
-        for words in ((), (), ("-o", "third.ninja"), ("--values",), ()):
-            with self.subTest(words):
-                self.builds(self.tool_path("kati-build"), "--builtin", *words)
-        self.builds("ninja")
-
-    def test_in_folders_that_commands_and_patterns_name(self):
-        self.put("../lib/Makefile", "all: ; true\n")
-        self.put("../lib/sub/x", "")
-        self.put("x.c", "")
-        self.wanted("S := $(shell find ../lib -type f) $(wildcard ../lib/*/)\nall: x.c ; echo $(S) > ../out\n")
-        build = self.tool_path("kati-build")
-        self.assertEqual(self.run_in("sh", "-c", f"cd ../lib && {build}").status, 0)
-        self.builds(build, "--port")
-        record = self.top / "build.kati/ported.json"
-        before = record.stat().st_mtime_ns
-        self.builds(build, "--port")
-        self.assertEqual(record.stat().st_mtime_ns, before)
-
-
-@needs("kati", "kati-asked", "make", "ninja")
 class Values(Tree):
     """kati-values.mk, once it is written."""
 

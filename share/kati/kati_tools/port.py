@@ -9,14 +9,13 @@ import os
 import re
 from collections import Counter
 
-from . import (default_rule, files, folder_search, freezing, frozen_values, make_probes, make_run, makefile_text,
-               mending, mending_exports, ported_text, target_macros, translating, values_file)
+from . import (default_rule, files, folder_search, freezing, frozen_values, includes, make_probes, make_run,
+               makefile_text, mending, mending_exports, ported_text, target_macros, translating, values_file)
 from .programs import Stop
 
 FAULT = re.compile(r"^(.*?)(?::(\d+))?: \*\*\* (.*) \[(E\d\d)\]$", re.MULTILINE)
 DEPENDENCIES = re.compile(r"\.(d|dep|deps|P|depend)$|(^|/)\.?(deps?|depends?|dependencies)(\.mk)?(/|$)")
 WRITES_DEPENDENCIES = re.compile(r"(?<![\w-])-MM?D\b")
-MAKEFILES = re.compile(r"(^|/)(GNUmakefile|[Mm]akefile[^/]*|[Mm]ake\.[^/]*|[^/]*\.(mk|mak|make))$")
 # What tells of the run, and is asked for where a makefile names it.
 RUN = ("CURDIR", "MAKECMDGOALS", "MAKELEVEL", "MAKE_COMMAND", "MAKE_HOST", "HOME", "PATH", "PWD", "USER", "LOGNAME",
        "TMPDIR")
@@ -55,7 +54,7 @@ class Port:
         self.makefile = os.path.normpath(asked.makefile)
         self.ported, self.made, self.hidden = {}, [], []
         self.did, self.notes, self.cleared = Counter(), [], []
-        self.run = make_run.MakeRun(self.makefile, asked.goals, asked.macros, room, copy.environment())
+        self.run = make_run.MakeRun(self.makefile, asked.goals, asked.macros, room, copy.control.environment())
         kept = files.read(frozen_values.NAME)
         if kept is not None:
             kept = copy.copied_text(kept)
@@ -175,7 +174,7 @@ class Port:
 
     def is_other_makefile(self, name):
         """Whether a file has a makefile's name, and isn't read by this one."""
-        return name not in self.ported and MAKEFILES.search(name) is not None and os.path.isfile(name)
+        return name not in self.ported and includes.MAKEFILES.search(name) is not None and os.path.isfile(name)
 
     def tail(self):
         """What kati gets at the end of the makefile."""
