@@ -159,7 +159,7 @@ class Build:
         source."""
         if self.asked.port:
             return self.translator.asked(self.program)
-        if includes.includes_nothing(self.makefiles()):
+        if includes.includes_nothing(self.makefiles(), self.translator.contents):
             return self.makefiles()
         found = self.translator.asked(self.program)
         own = {self.translator.makefile if self.asked.builtin else None}

@@ -2,10 +2,9 @@
 go there first. What kati-build wrote there git is told to ignore."""
 import os
 import shlex
-import shutil
 
 from . import files, own_files, sources
-from .programs import run
+from .programs import run, which
 
 COMMAND = """\
 #!/bin/sh
@@ -42,7 +41,7 @@ class Control:
         self.room, self.programs = os.path.join(room, "control"), {}
         quoted = {"copy": shlex.quote(copy), "real": shlex.quote(real)}
         for name in sorted(one[1:] for one in sources.CONTROL) if is_under_control(folder) else []:
-            program, path = shutil.which(name), os.path.join(self.room, name)
+            program, path = which(name), os.path.join(self.room, name)
             if program:
                 os.makedirs(self.room, exist_ok=True)
                 words = [program, *(self.ignoring(program, folder) if name == "git" else [])]

@@ -187,7 +187,7 @@ class Port:
         asked = argparse.Namespace(kati=self.asked.kati, makefile=self.makefile, builtin=True, depth=self.depth,
                                    words=[*self.asked.goals, *self.asked.macros], files_from=self.asked.files_from)
         # Faults in reading don't hang on the list, so it is made anew but where kati takes the makefile.
-        names = [*self.ported, frozen_values.NAME]
+        names = dict.fromkeys([*self.ported, frozen_values.NAME])
         self.listing = self.listing or translating.listing(asked, names=names)
         room = os.path.join(self.room, "kati")
         os.makedirs(room, exist_ok=True)

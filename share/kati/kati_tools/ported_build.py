@@ -249,7 +249,8 @@ class PortedTranslator(translating.Translator):
 
     def makefiles(self, asked):
         """The ported makefiles, by whose values a path outside is known."""
-        return [os.path.join(at, name) for at, _, names in os.walk(os.path.join(self.place, FOLDER)) for name in names]
+        found = os.walk(os.path.join(self.place, FOLDER))
+        return dict.fromkeys(os.path.join(at, name) for at, _, names in found for name in names)
 
     def asked(self, program, *more):
         """What the translation, the port and the values depend on."""

@@ -106,7 +106,7 @@ def add_outside(found, makefiles, macros):
 def listing(source, output=None, room=None, makefile=None, macros=(), asked=None):
     """The files that exist, by the word of --files-from; the file `output` and those in the folder `room` aside. The
     folders outside this one are those that `makefile` and its includes name, with these macros of the command line:
-    the names that kati asks for, where they are known, else a guess."""
+    those that kati asks for, where they are known, with their bytes or None, else a guess."""
     if source == "git":
         found = from_git({room})
     elif source == "find":
@@ -117,7 +117,7 @@ def listing(source, output=None, room=None, makefile=None, macros=(), asked=None
     if output in found.names:
         found.names.remove(output)
     if makefile:
-        add_outside(found, includes.asked([makefile], found.names) if asked is None else asked, macros)
+        add_outside(found, dict.fromkeys(includes.asked([makefile], found.names)) if asked is None else asked, macros)
     return found
 
 
