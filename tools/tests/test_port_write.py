@@ -255,6 +255,18 @@ class Writing(Tree):
         self.assertIn("+ echo 1\n", said)
         self.assertIn("kati's commands differ: 1 of make's alone, 1 of kati's alone", said)
 
+    def test_blanks_within_quotes_count(self):
+        self.put_all({"Makefile": "N := $(shell echo 1)\nA =\nA += y\nall: ; echo \"[$(A)]\" $(A) $(N) > out\n"})
+        said = self.port().out
+        self.assertIn('- echo "[y]" y 1 > out\n', said)
+        self.assertIn('+ echo "[ y]"  y 1 > out\n', said)
+        self.assertIn("kati's commands are make's but for blanks within quotes, which count: 1\n", said)
+        self.assertIn("but for blanks within quotes, which count: 1\n", self.tool("kati-build", "--port").said)
+        self.put_all({"Makefile": "N := $(shell echo 1)\nA =\nA += y\nall: ; echo -D$(A) $(N) > out\n"})
+        self.assertIn("kati's commands differ: 1 of make's alone, 1 of kati's alone\n", self.port().out)
+        self.put_all({"Makefile": "N := $(shell echo 1)\nA =\nA += y\nall: ; echo $(A) $(N) > out\n"})
+        self.assertIn("kati's commands are make's, blanks aside\n", self.port().out)
+
     def test_the_forms_of_files_stay(self):
         text = "N := $(shell echo 1)\r\nall: ; echo $(N)\r\n"
         self.put_all({})

@@ -72,11 +72,6 @@ def advice(port, fault):
     return found[0].told() if found else OTHERS.get(fault.number)
 
 
-def without_blanks(lines):
-    """Commands without their blanks, each as often as it stands there."""
-    return Counter("".join(line.split()) for line in lines)
-
-
 def commands_of(statements):
     """The commands that the statements hold, each without the shell round it."""
     return [text.strip() for one in statements if one.command is not None for text in comparing.unwrapped(one.command)]
@@ -93,10 +88,9 @@ class Comparison:
         remade = commands_of([one for one in translation.statements if set(one.outputs) & port.read])
         katis = command_lists.alone(katis, command_lists.alone([*self.after[3], *remade], makes))
         found = command_lists.Compared(makes, comparing.besides([], translation.said), katis)
-        self.makes, self.katis = found.makes, found.katis
-        self.has_other_blanks = bool(found.in_blanks or found.makes)
-        if without_blanks(found.makes) == without_blanks(found.katis):
-            self.makes, self.katis = [], []
+        self.makes, self.katis, self.has_other_blanks = found.makes, found.katis, bool(found.in_blanks)
+        forms = (Counter(map(command_lists.without_quoted_blanks, lines)) for lines in (self.makes, self.katis))
+        self.is_in_quotes = next(forms) == next(forms)
 
     def is_unchanged(self):
         """Whether make does what it did."""
@@ -116,4 +110,7 @@ class Comparison:
             yield from (f"{mark} {line}" for line in lines[:10])
             if len(lines) > 10:
                 yield f"{mark} .. and {len(lines) - 10} more"
+        if self.is_in_quotes:
+            yield f"kati's commands are make's but for blanks within quotes, which count: {len(self.makes)}"
+            return
         yield f"kati's commands differ: {len(self.makes)} of make's alone, {len(self.katis)} of kati's alone"
