@@ -20,6 +20,8 @@ RUN, NAMES = "tells of the run", "names: "
 HIDING = f"MAKEFILE_LIST := $(filter-out {NAME},$(MAKEFILE_LIST))"
 READS = re.compile(r"# \$\(shell .* reads (.*)")
 ENTRY = re.compile(r"# (.*)\n(\S+) (:?=) ?(.*)\n")
+# A file that a command names by its whole path counts up to so many bytes.
+MOST = 2**20
 WILDCARD = re.compile(r"\$\(wildcard ([^$()]*)\)$")
 
 
@@ -48,12 +50,18 @@ def sum_of(name):
     return "none" if text is None else hashlib.sha256(bytes_of(text)).hexdigest()[:8]
 
 
+def counts(word):
+    """Whether a word of a command names a file or a folder that its value may hang on: not this folder itself, which a
+    build changes, nor by a whole path what is large or no plain file, as programs and devices."""
+    if os.path.isabs(word) and not word.startswith(os.getcwd() + os.sep):
+        return os.path.isfile(word) and os.path.getsize(word) <= MOST
+    return os.path.exists(word) and os.path.relpath(word).strip("./") != ""
+
+
 def files_of_command(command):
-    """The files and folders that the words of a shell's command name, with git's own for git. The folder itself isn't
-    one: a build changes it."""
+    """The files and folders that the words of a shell's command name, with git's own for git."""
     words = dict.fromkeys(re.split(r"[\s;|&()<>`'\"=$,]+", command))
-    found = [word for word in words if os.path.exists(word) and not os.path.isabs(word)
-             and os.path.normpath(word).strip("./")]
+    found = [word for word in words if word and counts(word)]
     if "git" in words:
         found += [name for name in (".git/HEAD", ".git/packed-refs") if os.path.isfile(name)]
     return found
@@ -64,7 +72,8 @@ def fitting(patterns):
     found = []
     for pattern in patterns.split():
         # A name that begins with a dot fits only a pattern that does; glob has it so too.
-        names = glob.glob(pattern) if set(pattern) & set("*?[") else [pattern] * os.path.lexists(pattern)
+        is_pattern = set(pattern) & set("*?[")
+        names = glob.glob(pattern.replace("[^", "[!")) if is_pattern else [pattern] * os.path.lexists(pattern)
         found += sorted((name for name in names if not own_files.is_below(name)), key=bytes_of)
     return " ".join(found)
 
