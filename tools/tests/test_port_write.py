@@ -255,6 +255,19 @@ class Writing(Tree):
         self.assertIn("+ echo 1\n", said)
         self.assertIn("kati's commands differ: 1 of make's alone, 1 of kati's alone", said)
 
+    def test_commands_that_are_others_each_time(self):
+        self.put_all({"Makefile": "D := $(shell date +%N)\nN := $(shell echo 1)\nall: ; echo $(D) > out; echo $(N)\n"
+                                  "\techo $(N) > out\n"})
+        said = self.port().out
+        self.assertIn("make's commands are as before: 2, 1 of them another one each time\n", said)
+        self.assertIn("kati's commands differ: 1 of make's alone, 1 of kati's alone\n", said)
+        self.assertEqual(self.makes_commands().splitlines()[1], "echo 1 > out")
+
+    def test_what_the_file_of_values_itself_changes(self):
+        self.put_all({"Makefile": "S := $(wildcard *)\nall: ; echo $(S)\n"})
+        self.assertIn("make's commands would change\n", self.port(status=1).said)
+        self.assertEqual(sorted(path.name for path in self.top.iterdir()), ["Makefile"])
+
     def test_blanks_within_quotes_count(self):
         self.put_all({"Makefile": "N := $(shell echo 1)\nA =\nA += y\nall: ; echo \"[$(A)]\" $(A) $(N) > out\n"})
         said = self.port().out

@@ -59,6 +59,7 @@ class Port:
         if kept is not None:
             kept = copy.copied_text(kept)
             files.replace(frozen_values.NAME, kept, room)
+        self.kept_values = kept
         self.values = frozen_values.Values(values_file.ValuesFile(kept) if kept is not None else None)
         self.of_the_run, self.depth, self.listing = {}, asked.depth, None
         self.freezer = freezing.Freezer(self)
@@ -181,6 +182,19 @@ class Port:
         lines = [*self.search.tail(), *self.target_macros.tail(), *mending_exports.tail(self),
                  *(f"{name} =" for name in self.cleared)]
         return ["", ported_text.KATIS_ALONE, *lines, "endif"] if lines else []
+
+    def commands_again(self):
+        """What make would do now by the makefiles as they were."""
+        for file in self.ported.values():
+            files.replace(file.name, file.before, self.room)
+        if self.kept_values is None:
+            files.remove(frozen_values.NAME)
+        else:
+            files.replace(frozen_values.NAME, self.kept_values, self.room)
+        try:
+            return self.run.commands()[1]
+        finally:
+            self.save()
 
     def translate(self):
         """What kati says of the files as they are now; the dependencies aren't there for it."""

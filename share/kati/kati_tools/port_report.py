@@ -81,7 +81,7 @@ class Comparison:
     """make's commands before and after, and kati's, which may differ from them in blanks."""
 
     def __init__(self, port, translation, after=None):
-        self.before, self.after = port.before[1], after or port.run.commands()
+        self.before, self.after, self.count_varying = port.before[1], after or port.run.commands(), 0
         makes = [line.replace(port.run.noop, port.shell) for line in self.after[1]]
         katis = commands_of(translation.statements)
         # What makes makefiles make does before, and may say nothing of.
@@ -92,9 +92,16 @@ class Comparison:
         forms = (Counter(map(command_lists.without_quoted_blanks, lines)) for lines in (self.makes, self.katis))
         self.is_in_quotes = next(forms) == next(forms)
 
-    def is_unchanged(self):
-        """Whether make does what it did."""
-        return self.after[0] == 0 and self.after[1] == self.before
+    def is_unchanged(self, again):
+        """Whether make does what it did. Where it doesn't, `again` tells what it does now by the makefiles as they
+        were: commands that differ then too are others each time, as by a date."""
+        status, after, _, _ = self.after
+        if status or len(after) != len(self.before):
+            return False
+        others = [one for one, before in enumerate(self.before) if after[one] != before]
+        now = again() if others else []
+        self.count_varying = len(others)
+        return not others or len(now) == len(after) and all(now[one] != self.before[one] for one in others)
 
     def is_same(self):
         """Whether kati's commands are make's."""
@@ -102,7 +109,8 @@ class Comparison:
 
     def told(self):
         """The lines that say so."""
-        yield f"make's commands are as before: {len(self.before)}"
+        varying = f", {self.count_varying} of them another one each time" if self.count_varying else ""
+        yield f"make's commands are as before: {len(self.before)}{varying}"
         if self.is_same():
             yield f"kati's commands are make's{', blanks aside' if self.has_other_blanks else ''}"
             return

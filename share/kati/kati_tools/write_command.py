@@ -100,7 +100,7 @@ def ported_in_copy(asked, room):
             lines = [str(stuck), port_report.advice(made, stuck.fault)]
             raise Stop(copy.real_text("\n".join([f"{asked.makefile} isn't ported", *filter(None, lines)])), 1) from None
         comparison = port_report.Comparison(made, translation)
-        if not comparison.is_unchanged():
+        if not comparison.is_unchanged(made.commands_again):
             raise Stop(f"{asked.makefile} isn't ported: make's commands would change\n"
                        + copy.real_text("\n".join(changes(comparison))), 1)
         return Written(made), [copy.real_text(line) for line in told(made, comparison)]
