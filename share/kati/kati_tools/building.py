@@ -62,6 +62,7 @@ header dependencies:
 
 environment:
   KATI, KATI_ASKED, NINJA      the programs kati, kati-asked and ninja
+  MAKE                         the program make, which is asked for values
 
 examples:
   kati-build                             builds the first target

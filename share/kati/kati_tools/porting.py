@@ -41,6 +41,9 @@ what is told without it:
               conditionals and comments within a recipe that make hands to the shell, lib.a(a.o b.o),
               includes that make makes
 
+environment:
+  KATI, MAKE   the programs kati and make
+
 examples:
   kati-port --write Makefile         makes kati take it
   kati-port --write --diff Makefile all CC=gcc   the change that this would be, for these words
