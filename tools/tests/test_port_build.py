@@ -236,6 +236,14 @@ class Again(Tree):
         self.assertFalse(self.asks("ninja"))
         self.assertEqual(wanted, f"echo > made\necho {self.read('out').strip()} > out\n")
 
+    def test_a_pattern_that_all_names_fit(self):
+        self.put("Makefile", "D = .\nS := $(wildcard $(D)/*)\nall: src/a.c ; echo $(S) > ../out\n")
+        self.assertTrue(self.asks())
+        self.put("new", "")
+        wanted = "./Makefile ./lib ./new ./src\n"
+        self.assertFalse(self.asks("ninja"))
+        self.assertEqual(self.read("../out"), wanted)
+
     def test_a_pattern_that_leaves_letters_out(self):
         self.put("Makefile", "S := $(wildcard src/[^a]*.c)\nout: src/a.c ; echo $(S) > out\n")
         self.assertTrue(self.asks())

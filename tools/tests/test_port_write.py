@@ -264,9 +264,15 @@ class Writing(Tree):
         self.assertEqual(self.makes_commands().splitlines()[1], "echo 1 > out")
 
     def test_what_the_file_of_values_itself_changes(self):
-        self.put_all({"Makefile": "S := $(wildcard *)\nall: ; echo $(S)\n"})
+        self.put_all({"Makefile": "N := $(shell echo 1)\nall: * ; echo $^\n"})
         self.assertIn("make's commands would change\n", self.port(status=1).said)
         self.assertEqual(sorted(path.name for path in self.top.iterdir()), ["Makefile"])
+        self.put_all({"Makefile": "D = .\nS := $(wildcard *) $(wildcard $(D)/*)\nall: ; echo $(S) > ../out\n"})
+        wanted = self.makes_commands()
+        self.assertIn("kati's commands are make's", self.port().out)
+        self.assertEqual(self.makes_commands(), wanted)
+        self.assertEqual(self.tool("kati-build", "--builtin").status, 0)
+        self.assertEqual(f"echo {self.read('../out').strip()} > ../out\n", wanted)
 
     def test_blanks_within_quotes_count(self):
         self.put_all({"Makefile": "N := $(shell echo 1)\nA =\nA += y\nall: ; echo \"[$(A)]\" $(A) $(N) > out\n"})

@@ -67,14 +67,25 @@ def files_of_command(command):
     return found
 
 
+def is_this_file(name):
+    """Whether a name is that of kati-values.mk in this folder."""
+    return os.path.basename(name) == NAME and os.path.dirname(os.path.abspath(name)) == os.getcwd()
+
+
+def own_names(patterns):
+    """The names of kati-values.mk, by these patterns of make's `wildcard`."""
+    return [name for pattern in patterns.split() for name in glob.glob(pattern) if is_this_file(name)]
+
+
 def fitting(patterns):
-    """What make's `wildcard` gives for patterns where kati-build hasn't run."""
+    """What make's `wildcard` gives for patterns where kati-build and kati-port haven't written anything."""
     found = []
     for pattern in patterns.split():
         # A name that begins with a dot fits only a pattern that does; glob has it so too.
         is_pattern = set(pattern) & set("*?[")
         names = glob.glob(pattern.replace("[^", "[!")) if is_pattern else [pattern] * os.path.lexists(pattern)
-        found += sorted((name for name in names if not own_files.is_below(name)), key=bytes_of)
+        found += sorted((name for name in names if not own_files.is_below(name) and not is_this_file(name)),
+                        key=bytes_of)
     return " ".join(found)
 
 
