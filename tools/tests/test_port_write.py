@@ -25,6 +25,11 @@ CONSTRUCTS = {
     "shell in a macro that is called":
         ({"Makefile": "twice = $(shell echo $(1)$(1))\nN := $(call twice,a) $(call twice,b)\nall: ; echo $(N) > out\n"},
          ["V_N := aa", "V_N_2 := bb", "twice = $(shell echo $(1)$(1))"]),
+    "shell and wildcard of an argument without brackets":
+        ({"Makefile": "twice = $(shell echo $1$1)\nall_in = $(wildcard $1$2) $(foreach d,$(wildcard $1*),"
+                      "$(call all_in,$d/,$2))\nN := $(call twice,a) $(call twice,b)\nS := $(call all_in,t/,*.t)\n"
+                      "all: ; echo $(N) $(S) > out\n", "t/a.t": "", "t/sub/b.t": "", "t/sub/c": ""},
+         ["V_N := aa", "V_N_2 := bb", "t/a.t", "t/sub/b.t"]),
     "shell in a body of define":
         ({"Makefile": "define R\n$(1): ; echo $(1) $(shell echo x) > $(1)\nendef\nall: a b\n"
                       "$(foreach n,a b,$(eval $(call R,$(n))))\n"}, ["$(V_shell)"]),
