@@ -26,6 +26,9 @@ PAGES = $(COMMANDS:%=%.1)
 EXAMPLE = Makefile README.md config.mk files.txt list.c list.h main.c
 PAPERS = README.md CHANGELOG.md CONTRIBUTING.md SECURITY.md NOTICE
 
+# Bytecode, by which the tools start sooner; it counts where it is of the source that stands there.
+COMPILE = -m compileall -q --invalidation-mode checked-hash
+
 # The folders that are this package's alone, and its files in folders of others.
 FOLDERS = $(SHARE) $(DOC)
 FILES = $(COMMANDS:%=$(BIN)/%) $(PAGES:%=$(MAN)/%) $(COMMANDS:%=$(BASH)/%) $(ZSH)/_kati $(COMMANDS:%=$(FISH)/%.fish)
@@ -41,6 +44,7 @@ install: $(PROGRAM) $(ASKED)
 	install -m 755 $(TOOLS:%=tools/%) $(DESTDIR)$(BIN)
 	install -m 644 share/kati/*.mk $(DESTDIR)$(SHARE)
 	install -m 644 share/kati/kati_tools/*.py $(DESTDIR)$(SHARE)/kati_tools
+	python3 $(COMPILE) -d $(SHARE)/kati_tools $(DESTDIR)$(SHARE)/kati_tools || true
 	install -m 644 $(PAGES:%=share/man/man1/%) $(DESTDIR)$(MAN)
 	install -m 644 $(PAPERS) $(DESTDIR)$(DOC)
 	install -m 644 docs/*.md $(DESTDIR)$(DOC)/docs

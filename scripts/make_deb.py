@@ -43,6 +43,21 @@ translates makefiles to Ninja files
  a makefile stands in the way, and compare with make.
 """
 
+# Bytecode hangs on the Python of the machine.
+POSTINST = """\
+#!/bin/sh
+set -e
+if [ "$1" = configure ]; then
+    cd "$DPKG_ROOT/usr/share/kati"
+    python3 -m compileall -q -d /usr/share/kati/kati_tools kati_tools || true
+fi
+"""
+PRERM = """\
+#!/bin/sh
+set -e
+rm -rf "$DPKG_ROOT/usr/share/kati/kati_tools/__pycache__"
+"""
+
 
 class Failure(Exception):
     """The package can't be made; the text says why."""
@@ -105,7 +120,8 @@ def compress(path):
 
 
 def as_debian_has_it(tree):
-    """The programs without their symbols, pages and changes compressed, and Python by its path."""
+    """The programs without their symbols, pages and changes compressed, no bytecode, and Python by its path."""
+    shutil.rmtree(tree / "usr/share/kati/kati_tools/__pycache__", ignore_errors=True)
     run("strip", "--remove-section=.comment", *(str(tree / "usr/bin" / name) for name in ("kati", "kati-asked")))
     for page in sorted((tree / "usr/share/man/man1").iterdir()):
         compress(page)
@@ -152,6 +168,9 @@ def package(tree, output):
     (tree / "DEBIAN").mkdir(0o755)
     (tree / "DEBIAN/md5sums").write_text("".join(sums), encoding="utf-8")
     (tree / "DEBIAN/control").write_text(text, encoding="utf-8")
+    for name, text in (("postinst", POSTINST), ("prerm", PRERM)):
+        (tree / "DEBIAN" / name).write_text(text, encoding="utf-8")
+        (tree / "DEBIAN" / name).chmod(0o755)
     path = output / f"{NAME}_{version()}_{architecture}.deb"
     run("dpkg-deb", "--root-owner-group", "-Zxz", "--build", str(tree), str(path))
     return path

@@ -230,6 +230,19 @@ class Building(Tree):
         self.assertEqual(self.made(), before)
         self.assertEqual(self.run_in("sh", "-c", "cd prog && make -s && ./prog").status, 7)
 
+    def test_a_copy_of_the_home_folder_is_too_much(self):
+        self.put("home/prog/Makefile", "all: ; cat ../x > out\n")
+        self.put("home/x", "")
+        compare = self.tool_path("kati-compare")
+        ran = self.run_in("sh", "-c", f"cd home/prog && {compare} --build", HOME=self.top / "home")
+        self.assertEqual(ran.status, 3, ran.all)
+        self.assertIn(f"Makefile needs .., which is {self.top}/home: too much", ran.said)
+
+    def test_what_kati_build_wrote_is_not_in_the_copies(self):
+        self.write(Makefile="S = b.c\nifdef MAKE_VERSION\nS := $(wildcard b*)\nendif\nout: ; echo $(S) > out\n", b_c="")
+        self.assertEqual(self.tool("kati-build", "--no-ninja").status, 0)
+        self.assertIn("same: 1 file came into being\n", self.run_in(self.tool_path("kati-compare"), "--build").out)
+
     def test_words_for_kati_alone(self):
         self.write(Makefile="ifdef MAKE_VERSION\nA := $(shell echo one)\nendif\nout: ; echo $(A) > out\n")
         self.assertEqual(self.compared(0, "A=one", "--words-for-kati"),

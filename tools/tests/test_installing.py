@@ -1,5 +1,6 @@
 """The root's Makefile: install, uninstall and deb, by make and by kati's Ninja file."""
 import os
+import re
 import shutil
 import subprocess
 import tempfile
@@ -123,12 +124,25 @@ class Installing(Scratch):
     @needs("make", "ninja", "cc")
     def test_an_installed_kati_build_builds_the_example(self):
         usr = self.install()
-        copy = shutil.copytree(ROOT / "example", self.folder / "example")
+        copy, before = shutil.copytree(ROOT / "example", self.folder / "example"), tree(usr)
         run(usr / "bin/kati-build", cwd=copy)
         self.assertTrue((copy / "prog").is_file())
         # The programs beside it were found, and nobody named them.
         self.assertIn(f"--kati-asked {usr / 'bin/kati-asked'}", (copy / "build.ninja").read_text())
-        self.assertEqual([str(path) for path in usr.rglob("__pycache__")], [])
+        self.assertEqual(tree(usr), before)
+
+    @needs("make")
+    def test_the_tools_are_installed_with_their_bytecode(self):
+        usr = self.install()
+        told = run("python3", "-v", "-S", usr / "bin/kati-build", "--help")
+        loaded = re.findall(r"^# code object from '?.*/kati_tools/.*(\.pyc?)'?$", told, re.MULTILINE)
+        self.assertEqual(set(loaded), {".pyc"})
+        # A source that is changed counts, whatever its time.
+        source = usr / "share/kati/kati_tools/words.py"
+        text, times = source.read_text(), source.stat()
+        source.write_text(text.replace("without it `makefile`", "without it: `makefile`"))
+        os.utime(source, ns=(times.st_atime_ns, times.st_mtime_ns))
+        self.assertIn("without it: `makefile`", run(usr / "bin/kati-build", "--help"))
 
     @needs("make")
     def test_documents_name_no_file_that_is_not_installed(self):
@@ -206,6 +220,7 @@ class Packaging(Scratch):
         for name in COMMANDS:
             self.assertTrue((root / f"usr/share/man/man1/{name}.1.gz").is_file(), name)
         self.assertTrue((root / "usr/share/zsh/vendor-completions/_kati").is_file())
+        self.assertTrue(list(root.glob("usr/share/kati/kati_tools/__pycache__/building.*.pyc")))
         self.dpkg("-r", "kati-ninja")
         self.assertEqual(self.paths(), before)
 

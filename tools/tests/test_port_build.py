@@ -56,6 +56,15 @@ class Building(Tree):
         self.assertEqual(self.read("out"), "a.c\nb.c\n2 Linux\n")
         self.assertIn("no work to do", self.ninja())
 
+    def test_a_file_that_a_command_names_by_its_whole_path(self):
+        self.put("Makefile", "N := $(shell cat $(CURDIR)/n.txt $(abspath ..)/above.txt)\nall: ; echo $(N) > out\n")
+        self.put("../above.txt", "a\n")
+        self.build()
+        for name, text in (("n.txt", "2 a\n"), ("../above.txt", "2 2\n")):
+            self.put(name, "2\n")
+            self.ninja()
+            self.assertEqual(self.read("out"), text)
+
     def test_a_changed_include_is_ported_again(self):
         self.build()
         self.ninja()
@@ -111,6 +120,15 @@ class Building(Tree):
         self.assertEqual(ran.status, 0, ran.all)
         self.assertEqual(self.read("prog/out"), "one two\n")
         self.assertEqual(self.read("mk/one.mk"), "A := $(shell echo one)\n")
+
+    def test_a_rule_that_needs_a_file_outside_by_a_value(self):
+        self.put("Makefile", "T := $(shell pwd)/..\nall: a.o\n%.o: %.c $(T)/inc/a.h\n\tcat $^ > $@\n")
+        self.put("../inc/a.h", "h\n")
+        self.assertNotIn("differ", self.build())
+        self.assertEqual(self.read("a.o"), "a.c\nh\n")
+        self.put("../inc/a.h", "i\n")
+        self.ninja()
+        self.assertEqual(self.read("a.o"), "a.c\ni\n")
 
     def test_header_dependencies_that_a_compiler_writes(self):
         self.put("Makefile", "S := $(shell echo main)\nCFLAGS += -MMD\nprog: $(S).o\n\tcc -o $@ $^\n"
@@ -217,6 +235,21 @@ class Again(Tree):
         wanted = self.run_in("make", "-n", "-B").out
         self.assertFalse(self.asks("ninja"))
         self.assertEqual(wanted, f"echo > made\necho {self.read('out').strip()} > out\n")
+
+    def test_a_pattern_that_all_names_fit(self):
+        self.put("Makefile", "D = .\nS := $(wildcard $(D)/*)\nall: src/a.c ; echo $(S) > ../out\n")
+        self.assertTrue(self.asks())
+        self.put("new", "")
+        wanted = "./Makefile ./lib ./new ./src\n"
+        self.assertFalse(self.asks("ninja"))
+        self.assertEqual(self.read("../out"), wanted)
+
+    def test_a_pattern_that_leaves_letters_out(self):
+        self.put("Makefile", "S := $(wildcard src/[^a]*.c)\nout: src/a.c ; echo $(S) > out\n")
+        self.assertTrue(self.asks())
+        self.put("src/b.c", "")
+        self.assertFalse(self.asks("ninja"))
+        self.assertEqual(self.run_in("make", "-n", "-B").out, f"echo {self.read('out').strip()} > out\n")
 
     def test_the_folders_of_patterns_are_watched_by_any_list(self):
         self.put("list.txt", "")

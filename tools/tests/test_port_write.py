@@ -25,6 +25,11 @@ CONSTRUCTS = {
     "shell in a macro that is called":
         ({"Makefile": "twice = $(shell echo $(1)$(1))\nN := $(call twice,a) $(call twice,b)\nall: ; echo $(N) > out\n"},
          ["V_N := aa", "V_N_2 := bb", "twice = $(shell echo $(1)$(1))"]),
+    "shell and wildcard of an argument without brackets":
+        ({"Makefile": "twice = $(shell echo $1$1)\nall_in = $(wildcard $1$2) $(foreach d,$(wildcard $1*),"
+                      "$(call all_in,$d/,$2))\nN := $(call twice,a) $(call twice,b)\nS := $(call all_in,t/,*.t)\n"
+                      "all: ; echo $(N) $(S) > out\n", "t/a.t": "", "t/sub/b.t": "", "t/sub/c": ""},
+         ["V_N := aa", "V_N_2 := bb", "t/a.t", "t/sub/b.t"]),
     "shell in a body of define":
         ({"Makefile": "define R\n$(1): ; echo $(1) $(shell echo x) > $(1)\nendef\nall: a b\n"
                       "$(foreach n,a b,$(eval $(call R,$(n))))\n"}, ["$(V_shell)"]),
@@ -255,6 +260,37 @@ class Writing(Tree):
         self.assertIn("+ echo 1\n", said)
         self.assertIn("kati's commands differ: 1 of make's alone, 1 of kati's alone", said)
 
+    def test_commands_that_are_others_each_time(self):
+        self.put_all({"Makefile": "D := $(shell date +%N)\nN := $(shell echo 1)\nall: ; echo $(D) > out; echo $(N)\n"
+                                  "\techo $(N) > out\n"})
+        said = self.port().out
+        self.assertIn("make's commands are as before: 2, 1 of them another one each time\n", said)
+        self.assertIn("kati's commands differ: 1 of make's alone, 1 of kati's alone\n", said)
+        self.assertEqual(self.makes_commands().splitlines()[1], "echo 1 > out")
+
+    def test_what_the_file_of_values_itself_changes(self):
+        self.put_all({"Makefile": "N := $(shell echo 1)\nall: * ; echo $^\n"})
+        self.assertIn("make's commands would change\n", self.port(status=1).said)
+        self.assertEqual(sorted(path.name for path in self.top.iterdir()), ["Makefile"])
+        self.put_all({"Makefile": "D = .\nS := $(wildcard *) $(wildcard $(D)/*)\nall: ; echo $(S) > ../out\n"})
+        wanted = self.makes_commands()
+        self.assertIn("kati's commands are make's", self.port().out)
+        self.assertEqual(self.makes_commands(), wanted)
+        self.assertEqual(self.tool("kati-build", "--builtin").status, 0)
+        self.assertEqual(f"echo {self.read('../out').strip()} > ../out\n", wanted)
+
+    def test_blanks_within_quotes_count(self):
+        self.put_all({"Makefile": "N := $(shell echo 1)\nA =\nA += y\nall: ; echo \"[$(A)]\" $(A) $(N) > out\n"})
+        said = self.port().out
+        self.assertIn('- echo "[y]" y 1 > out\n', said)
+        self.assertIn('+ echo "[ y]"  y 1 > out\n', said)
+        self.assertIn("kati's commands are make's but for blanks within quotes, which count: 1\n", said)
+        self.assertIn("but for blanks within quotes, which count: 1\n", self.tool("kati-build", "--port").said)
+        self.put_all({"Makefile": "N := $(shell echo 1)\nA =\nA += y\nall: ; echo -D$(A) $(N) > out\n"})
+        self.assertIn("kati's commands differ: 1 of make's alone, 1 of kati's alone\n", self.port().out)
+        self.put_all({"Makefile": "N := $(shell echo 1)\nA =\nA += y\nall: ; echo $(A) $(N) > out\n"})
+        self.assertIn("kati's commands are make's, blanks aside\n", self.port().out)
+
     def test_the_forms_of_files_stay(self):
         text = "N := $(shell echo 1)\r\nall: ; echo $(N)\r\n"
         self.put_all({})
@@ -277,6 +313,15 @@ class Writing(Tree):
         self.assertEqual(self.read("mk/a.mk").split("\n")[-2], "A := $(V_A)")
         self.assertIn("V_A := 7\n", self.read("prog/kati-values.mk"))
         self.assertIn("V_wildcard := ../lib/v.h\n", self.read("prog/kati-values.mk"))
+
+    def test_a_rule_that_needs_a_file_outside_by_a_value(self):
+        self.put_all({"Makefile": "T := $(shell pwd)/..\nall: a.o\n%.o: %.c $(T)/inc/a.h\n\tcat $^ > $@\n",
+                      "a.c": "c\n", "../inc/a.h": "h\n"})
+        said = self.port().out
+        self.assertIn("kati's commands are make's", said)
+        self.assertEqual(self.built_by_make()["a.o"], "c\nh\n")
+        self.assertEqual(self.tool("kati-build", "--builtin").status, 0)
+        self.assertEqual(self.read("a.o"), "c\nh\n")
 
     def test_an_include_has_makes_calls_for_others_that_read_it(self):
         self.put_all({"a.mk": "A := $(shell echo 1)\n", "Makefile": "include a.mk\nall: ; echo $(A)\n",

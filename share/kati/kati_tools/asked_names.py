@@ -14,21 +14,13 @@ RECORD = "asked.txt"
 TICK = 20_000_000
 
 
-def content(path):
-    """What stands in a file; None where none can be read."""
-    try:
-        with open(path, "rb") as file:
-            return file.read()
-    except OSError:
-        return None
-
-
-def sum_of(command, folder, names):
-    """What tells this program with these words, and what stands in the files of these names, from all else."""
+def sum_of(command, folder, names, contents):
+    """What tells this program with these words, and what stands in the files of these names, from all else. That is
+    kept in `contents`, since others look through it too."""
     program = os.stat(command[0])
     found = hashlib.sha256(bytes_of("\0".join([*command, str(program.st_mtime_ns), str(program.st_size)])))
     for name in names:
-        there = content(os.path.join(folder, name))
+        there = contents[name] = files.content(os.path.join(folder, name))
         found.update(bytes_of(f"\0{name}\0{'none' if there is None else len(there)}\0"))
         found.update(there or b"")
     return found.hexdigest()
@@ -36,25 +28,30 @@ def sum_of(command, folder, names):
 
 def has_changed_since(when, folder, names):
     """Whether a file may have been written after a time: then it isn't known what was read."""
-    paths = [os.path.join(folder, name) for name in names]
-    return any(os.stat(path).st_mtime_ns > when - TICK for path in paths if os.path.exists(path))
+    def is_later(name):
+        try:
+            return os.stat(os.path.join(folder, name)).st_mtime_ns > when - TICK
+        except OSError:
+            return False
+    return any(map(is_later, names))
 
 
-def told(path, command, folder, before):
+def told(path, command, folder, before, contents):
     """The names that the program tells, kept in the file `path`; None where it fails. `before` is called before it is
-    run, and the list, which it has by --files, isn't one of them."""
+    run, and the list, which it has by --files, isn't one of them. What stands in the files is kept in `contents`."""
     listed, folder = command[command.index("--files") + 1], folder or "."
     was, *names = (files.read(path) or "").split("\n")[:-1] or [""]
-    if was and was == sum_of(command, folder, names):
+    if was and was == sum_of(command, folder, names, contents):
         return names
     begun = time.time_ns()
     before()
     status, out, _ = run(command, cwd=folder)
     if status:
         return None
+    contents.clear()
     names = [name for name in out.split("\n") if name and name != listed]
     if has_changed_since(begun, folder, names):
         files.remove(path)
     else:
-        files.replace(path, "\n".join([sum_of(command, folder, names), *names, ""]), os.path.dirname(path))
+        files.replace(path, "\n".join([sum_of(command, folder, names, contents), *names, ""]), os.path.dirname(path))
     return names

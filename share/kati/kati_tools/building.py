@@ -4,7 +4,7 @@ import signal
 import subprocess
 import sys
 
-from . import files, includes, insertions, ninja_text, one_at_a_time, sources, top_file, translating, words
+from . import files, includes, insertions, ninja_text, one_at_a_time, own_files, top_file, translating, words
 from .programs import UNFORESEEN, Stop, bytes_of, ending, need, say
 
 TOOL = "kati-build"
@@ -62,6 +62,7 @@ header dependencies:
 
 environment:
   KATI, KATI_ASKED, NINJA      the programs kati, kati-asked and ninja
+  MAKE                         the program make, which is asked for values
 
 examples:
   kati-build                             builds the first target
@@ -115,7 +116,7 @@ def refuse_words(asked, output):
         raise Stop("a word with a newline, which no Ninja file can hold", words.WRONG_USAGE)
     translating.refuse_passing(asked.makefile)
     there = files.read(output)
-    if there and not there.startswith((top_file.FIRST_LINE, KATIS_FIRST_LINE)):
+    if there and not there.startswith((own_files.FIRST_LINE, KATIS_FIRST_LINE)):
         raise Stop(f"{output} isn't kati-build's: remove it, or name another file by -o", words.WRONG_USAGE)
 
 
@@ -124,8 +125,8 @@ class Build:
 
     def __init__(self, asked):
         self.asked, self.output = asked, os.path.normpath(asked.output)
-        self.room = os.path.splitext(self.output)[0] + ".kati"
-        self.translated = os.path.join(self.room, sources.TRANSLATED)
+        self.room = os.path.splitext(self.output)[0] + own_files.ENDING
+        self.translated = os.path.join(self.room, own_files.TRANSLATED)
         self.list = os.path.join(self.room, "files.txt")
         refuse_words(asked, self.output)
         self.values_from = []
@@ -159,7 +160,7 @@ class Build:
         source."""
         if self.asked.port:
             return self.translator.asked(self.program)
-        if includes.includes_nothing(self.makefiles()):
+        if includes.includes_nothing(self.makefiles(), self.translator.contents):
             return self.makefiles()
         found = self.translator.asked(self.program)
         own = {self.translator.makefile if self.asked.builtin else None}
@@ -185,7 +186,7 @@ class Build:
     def translate(self):
         """Makes the translation and the file that ninja reads, alone in the folder; answers the status."""
         def say_waiting():
-            say(TOOL, f"waits for another run that has {os.path.join(self.room, one_at_a_time.NAME)}")
+            say(TOOL, f"waits for another run that has {os.path.join(self.room, own_files.LOCK)}")
         with one_at_a_time.held(self.room, say_waiting) as is_first:
             try:
                 self.translator = self.new_translator()
@@ -208,7 +209,7 @@ class Build:
         """The same, where no other run is in the folder."""
         before, old = files.read(self.list), files.read(self.translated) or ""
         asked = self.names_asked()
-        listing = translating.listing(self.asked, self.output, self.room, asked)
+        listing = translating.listing(self.asked, self.output, self.room, self.translator.makefiles(asked))
         kept = listing.names if before is None else before.split("\n")[:-1]
         found = self.translator.translate(listing, lambda: ninja_text.outputs(old), kept)
         sys.stderr.buffer.write(bytes_of(found.said))

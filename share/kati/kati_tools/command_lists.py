@@ -22,6 +22,12 @@ def with_single_blanks(line):
     return "".join(" " if part.isspace() else part for part in PART.findall(line)).strip()
 
 
+def without_quoted_blanks(line):
+    """The same without the blanks within quotes, which a command is given."""
+    parts = PART.findall(line)
+    return with_single_blanks("".join(re.sub("[ \t]+", "", part) if part[0] in "'\"" else part for part in parts))
+
+
 class Compared:
     """The commands of make and of kati: `makes` and `katis` are those of one alone, `count` how many kati has.
 

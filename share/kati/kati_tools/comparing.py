@@ -41,6 +41,9 @@ how make is asked:
   for both builds of --build. With --builtin make is asked without -r and -R, and in both builds it
   has its own rules in any case.
 
+environment:
+  KATI, MAKE, NINJA   the programs kati, make and ninja
+
 examples:
   kati-compare                      the first target of the makefile
   kati-compare all install          all commands of both goals

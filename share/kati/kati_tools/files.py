@@ -3,6 +3,8 @@ import os
 
 from .programs import bytes_of, text_of
 
+PIECE = 2**20
+
 
 def nearest_folder(name):
     """The folder in which a file would come into being, or the nearest above it that is there."""
@@ -36,6 +38,25 @@ def entries(folder):
     left = {one.name for one in folders}
     left.update(one.name for one in others if one.name not in left and not os.path.exists(one.path))
     return folders, [one.name for one in all_entries if one.name not in left]
+
+
+def content(path):
+    """The bytes of a file; None where none can be read."""
+    try:
+        handle = os.open(path, os.O_RDONLY | os.O_CLOEXEC)
+    except (OSError, ValueError):
+        return None
+    # Without the objects of `open`, which take twice the time.
+    try:
+        size = os.fstat(handle).st_size
+        parts = [os.read(handle, size + 1)]
+        while parts[-1] and len(parts[0]) != size:
+            parts.append(os.read(handle, PIECE))
+        return b"".join(parts)
+    except OSError:
+        return None
+    finally:
+        os.close(handle)
 
 
 def read(path):

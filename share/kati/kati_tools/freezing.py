@@ -162,6 +162,8 @@ class Freezer:
         if WILDCARD_CALL.match(value.makes) and not set(asked) & set("$()\n"):
             if frozen_values.fitting(asked) == value.katis.strip():
                 value.source = f"$(wildcard {asked})"
+                own = frozen_values.own_names(asked)
+                value.makes = f"$(filter-out {' '.join(own)},{value.makes})" if own else value.makes
             return
         named = frozen_values.files_of_command(asked)
         if named and "\n" not in asked:

@@ -11,7 +11,7 @@ import hashlib
 import os
 import re
 
-from . import files, ported_text, translating
+from . import files, own_files, ported_text, sources, translating
 from .programs import bytes_of
 
 NAME = translating.VALUES
@@ -20,6 +20,8 @@ RUN, NAMES = "tells of the run", "names: "
 HIDING = f"MAKEFILE_LIST := $(filter-out {NAME},$(MAKEFILE_LIST))"
 READS = re.compile(r"# \$\(shell .* reads (.*)")
 ENTRY = re.compile(r"# (.*)\n(\S+) (:?=) ?(.*)\n")
+# A file that a command names by its whole path counts up to so many bytes.
+MOST = 2**20
 WILDCARD = re.compile(r"\$\(wildcard ([^$()]*)\)$")
 
 
@@ -32,33 +34,58 @@ def escaped(value):
     return value + "$()" if value.endswith(("\\", " ", "\t")) else value
 
 
+def names_below(folder):
+    """The names of the files below a folder, as the copy of it has them in which make is asked."""
+    for at, folders, names in os.walk(folder):
+        folders[:] = [one for one in folders if one not in sources.CONTROL and not own_files.is_own(at, one)]
+        yield from (os.path.join(at, one) for one in names if not own_files.is_own(at, one))
+
+
 def sum_of(name):
     """What tells a file, or the names in a folder, from what it was, in short."""
     if os.path.isdir(name):
-        text = "\n".join(sorted(os.path.join(at, one) for at, _, names in os.walk(name) for one in names))
+        text = "\n".join(sorted(names_below(name)))
     else:
         text = files.read(name) if os.path.isfile(name) else None
     return "none" if text is None else hashlib.sha256(bytes_of(text)).hexdigest()[:8]
 
 
+def counts(word):
+    """Whether a word of a command names a file or a folder that its value may hang on: not this folder itself, which a
+    build changes, nor by a whole path what is large or no plain file, as programs and devices."""
+    if os.path.isabs(word) and not word.startswith(os.getcwd() + os.sep):
+        return os.path.isfile(word) and os.path.getsize(word) <= MOST
+    return os.path.exists(word) and os.path.relpath(word).strip("./") != ""
+
+
 def files_of_command(command):
-    """The files and folders that the words of a shell's command name, with git's own for git. The folder itself isn't
-    one: a build changes it."""
+    """The files and folders that the words of a shell's command name, with git's own for git."""
     words = dict.fromkeys(re.split(r"[\s;|&()<>`'\"=$,]+", command))
-    found = [word for word in words if os.path.exists(word) and not os.path.isabs(word)
-             and os.path.normpath(word).strip("./")]
+    found = [word for word in words if word and counts(word)]
     if "git" in words:
         found += [name for name in (".git/HEAD", ".git/packed-refs") if os.path.isfile(name)]
     return found
 
 
+def is_this_file(name):
+    """Whether a name is that of kati-values.mk in this folder."""
+    return os.path.basename(name) == NAME and os.path.dirname(os.path.abspath(name)) == os.getcwd()
+
+
+def own_names(patterns):
+    """The names of kati-values.mk, by these patterns of make's `wildcard`."""
+    return [name for pattern in patterns.split() for name in glob.glob(pattern) if is_this_file(name)]
+
+
 def fitting(patterns):
-    """What make's `wildcard` gives for patterns."""
+    """What make's `wildcard` gives for patterns where kati-build and kati-port haven't written anything."""
     found = []
     for pattern in patterns.split():
         # A name that begins with a dot fits only a pattern that does; glob has it so too.
-        names = glob.glob(pattern) if set(pattern) & set("*?[") else [pattern] * os.path.lexists(pattern)
-        found += sorted(names, key=bytes_of)
+        is_pattern = set(pattern) & set("*?[")
+        names = glob.glob(pattern.replace("[^", "[!")) if is_pattern else [pattern] * os.path.lexists(pattern)
+        found += sorted((name for name in names if not own_files.is_below(name) and not is_this_file(name)),
+                        key=bytes_of)
     return " ".join(found)
 
 

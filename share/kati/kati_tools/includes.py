@@ -8,12 +8,14 @@ import re
 
 from . import files
 
-WORD = re.compile(r"include[\s\\]")
+WORD = re.compile(rb"include[\s\\]")
 LINE = re.compile(r"^[ \t]*(?:-include|sinclude|include)[ \t]+(.*)$")
 IN_EVAL = re.compile(r"\$[({]eval[ \t]+(?:-include|sinclude|include)[ \t]+(.*)[)}]")
 REFERENCE = re.compile(r"\$(?:\([^()]*\)|\{[^{}]*\}|[^({])")
 ENDING = re.compile(r"(?::[^=]*=|[ ,])%?([^ ,%(){}$:=]+)[)}]$")
 MOST = 2**20
+# What names a makefile has.
+MAKEFILES = re.compile(r"(^|/)(GNUmakefile|[Mm]akefile[^/]*|[Mm]ake\.[^/]*|[^/]*\.(mk|mak|make))$")
 
 
 def without_continuations(text):
@@ -71,10 +73,11 @@ def fitting(pattern, listed):
     return [name for name in listed if form.match(name)]
 
 
-def includes_nothing(makefiles):
-    """Whether no makefile can ask for another file, since it hasn't the words for it."""
-    texts = [files.read(name) for name in makefiles if os.path.isfile(name)]
-    return not any("eval" in text or WORD.search(text) for text in texts)
+def includes_nothing(makefiles, contents):
+    """Whether no makefile can ask for another file, since it hasn't the words for it. What stands in them is kept in
+    `contents`."""
+    contents.update((name, files.content(name)) for name in makefiles)
+    return not any(data and (b"eval" in data or WORD.search(data)) for data in contents.values())
 
 
 def asked(makefiles, listed):

@@ -4,11 +4,11 @@ import re
 import shlex
 import tempfile
 
-from . import makefile_text
+from . import above, makefile_text
 from .forms import FUNCTION
 from .make_commands import environment
 from .programs import Stop, need, run
-from .scratch_copies import Copy
+from .scratch_copy import Copy
 
 ASKED = "kati_port_value_"
 
@@ -29,19 +29,18 @@ def values(makefile, names, given):
     A deferred macro is told unexpanded; so each is assigned, at once, to another. make prints its dollars doubled,
     as kati wants them."""
     with tempfile.TemporaryDirectory(prefix="kati-port-") as room:
-        copy, more = Copy(makefile, os.path.join(room, "copy"), True), os.path.join(room, "asked.mk")
+        copy, more = Copy(room, above.texts_of(makefile)), os.path.join(room, "asked.mk")
         with open(more, "w", encoding="utf-8", errors="surrogateescape") as file:
             file.writelines(f"{ASKED}{number} := $({name})\n" for number, name in enumerate(names))
             file.write(f".PHONY: {ASKED}\n{ASKED}: ;\n")
         call = ["make", "-pn", "-f", makefile, "-f", more, ASKED, *given]
-        # git's index stays as it is, though the copies have other times of change.
-        status, out, said = run(call, executable=need("make"), cwd=copy.folder,
-                                env=environment(GIT_OPTIONAL_LOCKS="0"))
+        status, out, said = run(call, executable=need("make"), cwd=copy.top,
+                                env=environment(**copy.control.environment()))
     found = dict(re.findall(rf"^{ASKED}(\d+) := ?(.*)$", out, re.MULTILINE))
     if status or len(found) < len(names):
         raise Stop(f"make -pn ends with status {status} and doesn't tell the values:\n{said.strip()}")
     # What names the copy means this folder.
-    return {name: copy.original(found[str(number)]) for number, name in enumerate(names)}
+    return {name: copy.real_text(found[str(number)]) for number, name in enumerate(names)}
 
 
 def words(makefile, names, given):

@@ -8,7 +8,7 @@ from . import files, makefile_text
 from .make_run import ANSWER, END, answered
 from .scanning import FUNCTION
 
-NUMBERED = re.compile(r"\$[({]?[0-9]+[)}]?")
+NUMBERED = re.compile(r"\$(?:[0-9]|\([0-9]+\)|\{[0-9]+\})")
 AUTOMATIC = re.compile(r"\$(?:[@<^+?*|%]|[({][@<^+?*|%][DF]?[)}])")
 OF_MAKEFILES = ("$(MAKEFILE_LIST)", "${MAKEFILE_LIST}")
 CALL = re.compile(r"\$[({]call[ \t]+([^,(){}$ \t]+)[ \t]*,")

@@ -6,8 +6,8 @@ import os
 import time
 
 from . import files
+from .own_files import LOCK
 
-NAME = "lock"
 PAUSE = 0.02
 # A file system that has no locks: a run goes on without.
 WITHOUT_LOCKS = (errno.ENOLCK, errno.ENOSYS, errno.EOPNOTSUPP)
@@ -20,7 +20,7 @@ def opened(room):
     while True:
         os.makedirs(room, exist_ok=True)
         try:
-            return os.open(os.path.join(room, NAME), os.O_RDWR | os.O_CREAT, 0o666)
+            return os.open(os.path.join(room, LOCK), os.O_RDWR | os.O_CREAT, 0o666)
         except FileNotFoundError:
             # Another run took the folder away meanwhile; where it can't be made again, that is told above.
             time.sleep(PAUSE)
@@ -30,7 +30,7 @@ def is_held(lock, room):
     """Whether this run holds the lock, and the folder that has it is still there: who made it may remove it."""
     try:
         fcntl.flock(lock, fcntl.LOCK_EX | fcntl.LOCK_NB)
-        return os.path.samestat(os.fstat(lock), os.stat(os.path.join(room, NAME)))
+        return os.path.samestat(os.fstat(lock), os.stat(os.path.join(room, LOCK)))
     except (BlockingIOError, FileNotFoundError):
         return False
     except OSError as error:
@@ -48,7 +48,7 @@ def held(room, say_waiting):
         lock = opened(room)
         try:
             if is_held(lock, room):
-                yield os.listdir(room) == [NAME]
+                yield os.listdir(room) == [LOCK]
                 return
         finally:
             os.close(lock)
@@ -61,7 +61,7 @@ def held(room, say_waiting):
 def remove(room):
     """Takes away a folder that this run holds. The lock goes last: a run that makes a new one before the folder is
     gone has it to itself, and takes it away in turn."""
-    for name in set(os.listdir(room)) - {NAME}:
+    for name in set(os.listdir(room)) - {LOCK}:
         path = os.path.join(room, name)
         if os.path.isdir(path):
             # What is hardly ever needed is loaded here, since it takes time.
@@ -69,6 +69,6 @@ def remove(room):
             shutil.rmtree(path, ignore_errors=True)
         else:
             files.remove(path)
-    files.remove(os.path.join(room, NAME))
+    files.remove(os.path.join(room, LOCK))
     with contextlib.suppress(OSError):
         os.rmdir(room)

@@ -26,15 +26,15 @@ KINDS = ((b"..", UP), (b"/", BELOW), (b"./", rb"/*(?:\./+)*\.\." + UP))
 MOST_PASSED = 8
 RECIPE, RECIPES = re.compile(";.*"), re.compile(r"\n\t[^\n]*")
 # A text without any of these names no such folder.
-MARKS = ("..", " /", "\t/", "=/", ":/", ",/", "(/")
+MARKS = (b"..", b" /", b"\t/", b"=/", b":/", b",/", b"(/")
 # These hold no sources, and change all the time.
 NEVER = ("/dev/", "/proc/", "/sys/")
 MOST_LEVELS = 10
 
 
-def has_marks(text):
-    """Whether a text may name a folder outside this one."""
-    return ("/" in text or ".." in text) and any(mark in text for mark in MARKS)
+def has_marks(data):
+    """Whether a text, as bytes, may name a folder outside this one."""
+    return (b"/" in data or b".." in data) and any(mark in data for mark in MARKS)
 
 
 class Text:
@@ -175,15 +175,16 @@ def makefiles_text(makefiles, macros):
     """The text of makefiles, where they name such a folder, and of what they include by the value of a macro."""
     text, seen, left = Text(macros), set(), makefiles
     while left:
-        for name in left:
-            content = files.read(name) if os.path.isfile(name) else ""
-            if has_marks(content):
-                text.add(content)
+        for name, known in left.items():
+            data = files.content(name) if known is None and os.path.isfile(name) else known
+            if data and has_marks(data):
+                text.add(text_of(data))
         seen.update(left)
-        left = [name for name in text.included() if name not in seen and os.path.isfile(name)]
+        left = dict.fromkeys(name for name in text.included() if name not in seen and os.path.isfile(name))
     return text
 
 
 def folders(makefiles, macros=()):
-    """The folders outside this one that makefiles name, as they spell them."""
+    """The folders outside this one that makefiles name, as they spell them; `makefiles` has their bytes by their
+    names, None where they are to be read."""
     return Folders(makefiles_text(makefiles, macros).with_paths())

@@ -9,14 +9,13 @@ import os
 import re
 from collections import Counter
 
-from . import (default_rule, files, folder_search, freezing, frozen_values, make_probes, make_run, makefile_text,
-               mending, mending_exports, ported_text, target_macros, translating, values_file)
+from . import (default_rule, files, folder_search, freezing, frozen_values, includes, make_probes, make_run,
+               makefile_text, mending, mending_exports, ported_text, target_macros, translating, values_file)
 from .programs import Stop
 
 FAULT = re.compile(r"^(.*?)(?::(\d+))?: \*\*\* (.*) \[(E\d\d)\]$", re.MULTILINE)
 DEPENDENCIES = re.compile(r"\.(d|dep|deps|P|depend)$|(^|/)\.?(deps?|depends?|dependencies)(\.mk)?(/|$)")
 WRITES_DEPENDENCIES = re.compile(r"(?<![\w-])-MM?D\b")
-MAKEFILES = re.compile(r"(^|/)(GNUmakefile|[Mm]akefile[^/]*|[Mm]ake\.[^/]*|[^/]*\.(mk|mak|make))$")
 # What tells of the run, and is asked for where a makefile names it.
 RUN = ("CURDIR", "MAKECMDGOALS", "MAKELEVEL", "MAKE_COMMAND", "MAKE_HOST", "HOME", "PATH", "PWD", "USER", "LOGNAME",
        "TMPDIR")
@@ -55,11 +54,12 @@ class Port:
         self.makefile = os.path.normpath(asked.makefile)
         self.ported, self.made, self.hidden = {}, [], []
         self.did, self.notes, self.cleared = Counter(), [], []
-        self.run = make_run.MakeRun(self.makefile, asked.goals, asked.macros, room, copy.environment())
+        self.run = make_run.MakeRun(self.makefile, asked.goals, asked.macros, room, copy.control.environment())
         kept = files.read(frozen_values.NAME)
         if kept is not None:
             kept = copy.copied_text(kept)
             files.replace(frozen_values.NAME, kept, room)
+        self.kept_values = kept
         self.values = frozen_values.Values(values_file.ValuesFile(kept) if kept is not None else None)
         self.of_the_run, self.depth, self.listing = {}, asked.depth, None
         self.freezer = freezing.Freezer(self)
@@ -175,7 +175,7 @@ class Port:
 
     def is_other_makefile(self, name):
         """Whether a file has a makefile's name, and isn't read by this one."""
-        return name not in self.ported and MAKEFILES.search(name) is not None and os.path.isfile(name)
+        return name not in self.ported and includes.MAKEFILES.search(name) is not None and os.path.isfile(name)
 
     def tail(self):
         """What kati gets at the end of the makefile."""
@@ -183,19 +183,33 @@ class Port:
                  *(f"{name} =" for name in self.cleared)]
         return ["", ported_text.KATIS_ALONE, *lines, "endif"] if lines else []
 
+    def commands_again(self):
+        """What make would do now by the makefiles as they were."""
+        for file in self.ported.values():
+            files.replace(file.name, file.before, self.room)
+        if self.kept_values is None:
+            files.remove(frozen_values.NAME)
+        else:
+            files.replace(frozen_values.NAME, self.kept_values, self.room)
+        try:
+            return self.run.commands()[1]
+        finally:
+            self.save()
+
     def translate(self):
         """What kati says of the files as they are now; the dependencies aren't there for it."""
         asked = argparse.Namespace(kati=self.asked.kati, makefile=self.makefile, builtin=True, depth=self.depth,
                                    words=[*self.asked.goals, *self.asked.macros], files_from=self.asked.files_from)
         # Faults in reading don't hang on the list, so it is made anew but where kati takes the makefile.
-        self.listing = self.listing or translating.listing(asked, names=list(self.ported))
+        names = dict.fromkeys([*self.ported, frozen_values.NAME])
+        self.listing = self.listing or translating.listing(asked, names=names)
         room = os.path.join(self.room, "kati")
         os.makedirs(room, exist_ok=True)
         with self.hiding(os.path.join(room, "hidden")):
             translator = translating.Translator(asked, room)
             found = translator.translate(self.listing)
             if found.status == 0:
-                self.listing = translating.listing(asked, names=list(self.ported))
+                self.listing = translating.listing(asked, names=names)
                 found = translator.translate(self.listing)
             return found
 

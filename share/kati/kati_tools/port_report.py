@@ -72,11 +72,6 @@ def advice(port, fault):
     return found[0].told() if found else OTHERS.get(fault.number)
 
 
-def without_blanks(lines):
-    """Commands without their blanks, each as often as it stands there."""
-    return Counter("".join(line.split()) for line in lines)
-
-
 def commands_of(statements):
     """The commands that the statements hold, each without the shell round it."""
     return [text.strip() for one in statements if one.command is not None for text in comparing.unwrapped(one.command)]
@@ -86,21 +81,27 @@ class Comparison:
     """make's commands before and after, and kati's, which may differ from them in blanks."""
 
     def __init__(self, port, translation, after=None):
-        self.before, self.after = port.before[1], after or port.run.commands()
+        self.before, self.after, self.count_varying = port.before[1], after or port.run.commands(), 0
         makes = [line.replace(port.run.noop, port.shell) for line in self.after[1]]
         katis = commands_of(translation.statements)
         # What makes makefiles make does before, and may say nothing of.
         remade = commands_of([one for one in translation.statements if set(one.outputs) & port.read])
         katis = command_lists.alone(katis, command_lists.alone([*self.after[3], *remade], makes))
         found = command_lists.Compared(makes, comparing.besides([], translation.said), katis)
-        self.makes, self.katis = found.makes, found.katis
-        self.has_other_blanks = bool(found.in_blanks or found.makes)
-        if without_blanks(found.makes) == without_blanks(found.katis):
-            self.makes, self.katis = [], []
+        self.makes, self.katis, self.has_other_blanks = found.makes, found.katis, bool(found.in_blanks)
+        forms = (Counter(map(command_lists.without_quoted_blanks, lines)) for lines in (self.makes, self.katis))
+        self.is_in_quotes = next(forms) == next(forms)
 
-    def is_unchanged(self):
-        """Whether make does what it did."""
-        return self.after[0] == 0 and self.after[1] == self.before
+    def is_unchanged(self, again):
+        """Whether make does what it did. Where it doesn't, `again` tells what it does now by the makefiles as they
+        were: commands that differ then too are others each time, as by a date."""
+        status, after, _, _ = self.after
+        if status or len(after) != len(self.before):
+            return False
+        others = [one for one, before in enumerate(self.before) if after[one] != before]
+        now = again() if others else []
+        self.count_varying = len(others)
+        return not others or len(now) == len(after) and all(now[one] != self.before[one] for one in others)
 
     def is_same(self):
         """Whether kati's commands are make's."""
@@ -108,7 +109,8 @@ class Comparison:
 
     def told(self):
         """The lines that say so."""
-        yield f"make's commands are as before: {len(self.before)}"
+        varying = f", {self.count_varying} of them another one each time" if self.count_varying else ""
+        yield f"make's commands are as before: {len(self.before)}{varying}"
         if self.is_same():
             yield f"kati's commands are make's{', blanks aside' if self.has_other_blanks else ''}"
             return
@@ -116,4 +118,7 @@ class Comparison:
             yield from (f"{mark} {line}" for line in lines[:10])
             if len(lines) > 10:
                 yield f"{mark} .. and {len(lines) - 10} more"
+        if self.is_in_quotes:
+            yield f"kati's commands are make's but for blanks within quotes, which count: {len(self.makes)}"
+            return
         yield f"kati's commands differ: {len(self.makes)} of make's alone, {len(self.katis)} of kati's alone"

@@ -12,8 +12,8 @@ import re
 import shutil
 import tempfile
 
-from . import (asked_names, files, frozen_values, includes, ninja_text, port, port_report, scratch_copy, sources,
-               translating, words, write_command)
+from . import (above, asked_names, files, frozen_values, includes, ninja_text, port, port_report, scratch_copy,
+               sources, translating, words)
 from .programs import SHARE, Stop, bytes_of, find_kati, need, say
 
 TOOL = "kati-build"
@@ -105,7 +105,7 @@ class Ported:
                                    macros=words.macros_of(self.asked.words), kati=self.asked.kati,
                                    depth=self.asked.depth, files_from=self.asked.files_from, has_deps=True)
         with tempfile.TemporaryDirectory(prefix="kati-build-") as room:
-            copy = scratch_copy.Copy(room, write_command.texts_of(asked.makefile))
+            copy = scratch_copy.Copy(room, above.texts_of(asked.makefile))
             with copy.entered():
                 made = port.Port(asked, copy, room)
                 try:
@@ -246,6 +246,11 @@ class PortedTranslator(translating.Translator):
             self.words = own
             return super().translate(listing, lambda: found.outputs, before)
         return more
+
+    def makefiles(self, asked):
+        """The ported makefiles, by whose values a path outside is known."""
+        found = os.walk(os.path.join(self.place, FOLDER))
+        return dict.fromkeys(os.path.join(at, name) for at, _, names in found for name in names)
 
     def asked(self, program, *more):
         """What the translation, the port and the values depend on."""

@@ -41,6 +41,9 @@ what is told without it:
               conditionals and comments within a recipe that make hands to the shell, lib.a(a.o b.o),
               includes that make makes
 
+environment:
+  KATI, MAKE   the programs kati and make
+
 examples:
   kati-port --write Makefile         makes kati take it
   kati-port --write --diff Makefile all CC=gcc   the change that this would be, for these words
@@ -76,9 +79,9 @@ def parser():
     made.add_argument("--values", action="store_true",
                       help="asks make again for the values of kati-values.mk, and writes the file anew")
     made.add_argument("--macros", action="store_true",
-                      help="asks `make -pn`, in a copy of this folder, from as far up as the makefiles name ../, for "
-                           "the values of macros that come from $(shell ..) and $(wildcard ..), and prints them as "
-                           "NAME=VALUE words for kati, quoted for a shell, one a line")
+                      help="asks `make -pn`, in a copy of this folder, for the values of macros that come from "
+                           "$(shell ..) and $(wildcard ..), and prints them as NAME=VALUE words for kati, quoted for a "
+                           "shell, one a line")
     words.add_builtin(made)
     words.add_files_from(made)
     words.add_kati(made)

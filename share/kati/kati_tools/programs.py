@@ -1,6 +1,5 @@
 """Where the programs are that the tools run, and how they are run."""
 import os
-import shutil
 import subprocess
 import sys
 
@@ -22,13 +21,20 @@ class Stop(Exception):
         self.status = status
 
 
+def which(name):
+    """The path of a program as the shell finds it by its name, or None."""
+    folders = [""] if os.path.dirname(name) else os.environ.get("PATH", os.defpath).split(os.pathsep)
+    paths = (os.path.join(folder, name) for folder in folders)
+    return next((path for path in paths if os.access(path, os.X_OK) and os.path.isfile(path)), None)
+
+
 def places(name):
     """Where a program of the project may be: beside the tool, in the checkout, and on PATH."""
     crate = name.replace("-", "_") if "-" in name else f"{name}_program"
     yield os.path.join(os.path.dirname(os.path.realpath(sys.argv[0])), name)
     yield os.path.join(TOP, "bin", name)
     yield os.path.join(TOP, "crates", crate, "out", crate)
-    found = shutil.which(name)
+    found = which(name)
     if found:
         yield found
 
@@ -38,7 +44,7 @@ def find(name, given=None):
     names, else by `places`."""
     named = given or os.environ.get(name.upper().replace("-", "_"))
     if named:
-        found = shutil.which(named)
+        found = which(named)
         if not found:
             raise Stop(f"no program {named}")
         return os.path.abspath(found)
@@ -59,7 +65,7 @@ def find_kati(given):
 def need(name):
     """A program that isn't of this project, by its variable in the environment, or on PATH."""
     named = os.environ.get(name.upper()) or name
-    found = shutil.which(named)
+    found = which(named)
     if not found:
         raise Stop(f"no program {named}")
     return found
@@ -111,6 +117,16 @@ def close_output():
         sys.stdout.flush()
     except OSError:
         os.dup2(os.open(os.devnull, os.O_WRONLY), sys.stdout.fileno())
+
+
+def leave(status):
+    """Ends the process with a status, without taking apart what is in memory, which takes time where that is much."""
+    close_output()
+    try:
+        sys.stderr.flush()
+    except OSError:
+        pass
+    os._exit(status)
 
 
 def ending(tool, call, *given):

@@ -6,7 +6,7 @@ import subprocess
 from . import files, ninja_text
 from .make_commands import environment
 from .programs import need, text_of
-from .scratch_copies import Copy
+from .scratch_copy import WholeCopy
 from .translating import default_makefile
 
 # What a compiler writes of the day of the build is the same in both.
@@ -54,8 +54,8 @@ def both(makefile, words, translation, room):
     files.replace(translated, translation.text, room)
     escaped = ninja_text.escaped_value
     files.replace(top, f"builddir = {escaped(room)}\nsubninja {ninja_text.escaped(translated)}\n", room)
-    by_make = Built("make", [f"-j{os.cpu_count()}", *named, *words], Copy(makefile, place))
-    return by_make, Built("ninja", ["-f", top], Copy(makefile, place))
+    by_make = Built("make", [f"-j{os.cpu_count()}", *named, *words], WholeCopy(makefile, place))
+    return by_make, Built("ninja", ["-f", top], WholeCopy(makefile, place))
 
 
 def told(by_make, by_ninja):

@@ -1,15 +1,16 @@
-"""A scratch copy of this folder, in which make is asked and makefiles are tried, whatever that writes.
+"""Scratch copies of this folder, in which make is asked, makefiles are tried and builds are compared, whatever these
+write.
 
-The folders above it are there too, as far up as makefiles name `..`. What they name there is copied; all else leads to
-where it is. What version control keeps is looked up where it is, so that `git describe` says what it says here."""
+A copy has the names that it is made from, since a makefile may ask for them; links stay links, and times stay too. What
+kati-build wrote isn't in it, nor pipes and their kin, which reading would wait for."""
 import contextlib
 import os
 import re
 import shutil
 
-from . import sources
+from . import above, control, own_files, sources
+from .programs import Stop
 
-ABOVE = re.compile(r"(?<![\w.])(?:\.\./)*\.\.(?![\w.])")
 NAMED_ABOVE = re.compile(r"(?<![\w.])((?:\.\./)+)([\w+@-][\w.+@-]*)")
 # A folder of a megabyte is worth a copy, one of a gigabyte isn't.
 MOST_FILES = 2000
@@ -17,25 +18,33 @@ MOST_FILES = 2000
 
 def copy_file(source, to):
     """Copies a file; one that can't be read can't be read in the copy either."""
-    with contextlib.suppress(OSError, shutil.SpecialFileError):
-        shutil.copy2(source, to, follow_symlinks=False)
+    if os.path.islink(source) or os.path.isfile(source):
+        with contextlib.suppress(PermissionError, FileNotFoundError):
+            shutil.copy2(source, to, follow_symlinks=False)
 
 
-def copy_folder(source, to):
-    """Copies a folder, without what version control keeps and what kati-build wrote; links stay links."""
+def copy_folder(source, to, room, has_control=True):
+    """Copies a folder, which the room of the copies may stand in. What version control keeps is linked, or with
+    `has_control` false left."""
+    os.makedirs(to, exist_ok=True)
     for at, folders, names in os.walk(source):
-        if sources.TRANSLATED in names:
-            folders[:] = []
-            continue
         there = os.path.normpath(os.path.join(to, os.path.relpath(at, source)))
-        os.makedirs(there, exist_ok=True)
-        for name in [name for name in folders if name in sources.CONTROL or os.path.islink(os.path.join(at, name))]:
-            folders.remove(name)
-            leads = os.path.join(at, name) if name in sources.CONTROL else os.readlink(os.path.join(at, name))
-            os.symlink(os.path.abspath(leads) if name in sources.CONTROL else leads, os.path.join(there, name))
-        for name in names:
+        if not has_control:
+            folders[:] = [name for name in folders if name not in sources.CONTROL]
+            names = [name for name in names if name not in sources.CONTROL]
+        folders[:] = [name for name in folders
+                      if not own_files.is_own(at, name) and os.path.join(os.path.realpath(at), name) != room]
+        for name in list(folders):
+            path, copied = os.path.join(at, name), os.path.join(there, name)
+            if name in sources.CONTROL or os.path.islink(path):
+                folders.remove(name)
+                os.symlink(os.path.abspath(path) if name in sources.CONTROL else os.readlink(path), copied)
+            else:
+                os.makedirs(copied, exist_ok=True)
+        for name in (name for name in names if not own_files.is_own(at, name)):
             copy_file(os.path.join(at, name), os.path.join(there, name))
-        shutil.copystat(at, there)
+        times = os.stat(at)
+        os.utime(there, ns=(times.st_atime_ns, times.st_mtime_ns))
 
 
 def is_small(folder):
@@ -49,17 +58,21 @@ def is_small(folder):
 
 
 class Copy:
-    """The copy of this folder; `texts` are those of the makefiles."""
+    """The copy of this folder in which make is asked; `texts` are those of the makefiles.
+
+    The folders above it are there too, as far up as makefiles name `..`. What they name there is copied; all else leads
+    to where it is."""
 
     def __init__(self, room, texts):
-        self.real, found = os.getcwd(), [found for text in texts for found in ABOVE.findall(text)]
+        self.real, self.room = os.getcwd(), os.path.realpath(room)
         parts = self.real.split(os.sep)[1:]
-        self.levels = min(max([one.count("..") for one in found], default=0), len(parts))
+        self.levels = min(above.most_levels(texts), len(parts))
         cut = max(len(parts) - self.levels - 1, 0)
-        self.base = os.path.join(os.path.realpath(room), "copy")
+        self.base = os.path.join(self.room, "copy")
         self.real_base = os.sep + os.sep.join(parts[:cut]) if cut else ""
         self.top = os.path.join(self.base, *parts[cut:])
-        copy_folder(self.real, self.top)
+        copy_folder(self.real, self.top, self.room)
+        self.control = control.Control(self.real, self.room, self.base, self.real_base)
         self.link_above()
         for up, name in {one for text in texts for one in NAMED_ABOVE.findall(text)}:
             self.copy_above(os.path.join(up, name))
@@ -72,7 +85,8 @@ class Copy:
             if not here.startswith(self.base):
                 return
             for name in os.listdir(real):
-                if name != own and not os.path.lexists(os.path.join(here, name)):
+                is_there = name == own or os.path.lexists(os.path.join(here, name))
+                if not is_there and os.path.join(real, name) != self.room and not own_files.is_own(real, name):
                     os.symlink(os.path.join(real, name), os.path.join(here, name))
 
     def copy_above(self, name):
@@ -82,7 +96,7 @@ class Copy:
             return
         if os.path.isdir(real) and is_small(real):
             os.unlink(link)
-            copy_folder(real, link)
+            copy_folder(real, link, self.room)
         elif os.path.isfile(real):
             os.unlink(link)
             copy_file(real, link)
@@ -108,7 +122,7 @@ class Copy:
 
     def real_text(self, text):
         """A text in which this folder is named in the place of its copy."""
-        return text.replace(self.base, self.real_base)
+        return self.control.real_text(text).replace(self.base, self.real_base)
 
     def copied_text(self, text):
         """A text in which the copy is named in the place of this folder, or of the highest that is copied."""
@@ -131,14 +145,28 @@ class Copy:
         finally:
             os.chdir(self.real)
 
-    def environment(self):
-        """What git needs to find the repository of a folder above this one."""
-        folder = self.real
-        while not os.path.exists(os.path.join(folder, ".git")):
-            if folder == os.path.dirname(folder):
-                return {}
-            folder = os.path.dirname(folder)
-        found = {"GIT_OPTIONAL_LOCKS": "0"}
-        if folder != self.real:
-            found.update(GIT_DIR=os.path.join(folder, ".git"), GIT_WORK_TREE=folder)
-        return found
+
+def top_of(makefile):
+    """The folder that is to be copied for a build, which may write into folders above this one."""
+    here, count = os.getcwd(), above.levels(above.texts_of(makefile))
+    top = os.path.normpath(os.path.join(here, *[".."] * count))
+    home = os.path.realpath(os.path.expanduser("~"))
+    if count and os.path.commonpath([top, home]) == top:
+        raise Stop(f"{makefile} needs {'/'.join(['..'] * count)}, which is {top}: too much for a scratch copy; "
+                   "move what is needed into a folder of its own")
+    return top
+
+
+class WholeCopy:
+    """A copy for a build in the folder `room`: `top` is the whole of it, `folder` that of this folder. It has nothing
+    of version control."""
+
+    def __init__(self, makefile, room):
+        source, room = top_of(makefile), os.path.realpath(room)
+        self.top = os.path.join(room, os.path.basename(source) or "top")
+        self.folder = os.path.normpath(os.path.join(self.top, os.path.relpath(os.getcwd(), source)))
+        copy_folder(source, self.top, room, False)
+
+    def remove(self):
+        """Takes the copy away."""
+        shutil.rmtree(self.top)

@@ -2,14 +2,13 @@
 import os
 import re
 
-from . import files, includes, outside
+from . import files, includes, outside, own_files
 from .programs import Stop, bytes_of, need, run
 
 # Folders of version control hold no sources.
 CONTROL = {".git", ".hg", ".svn"}
 # The tools' own files are no sources either.
 OWN = {".ninja_log", ".ninja_deps", ".ninja_lock"}
-TRANSLATED = "translated.ninja"
 
 
 def without_newlines(names):
@@ -52,7 +51,7 @@ def walk(skipped):
     while left:
         at = left.pop()
         below, found = inside(at)
-        if TRANSLATED in found:
+        if own_files.TRANSLATED in found:
             continue
         before = "" if at == "." else f"{at}/"
         folders.append(at)
@@ -107,7 +106,7 @@ def add_outside(found, makefiles, macros):
 def listing(source, output=None, room=None, makefile=None, macros=(), asked=None):
     """The files that exist, by the word of --files-from; the file `output` and those in the folder `room` aside. The
     folders outside this one are those that `makefile` and its includes name, with these macros of the command line:
-    the names that kati asks for, where they are known, else a guess."""
+    those that kati asks for, where they are known, with their bytes or None, else a guess."""
     if source == "git":
         found = from_git({room})
     elif source == "find":
@@ -118,7 +117,7 @@ def listing(source, output=None, room=None, makefile=None, macros=(), asked=None
     if output in found.names:
         found.names.remove(output)
     if makefile:
-        add_outside(found, includes.asked([makefile], found.names) if asked is None else asked, macros)
+        add_outside(found, dict.fromkeys(includes.asked([makefile], found.names)) if asked is None else asked, macros)
     return found
 
 

@@ -17,13 +17,12 @@ import os
 import re
 import shlex
 
-from . import files, ninja_text
+from . import files, ninja_text, own_files
 from .programs import bytes_of
 
 UNUSUAL = re.compile(r"^\./|/\.|//|/$", re.MULTILINE)
-FIRST_LINE = "# Written by kati-build, which writes it anew when the makefile changes.\n"
 SUMS = re.compile(r"# What kati wrote has the sum (\w+); with what it depends on (\w+)\.\n")
-TEMPLATE = FIRST_LINE + """\
+TEMPLATE = own_files.FIRST_LINE + """\
 # What kati wrote has the sum {sum}; with what it depends on {whole}.
 builddir = {room}
 rule kati_build

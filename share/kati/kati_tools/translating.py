@@ -94,7 +94,7 @@ class Translator:
         self.list, self.record = os.path.join(room, "files.txt.new"), os.path.join(room, asked_names.RECORD)
         self.options = ["--depth", str(asked.depth)] if asked.depth is not None else []
         self.options += ["-f", self.makefile] if self.makefile is not None else []
-        self.words = [*asked.words, *word_of_goals(asked.words)]
+        self.words, self.contents = [*asked.words, *word_of_goals(asked.words)], {}
 
     def command(self, program, *more):
         """The words of a run of kati, or of kati-asked."""
@@ -129,13 +129,18 @@ class Translator:
         status, _, said = run(self.command(self.kati, "--check", os.path.abspath(path)), cwd=self.folder)
         return status, said
 
+    def makefiles(self, asked):
+        """The makefiles by which the files that exist are listed, of the names that the translation asks for: with
+        their bytes, where these are known."""
+        return asked and {name: self.contents.get(name) for name in asked}
+
     def asked(self, program):
         """The names that the translation asks for, in order, by kati-asked; None where that is absent or fails. They
         are the same by any list."""
         if program is None:
             return None
         return asked_names.told(self.record, self.command(program), self.folder,
-                                lambda: sources.write_list([], self.list))
+                                lambda: sources.write_list([], self.list), self.contents)
 
 
 def find_asked(given):

@@ -1,6 +1,7 @@
 """The words of the command line that the tools share, in argparse's terms."""
 import argparse
 import contextlib
+import os
 import sys
 
 from .programs import close_output
@@ -8,11 +9,30 @@ from .programs import close_output
 WRONG_USAGE = 64
 
 
+def columns():
+    """How wide help may be, as the parser itself finds it by a module that takes time to load."""
+    try:
+        return int(os.environ["COLUMNS"])
+    except (KeyError, ValueError):
+        pass
+    try:
+        return os.get_terminal_size(sys.__stdout__.fileno()).columns
+    except (OSError, ValueError, AttributeError):
+        return 80
+
+
+class Formatter(argparse.RawDescriptionHelpFormatter):
+    """Help as wide as the terminal."""
+
+    def __init__(self, prog):
+        super().__init__(prog, width=(columns() or 80) - 2)
+
+
 class Parser(argparse.ArgumentParser):
     """A parser that ends with kati's status for a wrong command line; of unknown words it also tells `hint`."""
 
     def __init__(self, hint="", **rest):
-        super().__init__(formatter_class=argparse.RawDescriptionHelpFormatter, allow_abbrev=False, **rest)
+        super().__init__(formatter_class=Formatter, allow_abbrev=False, **rest)
         self.hint = hint
 
     def print_help(self, file=None):

@@ -8,20 +8,11 @@ import signal
 import sys
 import tempfile
 
-from . import (files, frozen_values, includes, make_run, port, port_report, renewing, scratch_copy, sources,
-               translating, words)
+from . import (above, files, frozen_values, make_run, port, port_report, renewing, scratch_copy, translating,
+               words)
 from .programs import INTERRUPTED, Stop, bytes_of, need, write_text
 
 TOOL = "kati-port"
-
-
-def texts_of(makefile):
-    """The texts of a makefile and of what it may include, as far as that has a makefile's name."""
-    if not os.path.isfile(makefile):
-        raise Stop(f"no file {makefile}")
-    listed = [name for name in sources.walk(set())[0] if port.MAKEFILES.search(name)]
-    named = includes.asked([makefile], listed)
-    return [files.read(name) for name in named if os.path.isfile(name)]
 
 
 class Written:
@@ -100,7 +91,7 @@ def told(ported, comparison):
 
 def ported_in_copy(asked, room):
     """The port of the makefile, the comparison of its commands, and what is to be written."""
-    copy = scratch_copy.Copy(room, texts_of(asked.makefile))
+    copy = scratch_copy.Copy(room, above.texts_of(asked.makefile))
     with copy.entered():
         made = port.Port(asked, copy, room)
         try:
@@ -109,7 +100,7 @@ def ported_in_copy(asked, room):
             lines = [str(stuck), port_report.advice(made, stuck.fault)]
             raise Stop(copy.real_text("\n".join([f"{asked.makefile} isn't ported", *filter(None, lines)])), 1) from None
         comparison = port_report.Comparison(made, translation)
-        if not comparison.is_unchanged():
+        if not comparison.is_unchanged(made.commands_again):
             raise Stop(f"{asked.makefile} isn't ported: make's commands would change\n"
                        + copy.real_text("\n".join(changes(comparison))), 1)
         return Written(made), [copy.real_text(line) for line in told(made, comparison)]
@@ -183,8 +174,8 @@ def renew_values(makefile, goals, macros):
     """Makes kati-values.mk anew, in the copy of this folder first; answers what to say of it."""
     need("make")
     with tempfile.TemporaryDirectory(prefix="kati-port-") as room:
-        copy = scratch_copy.Copy(room, texts_of(makefile))
-        run = make_run.MakeRun(makefile, goals, macros, room, copy.environment())
+        copy = scratch_copy.Copy(room, above.texts_of(makefile))
+        run = make_run.MakeRun(makefile, goals, macros, room, copy.control.environment())
         with copy.entered():
             text, doubts = renewing.renew(run, room, copy.real_text)
     before = files.read(frozen_values.NAME)

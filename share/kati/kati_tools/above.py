@@ -1,0 +1,49 @@
+"""How far above this folder makefiles name files: from as far up a scratch copy begins."""
+import os
+import re
+
+from . import files, includes, sources
+from .programs import Stop
+
+# `..` as a part of a path, with those that follow it, and what stands before: a folder that a value gives, a path's
+# beginning, or some other folder, which `..` leaves again. And a line in which such a value is this folder's own path.
+UP = re.compile(r"(?<![\w.~-])\.\.(?:/+\.\.)*(?![\w.~-])")
+BEHIND_VALUE = re.compile(r"[)}]/*$")
+BEGINNING = re.compile(r"(?<![\w./)}~-])(?:\./+)*$")
+OF_THIS_FOLDER = re.compile(r"CURDIR|MAKEFILE_LIST|\bPWD\b|\bpwd\b")
+
+
+def texts_of(makefile):
+    """The makefile's name, and the texts of it and of what it may include, as far as that has a makefile's name."""
+    if not os.path.isfile(makefile):
+        raise Stop(f"no file {makefile}")
+    listed = [name for name in sources.walk(set())[0] if includes.MAKEFILES.search(name)]
+    named = includes.asked([makefile], listed)
+    return [makefile, *(files.read(name) for name in named if os.path.isfile(name))]
+
+
+def ups(text):
+    """How far up a makefile's text goes by itself, how far behind a value that may have gone up already, and how far
+    behind anything."""
+    alone = behind = most = 0
+    for line in includes.joined(text):
+        for match in UP.finditer(line):
+            count, before = match.group().count(".."), line[:match.start()]
+            is_behind, most = BEHIND_VALUE.search(before), max(most, count)
+            if BEGINNING.search(before) or is_behind and OF_THIS_FOLDER.search(line):
+                alone = max(alone, count)
+            elif is_behind:
+                behind = max(behind, count)
+    return alone, behind, most
+
+
+def levels(texts):
+    """How many folders above this one makefiles name."""
+    alone, behind, _ = map(max, zip(*map(ups, texts)))
+    return alone and alone + behind
+
+
+def most_levels(texts):
+    """How many they may name at most."""
+    _, behind, most = map(max, zip(*map(ups, texts)))
+    return most + behind

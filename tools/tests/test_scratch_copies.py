@@ -1,0 +1,102 @@
+"""The copies in which make is asked: values are those of this folder, and of what stands above it."""
+import shutil
+
+from support import Tree, needs
+
+
+@needs("kati", "kati-asked", "make", "ninja")
+class Copies(Tree):
+    """What a copy has, and what is asked where it is."""
+
+    def test_values_far_above(self):
+        self.put("a/b/Makefile", "TOP = ../..\nS := $(wildcard $(TOP)/../x/*.c)\nall: ; echo $(S) > out\n")
+        self.put("../x/1.c", "")
+        build = self.tool_path("kati-build")
+        ran = self.run_in("sh", "-c", f"cd a/b && {build} --port && cat out && make -s && cat out")
+        self.assertEqual(ran.out.splitlines()[-2:], ["../../../x/1.c"] * 2, ran.all)
+
+    def test_the_folder_of_temporary_files_may_be_this_one_or_above(self):
+        self.put("Makefile", "V := $(wildcard k* ../k*)\nall: ; echo $(V) > all\n")
+        for folder in (self.top, self.top.parent):
+            ran = self.tool("kati-build", "--port", TMPDIR=folder)
+            self.assertEqual((ran.status, self.read("all")), (0, "\n"), ran.all)
+            shutil.rmtree(self.top / "build.kati")
+
+    def test_a_file_that_cant_be_copied_is_told(self):
+        self.put("Makefile", "N := $(shell wc -c < n.txt)\nall: ; echo $(N)\n")
+        self.put("n.txt", "n" * 200_000)
+        ran = self.run_in("sh", "-c", f"ulimit -f 100; {self.tool_path('kati-build')} --port")
+        self.assertEqual(ran.status, 3, ran.all)
+        self.assertIn("n.txt: File too large", ran.said)
+
+    @needs("git")
+    def test_version_control_above_this_folder(self):
+        self.put("sub/Makefile", "S := $(shell git ls-files) $(shell git ls-files ..)\n"
+                                 "T := $(shell git rev-parse --show-prefix) $(shell git status --porcelain)\n"
+                                 "U := $(shell command -v git) $(GIT_DIR)\nall: ; echo $(S) $(T) $(U) > ../../out\n")
+        self.put("sub/a.c", "")
+        who = ["-c", "user.name=a", "-c", "user.email=a@b"]
+        for words in (["init", "-q"], ["add", "."], [*who, "commit", "-q", "-m", "one"]):
+            self.assertEqual(self.run_in("git", *words).status, 0)
+        self.assertEqual(self.run_in("make", "-C", "sub").status, 0)
+        wanted = self.read("../out")
+        for _ in range(2):
+            ran = self.run_in("sh", "-c", f"cd sub && {self.tool_path('kati-build')} --port --values")
+            self.assertEqual((ran.status, self.read("../out")), (0, wanted), ran.all)
+
+
+@needs("kati", "kati-asked", "make", "ninja")
+class OwnFiles(Tree):
+    """What kati-build writes isn't there for make: the values are those that make has where kati-build never ran."""
+
+    FOLDERS = "S := $(wildcard */) $(wildcard ../tree/b*) $(wildcard */lock src/*/) $(wildcard build.ninja other.*)\n"
+    LOOP = "T := $(foreach p,b* o*/ src/*/,$(wildcard $(p)))\nall: ; echo $(S) $(T) > ../out\n"
+
+    def setUp(self):
+        super().setUp()
+        for name in ("src/a/x", "b.c", "build.c", "mine.kati/x", "mine.ninja"):
+            self.put(name, "")
+
+    def wanted(self, makefile):
+        """Writes a makefile, and keeps what make makes by it."""
+        self.put("Makefile", makefile)
+        self.assertEqual(self.run_in("make").status, 0)
+        self.makes = self.read("../out")
+
+    def builds(self, *words):
+        """Builds anew, and sees that it is what make made."""
+        (self.top.parent / "out").unlink()
+        ran = self.run_in(*words)
+        self.assertEqual(ran.status, 0, ran.all)
+        self.assertEqual(self.read("../out"), self.makes)
+
+    def test_by_a_port(self):
+        self.wanted("A := $(wildcard *)\n" + self.FOLDERS + self.LOOP.replace("(S)", "(S) $(A)"))
+        for words in ((), (), ("-o", "other.ninja"), ("-o", "other.ninja"), ("--values",), ()):
+            with self.subTest(words):
+                self.builds(self.tool_path("kati-build"), "--port", *words)
+        self.builds("ninja")
+        self.builds("ninja", "-f", "other.ninja")
+
+    def test_by_a_written_makefile(self):
+        self.wanted(self.FOLDERS + self.LOOP)
+        self.assertEqual(self.tool("kati-build", "--port", "-o", "other.ninja").status, 0)
+        ran = self.tool("kati-port", "--write", "Makefile")
+        self.assertIn("kati's commands are make's", ran.out, ran.all)
+        for words in ((), (), ("-o", "third.ninja"), ("--values",), ()):
+            with self.subTest(words):
+                self.builds(self.tool_path("kati-build"), "--builtin", *words)
+        self.builds("ninja")
+
+    def test_in_folders_that_commands_and_patterns_name(self):
+        self.put("../lib/Makefile", "all: ; true\n")
+        self.put("../lib/sub/x", "")
+        self.put("x.c", "")
+        self.wanted("S := $(shell find ../lib -type f) $(wildcard ../lib/*/)\nall: x.c ; echo $(S) > ../out\n")
+        build = self.tool_path("kati-build")
+        self.assertEqual(self.run_in("sh", "-c", f"cd ../lib && {build}").status, 0)
+        self.builds(build, "--port")
+        record = self.top / "build.kati/ported.json"
+        before = record.stat().st_mtime_ns
+        self.builds(build, "--port")
+        self.assertEqual(record.stat().st_mtime_ns, before)
