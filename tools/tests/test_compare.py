@@ -47,6 +47,12 @@ class Comparing(Tree):
         self.assertEqual(self.run_in("make", "-n", "a").out, "echo y ' z'\n")
         self.assertEqual(self.compared(0), "same: 2 commands, 1 of them but for blanks\n")
 
+    def test_a_blank_before_a_semicolon(self):
+        self.write(Makefile="L = a b/\nall: ; for i in $(L:b/=); do echo $$i ; done\n")
+        self.assertEqual(self.run_in("make", "-n").out, "for i in a ; do echo $i ; done\n")
+        self.assertEqual(self.compared(0), "same: 1 command, 1 of them but for blanks\n")
+        self.differ("L = a b/\nall: ; echo '$(L:b/=);'\n", ["echo 'a ;'"], ["echo 'a;'"])
+
     def test_blanks_in_quotes_count(self):
         self.differ("A =\nA += y\nall: ; echo \"$(A)\" \\$(A)\n", ['echo "y" \\y'], ['echo " y" \\ y'])
 
