@@ -18,8 +18,8 @@ def alone(lines, others):
 
 
 def with_single_blanks(line):
-    """A command in which each run of blanks that isn't quoted is one blank, and none before a semicolon: the shell reads
-    the same words."""
+    """A command in which each run of blanks that isn't quoted is one blank, and none before a semicolon: the shell
+    reads the same words."""
     parts = [" " if part.isspace() else part for part in PART.findall(line)]
     return "".join(part for part, after in zip(parts, [*parts[1:], ""]) if (part, after) != (" ", ";")).strip()
 
