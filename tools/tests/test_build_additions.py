@@ -158,6 +158,17 @@ class AskedNames(Tree):
         self.assertTrue(self.is_watched("b.mk") and self.is_watched("d.mk"))
         self.assertEqual((self.runs("X=x.c"), self.runs("X=x.c")), (1, 0))
 
+    @needs("make")
+    def test_it_runs_where_a_text_may_ask_for_a_file(self):
+        for text, is_read in (("F = -I include\n# to include d.mk\n", False), ("-include\\\n d.mk\n", True),
+                              ("\\\n  sinclude d.mk\n", True), ("$(eval -inc$()lude d.mk)\n", True),
+                              ("ifdef F\ninclude no.mk\nelse\n \t include d.mk\nendif\n", True)):
+            with self.subTest(text):
+                self.write(Makefile=text + "all: ; true\n", d_mk="$(info d is read)\n")
+                self.assertEqual("d is read" in self.run_in("make", "-n").out, is_read)
+                self.assertEqual(self.runs(), int(is_read))
+                self.assertEqual(self.is_watched("d.mk"), is_read)
+
     def test_it_runs_where_the_program_is_another(self):
         self.assertEqual((self.runs(), self.runs()), (1, 0))
         self.program.write_text(self.program.read_text() + "\n")

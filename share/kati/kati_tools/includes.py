@@ -8,7 +8,8 @@ import re
 
 from . import files
 
-WORD = re.compile(rb"include[\s\\]")
+# A line that may be read as an include; one that begins so and isn't does no harm.
+BEGIN = re.compile(rb"^[ \t\r\f\v]*(?:-|s)?include[\s\\]", re.MULTILINE)
 LINE = re.compile(r"^[ \t]*(?:-include|sinclude|include)[ \t]+(.*)$")
 IN_EVAL = re.compile(r"\$[({]eval[ \t]+(?:-include|sinclude|include)[ \t]+(.*)[)}]")
 REFERENCE = re.compile(r"\$(?:\([^()]*\)|\{[^{}]*\}|[^({])")
@@ -74,10 +75,10 @@ def fitting(pattern, listed):
 
 
 def includes_nothing(makefiles, contents):
-    """Whether no makefile can ask for another file, since it hasn't the words for it. What stands in them is kept in
-    `contents`."""
+    """Whether no makefile can ask for another file, since no line of it begins with a word for that, and it has no
+    `eval`, by which another text becomes one. What stands in them is kept in `contents`."""
     contents.update((name, files.content(name)) for name in makefiles)
-    return not any(data and (b"eval" in data or WORD.search(data)) for data in contents.values())
+    return not any(data and (b"eval" in data or BEGIN.search(data)) for data in contents.values())
 
 
 def asked(makefiles, listed):
