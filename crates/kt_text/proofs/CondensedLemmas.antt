@@ -14,10 +14,6 @@ left_text continued [] = []
 left_text false (group ∷ later) = condensed_group group ++ flat_map condensed_group later
 left_text true (group ∷ later) = condensed_rest group ++ flat_map condensed_group later
 
-pub left_text-nil : (continued : Bool) → left_text continued [] ≡ []
-unfolding left_text
-left_text-nil continued = refl
-
 left_text-false : (found : List (List Text)) → left_text false found ≡ flat_map condensed_group found
 unfolding left_text
 left_text-false [] = refl

@@ -1,6 +1,6 @@
 -- A text is condensed cut by cut, and in no other way.
-use Rattle.std.proofs.Common.{◌≡◌, ◌≢◌, ◌⊎◌, ◌<◌, ◌≤◌, ◌-◌, ◌+◌, ◌==◌, ◌||◌, ℕ, zero, suc, Bool, true, false, List, [], ◌∷◌, ◌++◌, length, refl, sym, ap, ap₂, subst, ◌∙◌, arith, append_assoc, append-nil, length-append, inl, inr, ⊎_elim}
-use Rattle.std.proofs.lemmas.Bool.{cases_Bool, eq-eqb, eqb-true, false≢true}
+use Rattle.std.proofs.Common.{◌≡◌, ◌≢◌, ◌⊎◌, ◌≤◌, ◌-◌, ◌+◌, ◌==◌, ◌||◌, ℕ, zero, suc, Bool, true, false, List, [], ◌∷◌, ◌++◌, length, refl, sym, ap, ap₂, subst, ◌∙◌, arith, append_assoc, append-nil, length-append, inl, inr, ⊎_elim}
+use Rattle.std.proofs.lemmas.Bool.{eq-eqb, eqb-true, false≢true}
 use Rattle.std.proofs.lemmas.List.{get_or-append-add}
 use Rattle.std.specs.Prelude.{slice_index}
 use Rattle.std.specs.List.{flat_map, list_any}
@@ -9,9 +9,9 @@ use Rattle.kt_text.specs.Lines.{condensed_of, is_continued_text, space_before}
 use Rattle.kt_text.specs.Condensing.{Condenses, IsGap, IsNewline, FirstStands, Spacing, StandsAfter, is_continuation, spelled}
 use Rattle.kt_text.specs.Condensing.{space, tab, continuation, returned}
 use Rattle.kt_text.proofs.CondensedLemmas.{condensed_alone}
-use Rattle.kt_text.proofs.CuttingLemmas.{FirstNewline, condensed_from, condensed_from-start, first_newline, from_continued, from_ended, from_free, kept_part, last_at, part}
+use Rattle.kt_text.proofs.CuttingLemmas.{FirstNewline, condensed_from, condensed_from-start, first_newline, from_continued, from_ended, from_free, kept_part, part}
 use Rattle.kt_text.proofs.CuttingLemmas.{no_newline, first_continued, first_ended}
-use Rattle.kt_text.proofs.NewlineLemmas.{IsFree, free_append, free_at}
+use Rattle.kt_text.proofs.NewlineLemmas.{IsFree, free_append}
 use Rattle.kt_text.proofs.TrimLemmas.{AllBlank, EndsPlain, end_blanks, end_first, even_blank, even_blanks, even_past, free_blanks, start_blank, start_plain, started}
 
 abbrev pub spelling : List Spacing → Text

@@ -1,5 +1,5 @@
 -- A list of words that is written one after another.
-use Rattle.std.proofs.Common.{◌≡◌, ℕ, suc, List, [], ◌∷◌, ◌++◌, refl, sym, ◌∙◌, ap, filter, append_assoc, append-nil, unwrap_or, length, ◌-◌, ◌<◌, arith, map, take, drop, zero}
+use Rattle.std.proofs.Common.{◌≡◌, ℕ, suc, List, [], ◌∷◌, ◌++◌, refl, sym, ◌∙◌, ap, filter, append_assoc, append-nil, unwrap_or, length, ◌-◌, ◌<◌, arith, take, drop, zero}
 use Rattle.std.specs.List.{join_with_byte, slice_get, slice_range}
 use Rattle.std.proofs.lemmas.List.{drop_all, take_all}
 use Rattle.kt_text.specs.Words.{Text, is_nonempty, list_text, put_word}

@@ -8,7 +8,7 @@ use Rattle.kt_text.proofs.MatchLemmas.{list_any-place}
 use Rattle.memchr.specs.Find.{IsFirstByte, is_byte}
 use Rattle.bstr.specs.Text.{line_len}
 use Rattle.kt_text.specs.Lines.{is_ended, pieces_of}
-use Rattle.bstr.proofs.lemmas.LineLemmas.{line_len-at, line_len-none, line_len-bounds, lines-step, lines-nil}
+use Rattle.bstr.proofs.lemmas.LineLemmas.{line_len-at, line_len-none, line_len-bounds, lines-step}
 
 -- the size of the first line, by where its newline stands
 pub line_len-found : (text : List ℕ) (place : ℕ) → IsFirstByte (is_byte 10) text (Some place) → line_len text ≡ place + 1

@@ -1,5 +1,5 @@
 -- Blanks at the ends of a text, and runs of backslashes at its end.
-use Rattle.std.proofs.Common.{◌≡◌, ◌<◌, ◌≤◌, ◌-◌, ◌+◌, ◌==◌, ◌%◌, ℕ, suc, Bool, true, false, [], ◌∷◌, ◌++◌, length, reverse, take, drop, cond, refl, sym, ap, ◌∙◌, arith, append_assoc, length-append, ⊎_elim, eqb}
+use Rattle.std.proofs.Common.{◌≡◌, ◌<◌, ◌-◌, ◌+◌, ◌==◌, ◌%◌, ℕ, suc, Bool, true, false, [], ◌∷◌, ◌++◌, length, reverse, take, drop, cond, refl, sym, ap, ◌∙◌, arith, append_assoc, length-append, ⊎_elim, eqb}
 use Rattle.std.proofs.lemmas.Bool.{cases_Bool, eq-eqb, eqb-true, false≢true, ne_eqb}
 use Rattle.std.proofs.lemmas.List.{length-reverse, reverse-append, take_at}
 use Rattle.std.proofs.lemmas.List.Folds.{prefix_len-append}

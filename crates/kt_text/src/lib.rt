@@ -30,5 +30,5 @@ pub use mark::Mark;
 pub use pattern::{has_percent, match_pattern, push_with_stem};
 pub use physical::{is_continued, line_content};
 pub use separators::{is_separator, stripped, stripped_start, trailing_separators};
-pub use sort_key::SortKey;
+pub use sort_key::{SortKey, front_number};
 pub use word_runs::Words;

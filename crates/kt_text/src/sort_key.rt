@@ -103,9 +103,11 @@ fn head(text: &[u8]) -> [u8; HEAD]
     head
 }
 
-// The first eight bytes as a number, the first one the highest.
-fn front_number(text: &[u8]) -> u64
-    ensures { result ≡ front_number 8 text.now }
+/// The first eight bytes of a text as a number, the first one the highest, and 0 for each that isn't there. Texts are in
+/// byte order where these numbers are, and may be where the numbers are equal.
+pub fn front_number(text: &[u8]) -> u64
+    ensures front { result ≡ front_number 8 text.now }
+    ensures bytes { All (λ byte. byte < 256) text.now }
 {
     let mut front = 0;
     for i in 0..8 {

@@ -1,8 +1,8 @@
 //! Worked values of each call, by the manuals and by GNU make.
 use kt_text::{
-    Line, LineFault, Mark, TextFault, condensed, functions, has_percent, is_blank, is_continued,
-    is_separator, joined, line_content, line_marks, logical_lines, match_pattern, push_with_stem,
-    stripped, stripped_start, trailing_separators, trim_end, trim_start, words,
+    Line, LineFault, Mark, TextFault, condensed, front_number, functions, has_percent, is_blank,
+    is_continued, is_separator, joined, line_content, line_marks, logical_lines, match_pattern,
+    push_with_stem, stripped, stripped_start, trailing_separators, trim_end, trim_start, words,
 };
 use std::process::Abort;
 use std::test::Fail;
@@ -15,6 +15,18 @@ fn words_are_runs(rt: HostRuntime) -> Result<(), Fail> {
     assert_eq!(rt; found.next().ok_or("d")?, b"d".as_slice());
     assert_eq!(rt; found.next().is_none(), true);
     Ok(())
+}
+
+#[test]
+fn first_bytes_make_a_number(rt: HostRuntime) {
+    let rows: [(&[u8], u64); 3] = [
+        (b"", 0),
+        (b"\x01\x02", 0x0102_0000_0000_0000),
+        (b"abcdefghij", 0x6162_6364_6566_6768),
+    ];
+    for (text, wanted) in rows {
+        assert_eq!(rt; front_number(text), wanted, "of {text:?}");
+    }
 }
 
 #[test]

@@ -1,6 +1,5 @@
 //! Names in byte order.
-ghost use Rattle.std.specs.Prelude.{◌≡◌, ◌<◌, All, length, map, slice_index, IfOk};
-ghost use Rattle.kt_text.specs.Sorted.{front_number};
+ghost use Rattle.std.specs.Prelude.{◌≡◌, length, map, IfOk};
 ghost use Rattle.kt_graph.specs.inner.faults.Files.{IsByteOrder};
 ghost use Rattle.kt_graph.specs.inner.nodes.Fronts.{AreFronts, front_cmp};
 ghost use Rattle.kt_graph.specs.nodes.Views.{name_at};
@@ -8,6 +7,7 @@ ghost use Rattle.kt_graph.specs.nodes.Views.{name_at};
 use crate::nodes::node::name_of;
 use crate::nodes::numbering::NameNumbers;
 use kt_list::narrow;
+use kt_text::front_number;
 use std::alloc::{AllocError, Global};
 use std::cmp::Ordering;
 
@@ -75,24 +75,6 @@ fn text_at<'n>(texts: &[&'n [u8]], number: usize) -> &'n [u8]
         Some(text) => text,
         None => b"",
     }
-}
-
-// The first eight bytes as a number, the first one the highest, and 0 for each that isn't there.
-fn front_number(text: &[u8]) -> u64
-    ensures front { result ≡ front_number 8 text.now }
-    ensures bytes { All (λ byte. byte < 256) text.now }
-{
-    let mut front = 0;
-    for i in 0..8 {
-        front = front * 256 + u64::from(byte_at(text, i));
-    }
-    front
-}
-
-fn byte_at(text: &[u8], i: usize) -> u8
-    ensures { result ≡ slice_index text.now i }
-{
-    text.get(i).copied().unwrap_or(0)
 }
 
 fn numbers(alloc: Global, fronts: &[Front]) -> Result<Vec<u32>, AllocError>

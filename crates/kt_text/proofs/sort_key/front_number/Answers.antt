@@ -28,5 +28,5 @@ loop-i-preserved c =
       small = rw c.from.ensures (front_grows c.loop-i.front c.byte_at.result i c.loop-i.invariant.small c.byte_at.type_inv);
     }
 
-pub returns : goal.returns
-returns c = front_number-end (8 - c.loop-i.i) c.loop-i.front _ _ (omega arith) c.loop-i.invariant.value
+pub returns-clause-front : goal.returns-clause-front
+returns-clause-front c = front_number-end (8 - c.loop-i.i) c.loop-i.front _ _ (omega arith) c.loop-i.invariant.value
