@@ -13,4 +13,3 @@ mod sole;
 mod text_functions;
 
 pub use function::Function;
-pub use text_functions::TextFunction;

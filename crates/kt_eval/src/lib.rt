@@ -12,9 +12,10 @@ mod state;
 mod stop;
 mod value;
 
-pub use expanding::{Function, TextFunction};
+pub use expanding::Function;
 pub use fault::Fault;
 pub use files::{FileFault, Files, LARGEST_FILE, MemFiles};
+pub use kt_text::functions::TextFunction;
 pub use macros::{Automatic, Flavour, Macro, Macros, Makefile, NoAutomatic, Origin};
 pub use reading::{Machine, Reading};
 pub use stop::Stop;

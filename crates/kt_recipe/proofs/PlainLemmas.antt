@@ -10,7 +10,7 @@ use Rattle.kt_eval.specs.declared.macros.Flavour.{Flavour}
 use Rattle.kt_eval.specs.declared.macros.Flavour.TheVariants.{Deferred, Immediate}
 use Rattle.kt_eval.specs.declared.macros.Macro.{Macro}
 use Rattle.kt_eval.specs.expanding.Calls.{other_function, function_of, is_refused_function, asked_of, asked_by, naming_of}
-use Rattle.kt_eval.specs.expanding.TextFunctions.{text_function}
+use Rattle.kt_text.specs.TextFunctions.{text_function}
 use Rattle.kt_eval.specs.expanding.Expansion.{Evaluator, flavoured, value_of, body_of, value_named, referred, term_of, each_term, expanded}
 use Rattle.kt_eval.specs.files.Files.{Store}
 use Rattle.kt_eval.specs.expanding.Levels.{above, evaluator}

@@ -12,7 +12,8 @@ use Rattle.kt_eval.specs.State.{seen, innermost, lookup}
 use Rattle.kt_eval.specs.Outcome.{Gave, Stopped}
 use Rattle.kt_eval.specs.Step.{fault_at}
 use Rattle.kt_eval.specs.expanding.Calls.{other_function, function_of, is_refused_function, arguments_from, arguments_of, asked_of, asked_by, naming_of}
-use Rattle.kt_eval.specs.expanding.TextFunctions.{text_function, text_result}
+use Rattle.kt_text.specs.TextFunctions.{text_function}
+use Rattle.kt_eval.specs.expanding.TextFunctions.{text_result}
 use Rattle.kt_eval.specs.expanding.Expansion.{value_of, each_argument, each_word, apply_foreach, apply_eval, apply_error, apply_info, apply, body_of, value_named, referred, term_of, each_term, expanded}
 use Rattle.kt_eval.specs.expanding.Levels.{above, none_left, evaluator}
 use Rattle.kt_graph.specs.nodes.Node.{Node}

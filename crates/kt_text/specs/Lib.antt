@@ -4,6 +4,7 @@ pub mod Begun
 pub mod Match
 pub mod Lines
 pub mod Functions
+pub mod TextFunctions
 pub mod Sorted
 pub mod Rows
 pub mod inner

@@ -9,8 +9,10 @@ mod number;
 mod patterns;
 mod sorting;
 mod substitution;
+mod text_function;
 
 pub use list::{firstword, join, lastword, strip, word, wordlist, words};
 pub use names::{addprefix, addsuffix, basename, dir, notdir, suffix};
 pub use sorting::sort;
 pub use substitution::{filter, filter_out, findstring, patsubst, subst};
+pub use text_function::TextFunction;

@@ -1,4 +1,5 @@
 //! Worked values of each call, by the manuals and by GNU make.
+use kt_text::functions::TextFunction;
 use kt_text::{
     Line, LineFault, Mark, TextFault, condensed, front_number, functions, has_percent, is_blank,
     is_continued, is_separator, joined, line_content, line_marks, logical_lines, match_pattern,
@@ -44,6 +45,48 @@ fn patterns_match(rt: HostRuntime) {
         let stem = match_pattern(pattern, word).map(|stem| (stem.start, stem.end));
         assert_eq!(rt; stem, wanted, "of {pattern:?} and {word:?}");
     }
+}
+
+#[test]
+fn text_functions_are_found_by_name(rt: HostRuntime) {
+    let rows: [(&[u8], Option<(TextFunction, usize)>); 5] = [
+        (b"subst", Some((TextFunction::Subst, 3))),
+        (b"filter-out", Some((TextFunction::FilterOut, 2))),
+        (b"join", Some((TextFunction::Join, 2))),
+        (b"filter_out", None),
+        (b"", None),
+    ];
+    for (name, wanted) in rows {
+        let found = TextFunction::named(name);
+        assert_eq!(rt;
+            found.map(|function| (function, function.arity())),
+            wanted,
+            "of {name:?}"
+        );
+        if let Some(function) = found {
+            assert_eq!(rt; function.name(), name);
+        }
+    }
+}
+
+#[test]
+fn text_functions_are_applied(rt: HostRuntime) -> Result<(), Fail> {
+    let alloc = rt.alloc();
+    let rows: [(TextFunction, &[u8]); 4] = [
+        (TextFunction::Subst, b"bb,b"),
+        (TextFunction::Filter, b""),
+        (TextFunction::Addprefix, b"ab"),
+        (TextFunction::Strip, b"a"),
+    ];
+    for (function, wanted) in rows {
+        let result = function.apply(alloc, b"a", b"b", b"ba,b")?;
+        assert_eq!(rt; result.as_slice(), wanted, "of {function:?}");
+    }
+    assert_eq!(rt;
+        TextFunction::Word.apply(alloc, b"a", b"b", b"").is_err(),
+        true
+    );
+    Ok(())
 }
 
 #[test]

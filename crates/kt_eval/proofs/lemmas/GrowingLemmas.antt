@@ -12,7 +12,7 @@ use Rattle.kt_syntax.specs.Terms.{Token, literal, dollar, reference, unclosed, t
 use Rattle.kt_syntax.specs.Comments.{plain_of}
 use Rattle.kt_eval.specs.declared.expanding.function.Function.{Function}
 use Rattle.kt_eval.specs.declared.expanding.function.Function.TheVariants as function
-use Rattle.kt_eval.specs.declared.expanding.text_functions.TextFunction.{TextFunction}
+use Rattle.kt_text.specs.declared.functions.text_function.TextFunction.{TextFunction}
 use Rattle.kt_eval.specs.declared.macros.Flavour.{Flavour}
 use Rattle.kt_eval.specs.declared.macros.Flavour.TheVariants.{Deferred, Immediate}
 use Rattle.kt_eval.specs.declared.state.Found.{Found}
@@ -23,7 +23,8 @@ use Rattle.kt_eval.specs.State.{World, lookup, bind, unbind, say}
 use Rattle.kt_eval.specs.Outcome.{Outcome, Gave, Stopped, then_do, left_of}
 use Rattle.kt_eval.specs.Step.{Step}
 use Rattle.kt_eval.specs.expanding.Calls.{Asked, calls, refuses, refers, asked_by, Naming, plainly, substituting, naming_of, is_function_name}
-use Rattle.kt_eval.specs.expanding.TextFunctions.{arity, text_result, text_function_name}
+use Rattle.kt_text.specs.TextFunctions.{arity, text_function_name}
+use Rattle.kt_eval.specs.expanding.TextFunctions.{text_result}
 use Rattle.kt_eval.specs.reading.Conditions.{trimmed}
 use Rattle.kt_eval.specs.expanding.Expansion.{Evaluator, flavoured, value_of, each_argument, accepted, apply_text, apply_if, apply_or, apply_and, each_word, apply_foreach, called, call_by_name, apply_call, apply_value, apply_eval, apply_error, apply_warning, apply_info, apply_other, apply, body_of, value_named, referred, term_of, each_term, expanded}
 use Rattle.kt_eval.specs.macros.Assignments.{assign, is_bad_name, assign_named, assign_line, define}

@@ -9,8 +9,8 @@ use Rattle.kt_syntax.specs.declared.term.Mark.{Mark}
 use Rattle.kt_syntax.specs.declared.term.Mark.TheVariants.{Byte, Parentheses, Braces}
 use Rattle.kt_eval.specs.declared.expanding.function.Function.{Function}
 use Rattle.kt_eval.specs.declared.expanding.function.Function.TheVariants as function
-use Rattle.kt_eval.specs.declared.expanding.text_functions.TextFunction.{TextFunction}
-use Rattle.kt_eval.specs.expanding.TextFunctions.{arity, text_function}
+use Rattle.kt_text.specs.declared.functions.text_function.TextFunction.{TextFunction}
+use Rattle.kt_text.specs.TextFunctions.{arity, text_function}
 
 -- the functions that expand by themselves, bind names, read text or report
 unfoldable pub other_function : Text → Option Function

@@ -8,7 +8,7 @@ use Rattle.kt_syntax.specs.Terms.{Token, literal, dollar, reference, unclosed, t
 use Rattle.kt_rules.specs.declared.fault_kind.FaultKind.TheVariants as kinds
 use Rattle.kt_eval.specs.declared.macros.Flavour.{Flavour}
 use Rattle.kt_eval.specs.declared.macros.Flavour.TheVariants.{Deferred, Immediate}
-use Rattle.kt_eval.specs.declared.expanding.text_functions.TextFunction.{TextFunction}
+use Rattle.kt_text.specs.declared.functions.text_function.TextFunction.{TextFunction}
 use Rattle.kt_eval.specs.declared.expanding.function.Function.{Function}
 use Rattle.kt_eval.specs.declared.expanding.function.Function.TheVariants as function
 use Rattle.kt_eval.specs.declared.state.Found.{Found}
@@ -18,7 +18,8 @@ use Rattle.kt_eval.specs.Outcome.{Gave, ◌>>=◌, ◌>>◌, done}
 use Rattle.kt_eval.specs.Step.{Step, stop, change}
 use Rattle.kt_eval.specs.expanding.Calls.{Asked, calls, refuses, refers, asked_by, Naming, plainly, substituting}
 use Rattle.kt_eval.specs.expanding.Calls.{naming_of, is_function_name}
-use Rattle.kt_eval.specs.expanding.TextFunctions.{arity, text_result, text_function_name}
+use Rattle.kt_text.specs.TextFunctions.{arity, text_function_name}
+use Rattle.kt_eval.specs.expanding.TextFunctions.{text_result}
 
 -- what may be done one level deeper: expand a text, read the text of an `eval`, read an included file, which may be
 -- optional; and whether anything may be read at all

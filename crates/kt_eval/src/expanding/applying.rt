@@ -15,7 +15,7 @@ ghost use Rattle.kt_eval.specs.expanding.Expansion.{each_word, expanded, value_o
 use crate::evaluation::Evaluation;
 use crate::expanding::calls::is_function_name;
 use crate::expanding::function::Function;
-use crate::expanding::text_functions::{TextFunction, text_result};
+use crate::expanding::text_functions::text_result;
 use crate::files::Files;
 use crate::macros::scope::Scope;
 use crate::state::Frame;
@@ -23,6 +23,7 @@ use crate::stop::Stop;
 use crate::value::Value;
 use kt_list::Sequence;
 use kt_rules::FaultKind;
+use kt_text::functions::TextFunction;
 use kt_text::{stripped, words};
 
 impl<'a, M: Scope, F: Files> Evaluation<'a, M, F> {

@@ -11,8 +11,8 @@ ghost use Rattle.kt_eval.specs.inner.Plain.{is_name_byte, names_plainly};
 ghost use Rattle.kt_eval.specs.inner.Views.{asked_view, naming_view};
 
 use crate::expanding::function::Function;
-use crate::expanding::text_functions::TextFunction;
 use kt_syntax::Mark;
+use kt_text::functions::TextFunction;
 use kt_text::{has_percent, is_separator, stripped_start};
 use memchr::memchr;
 use std::alloc::{AllocError, Global};

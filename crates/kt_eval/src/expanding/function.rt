@@ -1,5 +1,5 @@
 //! The functions of the makefile language.
-use crate::expanding::text_functions::TextFunction;
+use kt_text::functions::TextFunction;
 
 /// A function (GNU make manual, "Functions for Transforming Text").
 #[derive(Clone, Copy, Debug, PartialEq, Eq)]

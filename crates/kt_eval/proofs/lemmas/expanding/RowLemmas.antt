@@ -20,7 +20,8 @@ use Rattle.kt_syntax.specs.Terms.{closing, after_dollar, first_term, terms_after
 use Rattle.kt_eval.specs.macros.Macros.{find, put, doubled}
 use Rattle.kt_eval.specs.State.{seen, innermost, lookup}
 use Rattle.kt_eval.specs.expanding.Calls.{other_function, function_of, is_refused_function, arguments_from, arguments_of, asked_by, naming_of}
-use Rattle.kt_eval.specs.expanding.TextFunctions.{text_function, text_result}
+use Rattle.kt_text.specs.TextFunctions.{text_function}
+use Rattle.kt_eval.specs.expanding.TextFunctions.{text_result}
 use Rattle.kt_eval.specs.reading.Conditions.{bare_place, in_parentheses, quoted, in_quotes}
 use Rattle.kt_eval.specs.expanding.Expansion.{value_of, each_argument, apply_text, apply_if, apply_or, apply_and, each_word, apply_foreach, called, call_by_name, apply_call, apply_value, apply_eval, apply_error, apply_warning, apply_info, apply, body_of, value_named, referred, term_of, each_term}
 use Rattle.kt_eval.specs.expanding.Levels.{above, none_left}

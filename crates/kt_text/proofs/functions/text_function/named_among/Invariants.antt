@@ -1,6 +1,6 @@
 use Rattle.std.proofs.Common.{◌≡◌, drop, find}
-use Rattle.kt_eval.specs.expanding.TextFunctions.{has_name}
-use Rattle.kt_eval.proofs.expanding.text_functions.named_among.Given as goal
+use Rattle.kt_text.specs.TextFunctions.{has_name}
+use Rattle.kt_text.proofs.functions.text_function.named_among.Given as goal
 
 abbrev pub invariant-loop-function : goal.invariant-loop-function
 invariant-loop-function l =
