@@ -10,9 +10,9 @@ from support import TOP
 
 from kati_tools import forms
 
-CODE = TOP / "crates/kt_eval/src/expanding/text_functions.rt"
+CODE = TOP / "crates/kt_text/src/functions/text_function.rt"
 CALLS = TOP / "crates/kt_eval/src/expanding/calls.rt"
-DEFINITION = TOP / "crates/kt_eval/specs/expanding/TextFunctions.antt"
+DEFINITION = TOP / "crates/kt_text/specs/TextFunctions.antt"
 LANGUAGE = TOP / "docs/LANGUAGE.md"
 
 
