@@ -23,6 +23,7 @@ pub mod GroupLemmas
 pub mod BookLemmas
 pub mod MarkLemmas
 pub mod GoalLemmas
+mod AlikeLemmas
 pub mod NumberLemmas
 pub mod AddLemmas
 pub mod SuffixLemmas

@@ -1,0 +1,28 @@
+-- Rules that need the same, as the program tells them by their places (kati's own).
+use Rattle.std.specs.Prelude.{◌≡◌, Bool, false, List, Option, Some, None, map}
+use Rattle.kt_rules.specs.declared.book.spot.Spot.{Spot}
+use Rattle.kt_rules.specs.declared.entry.Target.{Target}
+use Rattle.kt_rules.specs.Book.{rule_needs}
+use Rattle.kt_rules.specs.Entry.{Rule}
+use Rattle.kt_rules.specs.Slots.{explicit_left, spot_rule}
+use Rattle.kt_rules.specs.Suffixes.{is_bare}
+
+-- a rule is explicit whatever name its target has, and the target needs what all of its targets need
+pub record IsCommon (made : Rule × Target) : Type 0 where
+  pub explicit : is_bare made ≡ false
+  pub stemless : made.1.stemmed ≡ None
+
+-- there are two rules; they are explicit whatever names their targets have, and need the same
+pub record AreAlike (slots : List (Option Rule)) (spot other : Spot) : Type 0 where
+  pub first : Rule × Target
+  pub second : Rule × Target
+  pub first_is : spot_rule slots spot ≡ Some first
+  pub second_is : spot_rule slots other ≡ Some second
+  pub first_explicit : is_bare first ≡ false
+  pub second_explicit : is_bare second ≡ false
+  pub same : rule_needs first ≡ rule_needs second
+
+-- the explicit rules at spots need the same as those at others, whichever rules are skipped there
+abbrev pub NeedSame : List (Option Rule) → List Spot → List Spot → Type 0
+NeedSame slots spots others = (skips more : Bool)
+    → map rule_needs (explicit_left skips slots spots) ≡ map rule_needs (explicit_left more slots others)
