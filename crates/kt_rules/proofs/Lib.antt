@@ -7,7 +7,6 @@ pub mod NeedsLemmas
 pub mod PlainLemmas
 mod TestingLemmas
 pub mod IndexLemmas
-pub mod NameSetLemmas
 mod SpecialLemmas
 pub mod NoneLemmas
 pub mod RefusedLemmas

@@ -25,11 +25,11 @@ pub(crate) fn need_same(rules: &Rules, spots: &[Spot], others: &[Spot]) -> bool
     others_left.is_empty()
 }
 
-// Whether both spots are in one rule that is explicit for any name, and gives all targets the same.
+// Whether both spots are in rules that are explicit for any name, and give all their targets the same.
 fn are_alike(rules: &Rules, spot: Spot, other: Spot) -> bool
     ensures { IsTrue result → AreAlike rules.now.1 spot other }
 {
-    if spot.entry != other.entry {
+    if !rules.say_same(spot.entry as usize, other.entry as usize) {
         return false;
     }
     match rule_at(rules, spot) {
