@@ -1,8 +1,9 @@
 //! The prerequisites of an entry, which other entries may hold, too.
 ghost use Rattle.std.specs.Prelude.{◌≡◌, IfOk, IfSome, IsTrue};
 ghost use Rattle.kt_rules.specs.Entry.{no_needs};
-ghost use Rattle.kt_rules.specs.inner.Remembered.{Names};
+ghost use Rattle.kt_rules.specs.inner.Remembered.{Names, needs_wait};
 
+use crate::checking::needs_wait;
 use crate::entry::Needs;
 use std::alloc::{AllocError, Global};
 use std::marker::Model;
@@ -69,6 +70,16 @@ impl HeldNeeds {
         }
     }
 
+    /// Whether `.WAIT` is one of them, which is told once of those that several entries hold.
+    pub(crate) fn wait(&self) -> bool
+        ensures { result ≡ needs_wait self.now }
+    {
+        match &self.form {
+            Form::Own(needs) => needs_wait(needs),
+            Form::Shared(needs) => needs.wait(),
+        }
+    }
+
     /// Those that others may hold, too.
     pub(crate) fn as_shared(&self) -> Option<&PlainNeeds>
         ensures { IfSome result (λ plain. plain.now.1 ≡ self.now) }
@@ -97,6 +108,8 @@ impl HeldNeeds {
 pub(crate) struct PlainNeeds {
     text: Vec<u8>,
     needs: Needs,
+    // Whether `.WAIT` is one of them.
+    waits: bool,
 }
 
 impl Model for PlainNeeds {
@@ -105,11 +118,11 @@ impl Model for PlainNeeds {
 
     ghost Value = { Text × AnyNeeds };
 
-    ghost use Rattle.kt_rules.specs.inner.Remembered.{Names};
+    ghost use Rattle.kt_rules.specs.inner.Remembered.{AreToldOf};
 
     ghost view = { λ plain. (plain.text.items, plain.needs) };
 
-    ghost invariant = { λ plain. Names plain.text.items plain.needs };
+    ghost invariant = { λ plain. AreToldOf plain.text.items plain.needs plain.waits };
 }
 
 impl PlainNeeds {
@@ -118,8 +131,9 @@ impl PlainNeeds {
         requires { Names text.now needs }
         ensures { IfOk result (λ plain. plain ≡ (text.now, needs)) }
     {
+        let waits = needs_wait(&needs);
         let text = Vec::from_slice(alloc, text)?;
-        Ok(PlainNeeds { text, needs })
+        Ok(PlainNeeds { text, needs, waits })
     }
 
     /// The prerequisites.
@@ -127,6 +141,14 @@ impl PlainNeeds {
         ensures { result.now ≡ self.now.1 }
     {
         &self.needs
+    }
+
+    /// Whether `.WAIT` is one of them.
+    pub(crate) fn wait(&self) -> bool
+        ensures { result ≡ needs_wait self.now.1 }
+    {
+        let _needs = &self.needs;
+        self.waits
     }
 
     /// Whether they are those of a text.
