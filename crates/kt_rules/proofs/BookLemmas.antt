@@ -183,11 +183,6 @@ alike_first f test (x ∷ xs) h =
     let one = xor_split (test x) h.0 (list_any (λ y. xor (test y) h.0) xs) h.1 in
     all_same f test (test x) xs (subst (λ b. list_any (λ y. xor (test y) b) xs ≡ false) (sym one.0) one.1)
 
--- there is one where there is a first
-pub any_first : {A : Type 0} (xs : List A) → list_any (λ x. true) xs ≡ is_some (first_of xs)
-any_first [] = refl
-any_first (x ∷ xs) = refl
-
 refused_step : {A : Type 0} (one : A) (rest : List A) (test : Text → Bool) (name other : Text) (b : Bool) → bytes_eq name other ≡ b → test other ≡ false
     → (rest ≡ []) ⊎ (test name ≡ false) → (cond b (one ∷ rest) rest ≡ []) ⊎ (test name ≡ false)
 refused_step one rest test name other true e clean others = inr (ap test ((bytes_eq-Decides name other).0 e) ∙ clean)

@@ -1,10 +1,10 @@
 -- Rules whose names are held as numbers.
-use Rattle.std.proofs.Common.{◌≡◌, ℕ, zero, suc, ◌+◌, ◌<◌, Bool, true, false, if◌then◌else◌, List, [], ◌∷◌, ◌++◌, length, map, take, drop, set, slice_get, get_or, Option, Some, None, is_some, option_map, unwrap_or, refl, sym, ap, ◌∙◌, subst, arith, length-append}
+use Rattle.std.proofs.Common.{◌≡◌, ℕ, zero, suc, ◌+◌, ◌<◌, ◌≤◌, Bool, true, false, if◌then◌else◌, List, [], ◌∷◌, ◌++◌, length, map, take, drop, set, slice_get, get_or, Option, Some, None, is_some, option_map, unwrap_or, refl, sym, ap, ◌∙◌, subst, arith, length-append}
 use Rattle.std.specs.List.{All}
 use Rattle.std.specs.Option.{option_and_then}
-use Rattle.std.proofs.Math.Seq.{drop-append_seam, take-append_seam}
+use Rattle.std.proofs.Math.Seq.{drop-append_seam, get_or-append_seam, take-append_seam}
 use Rattle.std.proofs.lemmas.List.{append-nil, append_assoc, drop-map, get_or_append_left, map-append, length-set, take-map}
-use Rattle.std.proofs.lemmas.List.Elements.{All-cons, All-drop, All-head, All-nil, All-push, All-set, All-tail, All-take, All-weaker}
+use Rattle.std.proofs.lemmas.List.Elements.{All-append, All-cons, All-drop, All-get_or, All-head, All-nil, All-push, All-set, All-tail, All-take, All-weaker}
 use Rattle.std.proofs.lemmas.Option.{get_or_from_slice_get, slice_get-get_or, slice_get_within}
 use Rattle.kt_list.specs.Rows.{with_item}
 use Rattle.kt_list.proofs.RowLemmas.{item_last}
@@ -12,6 +12,7 @@ use Rattle.kt_list.proofs.general.Places.{head_is, tail_is}
 use Rattle.kt_text.specs.Words.{Text}
 use Rattle.kt_rules.specs.declared.book.held_rule.HeldRule.{HeldRule}
 use Rattle.kt_rules.specs.declared.book.kinds.Kinds.{Kinds}
+use Rattle.kt_rules.specs.declared.book.rules.LastList.{LastList}
 use Rattle.kt_rules.specs.declared.entry.Kind.{Kind}
 use Rattle.kt_rules.specs.declared.entry.Kind.TheVariants.{SingleColon, DoubleColon, Group, Pattern, TerminalPattern}
 use Rattle.kt_rules.specs.declared.entry.Needs.{Needs}
@@ -22,7 +23,7 @@ use Rattle.kt_rules.specs.Book.{is_double, is_group}
 use Rattle.kt_rules.specs.Slots.{rules_in, slot_rule}
 use Rattle.kt_rules.specs.Suffixes.{all_needs}
 use Rattle.kt_rules.specs.Targets.{names_at}
-use Rattle.kt_rules.specs.inner.Held.{AreBelow, AreHeld, AreNumbersOf, GotNames, GotRow, HasOneMore, IsSeen, rule_held, sees, slots_held}
+use Rattle.kt_rules.specs.inner.Held.{AreBelow, AreHeld, AreNumbersOf, GotLists, GotMore, GotNames, GotRow, HasOneMore, HasRows, IsKnown, IsLast, IsRow, rule_held, rule_in, sees, slots_held}
 
 -- ---- numbers of names
 
@@ -80,9 +81,9 @@ pub row_longer : (front rows new : List (List ℕ)) (number : ℕ) → new ≡ w
 row_longer front rows new number is one =
     (one.0 ++ number ∷ [], is ∙ ap (λ (all : List (List ℕ)). with_item all number) one.1 ∙ item_last front one.0 number)
 
--- the rows before it
-pub rows_before : (front rows : List (List ℕ)) → HasOneMore front rows → take (length front) rows ≡ front
-rows_before front rows one = ap (take (length front)) one.1 ∙ take-append_seam front (one.0 ∷ [])
+-- the rows before those that were added
+pub rows_before : (front rows : List (List ℕ)) → GotMore front rows → take (length front) rows ≡ front
+rows_before front rows more = ap (take (length front)) more.1 ∙ take-append_seam front more.0
 
 pub row_open : (names : List Text) (front rows : List (List ℕ)) → rows ≡ front ++ [] ∷ [] → GotRow names front rows []
 row_open names front rows is = ([], is, refl)
@@ -101,7 +102,48 @@ row_named names new front rows added before name number grew at is got =
           ∙ sym (map-append Some before (name ∷ [])),
     )
 
--- ---- what is held, when names are added
+-- a row that was added
+pub row_added : (names : List Text) (front rows : List (List ℕ)) (row : ℕ) (list : List Text) → row ≡ length front → GotRow names front rows list → IsRow names rows row list
+row_added names front rows row list at got =
+    let same : get_or rows row [] ≡ got.0
+    = ap (λ (n : ℕ). get_or rows n []) at ∙ ap (λ (all : List (List ℕ)). get_or all (length front) []) got.1 ∙ get_or-append_seam front got.0 [] [] in
+    let longer : length rows ≡ length front + 1 = ap length got.1 ∙ length-append front (got.0 ∷ []) in
+    record {
+      within = omega (arith, at, longer);
+      numbers = subst (λ (numbers : List ℕ). AreNumbersOf names numbers list) (sym same) got.2;
+    }
+
+pub lists_added : (names : List Text) (front rows : List (List ℕ)) (list : List Text) → GotRow names front rows list → GotLists names front rows
+lists_added names front rows list got =
+    (got.0 ∷ [], got.1, All-cons (AreBelow (length names)) got.0 [] (numbers_below names got.0 list got.2) (All-nil (AreBelow (length names))))
+
+-- a row stays where names and rows are added
+pub row_stays : (names new : List Text) (lists lists' : List (List ℕ)) (row : ℕ) (list : List Text) → GotNames names new → GotMore lists lists'
+    → IsRow names lists row list → IsRow new lists' row list
+row_stays names new lists lists' row list grew more is =
+    let same : get_or lists' row [] ≡ get_or lists row []
+    = ap (λ (all : List (List ℕ)). get_or all row []) more.1 ∙ get_or_append_left lists more.0 [] row is.within in
+    let longer : length lists' ≡ length lists + length more.0 = ap length more.1 ∙ length-append lists more.0 in
+    record {
+      within = omega (arith, is.within, longer);
+      numbers = subst (λ (numbers : List ℕ). AreNumbersOf new numbers list) (sym same)
+          (subst (λ (all : List Text). AreNumbersOf all (get_or lists row []) list) (sym grew.1) (numbers_stay names grew.0 (get_or lists row []) list is.numbers));
+    }
+
+below_more : (names new : List Text) (lists : List (List ℕ)) → GotNames names new → All (AreBelow (length names)) lists → All (AreBelow (length new)) lists
+below_more names new lists grew below =
+    let longer : length new ≡ length names + length grew.0 = ap length grew.1 ∙ length-append names grew.0 in
+    All-weaker (AreBelow (length names)) (AreBelow (length new))
+    (λ numbers own. All-weaker (λ n. n < length names) (λ n. n < length new) (λ n h. omega (arith, h, longer)) numbers own) lists below
+
+pub lists_twice : (names new : List Text) (lists mid lists' : List (List ℕ)) → GotNames names new → GotLists names lists mid → GotLists new mid lists' → GotLists new lists lists'
+lists_twice names new lists mid lists' grew one two = (
+  one.0 ++ two.0,
+  two.1 ∙ ap (λ (all : List (List ℕ)). all ++ two.0) one.1 ∙ append_assoc lists one.0 two.0,
+  All-append (AreBelow (length new)) one.0 two.0 (below_more names new one.0 grew one.2) two.2,
+)
+
+-- ---- what is held, when names and rows are added
 
 -- numbers have the same names
 names_more : (names more : List Text) (numbers : List ℕ) → AreBelow (length names) numbers → names_at (names ++ more) numbers ≡ names_at names numbers
@@ -111,140 +153,157 @@ names_more names more (number ∷ numbers) below =
     let others = names_more names more numbers (All-tail (λ n. n < length names) number numbers below) in
     λ j. first j ∷ others j
 
-rule_more : (names more : List Text) (numbers : List ℕ) (lines : List RecipeLine) (held : HeldRule) → AreBelow (length names) numbers
-    → rule_held (names ++ more) numbers lines held ≡ rule_held names numbers lines held
-rule_more names more numbers lines held below =
-    let is_below = λ (n : ℕ). n < length names in
-    let needs = drop held.targets numbers in
-    let below_needs = All-drop is_below held.targets numbers below in
-    let targets = names_more names more (take held.targets numbers) (All-take is_below held.targets numbers below) in
-    let first = names_more names more (take held.prerequisites needs) (All-take is_below held.prerequisites needs below_needs) in
-    let second = names_more names more (drop held.prerequisites needs) (All-drop is_below held.prerequisites needs below_needs) in
-    λ j. rule_by held.kind (targets j) held.pattern (record { prerequisites = first j; order_only = second j }) (if held.has_recipe then Some lines else None) held.place
+module _ (names new : List Text) (lists lists' : List (List ℕ)) (grew : GotNames names new) (more : GotLists new lists lists') (below : All (AreBelow (length names)) lists) where
+  named_same : (numbers : List ℕ) → AreBelow (length names) numbers → names_at new numbers ≡ names_at names numbers
+  named_same numbers own = ap (λ (all : List Text). names_at all numbers) grew.1 ∙ names_more names grew.0 numbers own
 
-slots_more : (names more : List Text) (rows : List (List ℕ)) (recipes : List (List RecipeLine)) (slots : List (Option HeldRule))
-    → All (AreBelow (length names)) rows → slots_held (names ++ more) rows recipes slots ≡ slots_held names rows recipes slots
-slots_more names more [] recipes slots below = refl
-slots_more names more (numbers ∷ rows) [] slots below = refl
-slots_more names more (numbers ∷ rows) (lines ∷ recipes) [] below = refl
-slots_more names more (numbers ∷ rows) (lines ∷ recipes) (None ∷ slots) below =
-    ap (λ xs. None ∷ xs) (slots_more names more rows recipes slots (All-tail (AreBelow (length names)) numbers rows below))
-slots_more names more (numbers ∷ rows) (lines ∷ recipes) (Some held ∷ slots) below =
-    let rule = rule_more names more numbers lines held (All-head (AreBelow (length names)) numbers rows below) in
-    let others = slots_more names more rows recipes slots (All-tail (AreBelow (length names)) numbers rows below) in
-    λ j. Some (rule j) ∷ others j
+  rows_same : (row : ℕ) → row < length lists → get_or lists' row [] ≡ get_or lists row []
+  rows_same row within = ap (λ (all : List (List ℕ)). get_or all row []) more.1 ∙ get_or_append_left lists more.0 [] row within
 
-module _ (names new : List Text) (rows : List (List ℕ)) (recipes : List (List RecipeLine)) (slots : List (Option HeldRule)) (kinds : Kinds) (got : GotNames names new)
-    (held : AreHeld names rows recipes slots kinds) where
-  pub grown_slots : slots_held new rows recipes slots ≡ slots_held names rows recipes slots
-  grown_slots = ap (λ (all : List Text). slots_held all rows recipes slots) got.1 ∙ slots_more names got.0 rows recipes slots held.below
+  rule_more : (lines : List RecipeLine) (held : HeldRule) → held.rows.targets < length lists → held.rows.needs < length lists
+      → rule_in new lists' lines held ≡ rule_in names lists lines held
+  rule_more lines held first second =
+      let is_below = λ (n : ℕ). n < length names in
+      let own = get_or lists held.rows.targets [] in
+      let needs = get_or lists held.rows.needs [] in
+      let needs_below = All-get_or (AreBelow (length names)) lists held.rows.needs [] second below in
+      let own_same = rows_same held.rows.targets first in
+      let needs_same = rows_same held.rows.needs second in
+      let targets = named_same own (All-get_or (AreBelow (length names)) lists held.rows.targets [] first below) in
+      let one = named_same (take held.prerequisites needs) (All-take is_below held.prerequisites needs needs_below) in
+      let two = named_same (drop held.prerequisites needs) (All-drop is_below held.prerequisites needs needs_below) in
+      (λ j. rule_held new (own_same j) (needs_same j) lines held)
+      ∙ (λ j. rule_by held.kind (targets j) held.pattern (record { prerequisites = one j; order_only = two j }) (if held.has_recipe then Some lines else None) held.place)
 
-  pub grown_held : AreHeld new rows recipes slots kinds
+  slots_more : (recipes : List (List RecipeLine)) (slots : List (Option HeldRule)) (kinds : Kinds) → All (IsKnown kinds (length lists)) slots
+      → slots_held new lists' recipes slots ≡ slots_held names lists recipes slots
+  slots_more [] slots kinds known = refl
+  slots_more (lines ∷ recipes) [] kinds known = refl
+  slots_more (lines ∷ recipes) (None ∷ slots) kinds known =
+      ap (λ xs. None ∷ xs) (slots_more recipes slots kinds (All-tail (IsKnown kinds (length lists)) None slots known))
+  slots_more (lines ∷ recipes) (Some held ∷ slots) kinds known =
+      let rows = All-head (IsKnown kinds (length lists)) (Some held) slots known in
+      let rule = rule_more lines held rows.1 rows.2 in
+      let others = slots_more recipes slots kinds (All-tail (IsKnown kinds (length lists)) (Some held) slots known) in
+      λ j. Some (rule j) ∷ others j
+
+known_more : (kinds kinds' : Kinds) (count more : ℕ) → ((other : Kind) → sees kinds other ≡ true → sees kinds' other ≡ true) → count ≤ more
+    → (slot : Option HeldRule) → IsKnown kinds count slot → IsKnown kinds' more slot
+known_more kinds kinds' count more kept longer None known = tt
+known_more kinds kinds' count more kept longer (Some held) known =
+    (kept held.kind known.0, omega (arith, known.1, longer), omega (arith, known.2, longer))
+
+pub last_stays : (names new : List Text) (lists lists' : List (List ℕ)) (last : Option LastList) → GotNames names new → GotMore lists lists'
+    → IsLast names lists last → IsLast new lists' last
+last_stays names new lists lists' None grew more is = tt
+last_stays names new lists lists' (Some last) grew more is = row_stays names new lists lists' last.row (all_needs last.needs.value.1) grew more is
+
+module _ (names new : List Text) (lists lists' : List (List ℕ)) (recipes : List (List RecipeLine)) (slots : List (Option HeldRule)) (kinds : Kinds) (last : Option LastList)
+    (grew : GotNames names new) (more : GotLists new lists lists') (held : AreHeld names lists recipes slots kinds last) where
+  pub grown_slots : slots_held new lists' recipes slots ≡ slots_held names lists recipes slots
+  grown_slots = slots_more names new lists lists' grew more held.below recipes slots kinds held.known
+
+  pub grown_held : AreHeld new lists' recipes slots kinds last
   grown_held =
-      let longer : length new ≡ length names + length got.0 = ap length got.1 ∙ length-append names got.0 in
+      let more_rows : length lists' ≡ length lists + length more.0 = ap length more.1 ∙ length-append lists more.0 in
+      let before = below_more names new lists grew held.below in
       record {
-        below = All-weaker (AreBelow (length names)) (AreBelow (length new))
-            (λ numbers below. All-weaker (λ n. n < length names) (λ n. n < length new) (λ n h. omega (arith, h, longer)) numbers below) rows held.below;
-        many_rows = held.many_rows;
-        many_recipes = held.many_recipes;
-        seen = held.seen;
+        below = subst (All (AreBelow (length new))) (sym more.1) (All-append (AreBelow (length new)) lists more.0 before more.2);
+        many = held.many;
+        known = All-weaker (IsKnown kinds (length lists)) (IsKnown kinds (length lists'))
+            (known_more kinds kinds (length lists) (length lists') (λ other seen. seen) (omega (arith, more_rows))) slots held.known;
+        remembered = last_stays names new lists lists' last grew (more.0, more.1) held.remembered;
       }
+
+-- no rows
+pub lists_none : (names : List Text) (lists lists' : List (List ℕ)) → lists' ≡ lists → GotLists names lists lists'
+lists_none names lists lists' same = ([], same ∙ sym (append-nil lists), All-nil (AreBelow (length names)))
 
 -- ---- slots
 
 -- what is in a slot
-slot_found : (names : List Text) (rows : List (List ℕ)) (recipes : List (List RecipeLine)) (slots : List (Option HeldRule)) (place : ℕ)
-    → length rows ≡ length slots → length recipes ≡ length slots
-    → slice_get (slots_held names rows recipes slots) place
-    ≡ option_map (option_map (rule_held names (get_or rows place []) (get_or recipes place []))) (slice_get slots place)
-slot_found names [] recipes [] place many few = refl
-slot_found names [] recipes (slot ∷ slots) place many few = absurd (omega (arith, many))
-slot_found names (numbers ∷ rows) [] [] place many few = refl
-slot_found names (numbers ∷ rows) [] (slot ∷ slots) place many few = absurd (omega (arith, few))
-slot_found names (numbers ∷ rows) (lines ∷ recipes) [] place many few = refl
-slot_found names (numbers ∷ rows) (lines ∷ recipes) (slot ∷ slots) zero many few = refl
-slot_found names (numbers ∷ rows) (lines ∷ recipes) (slot ∷ slots) (suc place) many few =
-    slot_found names rows recipes slots place (omega (arith, many)) (omega (arith, few))
+slot_found : (names : List Text) (lists : List (List ℕ)) (recipes : List (List RecipeLine)) (slots : List (Option HeldRule)) (place : ℕ)
+    → length recipes ≡ length slots
+    → slice_get (slots_held names lists recipes slots) place ≡ option_map (option_map (rule_in names lists (get_or recipes place []))) (slice_get slots place)
+slot_found names lists [] [] place many = refl
+slot_found names lists [] (slot ∷ slots) place many = absurd (omega (arith, many))
+slot_found names lists (lines ∷ recipes) [] place many = refl
+slot_found names lists (lines ∷ recipes) (slot ∷ slots) zero many = refl
+slot_found names lists (lines ∷ recipes) (slot ∷ slots) (suc place) many = slot_found names lists recipes slots place (omega (arith, many))
 
-pub slots_many : (names : List Text) (rows : List (List ℕ)) (recipes : List (List RecipeLine)) (slots : List (Option HeldRule))
-    → length rows ≡ length slots → length recipes ≡ length slots → length (slots_held names rows recipes slots) ≡ length slots
-slots_many names [] recipes slots many few = many
-slots_many names (numbers ∷ rows) [] slots many few = few
-slots_many names (numbers ∷ rows) (lines ∷ recipes) [] many few = refl
-slots_many names (numbers ∷ rows) (lines ∷ recipes) (slot ∷ slots) many few =
-    let others = slots_many names rows recipes slots (omega (arith, many)) (omega (arith, few)) in omega (arith, others)
+pub slots_many : (names : List Text) (lists : List (List ℕ)) (recipes : List (List RecipeLine)) (slots : List (Option HeldRule))
+    → length recipes ≡ length slots → length (slots_held names lists recipes slots) ≡ length slots
+slots_many names lists [] slots many = many
+slots_many names lists (lines ∷ recipes) [] many = refl
+slots_many names lists (lines ∷ recipes) (slot ∷ slots) many =
+    let others = slots_many names lists recipes slots (omega (arith, many)) in omega (arith, others)
+
+joined : {A B : Type 0} (f : A → B) (slot : Option (Option A)) → option_and_then (λ one. one) (option_map (option_map f) slot) ≡ option_map f (option_and_then (λ one. one) slot)
+joined f None = refl
+joined f (Some slot) = refl
 
 -- the same as a book's rules have it
-pub slot_told : (told : List Text × List (Option Rule)) (names : List Text) (rows : List (List ℕ)) (recipes : List (List RecipeLine))
-    (slots : List (Option HeldRule)) (kinds : Kinds) (place : ℕ) (slot : Option (Option HeldRule)) → (names, slots_held names rows recipes slots) ≡ told
-    → AreHeld names rows recipes slots kinds → slice_get slots place ≡ slot
-    → slot_rule told.1 place
-    ≡ option_and_then (λ one. one) (option_map (option_map (rule_held names (get_or rows place []) (get_or recipes place []))) slot)
-slot_told told names rows recipes slots kinds place slot view held is =
-    sym (ap (λ (all : List Text × List (Option Rule)). slot_rule all.1 place) view)
-    ∙ ap (option_and_then (λ one. one)) (slot_found names rows recipes slots place held.many_rows held.many_recipes
-    ∙ ap (option_map (option_map (rule_held names (get_or rows place []) (get_or recipes place [])))) is)
+pub slot_told : (told : List Text × List (Option Rule)) (names : List Text) (lists : List (List ℕ)) (recipes : List (List RecipeLine))
+    (slots : List (Option HeldRule)) (place : ℕ) (held : Option HeldRule) → (names, slots_held names lists recipes slots) ≡ told
+    → length recipes ≡ length slots → held ≡ option_and_then (λ slot. slot) (slice_get slots place)
+    → option_map (rule_in names lists (get_or recipes place [])) held ≡ slot_rule told.1 place
+slot_told told names lists recipes slots place held view many is =
+    let rule = rule_in names lists (get_or recipes place []) in
+    ap (option_map rule) is
+    ∙ sym (ap (option_and_then (λ one. one)) (slot_found names lists recipes slots place many) ∙ joined rule (slice_get slots place))
+    ∙ ap (λ (all : List Text × List (Option Rule)). slot_rule all.1 place) view
 
 -- one more
-slots_push : (names : List Text) (rows : List (List ℕ)) (recipes : List (List RecipeLine)) (slots : List (Option HeldRule))
-    (numbers : List ℕ) (lines : List RecipeLine) (held : HeldRule) → length rows ≡ length slots → length recipes ≡ length slots
-    → slots_held names (rows ++ numbers ∷ []) (recipes ++ lines ∷ []) (slots ++ Some held ∷ [])
-    ≡ slots_held names rows recipes slots ++ Some (rule_held names numbers lines held) ∷ []
-slots_push names [] [] [] numbers lines held many few = refl
-slots_push names [] (own ∷ recipes) [] numbers lines held many few = absurd (omega (arith, few))
-slots_push names [] recipes (slot ∷ slots) numbers lines held many few = absurd (omega (arith, many))
-slots_push names (row ∷ rows) recipes [] numbers lines held many few = absurd (omega (arith, many))
-slots_push names (row ∷ rows) [] (slot ∷ slots) numbers lines held many few = absurd (omega (arith, few))
-slots_push names (row ∷ rows) (own ∷ recipes) (slot ∷ slots) numbers lines held many few =
-    ap (λ xs. option_map (rule_held names row own) slot ∷ xs) (slots_push names rows recipes slots numbers lines held (omega (arith, many)) (omega (arith, few)))
+slots_push : (names : List Text) (lists : List (List ℕ)) (recipes : List (List RecipeLine)) (slots : List (Option HeldRule))
+    (lines : List RecipeLine) (held : HeldRule) → length recipes ≡ length slots
+    → slots_held names lists (recipes ++ lines ∷ []) (slots ++ Some held ∷ []) ≡ slots_held names lists recipes slots ++ Some (rule_in names lists lines held) ∷ []
+slots_push names lists [] [] lines held many = refl
+slots_push names lists (own ∷ recipes) [] lines held many = absurd (omega (arith, many))
+slots_push names lists [] (slot ∷ slots) lines held many = absurd (omega (arith, many))
+slots_push names lists (own ∷ recipes) (slot ∷ slots) lines held many =
+    ap (λ xs. option_map (rule_in names lists own) slot ∷ xs) (slots_push names lists recipes slots lines held (omega (arith, many)))
 
 -- one that is emptied
-pub slots_emptied : (names : List Text) (rows : List (List ℕ)) (recipes : List (List RecipeLine)) (slots : List (Option HeldRule)) (place : ℕ)
-    → slots_held names rows recipes (set slots place None) ≡ set (slots_held names rows recipes slots) place None
-slots_emptied names [] recipes slots place = refl
-slots_emptied names (numbers ∷ rows) [] slots place = refl
-slots_emptied names (numbers ∷ rows) (lines ∷ recipes) [] place = refl
-slots_emptied names (numbers ∷ rows) (lines ∷ recipes) (slot ∷ slots) zero = refl
-slots_emptied names (numbers ∷ rows) (lines ∷ recipes) (slot ∷ slots) (suc place) =
-    ap (λ xs. option_map (rule_held names numbers lines) slot ∷ xs) (slots_emptied names rows recipes slots place)
+pub slots_emptied : (names : List Text) (lists : List (List ℕ)) (recipes : List (List RecipeLine)) (slots : List (Option HeldRule)) (place : ℕ)
+    → slots_held names lists recipes (set slots place None) ≡ set (slots_held names lists recipes slots) place None
+slots_emptied names lists [] slots place = refl
+slots_emptied names lists (lines ∷ recipes) [] place = refl
+slots_emptied names lists (lines ∷ recipes) (slot ∷ slots) zero = refl
+slots_emptied names lists (lines ∷ recipes) (slot ∷ slots) (suc place) =
+    ap (λ xs. option_map (rule_in names lists lines) slot ∷ xs) (slots_emptied names lists recipes slots place)
 
--- ---- the kinds of the rules
-
-seen_more : (kinds kinds' : Kinds) → ((other : Kind) → sees kinds other ≡ true → sees kinds' other ≡ true) → (slot : Option HeldRule) → IsSeen kinds slot → IsSeen kinds' slot
-seen_more kinds kinds' kept None seen = tt
-seen_more kinds kinds' kept (Some held) seen = kept held.kind seen
-
-pub emptied_held : (names : List Text) (rows : List (List ℕ)) (recipes : List (List RecipeLine)) (slots : List (Option HeldRule)) (kinds : Kinds) (place : ℕ)
-    → AreHeld names rows recipes slots kinds → AreHeld names rows recipes (set slots place None) kinds
-emptied_held names rows recipes slots kinds place held =
+pub emptied_held : (names : List Text) (lists : List (List ℕ)) (recipes : List (List RecipeLine)) (slots : List (Option HeldRule)) (kinds : Kinds) (last : Option LastList)
+    (place : ℕ) → AreHeld names lists recipes slots kinds last → AreHeld names lists recipes (set slots place None) kinds last
+emptied_held names lists recipes slots kinds last place held =
     let same = length-set slots place None in
     record {
       below = held.below;
-      many_rows = omega (arith, held.many_rows, same);
-      many_recipes = omega (arith, held.many_recipes, same);
-      seen = All-set (IsSeen kinds) slots place None tt held.seen;
+      many = omega (arith, held.many, same);
+      known = All-set (IsKnown kinds (length lists)) slots place None tt held.known;
+      remembered = held.remembered;
     }
 
--- no rule is of a kind that there can't be
-none_held : (test : Kind → Bool) (names : List Text) (rows : List (List ℕ)) (recipes : List (List RecipeLine)) (slots : List (Option HeldRule)) (kinds : Kinds)
-    → ((kind : Kind) → sees kinds kind ≡ true → test kind ≡ false) → All (IsSeen kinds) slots
-    → All (λ rule. test rule.kind ≡ false) (rules_in (slots_held names rows recipes slots))
-none_held test names [] recipes slots kinds none seen = All-nil (λ rule. test rule.kind ≡ false)
-none_held test names (numbers ∷ rows) [] slots kinds none seen = All-nil (λ rule. test rule.kind ≡ false)
-none_held test names (numbers ∷ rows) (lines ∷ recipes) [] kinds none seen = All-nil (λ rule. test rule.kind ≡ false)
-none_held test names (numbers ∷ rows) (lines ∷ recipes) (None ∷ slots) kinds none seen =
-    none_held test names rows recipes slots kinds none (All-tail (IsSeen kinds) None slots seen)
-none_held test names (numbers ∷ rows) (lines ∷ recipes) (Some held ∷ slots) kinds none seen =
-    All-cons (λ rule. test rule.kind ≡ false) (rule_held names numbers lines held) (rules_in (slots_held names rows recipes slots))
-    (none held.kind (All-head (IsSeen kinds) (Some held) slots seen))
-    (none_held test names rows recipes slots kinds none (All-tail (IsSeen kinds) (Some held) slots seen))
+-- ---- the kinds of the rules
 
-module _ (told : List Text × List (Option Rule)) (names : List Text) (rows : List (List ℕ)) (recipes : List (List RecipeLine)) (slots : List (Option HeldRule))
-    (kinds : Kinds) (view : (names, slots_held names rows recipes slots) ≡ told) (held : AreHeld names rows recipes slots kinds) where
+-- no rule is of a kind that there can't be
+none_held : (test : Kind → Bool) (names : List Text) (lists : List (List ℕ)) (recipes : List (List RecipeLine)) (slots : List (Option HeldRule)) (kinds : Kinds) (count : ℕ)
+    → ((kind : Kind) → sees kinds kind ≡ true → test kind ≡ false) → All (IsKnown kinds count) slots
+    → All (λ rule. test rule.kind ≡ false) (rules_in (slots_held names lists recipes slots))
+none_held test names lists [] slots kinds count none known = All-nil (λ rule. test rule.kind ≡ false)
+none_held test names lists (lines ∷ recipes) [] kinds count none known = All-nil (λ rule. test rule.kind ≡ false)
+none_held test names lists (lines ∷ recipes) (None ∷ slots) kinds count none known =
+    none_held test names lists recipes slots kinds count none (All-tail (IsKnown kinds count) None slots known)
+none_held test names lists (lines ∷ recipes) (Some held ∷ slots) kinds count none known =
+    All-cons (λ rule. test rule.kind ≡ false) (rule_in names lists lines held) (rules_in (slots_held names lists recipes slots))
+    (none held.kind (All-head (IsKnown kinds count) (Some held) slots known).0)
+    (none_held test names lists recipes slots kinds count none (All-tail (IsKnown kinds count) (Some held) slots known))
+
+module _ (told : List Text × List (Option Rule)) (names : List Text) (lists : List (List ℕ)) (recipes : List (List RecipeLine)) (slots : List (Option HeldRule))
+    (kinds : Kinds) (last : Option LastList) (view : (names, slots_held names lists recipes slots) ≡ told) (held : AreHeld names lists recipes slots kinds last) where
   none_told : (test : Kind → Bool) → ((kind : Kind) → sees kinds kind ≡ true → test kind ≡ false) → All (λ rule. test rule.kind ≡ false) (rules_in told.1)
   none_told test none =
       subst (λ (all : List Text × List (Option Rule)). All (λ rule. test rule.kind ≡ false) (rules_in all.1)) view
-      (none_held test names rows recipes slots kinds none held.seen)
+      (none_held test names lists recipes slots kinds (length lists) none held.known)
 
   pub none_double : kinds.double ≡ false → All (λ rule. is_double rule.kind ≡ false) (rules_in told.1)
   none_double unseen = none_told is_double by
@@ -272,60 +331,51 @@ recipe_back : (recipe : Option (List RecipeLine)) → (if is_some recipe then So
 recipe_back None = refl
 recipe_back (Some lines) = refl
 
--- the rule of a row of numbers
-rule_back : (names : List Text) (numbers : List ℕ) (lines : List RecipeLine) (held : HeldRule) (targets : List Text) (needs : Needs) (recipe : Option (List RecipeLine))
-    → held.targets ≡ length targets → held.prerequisites ≡ length needs.prerequisites → held.has_recipe ≡ is_some recipe → lines ≡ unwrap_or recipe []
-    → AreNumbersOf names numbers (targets ++ all_needs needs) → rule_held names numbers lines held ≡ rule_by held.kind targets held.pattern needs recipe held.place
-rule_back names numbers lines held targets needs recipe many few has is are =
-    let named = numbers_named names numbers (targets ++ all_needs needs) are in
-    let front : names_at names (take held.targets numbers) ≡ targets =
-    sym (take-map (λ n. get_or names n []) held.targets numbers)
-    ∙ ap (take held.targets) named ∙ ap (λ (n : ℕ). take n (targets ++ all_needs needs)) many ∙ take-append_seam targets (all_needs needs) in
-    let others : names_at names (drop held.targets numbers) ≡ all_needs needs =
-    sym (drop-map (λ n. get_or names n []) held.targets numbers)
-    ∙ ap (drop held.targets) named ∙ ap (λ (n : ℕ). drop n (targets ++ all_needs needs)) many ∙ drop-append_seam targets (all_needs needs) in
-    let first : names_at names (take held.prerequisites (drop held.targets numbers)) ≡ needs.prerequisites =
-    sym (take-map (λ n. get_or names n []) held.prerequisites (drop held.targets numbers))
-    ∙ ap (take held.prerequisites) others ∙ ap (λ (n : ℕ). take n (all_needs needs)) few ∙ take-append_seam needs.prerequisites needs.order_only in
-    let second : names_at names (drop held.prerequisites (drop held.targets numbers)) ≡ needs.order_only =
-    sym (drop-map (λ n. get_or names n []) held.prerequisites (drop held.targets numbers))
-    ∙ ap (drop held.prerequisites) others ∙ ap (λ (n : ℕ). drop n (all_needs needs)) few ∙ drop-append_seam needs.prerequisites needs.order_only in
-    let own : (if held.has_recipe then Some lines else None) ≡ recipe =
+-- the rule of its numbers
+rule_back : (names : List Text) (own numbers : List ℕ) (lines : List RecipeLine) (held : HeldRule) (targets : List Text) (needs : Needs) (recipe : Option (List RecipeLine))
+    → held.prerequisites ≡ length needs.prerequisites → held.has_recipe ≡ is_some recipe → lines ≡ unwrap_or recipe []
+    → AreNumbersOf names own targets → AreNumbersOf names numbers (all_needs needs)
+    → rule_held names own numbers lines held ≡ rule_by held.kind targets held.pattern needs recipe held.place
+rule_back names own numbers lines held targets needs recipe few has is are are_too =
+    let front = numbers_named names own targets are in
+    let named = numbers_named names numbers (all_needs needs) are_too in
+    let first : names_at names (take held.prerequisites numbers) ≡ needs.prerequisites =
+    sym (take-map (λ n. get_or names n []) held.prerequisites numbers)
+    ∙ ap (take held.prerequisites) named ∙ ap (λ (n : ℕ). take n (all_needs needs)) few ∙ take-append_seam needs.prerequisites needs.order_only in
+    let second : names_at names (drop held.prerequisites numbers) ≡ needs.order_only =
+    sym (drop-map (λ n. get_or names n []) held.prerequisites numbers)
+    ∙ ap (drop held.prerequisites) named ∙ ap (λ (n : ℕ). drop n (all_needs needs)) few ∙ drop-append_seam needs.prerequisites needs.order_only in
+    let made : (if held.has_recipe then Some lines else None) ≡ recipe =
     ap (λ (b : Bool). if b then Some lines else None) has ∙ ap (λ (ls : List RecipeLine). if is_some recipe then Some ls else None) is ∙ recipe_back recipe in
-    λ j. rule_by held.kind (front j) held.pattern (record { prerequisites = first j; order_only = second j }) (own j) held.place
+    λ j. rule_by held.kind (front j) held.pattern (record { prerequisites = first j; order_only = second j }) (made j) held.place
 
-module _ (names new : List Text) (rows rows' : List (List ℕ)) (recipes recipes' : List (List RecipeLine)) (slots slots' : List (Option HeldRule))
-    (kinds : Kinds) (lines : List RecipeLine) (rule : HeldRule) (list : List Text) (grew : GotNames names new) (held : AreHeld names rows recipes slots kinds)
-    (got : GotRow new rows rows' list) (lined : recipes' ≡ recipes ++ lines ∷ []) (is : slots' ≡ slots ++ Some rule ∷ []) where
-  pub pushed_held : (kinds' : Kinds) → ((other : Kind) → sees kinds other ≡ true → sees kinds' other ≡ true) → sees kinds' rule.kind ≡ true
-      → AreHeld new rows' recipes' slots' kinds'
-  pushed_held kinds' kept known =
-      let before = grown_held names new rows recipes slots kinds grew held in
+module _ (names new : List Text) (lists lists' : List (List ℕ)) (recipes recipes' : List (List RecipeLine)) (slots slots' : List (Option HeldRule))
+    (kinds : Kinds) (last : Option LastList) (lines : List RecipeLine) (rule : HeldRule) (targets : List Text) (needs : Needs) (grew : GotNames names new)
+    (more : GotLists new lists lists') (held : AreHeld names lists recipes slots kinds last) (rows : HasRows new lists' targets (all_needs needs) rule.rows)
+    (lined : recipes' ≡ recipes ++ lines ∷ []) (is : slots' ≡ slots ++ Some rule ∷ []) where
+  pub pushed_held : (kinds' : Kinds) (last' : Option LastList) → ((other : Kind) → sees kinds other ≡ true → sees kinds' other ≡ true) → sees kinds' rule.kind ≡ true
+      → (IsLast new lists' last → IsLast new lists' last') → AreHeld new lists' recipes' slots' kinds' last'
+  pushed_held kinds' last' kept known next =
+      let before = grown_held names new lists lists' recipes slots kinds last grew more held in
       let many : length slots' ≡ length slots + 1 = ap length is ∙ length-append slots (Some rule ∷ []) in
-      let many_rows : length rows' ≡ length rows + 1 = ap length got.1 ∙ length-append rows (got.0 ∷ []) in
       let many_recipes : length recipes' ≡ length recipes + 1 = ap length lined ∙ length-append recipes (lines ∷ []) in
       record {
-        below = subst (All (AreBelow (length new))) (sym got.1)
-            (All-push (AreBelow (length new)) rows got.0 before.below (numbers_below new got.0 list got.2));
-        many_rows = omega (arith, many, many_rows, held.many_rows);
-        many_recipes = omega (arith, many, many_recipes, held.many_recipes);
-        seen = subst (All (IsSeen kinds')) (sym is)
-            (All-push (IsSeen kinds') slots (Some rule) (All-weaker (IsSeen kinds) (IsSeen kinds') (seen_more kinds kinds' kept) slots held.seen) known);
+        below = before.below;
+        many = omega (arith, many, many_recipes, held.many);
+        known = subst (All (IsKnown kinds' (length lists'))) (sym is)
+            (All-push (IsKnown kinds' (length lists')) slots (Some rule)
+            (All-weaker (IsKnown kinds (length lists')) (IsKnown kinds' (length lists')) (known_more kinds kinds' (length lists') (length lists') kept (omega arith)) slots before.known)
+            (known, rows.0.within, rows.1.within));
+        remembered = next before.remembered;
       }
 
-  pub pushed_slots : slots_held new rows' recipes' slots' ≡ slots_held names rows recipes slots ++ Some (rule_held new got.0 lines rule) ∷ []
-  pushed_slots =
-      ap (λ (all : List (List ℕ)). slots_held new all recipes' slots') got.1
-      ∙ ap (λ (all : List (List RecipeLine)). slots_held new (rows ++ got.0 ∷ []) all slots') lined
-      ∙ ap (λ (all : List (Option HeldRule)). slots_held new (rows ++ got.0 ∷ []) (recipes ++ lines ∷ []) all) is
-      ∙ slots_push new rows recipes slots got.0 lines rule held.many_rows held.many_recipes
-      ∙ ap (λ (all : List (Option Rule)). all ++ Some (rule_held new got.0 lines rule) ∷ []) (grown_slots names new rows recipes slots kinds grew held)
-
   -- the rule that it holds
-  pub pushed_rule : (targets : List Text) (needs : Needs) (recipe : Option (List RecipeLine)) → list ≡ targets ++ all_needs needs
-      → rule.targets ≡ length targets → rule.prerequisites ≡ length needs.prerequisites → rule.has_recipe ≡ is_some recipe → lines ≡ unwrap_or recipe []
-      → slots_held new rows' recipes' slots' ≡ slots_held names rows recipes slots ++ Some (rule_by rule.kind targets rule.pattern needs recipe rule.place) ∷ []
-  pushed_rule targets needs recipe all many few has own =
-      pushed_slots
-      ∙ ap (λ (one : Rule). slots_held names rows recipes slots ++ Some one ∷ [])
-      (rule_back new got.0 lines rule targets needs recipe many few has own (subst (AreNumbersOf new got.0) all got.2))
+  pub pushed_rule : (recipe : Option (List RecipeLine)) → rule.prerequisites ≡ length needs.prerequisites → rule.has_recipe ≡ is_some recipe → lines ≡ unwrap_or recipe []
+      → slots_held new lists' recipes' slots' ≡ slots_held names lists recipes slots ++ Some (rule_by rule.kind targets rule.pattern needs recipe rule.place) ∷ []
+  pushed_rule recipe few has own =
+      ap (λ (all : List (List RecipeLine)). slots_held new lists' all slots') lined
+      ∙ ap (λ (all : List (Option HeldRule)). slots_held new lists' (recipes ++ lines ∷ []) all) is
+      ∙ slots_push new lists' recipes slots lines rule held.many
+      ∙ ap (λ (all : List (Option Rule)). all ++ Some (rule_in new lists' lines rule) ∷ []) (grown_slots names new lists lists' recipes slots kinds last grew more held)
+      ∙ ap (λ (one : Rule). slots_held names lists recipes slots ++ Some one ∷ [])
+      (rule_back new (get_or lists' rule.rows.targets []) (get_or lists' rule.rows.needs []) lines rule targets needs recipe few has own rows.0.numbers rows.1.numbers)

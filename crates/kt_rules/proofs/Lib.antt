@@ -7,7 +7,6 @@ pub mod NeedsLemmas
 pub mod PlainLemmas
 mod TestingLemmas
 pub mod IndexLemmas
-pub mod NameSetLemmas
 mod SpecialLemmas
 pub mod NoneLemmas
 pub mod RefusedLemmas
@@ -23,6 +22,7 @@ pub mod GroupLemmas
 pub mod BookLemmas
 pub mod MarkLemmas
 pub mod GoalLemmas
+mod AlikeLemmas
 pub mod NumberLemmas
 pub mod AddLemmas
 pub mod SuffixLemmas

@@ -1,5 +1,5 @@
 -- Names that are marked, one after another.
-use Rattle.std.proofs.Common.{◌≡◌, ℕ, zero, suc, ◌<◌, Bool, true, false, ◌||◌, nat_eq, List, [], ◌∷◌, ◌++◌, length, replicate, set, get_or, slice_get, Option, Some, None, refl, sym, ap, ◌∙◌}
+use Rattle.std.proofs.Common.{◌≡◌, ℕ, ◌<◌, Bool, true, false, ◌||◌, nat_eq, List, [], ◌∷◌, ◌++◌, length, set, get_or, slice_get, Option, Some, None, refl, sym, ap, ◌∙◌}
 use Rattle.std.specs.Str.{bytes_eq}
 use Rattle.std.proofs.lemmas.Bool.{eqb-true, eq-eqb}
 use Rattle.std.proofs.lemmas.List.{get_or-set_same, get_or-set_other}
@@ -116,23 +116,3 @@ marked_both names first second old now new one two = λ name.
     two name ∙ ap (λ b. b || is_among second name) (one name)
     ∙ or_assoc (is_marked names old name) (is_among first name) (is_among second name)
     ∙ ap (λ b. is_marked names old name || b) (sym (list_any-append (bytes_eq name) first second))
-
--- nothing is marked
-pub marked_none : (names : List Text) (marks : Marks) (name : Text) → is_marked names marks name ≡ (is_marked names marks name || is_among [] name)
-marked_none names marks name = sym (or_nothing (is_marked names marks name))
-
--- ---- no marks
-
-no_mark : (count n : ℕ) → get_or (replicate count false) n false ≡ false
-no_mark zero zero = refl
-no_mark zero (suc n) = refl
-no_mark (suc count) zero = refl
-no_mark (suc count) (suc n) = no_mark count n
-
-pub none_marked : (names : List Text) (marks : Marks) (count : ℕ) → marks.numbers.items ≡ replicate count false → marks.others ≡ []
-    → (name : Text) → is_marked names marks name ≡ false
-none_marked names marks count none empty name = by (place_of names name)
-  where
-    by : (found : Option ℕ) → mark_at marks name found ≡ false
-    by None = ap (λ others. is_among others name) empty
-    by (Some n) = ap (λ (list : List Bool). get_or list n false) none ∙ no_mark count n

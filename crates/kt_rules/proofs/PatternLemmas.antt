@@ -49,15 +49,6 @@ stay_more : (kept past : List Rule) (one : Rule) (b : Bool) → reverse kept ≡
 stay_more kept past one true h = reverse-append kept (one ∷ []) ∙ ap (λ xs. one ∷ xs) h
 stay_more kept past one false h = ap reverse (append-nil kept) ∙ h
 
--- nothing is sorted yet
-pub sorted_none : (all kept : List Rule) (set : PatternSet) → kept ≡ [] → ((rule : Rule) → has_pattern set rule ≡ false) → IsSorted all all kept set
-sorted_none all kept set k none = record {
-  past = [];
-  whole = append-nil all;
-  stay = ap reverse k;
-  same = none;
-}
-
 -- one more is sorted
 pub sorted_more : (all left before kept kept' : List Rule) (set set' : PatternSet) (one : Rule) → IsSorted all before kept set → before ≡ left ++ one ∷ []
     → kept' ≡ kept ++ (if stays_before set one then one ∷ [] else [])
@@ -73,11 +64,6 @@ sorted_more all left before kept kept' set set' one sorted popped k more =
           ∙ ap (λ c. if c then one ∷ unrepeated sorted.past else unrepeated sorted.past) e;
       same = λ rule. more rule ∙ ap (λ c. repeats rule one || c) (sorted.same rule);
     }
-
--- all are sorted
-pub sorted_all : (all left kept : List Rule) (set : PatternSet) → IsSorted all left kept set → left ≡ [] → reverse kept ≡ unrepeated all
-sorted_all all left kept set sorted none =
-    sorted.stay ∙ ap unrepeated (sym (ap (λ xs. xs ++ sorted.past) none) ∙ sorted.whole)
 
 -- ---- the keys of a set
 

@@ -1,10 +1,8 @@
 -- What reading a line with plain prerequisites comes down to.
-use Rattle.std.proofs.Common.{◌≡◌, ◌≤◌, ◌-◌, ℕ, Bool, true, false, true≢false, not, [], ◌∷◌, ◌++◌, length, take, drop, None, refl, sym, ap, ◌∙◌, ⊎_elim, arith}
-use Rattle.std.specs.Prelude.{◌==◌, ◌||◌, nat_eq}
+use Rattle.std.proofs.Common.{◌≡◌, Bool, true, false, true≢false, [], ◌∷◌, drop, None, refl, sym, ap, ◌∙◌, ⊎_elim}
+use Rattle.std.specs.Prelude.{◌||◌, nat_eq}
 use Rattle.std.specs.List.{list_any, starts_with}
-use Rattle.std.specs.Simd.Lanes.{mask_l, zip2}
-use Rattle.std.proofs.lemmas.Bool.{cases_Bool, eqb-true}
-use Rattle.std.proofs.lemmas.List.{length-take-le, take-append-drop, take_rest}
+use Rattle.std.proofs.lemmas.Bool.{cases_Bool}
 use Rattle.std.proofs.lemmas.Bool.Decides.{Decides-eqb}
 use Rattle.std.proofs.lemmas.Slice.Eq.{starts_is}
 use Rattle.kt_text.specs.Match.{has_percent}
@@ -45,22 +43,3 @@ reads_long text targets after needs cut names =
           (ap tested_line (sym named)))));
       told = signs_tell head (long_line targets needs).signs line quiet named;
     }
-
--- ---- texts that are the same
-
-none_differ : (text other : Text) → length text ≡ length other → mask_l (zip2 (λ (byte : ℕ) (next : ℕ). not (byte == next)) text other) ≡ 0 → text ≡ other
-none_differ [] [] long none = refl
-none_differ [] (next ∷ other) long none = absurd (omega (arith, long))
-none_differ (byte ∷ text) [] long none = absurd (omega (arith, long))
-none_differ (byte ∷ text) (next ∷ other) long none =
-    ⊎_elim (λ h. let rest = none_differ text other (omega (arith, long)) (omega (arith, none)) in
-    let same = eqb-true byte next h in λ j. same j ∷ rest j)
-    (λ h. absurd (let some = rw h at none in omega (arith, some))) (cases_Bool (byte == next))
-
--- texts that begin with the same sixteen bytes
-pub same_blocks : (text other : Text) → 16 ≤ length text → 16 ≤ length other
-    → mask_l (zip2 (λ (byte : ℕ) (next : ℕ). not (byte == next)) (take 16 text) (take 16 other)) ≡ 0
-    → take (length text - 16) (drop 16 text) ≡ take (length other - 16) (drop 16 other) → text ≡ other
-same_blocks text other long wide none rest =
-    let first = none_differ (take 16 text) (take 16 other) (length-take-le 16 text long ∙ sym (length-take-le 16 other wide)) none in
-    sym (take-append-drop 16 text) ∙ (λ j. first j ++ (sym (take_rest text 16) ∙ rest ∙ take_rest other 16) j) ∙ take-append-drop 16 other

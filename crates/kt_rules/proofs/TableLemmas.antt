@@ -1,9 +1,10 @@
 -- The names of rules are among those that are held.
 use Rattle.std.proofs.Common.{◌≡◌, ℕ, ◌<◌, List, [], ◌∷◌, length, map, take, drop, get_or, Option, Some, None, refl, ap, sym, subst}
 use Rattle.std.specs.List.{All, Contains, flat_map}
-use Rattle.std.proofs.lemmas.List.Elements.{All-append, All-drop, All-head, All-map, All-nil, All-tail, All-take, All-weaker, Contains-get_or}
+use Rattle.std.proofs.lemmas.List.Elements.{All-append, All-drop, All-get_or, All-head, All-map, All-nil, All-tail, All-take, All-weaker, Contains-get_or}
 use Rattle.kt_text.specs.Words.{Text}
 use Rattle.kt_rules.specs.declared.book.held_rule.HeldRule.{HeldRule}
+use Rattle.kt_rules.specs.declared.book.kinds.Kinds.{Kinds}
 use Rattle.kt_rules.specs.declared.entry.Needs.{Needs}
 use Rattle.kt_rules.specs.declared.entry.RecipeLine.{RecipeLine}
 use Rattle.kt_rules.specs.Entry.{shared_needs, target_of}
@@ -11,7 +12,7 @@ use Rattle.kt_rules.specs.Known.{names_in}
 use Rattle.kt_rules.specs.Slots.{rules_in}
 use Rattle.kt_rules.specs.Suffixes.{all_needs}
 use Rattle.kt_rules.specs.Targets.{names_at}
-use Rattle.kt_rules.specs.inner.Held.{AreBelow, needs_held, rule_held, slots_held}
+use Rattle.kt_rules.specs.inner.Held.{AreBelow, IsKnown, needs_held, rule_held, rule_in, slots_held}
 
 -- names with numbers
 numbered_among : (names : List Text) (numbers : List ℕ) → AreBelow (length names) numbers → All (Contains names) (names_at names numbers)
@@ -31,29 +32,28 @@ shared_among names None needs first second = All-append (Contains names) needs.p
 shared_among names (Some pattern) needs first second = All-nil (Contains names)
 
 -- the names of a rule
-rule_among : (names : List Text) (numbers : List ℕ) (lines : List RecipeLine) (held : HeldRule) → AreBelow (length names) numbers
-    → All (Contains names) (names_in (rule_held names numbers lines held))
-rule_among names numbers lines held below =
+rule_among : (names : List Text) (targets needs : List ℕ) (lines : List RecipeLine) (held : HeldRule) → AreBelow (length names) targets → AreBelow (length names) needs
+    → All (Contains names) (names_in (rule_held names targets needs lines held))
+rule_among names targets needs lines held below needs_below =
     let is_below = λ (number : ℕ). number < length names in
-    let others = drop held.targets numbers in
-    let needs = needs_held names others held.prerequisites in
-    let others_below = All-drop is_below held.targets numbers below in
-    All-append (Contains names) _ (all_needs (shared_needs held.pattern needs))
-    (subst (All (Contains names)) (sym (targets_named held.pattern needs (names_at names (take held.targets numbers))))
-    (numbered_among names (take held.targets numbers) (All-take is_below held.targets numbers below)))
-    (shared_among names held.pattern needs
-    (numbered_among names (take held.prerequisites others) (All-take is_below held.prerequisites others others_below))
-    (numbered_among names (drop held.prerequisites others) (All-drop is_below held.prerequisites others others_below)))
+    let all = needs_held names needs held.prerequisites in
+    All-append (Contains names) _ (all_needs (shared_needs held.pattern all))
+    (subst (All (Contains names)) (sym (targets_named held.pattern all (names_at names targets))) (numbered_among names targets below))
+    (shared_among names held.pattern all
+    (numbered_among names (take held.prerequisites needs) (All-take is_below held.prerequisites needs needs_below))
+    (numbered_among names (drop held.prerequisites needs) (All-drop is_below held.prerequisites needs needs_below)))
 
 -- those of all rules
-pub all_among : (names : List Text) (rows : List (List ℕ)) (recipes : List (List RecipeLine)) (slots : List (Option HeldRule)) → All (AreBelow (length names)) rows
-    → All (Contains names) (flat_map names_in (rules_in (slots_held names rows recipes slots)))
-all_among names [] recipes slots below = All-nil (Contains names)
-all_among names (numbers ∷ rows) [] slots below = All-nil (Contains names)
-all_among names (numbers ∷ rows) (lines ∷ recipes) [] below = All-nil (Contains names)
-all_among names (numbers ∷ rows) (lines ∷ recipes) (None ∷ slots) below =
-    all_among names rows recipes slots (All-tail (AreBelow (length names)) numbers rows below)
-all_among names (numbers ∷ rows) (lines ∷ recipes) (Some held ∷ slots) below =
-    All-append (Contains names) (names_in (rule_held names numbers lines held)) (flat_map names_in (rules_in (slots_held names rows recipes slots)))
-    (rule_among names numbers lines held (All-head (AreBelow (length names)) numbers rows below))
-    (all_among names rows recipes slots (All-tail (AreBelow (length names)) numbers rows below))
+pub all_among : (names : List Text) (lists : List (List ℕ)) (recipes : List (List RecipeLine)) (slots : List (Option HeldRule)) (kinds : Kinds)
+    → All (AreBelow (length names)) lists → All (IsKnown kinds (length lists)) slots
+    → All (Contains names) (flat_map names_in (rules_in (slots_held names lists recipes slots)))
+all_among names lists [] slots kinds below known = All-nil (Contains names)
+all_among names lists (lines ∷ recipes) [] kinds below known = All-nil (Contains names)
+all_among names lists (lines ∷ recipes) (None ∷ slots) kinds below known =
+    all_among names lists recipes slots kinds below (All-tail (IsKnown kinds (length lists)) None slots known)
+all_among names lists (lines ∷ recipes) (Some held ∷ slots) kinds below known =
+    let rows = All-head (IsKnown kinds (length lists)) (Some held) slots known in
+    All-append (Contains names) (names_in (rule_in names lists lines held)) (flat_map names_in (rules_in (slots_held names lists recipes slots)))
+    (rule_among names (get_or lists held.rows.targets []) (get_or lists held.rows.needs []) lines held
+    (All-get_or (AreBelow (length names)) lists held.rows.targets [] rows.1 below) (All-get_or (AreBelow (length names)) lists held.rows.needs [] rows.2 below))
+    (all_among names lists recipes slots kinds below (All-tail (IsKnown kinds (length lists)) (Some held) slots known))

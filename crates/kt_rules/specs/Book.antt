@@ -12,7 +12,8 @@ use Rattle.kt_rules.specs.declared.entry.Target.{Target}
 use Rattle.kt_rules.specs.declared.place.Place.{Place}
 use Rattle.kt_rules.specs.Names.{is_among, is_special}
 use Rattle.kt_rules.specs.Places.{place_text}
-use Rattle.kt_rules.specs.Entry.{Rule}
+use Rattle.kt_rules.specs.declared.entry.Needs.{Needs}
+use Rattle.kt_rules.specs.Entry.{Rule, needs_for}
 use Rattle.kt_rules.specs.Refusals.{Refusal, Fault, bad_group, both_colons, two_recipes, fault_at}
 use Rattle.kt_rules.specs.Suffixes.{special_needs, suffixes_of, suffix_patterns, is_single, is_bare, is_suffix_rule}
 
@@ -63,6 +64,15 @@ recipes_of rules name = filter has_recipe (rules_of rules name)
 -- the explicit rules of a target, in order: the suffixes after all rules decide which are suffix rules
 unfoldable pub explicit_rules : List Rule → Text → List (Rule × Target)
 explicit_rules rules name = filter (λ made. not (is_suffix_rule (suffixes_of rules) name made)) (rules_of rules name)
+
+-- what a rule says of a target, whatever its name: the kind, whether there is a recipe, and the prerequisites
+abbrev pub rule_needs : Rule × Target → Kind × (Bool × Needs)
+rule_needs made = (made.0.kind, (is_some made.0.recipe, needs_for made.0 made.1))
+
+-- the explicit rules of two names say the same of them, one by one
+abbrev pub AreMadeAlike : List Rule → Text → Text → Type 0
+AreMadeAlike rules name other =
+    map rule_needs (explicit_rules rules name) ≡ map rule_needs (explicit_rules rules other)
 
 -- whether a rule is explicit for one of its targets, given the suffixes
 abbrev pub is_explicit : List Text → Rule × Target → Bool

@@ -1,14 +1,15 @@
 //! The rules of a makefile, as a list of entries.
 ghost use Rattle.std.specs.Prelude.{◌≡◌, ◌++◌, ◌∷◌, [], All, IfOk, None, OnErr, OnOk, find, flat_map, nat_eq};
-ghost use Rattle.std.specs.Prelude.{option_map};
+ghost use Rattle.std.specs.Prelude.{IsTrue, option_map};
 ghost use Rattle.std.specs.List.{Contains, ends_with};
-ghost use Rattle.kt_rules.specs.Book.{GroupsStandAlone, added, explicit_rules, first_goal_of, is_explicit, is_phony};
-ghost use Rattle.kt_rules.specs.Book.{override_messages, patterns_of, refusal_of};
+ghost use Rattle.kt_rules.specs.Book.{AreMadeAlike, GroupsStandAlone, added, explicit_rules, first_goal_of};
+ghost use Rattle.kt_rules.specs.Book.{is_explicit, is_phony, override_messages, patterns_of, refusal_of};
 ghost use Rattle.kt_rules.specs.Known.{named_by, names_in};
 ghost use Rattle.kt_rules.specs.Refusals.{Answers};
 ghost use Rattle.kt_rules.specs.Slots.{rule_view};
 ghost use Rattle.kt_rules.specs.Suffixes.{suffixes_of};
 
+mod alike;
 mod book_names;
 mod book_rule;
 mod entries;
@@ -35,6 +36,7 @@ mod target_rule;
 
 use crate::entry::{Entry, Name};
 use crate::fault::RuleFault;
+use alike::need_same;
 pub use book_names::BookNames;
 pub use book_rule::BookRule;
 pub use entries::Entries;
@@ -160,6 +162,24 @@ impl Book {
         let rules = &self.rules;
         let spots = spots_by_number(rules, &self.spots.targets, name, number);
         Explicit::new(rules, spots, skips_bare(&self.suffixes, rules, spots, name))
+    }
+
+    /// Whether the explicit rules of two names need the same, as those of a group's members do: told by the places of
+    /// the rules, without a look at a prerequisite, so `false` says nothing. The names may have these numbers in
+    /// `name_table`. Takes no memory.
+    pub fn are_made_alike(
+        &self,
+        name: &[u8],
+        number: usize,
+        other: &[u8],
+        other_number: usize,
+    ) -> bool
+        ensures { IsTrue result → AreMadeAlike self.now name.now other.now }
+    {
+        let rules = &self.rules;
+        let spots = spots_by_number(rules, &self.spots.targets, name, number);
+        let others = spots_by_number(rules, &self.spots.targets, other, other_number);
+        need_same(rules, spots, others)
     }
 
     /// All names that stand in the rules, by numbers: a needed name tells its number in this table (`NeededName`).

@@ -4,11 +4,12 @@ ghost use Rattle.std.specs.List.{list_all, list_any};
 ghost use Rattle.std.specs.Option.{option_or};
 ghost use Rattle.kt_text.specs.Match.{has_percent};
 ghost use Rattle.kt_rules.specs.Names.{is_among, is_refused_name, is_special, is_without_effect, wait_name};
+ghost use Rattle.kt_rules.specs.inner.Remembered.{needs_wait};
 ghost use Rattle.kt_rules.specs.inner.Telling.{Tells};
 ghost use Rattle.kt_rules.specs.RuleLine.{first_refusal, fits, is_bad_group, line_refusal, mixes_patterns};
 ghost use Rattle.kt_rules.specs.RuleLine.{name_refusal, option_list, refusal_in, target_refusal, tested_needs};
 
-use crate::entry::Name;
+use crate::entry::{Name, Needs};
 use crate::head::Separator;
 use crate::line::Line;
 use crate::refusal::Refusal;
@@ -194,8 +195,14 @@ fn waits(line: &Line) -> bool
     if all_without_effect(line.targets.as_slice()) {
         return false;
     }
-    any_waits(line.needs.get().prerequisites.as_slice())
-        || any_waits(line.needs.get().order_only.as_slice())
+    line.needs.wait()
+}
+
+// Whether `.WAIT` is a prerequisite.
+pub(crate) fn needs_wait(needs: &Needs) -> bool
+    ensures { result ≡ needs_wait needs.now }
+{
+    any_waits(needs.prerequisites.as_slice()) || any_waits(needs.order_only.as_slice())
 }
 
 fn any_waits(names: &[Name]) -> bool

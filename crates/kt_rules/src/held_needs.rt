@@ -1,7 +1,9 @@
 //! The prerequisites of an entry, which other entries may hold, too.
-ghost use Rattle.std.specs.Prelude.{◌≡◌, IfOk};
+ghost use Rattle.std.specs.Prelude.{◌≡◌, IfOk, IfSome, IsTrue};
 ghost use Rattle.kt_rules.specs.Entry.{no_needs};
+ghost use Rattle.kt_rules.specs.inner.Remembered.{Names, needs_wait};
 
+use crate::checking::needs_wait;
 use crate::entry::Needs;
 use std::alloc::{AllocError, Global};
 use std::marker::Model;
@@ -20,7 +22,7 @@ enum Form {
     /// No other entry holds them.
     Own(Needs),
     /// Others may hold them, too.
-    Shared(Rc<Needs>),
+    Shared(Rc<PlainNeeds>),
 }
 
 impl Model for HeldNeeds {
@@ -50,8 +52,8 @@ impl HeldNeeds {
     }
 
     /// The same prerequisites, held once more. None of them is copied.
-    pub(crate) fn shared(needs: &Rc<Needs>) -> Result<HeldNeeds, AllocError>
-        ensures { IfOk result (λ held. held ≡ needs.now.value) }
+    pub(crate) fn shared(needs: &Rc<PlainNeeds>) -> Result<HeldNeeds, AllocError>
+        ensures { IfOk result (λ held. held ≡ needs.now.value.1) }
     {
         Ok(HeldNeeds {
             form: Form::Shared(needs.clone()?),
@@ -64,7 +66,103 @@ impl HeldNeeds {
     {
         match &self.form {
             Form::Own(needs) => needs,
-            Form::Shared(needs) => needs,
+            Form::Shared(needs) => needs.needs(),
         }
+    }
+
+    /// Whether `.WAIT` is one of them, which is told once of those that several entries hold.
+    pub(crate) fn wait(&self) -> bool
+        ensures { result ≡ needs_wait self.now }
+    {
+        match &self.form {
+            Form::Own(needs) => needs_wait(needs),
+            Form::Shared(needs) => needs.wait(),
+        }
+    }
+
+    /// Those that others may hold, too.
+    pub(crate) fn as_shared(&self) -> Option<&PlainNeeds>
+        ensures { IfSome result (λ plain. plain.now.1 ≡ self.now) }
+    {
+        match &self.form {
+            Form::Own(_) => None,
+            Form::Shared(needs) => Some(needs),
+        }
+    }
+
+    /// The same, no longer held by this entry.
+    pub(crate) fn into_shared(self) -> Option<Rc<PlainNeeds>>
+        ensures { IfSome result (λ plain. plain.value.1 ≡ self) }
+    {
+        match self.form {
+            Form::Own(_) => None,
+            Form::Shared(needs) => Some(needs),
+        }
+    }
+}
+
+/// The prerequisites of a text without a byte that needs a second look, and the text.
+///
+/// A contract sees them as both. That texts are the same is quickly told, and then the prerequisites are.
+#[derive(Drop)]
+pub(crate) struct PlainNeeds {
+    text: Vec<u8>,
+    needs: Needs,
+    // Whether `.WAIT` is one of them.
+    waits: bool,
+}
+
+impl Model for PlainNeeds {
+    ghost use Rattle.kt_text.specs.Words.{Text};
+    ghost use Rattle.kt_rules.specs.declared.entry.Needs.{Needs as AnyNeeds};
+
+    ghost Value = { Text × AnyNeeds };
+
+    ghost use Rattle.kt_rules.specs.inner.Remembered.{AreToldOf};
+
+    ghost view = { λ plain. (plain.text.items, plain.needs) };
+
+    ghost invariant = { λ plain. AreToldOf plain.text.items plain.needs plain.waits };
+}
+
+impl PlainNeeds {
+    /// The prerequisites of a text, which is copied.
+    pub(crate) fn of(alloc: Global, text: &[u8], needs: Needs) -> Result<PlainNeeds, AllocError>
+        requires { Names text.now needs }
+        ensures { IfOk result (λ plain. plain ≡ (text.now, needs)) }
+    {
+        let waits = needs_wait(&needs);
+        let text = Vec::from_slice(alloc, text)?;
+        Ok(PlainNeeds { text, needs, waits })
+    }
+
+    /// The prerequisites.
+    pub(crate) fn needs(&self) -> &Needs
+        ensures { result.now ≡ self.now.1 }
+    {
+        &self.needs
+    }
+
+    /// Whether `.WAIT` is one of them.
+    pub(crate) fn wait(&self) -> bool
+        ensures { result ≡ needs_wait self.now.1 }
+    {
+        let _needs = &self.needs;
+        self.waits
+    }
+
+    /// Whether they are those of a text.
+    pub(crate) fn are_of(&self, text: &[u8]) -> bool
+        ensures { IsTrue result → Names text.now self.now.1 }
+    {
+        let _needs = &self.needs;
+        self.text.as_slice() == text
+    }
+
+    /// Whether others have the same text.
+    pub(crate) fn are_same(&self, other: &PlainNeeds) -> bool
+        ensures { IsTrue result → self.now.1 ≡ other.now.1 }
+    {
+        other.are_of(self.text.as_slice())
     }
 }

@@ -1,7 +1,6 @@
 //! Reads rule lines one after another.
-ghost use Rattle.std.specs.Prelude.{◌≡◌, ◌==◌, IfOk, IfSome, None, IsTrue, Some, false, map, not};
+ghost use Rattle.std.specs.Prelude.{◌≡◌, IfOk, IfSome, IsTrue, None, Some, false, map};
 ghost use Rattle.std.specs.List.{list_any};
-ghost use Rattle.std.specs.Simd.Lanes.{mask_l, zip2};
 ghost use Rattle.kt_text.specs.Match.{has_percent};
 ghost use Rattle.kt_text.specs.Words.{words_of};
 ghost use Rattle.kt_rules.specs.Entry.{is_nil, rule_of};
@@ -12,10 +11,10 @@ ghost use Rattle.kt_rules.specs.inner.Remembered.{IsLongCut, IsPlain, Names, Rea
 ghost use Rattle.kt_rules.specs.inner.Telling.{is_telling};
 
 use crate::cutting::colon_cut;
-use crate::entry::{Entry, Needs};
+use crate::entry::Entry;
 use crate::fault::RuleFault;
 use crate::head::{Separator, group_targets};
-use crate::held_needs::HeldNeeds;
+use crate::held_needs::{HeldNeeds, PlainNeeds};
 use crate::line::{Line, plain_needs, targets};
 use crate::place::Place;
 use crate::reading::{accepted, is_blank, read_rule};
@@ -25,7 +24,6 @@ use kt_text::has_byte;
 use std::alloc::{AllocError, Global};
 use std::marker::Model;
 use std::rc::Rc;
-use std::simd::prelude::*;
 
 // The size from which on a text of prerequisites is remembered: to read a shorter one again costs less.
 const LONG: usize = 64;
@@ -37,32 +35,14 @@ const LONG: usize = 64;
 #[derive(Drop)]
 pub struct RuleReader {
     alloc: Global,
-    last: Option<Remembered>,
+    // The last long text of prerequisites without a byte that needs a second look.
+    last: Option<Rc<PlainNeeds>>,
 }
 
 impl Model for RuleReader {
     ghost Value = { Unit {0} };
 
     ghost view = { λ reader. tt };
-}
-
-// The last long text of prerequisites without a byte that needs a second look.
-#[derive(Drop)]
-struct Remembered {
-    text: Vec<u8>,
-    needs: Rc<Needs>,
-}
-
-impl Model for Remembered {
-    ghost use Rattle.std.specs.Prelude.{List, ℕ};
-
-    ghost Value = { List ℕ };
-
-    ghost use Rattle.kt_rules.specs.inner.Remembered.{Names};
-
-    ghost view = { λ last. last.text.items };
-
-    ghost invariant = { λ last. Names last.text.items last.needs.value };
 }
 
 // A line with long prerequisites, and what its text tells of its names.
@@ -113,9 +93,7 @@ impl RuleReader {
         ensures { IfOk result (λ found. IfSome found (Names text.now)) }
     {
         match &self.last {
-            Some(last) if are_same(last.text.as_slice(), text) => Ok(Some(HeldNeeds::shared(
-                &last.needs,
-            )?)),
+            Some(last) if last.are_of(text) => Ok(Some(HeldNeeds::shared(last)?)),
             _ if is_plain(text) => Ok(Some(self.learned(text)?)),
             _ => Ok(None),
         }
@@ -127,10 +105,10 @@ impl RuleReader {
         requires { IsPlain text.now }
         ensures { IfOk result (Names text.now) }
     {
-        let needs = Rc::new(self.alloc, plain_needs(self.alloc, text)?)?;
-        let held = HeldNeeds::shared(&needs)?;
-        let text = Vec::from_slice(self.alloc, text)?;
-        self.last = Some(Remembered { text, needs });
+        let needs = plain_needs(self.alloc, text)?;
+        let plain = Rc::new(self.alloc, PlainNeeds::of(self.alloc, text, needs)?)?;
+        let held = HeldNeeds::shared(&plain)?;
+        self.last = Some(plain);
         Ok(held)
     }
 }
@@ -175,28 +153,4 @@ fn is_plain(text: &[u8]) -> bool
     ensures { IsTrue result → IsPlain text.now }
 {
     !has_byte(text, b':') && !has_telling(text)
-}
-
-// Whether texts are the same, told by sixteen bytes at once.
-fn are_same(text: &[u8], other: &[u8]) -> bool
-    ensures { IsTrue result → text.now ≡ other.now }
-{
-    let mut left = text;
-    let mut right = other;
-    while left.len() >= 16 && right.len() >= 16 {
-        if differing(u8x16::from_slice(left), u8x16::from_slice(right)) != 0 {
-            return false;
-        }
-        left = &left[16..];
-        right = &right[16..];
-    }
-    left == right
-}
-
-// The bits of the bytes that differ.
-#[inline(always)]
-fn differing(left: u8x16, right: u8x16) -> u64
-    ensures { result ≡ mask_l (zip2 (λ byte other. not (byte == other)) left right) }
-{
-    left.simd_ne(right).to_bitmask()
 }

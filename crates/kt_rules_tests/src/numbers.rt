@@ -1,6 +1,36 @@
 //! Names of a book by their numbers.
 use crate::asking::{Question, answers};
+use kt_rules::{Book, RuleFault, RuleReader};
+use kt_rules_doubles::{place_of, text_of};
+use std::alloc::Global;
 use std::test::Fail;
+
+const LINES: [(&[u8], Option<&[u8]>); 9] = [
+    (b"a b &: c", Some(b"x")),
+    (b"d: c", None),
+    (
+        b"e: include/first-of-them.h include/second-of-them.h include/third.h",
+        None,
+    ),
+    (
+        b"f: include/first-of-them.h include/second-of-them.h include/third.h",
+        None,
+    ),
+    (
+        b"g: include/first-of-them.h include/second-of-them.h include/third.h",
+        Some(b"x"),
+    ),
+    (
+        b"h: include/first-of-them.h include/second-of-them.h include/other.h",
+        None,
+    ),
+    (b"x.o y.o: %.o: %.c", None),
+    (b"b: d", None),
+    (
+        b"i j: include/first-of-them.h include/second-of-them.h include/third.h",
+        None,
+    ),
+];
 
 #[test]
 fn tells_numbers(rt: HostRuntime) -> Result<(), Fail> {
@@ -58,6 +88,53 @@ fn finds_rules_by_number(rt: HostRuntime) -> Result<(), Fail> {
             (b".c.o:;x", Question::ExplicitAt(b".c.o", 0), b""),
         ],
     )?;
+    Ok(())
+}
+
+fn book_of(alloc: Global) -> Result<Book, RuleFault> {
+    let mut book = Book::new(alloc)?;
+    let mut reader = RuleReader::new(alloc);
+    for (head, recipe) in LINES {
+        let recipe = match recipe {
+            Some(text) => Some(text_of(alloc, text)?),
+            None => None,
+        };
+        let entry = reader.read(head, recipe, place_of(alloc, 1)?)?;
+        let _warnings = book.add(entry)?;
+    }
+    Ok(book)
+}
+
+#[test]
+fn tells_what_is_made_alike(rt: HostRuntime) -> Result<(), Fail> {
+    let alloc = rt.alloc();
+    let rows: [(&[u8], &[u8], bool); 11] = [
+        (b"a", b"a", true),
+        // Another rule, for one of the two.
+        (b"a", b"b", false),
+        (b"b", b"a", false),
+        // Of another line.
+        (b"a", b"d", false),
+        // Of the same long text, with a recipe, and of another long text.
+        (b"e", b"f", true),
+        (b"f", b"g", false),
+        (b"f", b"h", false),
+        (b"i", b"j", true),
+        // Each has its own stem.
+        (b"x.o", b"y.o", false),
+        // Without rules.
+        (b"c", b"c", true),
+        (b"c", b"e", false),
+    ];
+    match book_of(alloc) {
+        Ok(book) => {
+            for (name, other, expected) in rows {
+                let alike = book.are_made_alike(name, 0, other, 0);
+                assert_eq!(rt; alike, expected, "of {name:?} and {other:?}");
+            }
+        }
+        Err(_refused) => assert!(rt; false),
+    }
     Ok(())
 }
 

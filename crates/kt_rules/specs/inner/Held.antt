@@ -6,6 +6,8 @@ use Rattle.kt_text.specs.Words.{Text}
 use Rattle.kt_rules.specs.declared.book.book_rule.BookRule.{BookRule}
 use Rattle.kt_rules.specs.declared.book.held_rule.HeldRule.{HeldRule}
 use Rattle.kt_rules.specs.declared.book.kinds.Kinds.{Kinds}
+use Rattle.kt_rules.specs.declared.book.rules.LastList.{LastList}
+use Rattle.kt_rules.specs.declared.book.rules.ListRows.{ListRows}
 use Rattle.kt_rules.specs.declared.book.spot.Spot.{Spot}
 use Rattle.kt_rules.specs.declared.entry.Kind.{Kind}
 use Rattle.kt_rules.specs.declared.entry.Kind.TheVariants.{SingleColon, DoubleColon, Group, Pattern, TerminalPattern}
@@ -14,6 +16,7 @@ use Rattle.kt_rules.specs.declared.entry.RecipeLine.{RecipeLine}
 use Rattle.kt_rules.specs.declared.entry.Target.{Target}
 use Rattle.kt_rules.specs.Entry.{Rule, rule_by, target_of}
 use Rattle.kt_rules.specs.Slots.{IsKept}
+use Rattle.kt_rules.specs.Suffixes.{all_needs}
 use Rattle.kt_rules.specs.Targets.{line_needs, names_at}
 
 -- each number is below a count
@@ -31,21 +34,24 @@ needs_held names numbers count = record {
   order_only = names_at names (drop count numbers);
 }
 
--- a rule whose names are held as numbers, and the lines of its recipe
-abbrev pub rule_held : List Text → List ℕ → List RecipeLine → HeldRule → Rule
-rule_held names numbers lines held =
-    rule_by held.kind (names_at names (take held.targets numbers)) held.pattern
-    (needs_held names (drop held.targets numbers) held.prerequisites)
+-- a rule with the numbers of its targets and of its prerequisites, and the lines of its recipe
+abbrev pub rule_held : List Text → List ℕ → List ℕ → List RecipeLine → HeldRule → Rule
+rule_held names targets needs lines held =
+    rule_by held.kind (names_at names targets) held.pattern (needs_held names needs held.prerequisites)
     (if held.has_recipe then Some lines else None) held.place
 
--- the rules in slots: each has its row of numbers and its row of lines
+-- the same by the rows of the numbers
+abbrev pub rule_in : List Text → List (List ℕ) → List RecipeLine → HeldRule → Rule
+rule_in names lists lines held =
+    rule_held names (get_or lists held.rows.targets []) (get_or lists held.rows.needs []) lines held
+
+-- the rules in slots: each has its row of lines
 abbrev pub slots_held : List Text → List (List ℕ) → List (List RecipeLine) → List (Option HeldRule)
     → List (Option Rule)
-slots_held names [] recipes slots = []
-slots_held names (numbers ∷ rows) [] slots = []
-slots_held names (numbers ∷ rows) (lines ∷ recipes) [] = []
-slots_held names (numbers ∷ rows) (lines ∷ recipes) (slot ∷ slots) =
-    option_map (rule_held names numbers lines) slot ∷ slots_held names rows recipes slots
+slots_held names lists [] slots = []
+slots_held names lists (lines ∷ recipes) [] = []
+slots_held names lists (lines ∷ recipes) (slot ∷ slots) =
+    option_map (rule_in names lists lines) slot ∷ slots_held names lists recipes slots
 
 -- whether there may be rules of a kind
 abbrev pub sees : Kinds → Kind → Bool
@@ -55,27 +61,49 @@ sees kinds Group = kinds.group
 sees kinds Pattern = true
 sees kinds TerminalPattern = true
 
--- there may be the rule in a slot
-abbrev pub IsSeen : Kinds → Option HeldRule → Type 0
-IsSeen kinds None = Unit {0}
-IsSeen kinds (Some held) = sees kinds held.kind ≡ true
+-- there may be the rule in a slot, and its lists are among the rows
+abbrev pub IsKnown : Kinds → ℕ → Option HeldRule → Type 0
+IsKnown kinds count None = Unit {0}
+IsKnown kinds count (Some held) =
+    (sees kinds held.kind ≡ true) × (held.rows.targets < count) × (held.rows.needs < count)
 
--- all numbers are those of names, each slot has a row of numbers and one of lines, and all kinds are known
-pub record AreHeld (names : List Text) (rows : List (List ℕ)) (recipes : List (List RecipeLine))
-    (slots : List (Option HeldRule)) (kinds : Kinds) : Type 0 where
-  pub below : All (AreBelow (length names)) rows
-  pub many_rows : length rows ≡ length slots
-  pub many_recipes : length recipes ≡ length slots
-  pub seen : All (IsSeen kinds) slots
+-- the row has the numbers of these names
+pub record IsRow (names : List Text) (lists : List (List ℕ)) (row : ℕ) (list : List Text) : Type 0 where
+  pub within : row < length lists
+  pub numbers : AreNumbersOf names (get_or lists row []) list
+
+-- the rows have the numbers of a rule's targets and of its prerequisites
+abbrev pub HasRows : List Text → List (List ℕ) → List Text → List Text → ListRows → Type 0
+HasRows names lists targets needs rows = IsRow names lists rows.targets targets × IsRow names lists rows.needs needs
+
+-- the row of the prerequisites that are remembered, if there are any
+abbrev pub IsLast : List Text → List (List ℕ) → Option LastList → Type 0
+IsLast names lists None = Unit {0}
+IsLast names lists (Some last) = IsRow names lists last.row (all_needs last.needs.value.1)
+
+-- all numbers are those of names, each slot has a row of lines, and all kinds and rows are known
+pub record AreHeld (names : List Text) (lists : List (List ℕ)) (recipes : List (List RecipeLine))
+    (slots : List (Option HeldRule)) (kinds : Kinds) (last : Option LastList) : Type 0 where
+  pub below : All (AreBelow (length names)) lists
+  pub many : length recipes ≡ length slots
+  pub known : All (IsKnown kinds (length lists)) slots
+  pub remembered : IsLast names lists last
 
 -- the target of a rule whose name has this number
 abbrev pub numbered_target : BookRule → ℕ → Target
 numbered_target rule number =
     target_of rule.held.now.pattern (line_needs rule) (get_or rule.names.now number [])
 
--- names may have been added at the end
+-- items may have been added at the end
+abbrev pub GotMore : {A : Type 0} → List A → List A → Type 0
+GotMore {A} old new = (more : List A) × (new ≡ old ++ more)
+
 abbrev pub GotNames : List Text → List Text → Type 0
 GotNames old new = (more : List Text) × (new ≡ old ++ more)
+
+-- the same for lists of numbers, those of names
+abbrev pub GotLists : List Text → List (List ℕ) → List (List ℕ) → Type 0
+GotLists names old new = (more : List (List ℕ)) × (new ≡ old ++ more) × All (AreBelow (length names)) more
 
 -- there is one row more
 abbrev pub HasOneMore : List (List ℕ) → List (List ℕ) → Type 0

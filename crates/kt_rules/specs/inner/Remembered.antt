@@ -1,5 +1,5 @@
 -- The prerequisites that a reader of rule lines remembers (kati's own).
-use Rattle.std.specs.Prelude.{◌≡◌, ◌==◌, Bool, false, ℕ, None, Some, map}
+use Rattle.std.specs.Prelude.{◌≡◌, ◌==◌, ◌||◌, Bool, false, ℕ, None, Some, map}
 use Rattle.std.specs.List.{list_any}
 use Rattle.kt_text.specs.Match.{has_percent}
 use Rattle.kt_text.specs.Words.{Text, words_of}
@@ -7,7 +7,7 @@ use Rattle.kt_rules.specs.declared.entry.Needs.{Needs}
 use Rattle.kt_rules.specs.declared.head.Separator.TheVariants.{Single}
 use Rattle.kt_rules.specs.declared.reader.LongLine.{LongLine}
 use Rattle.kt_rules.specs.Entry.{is_nil, read_line, tested_line}
-use Rattle.kt_rules.specs.Names.{name_of, without_repeats, written_words}
+use Rattle.kt_rules.specs.Names.{is_among, name_of, wait_name, without_repeats, written_words}
 use Rattle.kt_rules.specs.RuleLine.{colon_cut, group_targets, needs_of}
 use Rattle.kt_rules.specs.inner.Telling.{Tells, is_telling}
 
@@ -23,6 +23,15 @@ pub record IsPlain (text : Text) : Type 0 where
 pub record Names (text : Text) (needs : Needs) : Type 0 where
   pub plain : IsPlain text
   pub named : needs ≡ needs_of (written_words text)
+
+-- whether `.WAIT` is a prerequisite
+abbrev pub needs_wait : Needs → Bool
+needs_wait needs = is_among needs.prerequisites wait_name || is_among needs.order_only wait_name
+
+-- the text is plain, these are its prerequisites, and it is told whether `.WAIT` is one
+pub record AreToldOf (text : Text) (needs : Needs) (waits : Bool) : Type 0 where
+  pub named : Names text needs
+  pub told : waits ≡ needs_wait needs
 
 -- reading the text comes down to the tests of the line, of which the signs tell
 pub record ReadsAs (text : Text) (long : LongLine) : Type 0 where

@@ -1,4 +1,5 @@
 //! Rules as a book holds them.
+use super::rules::ListRows;
 use crate::entry::Kind;
 use crate::place::Place;
 use crate::static_pattern::StaticPattern;
@@ -9,8 +10,9 @@ pub(crate) struct HeldRule {
     pub(crate) kind: Kind,
     // A recipe without lines is one, too.
     pub(crate) has_recipe: bool,
-    // How many of its names are targets, and how many prerequisites; the others are order-only prerequisites.
-    pub(crate) targets: u32,
+    // Its lists of names.
+    pub(crate) rows: ListRows,
+    // How many of the names that it needs are prerequisites; the others are order-only.
     pub(crate) prerequisites: u32,
     pub(crate) pattern: StaticPattern,
     pub(crate) place: Place,

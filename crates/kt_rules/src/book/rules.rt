@@ -2,10 +2,13 @@
 ghost use Rattle.std.specs.Prelude.{◌≡◌, ◌++◌, ◌∷◌, [], ◌<◌, All, drop, flat_map, get_or, length, option_map, set, take};
 ghost use Rattle.std.specs.Prelude.{ℕ, slice_get, IfOk, IfSome, IsTrue, List, None, false, OnErr, OnOk, Some, unwrap_or};
 ghost use Rattle.std.specs.List.{Contains};
+ghost use Rattle.std.specs.Option.{option_and_then};
 ghost use Rattle.kt_list.specs.Names.{place_of};
 ghost use Rattle.kt_text.specs.Words.{Text};
 ghost use Rattle.kt_rules.specs.Book.{is_double, is_group};
-ghost use Rattle.kt_rules.specs.inner.Held.{AreBelow, GotNames, GotRow, HasOneMore, rule_held};
+ghost use Rattle.kt_rules.specs.inner.Alike.{HaveSameList, SaySame};
+ghost use Rattle.kt_rules.specs.inner.Held.{AreBelow, GotLists, GotMore, GotNames, GotRow, HasOneMore, HasRows};
+ghost use Rattle.kt_rules.specs.inner.Held.{IsLast, IsRow, rule_held};
 ghost use Rattle.kt_rules.specs.Known.{names_in};
 ghost use Rattle.kt_rules.specs.Slots.{rules_in, slot_rule};
 ghost use Rattle.kt_rules.specs.Suffixes.{all_needs};
@@ -15,24 +18,38 @@ use super::book_rule::BookRule;
 use super::held_rule::HeldRule;
 use super::kinds::Kinds;
 use crate::entry::{Entry, Name, Needs, RecipeLine};
-use kt_list::{Names, Rows, narrow};
+use crate::held_needs::{HeldNeeds, PlainNeeds};
+use kt_list::{Names, Rows, Sequence, narrow};
 use std::alloc::{AllocError, Global};
 use std::marker::Model;
-
-// From how many names on a list is compared with that of the rule before.
-const MANY: usize = 8;
+use std::rc::Rc;
 
 /// Rules in slots, some of which are empty, and numbered names, all names of the rules among them.
 #[derive(Drop)]
 pub(crate) struct Rules {
     names: Names,
-    // For each slot, the numbers of a rule's names: the targets first, then the prerequisites, then the order-only ones.
-    numbers: Rows<u32>,
+    // Numbers of names: in a row the targets of a rule, or its prerequisites and then the order-only ones.
+    lists: Rows<u32>,
     // For each slot, the lines of a rule's recipe.
     lines: Rows<RecipeLine>,
     slots: Vec<Option<HeldRule>>,
     // Of the rules in the slots, and maybe of some that were taken out again.
     kinds: Kinds,
+    // The last prerequisites that several entries may hold, and their row.
+    last: Option<LastList>,
+}
+
+#[derive(Drop)]
+pub(crate) struct LastList {
+    needs: Rc<PlainNeeds>,
+    row: u32,
+}
+
+// Where the lists of a rule are.
+#[derive(Clone, Copy)]
+pub(crate) struct ListRows {
+    targets: u32,
+    needs: u32,
 }
 
 impl Model for Rules {
@@ -43,10 +60,10 @@ impl Model for Rules {
 
     ghost Value = { List Text × List (Option Rule) };
 
-    ghost view = { λ rules. (rules.names, slots_held rules.names rules.numbers rules.lines rules.slots.items) };
+    ghost view = { λ rules. (rules.names, slots_held rules.names rules.lists rules.lines rules.slots.items) };
 
-    ghost invariant = { λ rules. AreHeld rules.names rules.numbers rules.lines rules.slots.items
-        rules.kinds };
+    ghost invariant = { λ rules. AreHeld rules.names rules.lists rules.lines rules.slots.items rules.kinds
+        rules.last };
 }
 
 impl Rules {
@@ -56,10 +73,11 @@ impl Rules {
     {
         Rules {
             names: Names::new(alloc),
-            numbers: Rows::new(alloc),
+            lists: Rows::new(alloc),
             lines: Rows::new(alloc),
             slots: Vec::new(alloc),
             kinds: Kinds::none(),
+            last: None,
         }
     }
 
@@ -123,15 +141,28 @@ impl Rules {
         ensures needs_below { IfSome result (λ rule. AreBelow (length self.now.0) rule.prerequisites.now) }
         ensures orders_below { IfSome result (λ rule. AreBelow (length self.now.0) rule.order_only.now) }
     {
-        let slot = self.slots.get(place)?;
-        match slot {
-            Some(held) => Some(rule_of(
-                &self.names,
-                row_at(&self.numbers, place),
-                row_at(&self.lines, place),
-                held,
-            )),
-            None => None,
+        let held = held_at(self.slots.as_slice(), place)?;
+        Some(rule_of(
+            &self.names,
+            row_at(&self.lists, held.rows.targets as usize),
+            row_at(&self.lists, held.rows.needs as usize),
+            row_at(&self.lines, place),
+            held,
+        ))
+    }
+
+    /// Whether the rules in two slots say the same of all their targets: they have one list of prerequisites, without a
+    /// static pattern.
+    pub(crate) fn say_same(&self, place: usize, other: usize) -> bool
+        ensures { IsTrue result → SaySame (slot_rule self.now.1 place) (slot_rule self.now.1 other) }
+    {
+        let slots = self.slots.as_slice();
+        match held_at(slots, place) {
+            Some(held) => match held_at(slots, other) {
+                Some(second) => have_same_list(held, second),
+                None => false,
+            },
+            None => false,
         }
     }
 
@@ -151,25 +182,28 @@ impl Rules {
             recipe,
             place,
         } = entry;
-        let held = HeldRule {
-            kind,
-            has_recipe: recipe.is_some(),
-            targets: narrow(targets.as_slice().len())?,
-            prerequisites: narrow(needs.get().prerequisites.as_slice().len())?,
-            pattern,
-            place,
-        };
+        let has_recipe = recipe.is_some();
+        let prerequisites = narrow(needs.get().prerequisites.as_slice().len())?;
         self.slots.reserve(1)?;
-        add_rows(
+        let rows = add_rows(
             &mut self.names,
-            &mut self.numbers,
+            &mut self.lists,
             &mut self.lines,
-            targets.as_slice(),
-            needs.get(),
+            &self.last,
+            &targets,
+            &needs,
             recipe,
         )?;
-        self.slots.push_reserved(Some(held));
+        self.slots.push_reserved(Some(HeldRule {
+            kind,
+            has_recipe,
+            rows,
+            prerequisites,
+            pattern,
+            place,
+        }));
         self.kinds = self.kinds.with(kind);
+        remember(&mut self.last, needs, rows.needs);
         Ok(())
     }
 
@@ -183,6 +217,28 @@ impl Rules {
     }
 }
 
+// The rule in a slot.
+fn held_at(slots: &[Option<HeldRule>], place: usize) -> Option<&HeldRule>
+    ensures { option_map (λ held. held.now) result ≡ option_and_then (λ slot. slot) (slice_get slots.now place) }
+{
+    match slots.get(place) {
+        Some(Some(held)) => Some(held),
+        _ => None,
+    }
+}
+
+// Whether rules without a static pattern have the same list of prerequisites.
+fn have_same_list(held: &HeldRule, other: &HeldRule) -> bool
+    ensures { IsTrue result → HaveSameList held.now other.now }
+{
+    held.rows.needs == other.rows.needs
+        && held.prerequisites == other.prerequisites
+        && held.has_recipe == other.has_recipe
+        && held.kind == other.kind
+        && held.pattern.is_none()
+        && other.pattern.is_none()
+}
+
 // The row at a place, or none of its items.
 fn row_at<T>(rows: &Rows<T>, place: usize) -> &[T]
     ensures { result.now ≡ get_or rows.now place [] }
@@ -193,21 +249,21 @@ fn row_at<T>(rows: &Rows<T>, place: usize) -> &[T]
     }
 }
 
-// A held rule with its numbers and lines.
+// A held rule with the numbers of its names, and its lines.
 fn rule_of<'a>(
     names: &'a Names,
-    numbers: &'a [u32],
+    targets: &'a [u32],
+    needs: &'a [u32],
     lines: &'a [RecipeLine],
     held: &'a HeldRule,
 ) -> BookRule<'a>
-    requires below { AreBelow (length names.now) numbers.now }
-    ensures told { entry_view result ≡ rule_held names.now numbers.now lines.now held.now }
+    requires needs_below { AreBelow (length names.now) needs.now }
+    ensures told { entry_view result ≡ rule_held names.now targets.now needs.now lines.now held.now }
     ensures names { result.names.now ≡ names.now }
-    ensures below { AreBelow (length names.now) result.targets.now }
+    ensures targets { result.targets.now ≡ targets.now }
     ensures needs_below { AreBelow (length names.now) result.prerequisites.now }
     ensures orders_below { AreBelow (length names.now) result.order_only.now }
 {
-    let (targets, needs) = cut(numbers, held.targets);
     let (prerequisites, order_only) = cut(needs, held.prerequisites);
     BookRule {
         names,
@@ -232,32 +288,112 @@ fn cut(numbers: &[u32], count: u32) -> (&[u32], &[u32])
     }
 }
 
-// Adds a row with the numbers of a rule's names, and one with the lines of its recipe. If memory runs out, only names
-// may be added.
+// The row of the last prerequisites that several entries hold, where these have the same text.
+fn known_row(last: &Option<LastList>, needs: &HeldNeeds) -> Option<u32>
+    ensures { (names : List Text) (lists : List (List ℕ)) → IsLast names lists last.now
+        → IfSome result (λ row. IsRow names lists row (all_needs needs.now)) }
+{
+    match last {
+        Some(last) => match needs.as_shared() {
+            Some(plain) if last.needs.are_same(plain) => Some(last.row),
+            _ => None,
+        },
+        None => None,
+    }
+}
+
+// Remembers the row of prerequisites that several entries may hold.
+fn remember(last: &mut Option<LastList>, needs: HeldNeeds, row: u32)
+    ensures { (names : List Text) (lists : List (List ℕ)) → IsLast names lists last.old
+        → IsRow names lists row (all_needs needs) → IsLast names lists last.new }
+{
+    if let Some(needs) = needs.into_shared() {
+        *last = Some(LastList { needs, row });
+    }
+}
+
+// Adds rows with the numbers of a rule's names, and one with the lines of its recipe. If memory runs out, only names may
+// be added.
 fn add_rows(
     names: &mut Names,
-    numbers: &mut Rows<u32>,
+    lists: &mut Rows<u32>,
     lines: &mut Rows<RecipeLine>,
-    targets: &[Name],
-    needs: &Needs,
+    last: &Option<LastList>,
+    targets: &Sequence<Name>,
+    needs: &HeldNeeds,
     recipe: Option<Vec<RecipeLine>>,
-) -> Result<(), AllocError>
-    ensures numbered { OnOk result (GotRow names.new numbers.old numbers.new (targets.now ++ all_needs needs.now)) }
+) -> Result<ListRows, AllocError>
+    ensures added { IsLast names.old lists.old last.now
+        → IfOk result (HasRows names.new lists.new targets.now (all_needs needs.now)) }
+    ensures listed { OnOk result (GotLists names.new lists.old lists.new) }
     ensures lined { OnOk result (lines.new ≡ lines.old
         ++ unwrap_or (option_map (λ own. own.items) recipe) [] ∷ []) }
-    ensures numbers_refused { OnErr result (numbers.new ≡ numbers.old) }
+    ensures lists_refused { OnErr result (lists.new ≡ lists.old) }
     ensures lines_refused { OnErr result (lines.new ≡ lines.old) }
     ensures grown { GotNames names.old names.new }
 {
-    let rows = numbers.len();
-    add_numbers(names, numbers, targets, needs)?;
-    match add_lines(lines, recipe) {
-        Ok(()) => Ok(()),
+    let count = lists.len();
+    match add_all(names, lists, lines, last, targets, needs, recipe) {
+        Ok(rows) => Ok(rows),
         Err(refused) => {
-            numbers.truncate(rows);
+            lists.truncate(count);
             Err(refused)
         }
     }
+}
+
+// The same, but if memory runs out, lists may be added, too.
+fn add_all(
+    names: &mut Names,
+    lists: &mut Rows<u32>,
+    lines: &mut Rows<RecipeLine>,
+    last: &Option<LastList>,
+    targets: &Sequence<Name>,
+    needs: &HeldNeeds,
+    recipe: Option<Vec<RecipeLine>>,
+) -> Result<ListRows, AllocError>
+    ensures added { IsLast names.old lists.old last.now
+        → IfOk result (HasRows names.new lists.new targets.now (all_needs needs.now)) }
+    ensures listed { OnOk result (GotLists names.new lists.old lists.new) }
+    ensures lined { OnOk result (lines.new ≡ lines.old
+        ++ unwrap_or (option_map (λ own. own.items) recipe) [] ∷ []) }
+    ensures kept { GotMore lists.old lists.new }
+    ensures lines_refused { OnErr result (lines.new ≡ lines.old) }
+    ensures grown { GotNames names.old names.new }
+{
+    let targets = add_list(names, lists, targets.as_slice(), &[])?;
+    let needs = add_needs(names, lists, last, needs)?;
+    add_lines(lines, recipe)?;
+    Ok(ListRows { targets, needs })
+}
+
+// The row of prerequisites, which is added unless it is known.
+fn add_needs(
+    names: &mut Names,
+    lists: &mut Rows<u32>,
+    last: &Option<LastList>,
+    needs: &HeldNeeds,
+) -> Result<u32, AllocError>
+    ensures added { IsLast names.old lists.old last.now
+        → IfOk result (λ row. IsRow names.new lists.new row (all_needs needs.now)) }
+    ensures listed { OnOk result (GotLists names.new lists.old lists.new) }
+    ensures kept { GotMore lists.old lists.new }
+    ensures grown { GotNames names.old names.new }
+{
+    match known_row(last, needs) {
+        Some(row) => Ok(row),
+        None => add_own(names, lists, needs.get()),
+    }
+}
+
+fn add_own(names: &mut Names, lists: &mut Rows<u32>, needs: &Needs) -> Result<u32, AllocError>
+    ensures added { IfOk result (λ row. IsRow names.new lists.new row (all_needs needs.now)) }
+    ensures listed { OnOk result (GotLists names.new lists.old lists.new) }
+    ensures kept { GotMore lists.old lists.new }
+    ensures grown { GotNames names.old names.new }
+{
+    let prerequisites = needs.prerequisites.as_slice();
+    add_list(names, lists, prerequisites, needs.order_only.as_slice())
 }
 
 // Adds a row with the lines of a recipe.
@@ -274,108 +410,47 @@ fn add_lines(
     }
 }
 
-// Adds a row with the numbers of a rule's names. If memory runs out, only names may be added.
-fn add_numbers(
+// Adds a row with the numbers of names. If memory runs out, some of it may be added.
+fn add_list(
     names: &mut Names,
-    numbers: &mut Rows<u32>,
-    targets: &[Name],
-    needs: &Needs,
-) -> Result<(), AllocError>
-    ensures added { OnOk result (GotRow names.new numbers.old numbers.new (targets.now ++ all_needs needs.now)) }
-    ensures refused { OnErr result (numbers.new ≡ numbers.old) }
+    lists: &mut Rows<u32>,
+    first: &[Name],
+    others: &[Name],
+) -> Result<u32, AllocError>
+    ensures added { IfOk result (λ row. IsRow names.new lists.new row (first.now ++ others.now)) }
+    ensures listed { OnOk result (GotLists names.new lists.old lists.new) }
+    ensures kept { GotMore lists.old lists.new }
     ensures grown { GotNames names.old names.new }
 {
-    let count = numbers.len();
-    numbers.open_row()?;
-    match note_all(names, numbers, targets, needs) {
-        Ok(()) => Ok(()),
-        Err(refused) => {
-            numbers.truncate(count);
-            Err(refused)
-        }
-    }
-}
-
-// Adds the numbers of a rule's names to the last row. If memory runs out, some may be added.
-fn note_all(
-    names: &mut Names,
-    numbers: &mut Rows<u32>,
-    targets: &[Name],
-    needs: &Needs,
-) -> Result<(), AllocError>
-    ensures noted { OnOk result ((front : List (List ℕ)) → GotRow names.old front numbers.old []
-        → GotRow names.new front numbers.new (targets.now ++ all_needs needs.now)) }
-    ensures kept { (front : List (List ℕ)) → HasOneMore front numbers.old → HasOneMore front numbers.new }
-    ensures grown { GotNames names.old names.new }
-{
-    note_names(names, numbers, targets)?;
-    note_names(names, numbers, needs.prerequisites.as_slice())?;
-    note_names(names, numbers, needs.order_only.as_slice())?;
-    Ok(())
+    let row = narrow(lists.len())?;
+    lists.open_row()?;
+    note_names(names, lists, first)?;
+    note_names(names, lists, others)?;
+    Ok(row)
 }
 
 // Adds the numbers of names to the last row. If memory runs out, some may be added.
-//
-// In many makefiles line after line has the same long list of prerequisites: then a number is that of the row before, at
-// the same place, and is told without hashing.
-fn note_names(names: &mut Names, numbers: &mut Rows<u32>, list: &[Name]) -> Result<(), AllocError>
+fn note_names(names: &mut Names, lists: &mut Rows<u32>, list: &[Name]) -> Result<(), AllocError>
     ensures noted { OnOk result ((front : List (List ℕ)) (before : List Text)
-        → GotRow names.old front numbers.old before → GotRow names.new front numbers.new (before ++ list.now)) }
-    ensures kept { (front : List (List ℕ)) → HasOneMore front numbers.old → HasOneMore front numbers.new }
+        → GotRow names.old front lists.old before → GotRow names.new front lists.new (before ++ list.now)) }
+    ensures kept { (front : List (List ℕ)) → HasOneMore front lists.old → HasOneMore front lists.new }
     ensures grown { GotNames names.old names.new }
 {
-    let alike = begins_alike(names, numbers, list);
     for name in list {
-        let guess = if alike { number_before(numbers) } else { None };
-        note_name(names, numbers, guess, name.as_slice())?;
+        note_name(names, lists, name.as_slice())?;
     }
     Ok(())
 }
 
-// Whether a long list begins with the name that stands at its place in the row before. Nothing is promised of it.
-fn begins_alike(names: &Names, numbers: &Rows<u32>, list: &[Name]) -> bool {
-    if list.len() < MANY {
-        return false;
-    }
-    match (list.first(), number_before(numbers)) {
-        (Some(first), Some(guess)) => has_name(names, guess as usize, first.as_slice()),
-        _ => false,
-    }
-}
-
-// The number in the row before the last, at the place that comes next in the last. Nothing is promised of it.
-fn number_before(numbers: &Rows<u32>) -> Option<u32> {
-    let last = numbers.len().checked_sub(1)?;
-    let before = last.checked_sub(1)?;
-    let place = numbers.row(last)?.len();
-    numbers.row(before)?.get(place).copied()
-}
-
-fn note_name(
-    names: &mut Names,
-    numbers: &mut Rows<u32>,
-    guess: Option<u32>,
-    name: &[u8],
-) -> Result<(), AllocError>
+fn note_name(names: &mut Names, lists: &mut Rows<u32>, name: &[u8]) -> Result<(), AllocError>
     ensures noted { OnOk result ((front : List (List ℕ)) (before : List Text)
-        → GotRow names.old front numbers.old before → GotRow names.new front numbers.new (before ++ name.now ∷ [])) }
-    ensures kept { (front : List (List ℕ)) → HasOneMore front numbers.old → HasOneMore front numbers.new }
+        → GotRow names.old front lists.old before → GotRow names.new front lists.new (before ++ name.now ∷ [])) }
+    ensures kept { (front : List (List ℕ)) → HasOneMore front lists.old → HasOneMore front lists.new }
     ensures grown { GotNames names.old names.new }
 {
-    let number = number_by(names, guess, name)?;
-    numbers.push(narrow(number)?)?;
+    let number = names.number(name)?;
+    lists.push(narrow(number)?)?;
     Ok(())
-}
-
-// The number of a name: the guess, where it is right.
-fn number_by(names: &mut Names, guess: Option<u32>, name: &[u8]) -> Result<usize, AllocError>
-    ensures numbered { IfOk result (λ number. slice_get names.new number ≡ Some name.now) }
-    ensures grown { GotNames names.old names.new }
-{
-    match guess {
-        Some(guess) if has_name(names, guess as usize, name) => Ok(guess as usize),
-        _ => names.number(name),
-    }
 }
 
 // Whether a number is that of a name, told without hashing.

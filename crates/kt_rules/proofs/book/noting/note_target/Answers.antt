@@ -1,4 +1,4 @@
-use Rattle.std.proofs.Common.{◌≡◌, ◌∙◌, ◌&&◌, ◌++◌, ◌∷◌, if◌then◌else◌, ℕ, nat_eq, List, [], Option, Some, None, Bool, true, not, is_some, option_map, slice_get, get_or, refl, sym, ap}
+use Rattle.std.proofs.Common.{◌≡◌, ◌∙◌, ◌&&◌, ◌++◌, ◌∷◌, if◌then◌else◌, ℕ, nat_eq, List, [], Some, Bool, true, not, is_some, slice_get, get_or, sym, ap}
 use Rattle.std.specs.Borrow.{Bor}
 use Rattle.std.proofs.lemmas.Option.{slice_get-get_or}
 use Rattle.std.proofs.lemmas.Result.{on_err_weaker, on_ok_weaker}

@@ -16,7 +16,7 @@ loop-name-preserved c =
     let step = c.in_ok-note_name.ensures in
     record {
       noted = λ front before got.
-          subst (GotRow c.note_name.new.names front c.note_name.new.numbers)
+          subst (GotRow c.note_name.new.names front c.note_name.new.lists)
           (append_assoc before done (name ∷ []) ∙ ap (λ (names : List Text). before ++ names) more)
           (step.noted front (before ++ done) (c.loop-name.invariant.noted front before got));
       kept = λ front one. step.kept front (c.loop-name.invariant.kept front one);
@@ -25,6 +25,6 @@ loop-name-preserved c =
 
 pub returns-clause-noted : goal.returns-clause-noted
 returns-clause-noted c = λ front before got.
-    subst (GotRow c.loop-name.names front c.loop-name.numbers)
+    subst (GotRow c.loop-name.names front c.loop-name.lists)
     (ap (λ (names : List Text). before ++ names) (take_all c.loop-name.name-index c.args.list.now c.loop-name-test.false))
     (c.loop-name.invariant.noted front before got)

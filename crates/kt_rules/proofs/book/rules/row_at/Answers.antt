@@ -1,4 +1,4 @@
-use Rattle.std.proofs.Common.{◌∙◌, [], Option, List, ap, sym, unwrap_or}
+use Rattle.std.proofs.Common.{◌∙◌, [], Option, List, ap, unwrap_or}
 use Rattle.std.proofs.lemmas.Option.{unwrap_or-slice_get}
 use Rattle.kt_rules.proofs.book.rules.row_at.Goals as goal
 

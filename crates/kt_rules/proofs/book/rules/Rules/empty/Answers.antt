@@ -9,16 +9,16 @@ index_mut-requires c =
     let held = c.self.inside in
     let many : length c.args.self.now.1 ≡ length held.slots.items =
     sym (ap (λ (both : List Text × List (Option Rule)). length both.1) c.self.view_is)
-    ∙ slots_many held.names held.numbers held.lines held.slots.items c.self.invariant.many_rows c.self.invariant.many_recipes in
+    ∙ slots_many held.names held.lists held.lines held.slots.items c.self.invariant.many in
     omega (arith, c.requires, many, held.slots.ok.0)
 
 pub returns-clause-emptied : goal.returns-clause-emptied
 returns-clause-emptied c =
     let held = c.self.inside in
-    slots_emptied held.names held.numbers held.lines held.slots.items c.args.place
+    slots_emptied held.names held.lists held.lines held.slots.items c.args.place
     ∙ ap (λ (both : List Text × List (Option Rule)). set both.1 c.args.place None) c.self.view_is
 
 pub invariant_of-self : goal.invariant_of-self
 invariant_of-self c =
     let held = c.self.inside in
-    emptied_held held.names held.numbers held.lines held.slots.items held.kinds c.args.place c.self.invariant
+    emptied_held held.names held.lists held.lines held.slots.items held.kinds held.last c.args.place c.self.invariant

@@ -8,5 +8,5 @@ pub returns : goal.returns
 returns c =
     let held = c.self.inside in
     let many : c.len.result ≡ length held.slots.items = search rules in
-    many ∙ sym (slots_many held.names held.numbers held.lines held.slots.items c.self.invariant.many_rows c.self.invariant.many_recipes)
+    many ∙ sym (slots_many held.names held.lists held.lines held.slots.items c.self.invariant.many)
     ∙ ap (λ (both : List Text × List (Option Rule)). length both.1) c.self.view_is

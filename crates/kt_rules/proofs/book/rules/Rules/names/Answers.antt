@@ -11,4 +11,4 @@ pub returns-clause-all : goal.returns-clause-all
 returns-clause-all c =
     let held = c.self.inside in
     subst (λ (both : List Text × List (Option Rule)). All (Contains both.0) (flat_map names_in (rules_in both.1))) c.self.view_is
-    (all_among held.names held.numbers held.lines held.slots.items c.self.invariant.below)
+    (all_among held.names held.lists held.lines held.slots.items held.kinds c.self.invariant.below c.self.invariant.known)
