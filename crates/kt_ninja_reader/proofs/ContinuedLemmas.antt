@@ -6,7 +6,7 @@ use Rattle.std.proofs.lemmas.List.Concat.{flat_map-append}
 use Rattle.std.specs.List.{flat_map, list_all}
 use Rattle.kt_list.proofs.general.Booleans.{and_nothing}
 use Rattle.kt_ninja_reader.specs.JoinedLines.{Begun, FileLine, JoinedLine, Text, ends_in_dollar, file_lines, first_number, goes_on, is_comment, joined_from, joined_lines, joined_text, with_byte, without_indent}
-use Rattle.kt_ninja_reader.specs.Continued.{AreContinued, AreFronts, Continued, EndsRight, HasNoNewline, IsEnd, JoinedLaw, end_in_file, fronts_in_file, in_file, kept_of, numbered}
+use Rattle.kt_ninja_reader.specs.Continued.{AreContinued, AreUnescaped, Continued, EndsRight, HasNoNewline, IsEnd, JoinedLaw, end_in_file, fronts_in_file, in_file, kept_of, numbered}
 use Rattle.kt_ninja_reader.proofs.JoinedLemmas.{last-append}
 
 -- ---- one line of the file
@@ -180,7 +180,7 @@ end_stops number begun last rest free ends =
       ended = true;
     } ∷ joined_from (number + 1) None (file_lines rest)) (sym is)
 
-line_ended : (fronts : List Text) (number : ℕ) (begun : Option Begun) (last rest : Text) → AreFronts fronts
+line_ended : (fronts : List Text) (number : ℕ) (begun : Option Begun) (last rest : Text) → AreUnescaped fronts
     → is_comment (fronts_text begun fronts) ≡ false → HasNoNewline last → EndsBehind begun fronts last
     → joined_from number begun (file_lines (fronts_in_file fronts ++ (last ++ 10 ∷ rest)))
     ≡ record {
@@ -235,7 +235,7 @@ open_stops (c ∷ cs) number begun free some =
 is_some : {P : Type 0} (begun : Begun) → Some begun ≡ None → P
 is_some begun e = absurd (cc e)
 
-line_unended : (fronts : List Text) (number : ℕ) (begun : Option Begun) (last : Text) → AreFronts fronts
+line_unended : (fronts : List Text) (number : ℕ) (begun : Option Begun) (last : Text) → AreUnescaped fronts
     → is_comment (fronts_text begun fronts) ≡ false
     → HasNoNewline last → (begun ≡ None → fronts ++ last ∷ [] ≡ [] ∷ [] → ⊥)
     → joined_from number begun (file_lines (fronts_in_file fronts ++ last))
@@ -256,7 +256,7 @@ line_unended (f ∷ fs) number begun last are plain free some =
     ∙ ap (λ (t : Text). record { number = first_number number begun; text = t; ended = false } ∷ [])
     (more (fs ++ last ∷ []))
 
-by_end : (ended : Bool) (fronts : List Text) (last : Text) (ls : List Continued) (number : ℕ) → AreFronts fronts
+by_end : (ended : Bool) (fronts : List Text) (last : Text) (ls : List Continued) (number : ℕ) → AreUnescaped fronts
     → is_comment (kept_of fronts) ≡ false
     → HasNoNewline last → EndsRight ended fronts last ls
     → ((n : ℕ) → joined_from n None (file_lines (in_file ls)) ≡ numbered n ls)
@@ -307,8 +307,8 @@ free_part front back h =
     (and_parts (list_all (λ b. not (b == 10)) front) (list_all (λ b. not (b == 10)) back)
     (sym (list_all-append (λ b. not (b == 10)) front back) ∙ h)).0
 
-fronts_more : (fronts : List Text) (front : Text) → AreFronts fronts → HasNoNewline front
-    → ends_in_dollar false front ≡ false → AreFronts (fronts ++ front ∷ [])
+fronts_more : (fronts : List Text) (front : Text) → AreUnescaped fronts → HasNoNewline front
+    → ends_in_dollar false front ≡ false → AreUnescaped (fronts ++ front ∷ [])
 fronts_more [] front are free dollar = (free, dollar, tt)
 fronts_more (f ∷ fs) front are free dollar = (are.0, are.1, fronts_more fs front are.2 free dollar)
 
@@ -350,11 +350,11 @@ HasLines text = (lines : List Continued) × (in_file lines ≡ text) × AreConti
 
 -- the text after these fronts and these bytes of the next line
 abbrev Goes : Text → Type 0
-Goes text = (fronts : List Text) (bytes : Text) → AreFronts fronts → is_comment (kept_of fronts) ≡ false
+Goes text = (fronts : List Text) (bytes : Text) → AreUnescaped fronts → is_comment (kept_of fronts) ≡ false
     → HasNoNewline bytes
     → HasLines (fronts_in_file fronts ++ (bytes ++ text))
 
-line_first : (fronts : List Text) (last : Text) (ended : Bool) (ls : List Continued) → AreFronts fronts
+line_first : (fronts : List Text) (last : Text) (ended : Bool) (ls : List Continued) → AreUnescaped fronts
     → is_comment (kept_of fronts) ≡ false → HasNoNewline last
     → EndsRight ended fronts last ls → AreContinued ls
     → HasLines (fronts_in_file fronts ++ (last ++ (end_in_file ended ++ in_file ls)))
@@ -364,7 +364,7 @@ line_first fronts last ended ls are plain free ends later =
 no_line : HasLines []
 no_line = ([], refl, tt)
 
-some_line : (fronts : List Text) (bytes : Text) → AreFronts fronts → is_comment (kept_of fronts) ≡ false
+some_line : (fronts : List Text) (bytes : Text) → AreUnescaped fronts → is_comment (kept_of fronts) ≡ false
     → HasNoNewline bytes
     → (fronts ++ bytes ∷ [] ≡ [] ∷ [] → ⊥) → HasLines (fronts_in_file fronts ++ (bytes ++ []))
 some_line fronts bytes are plain free some = line_first fronts bytes false [] are plain free (refl, some) tt
@@ -375,7 +375,7 @@ goes_end [] (b ∷ bs) are plain free = some_line [] (b ∷ bs) are plain free (
 goes_end (f ∷ []) bytes are plain free = some_line (f ∷ []) bytes are plain free (λ e. absurd (cc e))
 goes_end (f ∷ g ∷ fs) bytes are plain free = some_line (f ∷ g ∷ fs) bytes are plain free (λ e. absurd (cc e))
 
-goes_on_by : (fronts : List Text) (bytes rest : Text) → Goes rest → AreFronts fronts → HasNoNewline bytes
+goes_on_by : (fronts : List Text) (bytes rest : Text) → Goes rest → AreUnescaped fronts → HasNoNewline bytes
     → ends_in_dollar false bytes ≡ true
     → is_comment (kept_of (fronts ++ bytes ∷ [])) ≡ false → HasLines (fronts_in_file fronts ++ (bytes ++ 10 ∷ rest))
 goes_on_by fronts bytes rest later are free dollar plain =
@@ -389,7 +389,7 @@ goes_on_by fronts bytes rest later are free dollar plain =
     (sym (append_assoc front (36 ∷ []) (10 ∷ rest)) ∙ ap (λ (t : Text). t ++ 10 ∷ rest) (sym is)) in
     subst HasLines same (later (fronts ++ front ∷ []) [] (fronts_more fronts front are front_free even) shown refl)
 
-stops_by : (fronts : List Text) (bytes rest : Text) → Goes rest → AreFronts fronts
+stops_by : (fronts : List Text) (bytes rest : Text) → Goes rest → AreUnescaped fronts
     → is_comment (kept_of fronts) ≡ false → HasNoNewline bytes
     → IsEnd fronts bytes → HasLines (fronts_in_file fronts ++ (bytes ++ 10 ∷ rest))
 stops_by fronts bytes rest later are plain free ends =
@@ -397,7 +397,7 @@ stops_by fronts bytes rest later are plain free ends =
     subst (λ (t : Text). HasLines (fronts_in_file fronts ++ (bytes ++ 10 ∷ t))) is
     (line_first fronts bytes true ls are plain free ends right)
 
-byte_more : (fronts : List Text) (bytes rest : Text) (b : ℕ) → Goes rest → AreFronts fronts
+byte_more : (fronts : List Text) (bytes rest : Text) (b : ℕ) → Goes rest → AreUnescaped fronts
     → is_comment (kept_of fronts) ≡ false → HasNoNewline bytes
     → (b == 10) ≡ false → HasLines (fronts_in_file fronts ++ (bytes ++ b ∷ rest))
 byte_more fronts bytes rest b later are plain free h =

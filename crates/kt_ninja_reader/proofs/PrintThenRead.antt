@@ -13,7 +13,7 @@ use Rattle.kt_ninja.specs.declared.plan.Statement.{Statement}
 use Rattle.kt_ninja.specs.declared.plan.Plan.{Plan}
 use Rattle.kt_ninja_reader.specs.JoinedLines.{JoinedLine, Text, ends_in_dollar, file_lines, is_comment, joined_from, joined_lines}
 use Rattle.kt_ninja_reader.specs.Forms.{Pieces}
-use Rattle.kt_ninja_reader.specs.Scopes.{Table, command_value, find_in, put_in}
+use Rattle.kt_ninja_reader.specs.Scopes.{ScopeTable, command_value, find_in, put_in}
 use Rattle.kt_ninja_reader.specs.NinjaRead.{Making, FilePart, PendingStatement, all_parts, and_then_parts, are_new, block_from, by_nothing, by_rule, cut_lines, cut_with, made_of, making_of, nothing_read, ninja_read, outs_of, plan_in, plan_of, read_part, read_parts, statement_of}
 use Rattle.kt_ninja.specs.Plan.{names_of, outputs}
 use Rattle.kt_ninja.specs.Text.{defaults_text, number_text, plan_text, rule_count, rule_name_text, statements_text}
@@ -48,7 +48,7 @@ text_is_itself true name is = refl
 text_is_itself false name is = absurd (other_text name name is refl)
 
 -- after one entry
-found_case : {X : Type 0} (es : Table X) (key : Text) (old value : X) (name : Text) (here : Bool) → bytes_eq name key ≡ here
+found_case : {X : Type 0} (es : ScopeTable X) (key : Text) (old value : X) (name : Text) (here : Bool) → bytes_eq name key ≡ here
     → find_in (put_in es name value) name ≡ Some value
     → find_in (if here then (key, value) ∷ es else (key, old) ∷ put_in es name value) name ≡ Some value
 unfolding find_in
@@ -56,7 +56,7 @@ found_case es key old value name true is later = ap (λ b. if b then Some value 
 found_case es key old value name false is later = ap (λ b. if b then Some old else find_in (put_in es name value) name) is ∙ later
 
 -- what was put is found
-found : {X : Type 0} (es : Table X) (name : Text) (value : X) → find_in (put_in es name value) name ≡ Some value
+found : {X : Type 0} (es : ScopeTable X) (name : Text) (value : X) → find_in (put_in es name value) name ≡ Some value
 unfolding find_in put_in
 found {X} [] name value = ap (λ b. if b then Some value else None) (text_is_itself (bytes_eq name name) name refl)
 found ((key, old) ∷ es) name value = found_case es key old value name (bytes_eq name key) refl (found es name value)
@@ -67,7 +67,7 @@ absent_case true old later e = absurd (cc e)
 absent_case false old later e = (refl, e)
 
 -- after one entry
-other_case : {X : Type 0} (es : Table X) (key : Text) (old value : X) (name other : Text) (here : Bool)
+other_case : {X : Type 0} (es : ScopeTable X) (key : Text) (old value : X) (name other : Text) (here : Bool)
     → bytes_eq other key ≡ false → find_in es other ≡ None → find_in (put_in es name value) other ≡ None
     → find_in (if here then (key, value) ∷ es else (key, old) ∷ put_in es name value) other ≡ None
 unfolding find_in
@@ -75,7 +75,7 @@ other_case es key old value name other true differ none later = ap (λ b. if b t
 other_case es key old value name other false differ none later = ap (λ b. if b then Some old else find_in (put_in es name value) other) differ ∙ later
 
 -- another name is as absent as before
-still_absent : {X : Type 0} (es : Table X) (name other : Text) (value : X) → bytes_eq other name ≡ false → find_in es other ≡ None
+still_absent : {X : Type 0} (es : ScopeTable X) (name other : Text) (value : X) → bytes_eq other name ≡ false → find_in es other ≡ None
     → find_in (put_in es name value) other ≡ None
 unfolding find_in put_in
 still_absent [] name other value differ none = ap (λ b. if b then Some value else None) differ
@@ -84,16 +84,16 @@ still_absent ((key, old) ∷ es) name other value differ none =
     other_case es key old value name other (bytes_eq name key) both.0 both.1 (still_absent es name other value differ both.1)
 
 -- no rule has a number from this one on
-abbrev Fresh : ℕ → Table Pieces → Type 0
+abbrev Fresh : ℕ → ScopeTable Pieces → Type 0
 Fresh number table = (m : ℕ) → number ≤ m → find_in table (rule_named m) ≡ None
 
 -- the rules after a statement made so
-abbrev table_after : ℕ → Made → Table Pieces → Table Pieces
+abbrev table_after : ℕ → Made → ScopeTable Pieces → ScopeTable Pieces
 table_after number (Command c) table = put_in table (rule_named number) (command_pieces c)
 table_after number Phony table = table
 
 -- after a statement the next number is free again
-fresh_past : (number : ℕ) (made : Made) (table : Table Pieces) → Fresh number table → Fresh (number + rule_count made) (table_after number made table)
+fresh_past : (number : ℕ) (made : Made) (table : ScopeTable Pieces) → Fresh number table → Fresh (number + rule_count made) (table_after number made table)
 fresh_past number (Command c) table fresh m h =
     still_absent table (rule_named number) (rule_named m) (command_pieces c) (names_differ m number (omega arith)) (fresh m (omega arith))
 fresh_past number Phony table fresh m h = fresh m (omega arith)
@@ -104,21 +104,21 @@ making_as (Command c) = by_rule (command_pieces c) []
 making_as Phony = by_nothing
 
 -- the rule of a command is found
-command_making : (number : ℕ) (c : Text) (table : Table Pieces) (so_far : List PendingStatement)
+command_making : (number : ℕ) (c : Text) (table : ScopeTable Pieces) (so_far : List PendingStatement)
     → making_of (state_with (table_after number (Command c) table) so_far) (rule_named number) [] ≡ Some (making_as (Command c))
 unfolding making_of find_in
 command_making number c table so_far =
     ap (option_map (λ command. by_rule command [])) (found table (rule_named number) (command_pieces c))
 
 -- `phony` is known
-phony_making : (table : Table Pieces) (so_far : List PendingStatement) → making_of (state_with table so_far) (codes "phony") [] ≡ Some by_nothing
+phony_making : (table : ScopeTable Pieces) (so_far : List PendingStatement) → making_of (state_with table so_far) (codes "phony") [] ≡ Some by_nothing
 unfolding making_of
 phony_making table so_far = refl
 
 -- ---- statements
 
 -- the parts of a statement add it to what was read
-statement_read : (number at : ℕ) (s : Statement) (made : Made) (later : List FilePart) (table : Table Pieces) (so_far : List PendingStatement)
+statement_read : (number at : ℕ) (s : Statement) (made : Made) (later : List FilePart) (table : ScopeTable Pieces) (so_far : List PendingStatement)
     → Fresh number table → not (is_empty s.outs) ≡ true → Named s → is_made made ≡ true → are_new (outs_of so_far) s.outs ≡ true
     → read_parts (state_with table so_far) (statement_parts number at s made later)
     ≡ read_parts (state_with (table_after number made table) (so_far ++ pending_as (making_as made) s ∷ [])) later
@@ -197,7 +197,7 @@ abbrev plan_with : List PendingStatement → List Statement → List Text → Pl
 plan_with so_far ss defaults = record { statements = map (statement_of []) so_far ++ ss; defaults = defaults }
 
 -- the default targets end the plan
-defaults_end : (at : ℕ) (defaults : List Text) (table : Table Pieces) (so_far : List PendingStatement)
+defaults_end : (at : ℕ) (defaults : List Text) (table : ScopeTable Pieces) (so_far : List PendingStatement)
     → list_all is_name defaults ≡ true → list_all (is_among (outs_of so_far)) defaults ≡ true
     → plan_in (read_parts (state_with table so_far) (default_parts at defaults)) ≡ Ok (plan_with so_far [] defaults)
 unfolding read_parts plan_of
@@ -212,7 +212,7 @@ map_more f [] y ys = refl
 map_more f (x ∷ xs) y ys = ap (λ l. f x ∷ l) (map_more f xs y ys)
 
 -- statements and default targets are read in turn
-plan_read : (number at : ℕ) (ss : List Statement) (defaults : List Text) (table : Table Pieces) (so_far : List PendingStatement) → Fresh number table
+plan_read : (number at : ℕ) (ss : List Statement) (defaults : List Text) (table : ScopeTable Pieces) (so_far : List PendingStatement) → Fresh number table
     → list_all (λ s. not (is_empty s.outs)) ss ≡ true → list_all (λ s. list_all is_name (names_of s) && is_made s.made) ss ≡ true
     → are_new (outs_of so_far) (outputs ss) ≡ true → list_all is_name defaults ≡ true → list_all (is_among (outs_of so_far ++ outputs ss)) defaults ≡ true
     → plan_in (read_parts (state_with table so_far) (plan_parts number at ss defaults)) ≡ Ok (plan_with so_far ss defaults)

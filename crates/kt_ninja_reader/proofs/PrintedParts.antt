@@ -11,7 +11,7 @@ use Rattle.kt_ninja.specs.declared.plan.Statement.{Statement}
 use Rattle.kt_ninja_reader.specs.JoinedLines.{JoinedLine, Text, is_comment}
 use Rattle.kt_ninja_reader.specs.Pieces.{Plain, pieces}
 use Rattle.kt_ninja_reader.specs.Forms.{Binding, Build, Form, Pieces, binding_of, build_form, build_of, default_form, defaults_of, form_of, rule_form, rule_of}
-use Rattle.kt_ninja_reader.specs.Scopes.{Table, find_in, put_in, value_in, value_within}
+use Rattle.kt_ninja_reader.specs.Scopes.{ScopeTable, find_in, put_in, value_in, value_within}
 use Rattle.kt_ninja_reader.specs.NinjaRead.{Making, State, PendingStatement, add_defaults, add_statement, are_new, block_from, block_of, block_scope, is_file_byte, is_sound, making_of, outs_of, paths_in, read_build, read_default, read_form, read_head, read_part, read_rule, rule_command, pending_with}
 use Rattle.kt_ninja.specs.Text.{is_special_in_name, rule_name_text}
 use Rattle.kt_list.specs.Names.{is_among}
@@ -121,7 +121,7 @@ part_read state number ps body form bindings e is whole block =
     ∙ ap (option_and_then (λ f. read_form state f bindings)) is
 
 -- what was read of a printed plan before its default targets: rules and statements
-abbrev pub state_with : Table Pieces → List PendingStatement → State
+abbrev pub state_with : ScopeTable Pieces → List PendingStatement → State
 state_with table so_far = record { file = []; rules = table; pending = so_far; defaults = [] }
 
 -- the command of the rule's block
@@ -131,7 +131,7 @@ command_is (b ∷ bs) e =
     ap (λ t. if not t then Some (command_pieces (b ∷ bs)) else None) (command_alone (bytes_eq (codes "command")) (b ∷ bs))
 
 -- a rule is read
-pub rule_read : (number at : ℕ) (c : Text) (table : Table Pieces) (so_far : List PendingStatement) → is_command c ≡ true
+pub rule_read : (number at : ℕ) (c : Text) (table : ScopeTable Pieces) (so_far : List PendingStatement) → is_command c ≡ true
     → find_in table (rule_name_text number (Command c)) ≡ None
     → read_part (state_with table so_far) (part at (rule_line (rule_name_text number (Command c))) (line (at + 1) (command_line c) ∷ []))
     ≡ Some (state_with (put_in table (rule_name_text number (Command c)) (command_pieces c)) so_far)
@@ -183,7 +183,7 @@ pending_is value_of making rule s named =
     ∙ ap (λ o. pending_of making (Some s.outs) (Some s.inputs) (Some s.implicit) o) (paths_read value_of s.order_only named.order_only)
 
 -- a build line is read
-pub build_read : (number at : ℕ) (made : Made) (making : Making) (s : Statement) (table : Table Pieces) (so_far : List PendingStatement)
+pub build_read : (number at : ℕ) (made : Made) (making : Making) (s : Statement) (table : ScopeTable Pieces) (so_far : List PendingStatement)
     → not (is_empty s.outs) ≡ true → Named s → making_of (state_with table so_far) (rule_name_text number made) [] ≡ Some making
     → are_new (outs_of so_far) s.outs ≡ true
     → read_part (state_with table so_far) (part at (build_line (rule_name_text number made) s) [])
@@ -199,7 +199,7 @@ build_read number at made making s table so_far some named is new =
     ∙ ap (λ t. if t then Some (state_with table (so_far ++ pending_as making s ∷ [])) else None) new
 
 -- default targets are read
-pub defaults_read : (at : ℕ) (n : Text) (ns : List Text) (table : Table Pieces) (so_far : List PendingStatement)
+pub defaults_read : (at : ℕ) (n : Text) (ns : List Text) (table : ScopeTable Pieces) (so_far : List PendingStatement)
     → list_all is_name (n ∷ ns) ≡ true → list_all (is_among (outs_of so_far)) (n ∷ ns) ≡ true
     → read_part (state_with table so_far) (part at (default_line (n ∷ ns)) [])
     ≡ Some (record { file = []; rules = table; pending = so_far; defaults = n ∷ ns })

@@ -8,7 +8,7 @@ use Rattle.std.specs.Option.{option_and_then}
 use Rattle.kt_ninja_reader.specs.JoinedLines.{Text}
 use Rattle.kt_ninja.specs.Writable.{is_empty}
 use Rattle.kt_ninja_reader.specs.Pieces.{Piece, Plain, Escaped, Variable, Where, after_dollar, in_braces, in_name, is_escapable, is_long_name_byte, is_short_name_byte, outer_step, outside, pieces, pieces_from}
-use Rattle.kt_ninja_reader.specs.Spellings.{AreSpelled, IsName, IsSpelled, PieceLaw, name_goes_on}
+use Rattle.kt_ninja_reader.specs.Spellings.{AreSpelled, IsNameOf, IsSpelled, PieceLaw, name_goes_on}
 use Rattle.kt_ninja_reader.proofs.PieceLemmas.{none_before, escape-brace, escape-escapable, escape-nil, escape-none, escape-short, map_twice, outside-dollar, outside-nil, outside-plain}
 
 -- ---- bytes
@@ -68,7 +68,7 @@ brace_run (b ∷ bs) before after all some =
 
 -- ---- a spelling is read as its piece
 
-short_is_read : (name after : Text) → IsName is_short_name_byte name → name_goes_on after ≡ false
+short_is_read : (name after : Text) → IsNameOf is_short_name_byte name → name_goes_on after ≡ false
     → pieces_from outside ((36 ∷ name) ++ after)
     ≡ option_map (λ later. Variable name ∷ later) (pieces_from outside after)
 short_is_read [] after h ends = absurd (false≢true (sym h.0))
@@ -78,7 +78,7 @@ short_is_read (b ∷ bs) after h ends =
     ∙ escape-short b (bs ++ after) (short_is_not_escapable b short) (short_is_no 123 refl b short) short
     ∙ name_run (b ∷ bs) [] after h.1 ends
 
-long_is_read : (name after : Text) → IsName is_long_name_byte name
+long_is_read : (name after : Text) → IsNameOf is_long_name_byte name
     → pieces_from outside ((36 ∷ 123 ∷ name ++ 125 ∷ []) ++ after)
     ≡ option_map (λ later. Variable name ∷ later) (pieces_from outside after)
 long_is_read name after h =
@@ -110,7 +110,7 @@ second_byte (b ∷ []) = 0
 second_byte (b ∷ c ∷ text) = c
 
 -- a name without braces isn't one with them
-no_both : {P : Type 0} (name other after past : Text) → IsName is_short_name_byte name
+no_both : {P : Type 0} (name other after past : Text) → IsNameOf is_short_name_byte name
     → (36 ∷ name) ++ after ≡ (36 ∷ 123 ∷ other) ++ past → P
 no_both [] other after past h e = absurd (false≢true (sym h.0))
 no_both (b ∷ bs) other after past h e =
@@ -195,7 +195,7 @@ begun (in_braces name) = 36 ∷ 123 ∷ name
 abbrev IsPlace : Where → Type 0
 IsPlace outside = Unit {0}
 IsPlace after_dollar = Unit {0}
-IsPlace (in_name name) = IsName is_short_name_byte name
+IsPlace (in_name name) = IsNameOf is_short_name_byte name
 IsPlace (in_braces name) = list_all is_long_name_byte name ≡ true
 
 abbrev Reads : Text → Type 0
@@ -254,7 +254,7 @@ name_ends name after ends =
     name_run [] name after refl ends
     ∙ ap (λ (n : Text). option_map (λ later. Variable n ∷ later) (pieces_from outside after)) (append-nil name)
 
-from_name : (name : Text) (b : ℕ) (bs : Text) → Reads bs → (found : List Piece) → IsName is_short_name_byte name
+from_name : (name : Text) (b : ℕ) (bs : Text) → Reads bs → (found : List Piece) → IsNameOf is_short_name_byte name
     → pieces_from (in_name name) (b ∷ bs) ≡ Some found → HasSpellings ((36 ∷ name) ++ b ∷ bs) found
 from_name name b bs later found named e =
     ⊎_elim

@@ -39,9 +39,9 @@ abbrev pub HasNoNewline : Text → Type 0
 HasNoNewline text = list_all (λ b. not (b == 10)) text ≡ true
 
 -- no dollar escapes the one that stands after each front
-abbrev pub AreFronts : List Text → Type 0
-AreFronts [] = Unit {0}
-AreFronts (f ∷ fs) = HasNoNewline f × (ends_in_dollar false f ≡ false) × AreFronts fs
+abbrev pub AreUnescaped : List Text → Type 0
+AreUnescaped [] = Unit {0}
+AreUnescaped (f ∷ fs) = HasNoNewline f × (ends_in_dollar false f ≡ false) × AreUnescaped fs
 
 -- the newline that ends a line isn't escaped: in front of it stands no dollar, or an escaped one, or a comment
 abbrev pub IsEnd : List Text → Text → Type 0
@@ -58,7 +58,7 @@ EndsRight false fronts last after = IsUnended fronts last after
 -- lines of a file: no escaped newline stands in what is kept, and none in a comment goes
 abbrev pub AreContinued : List Continued → Type 0
 AreContinued [] = Unit {0}
-AreContinued (l ∷ ls) = AreFronts l.fronts × (is_comment (kept_of l.fronts) ≡ false) × HasNoNewline l.last
+AreContinued (l ∷ ls) = AreUnescaped l.fronts × (is_comment (kept_of l.fronts) ≡ false) × HasNoNewline l.last
     × EndsRight l.ended l.fronts l.last ls × AreContinued ls
 
 -- each text is such lines, and the lines that such a text is joined to are what is kept of them

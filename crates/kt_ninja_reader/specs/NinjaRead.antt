@@ -13,7 +13,7 @@ use Rattle.kt_ninja_reader.specs.JoinedLines.{JoinedLine, Text, is_blank, is_com
 use Rattle.kt_ninja_reader.specs.Pieces.{pieces}
 use Rattle.kt_ninja_reader.specs.Forms.{Binding, Build, Form, Pieces, binding_of, rule_form, build_form, default_form}
 use Rattle.kt_ninja_reader.specs.Forms.{binding_form, form_of}
-use Rattle.kt_ninja_reader.specs.Scopes.{Scope, Table, command_value, expanded, find_in, put_in, refers_to, value_in}
+use Rattle.kt_ninja_reader.specs.Scopes.{Scope, ScopeTable, command_value, expanded, find_in, put_in, refers_to, value_in}
 use Rattle.kt_ninja_reader.specs.Scopes.{value_within}
 use Rattle.kt_list.specs.Names.{is_among}
 use Rattle.kt_ninja.specs.Writable.{is_empty}
@@ -95,7 +95,7 @@ pub record PendingStatement : Type 0 where
 -- what was read so far: the variables of the file, the commands of its rules, the statements and the default targets
 pub record State : Type 0 where
   pub file : Scope
-  pub rules : Table Pieces
+  pub rules : ScopeTable Pieces
   pub pending : List PendingStatement
   pub defaults : List Text
 

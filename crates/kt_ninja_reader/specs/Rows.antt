@@ -45,7 +45,7 @@ pub record RowsOfPlans : Type 0 where
       ≡ plan (statement (codes "1" ∷ []) (Command (codes "2 1")) [] [] [] ∷ []) []
 
 -- texts that say none, with the line that begins the part at fault
-pub record RowsOfFaults : Type 0 where
+pub record RowsOfReadFaults : Type 0 where
   pub output_twice : ninja_read (codes "build a: phony\nbuild a: phony\n") ≡ Err 2
   pub command_twice : ninja_read (codes "rule r\n command = x\n command = y\n") ≡ Err 1
   pub blank_in_block : ninja_read (codes "rule r\n\n command = x\n") ≡ Err 1

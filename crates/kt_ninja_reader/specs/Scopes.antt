@@ -9,22 +9,22 @@ use Rattle.kt_ninja_reader.specs.Pieces.{Piece, Plain, Escaped, Variable, is_let
 use Rattle.kt_ninja_reader.specs.Forms.{Pieces}
 
 -- a finite map from names, as entries; no name stands twice
-abbrev pub Table : Type 0 → Type 0
-Table X = List (Text × X)
+abbrev pub ScopeTable : Type 0 → Type 0
+ScopeTable X = List (Text × X)
 
 -- what the map has at a name
-unfoldable pub find_in : {X : Type 0} → Table X → Text → Option X
+unfoldable pub find_in : {X : Type 0} → ScopeTable X → Text → Option X
 find_in [] name = None
 find_in (e ∷ es) name = if bytes_eq name e.0 then Some e.1 else find_in es name
 
 -- the map with a value at a name, in place of what it had there
-unfoldable pub put_in : {X : Type 0} → Table X → Text → X → Table X
+unfoldable pub put_in : {X : Type 0} → ScopeTable X → Text → X → ScopeTable X
 put_in [] name value = (name, value) ∷ []
 put_in (e ∷ es) name value = if bytes_eq name e.0 then (e.0, value) ∷ es else e ∷ put_in es name value
 
 -- a scope: the values of its variables
 abbrev pub Scope : Type 0
-Scope = Table Text
+Scope = ScopeTable Text
 
 -- the value of a variable, empty where it is unknown
 abbrev pub value_in : Scope → Text → Text

@@ -7,8 +7,8 @@ use Rattle.kt_ninja_reader.specs.Pieces.{Piece, Plain, Escaped, Variable, is_esc
 use Rattle.kt_ninja_reader.specs.Pieces.{pieces}
 
 -- a name: at least one byte, and all of this kind
-abbrev pub IsName : (ℕ → Bool) → Text → Type 0
-IsName test name = (is_empty name ≡ false) × (list_all test name ≡ true)
+abbrev pub IsNameOf : (ℕ → Bool) → Text → Type 0
+IsNameOf test name = (is_empty name ≡ false) × (list_all test name ≡ true)
 
 -- whether a name without braces would go on with this text
 abbrev pub name_goes_on : Text → Bool
@@ -21,8 +21,8 @@ abbrev pub IsSpelled : Piece → Text → Text → Type 0
 IsSpelled (Plain b) spelling after = (spelling ≡ b ∷ []) × ((b == 36) ≡ false)
 IsSpelled (Escaped b) spelling after = (spelling ≡ 36 ∷ b ∷ []) × (is_escapable b ≡ true)
 IsSpelled (Variable name) spelling after =
-    ((spelling ≡ 36 ∷ name) × IsName is_short_name_byte name × (name_goes_on after ≡ false))
-    ⊎ ((spelling ≡ 36 ∷ 123 ∷ name ++ 125 ∷ []) × IsName is_long_name_byte name)
+    ((spelling ≡ 36 ∷ name) × IsNameOf is_short_name_byte name × (name_goes_on after ≡ false))
+    ⊎ ((spelling ≡ 36 ∷ 123 ∷ name ++ 125 ∷ []) × IsNameOf is_long_name_byte name)
 
 -- each piece has its spelling in front of those after it
 abbrev pub AreSpelled : List Piece → List Text → Type 0

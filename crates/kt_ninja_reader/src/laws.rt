@@ -6,7 +6,7 @@ ghost use Rattle.kt_ninja_reader.specs.Layout.{LayoutLaw};
 ghost use Rattle.kt_ninja_reader.specs.NinjaRead.{ninja_read};
 ghost use Rattle.kt_ninja.specs.Text.{plan_text};
 ghost use Rattle.kt_ninja.specs.Writable.{IsWritable};
-ghost use Rattle.kt_ninja_reader.specs.Rows.{RowsOfFaults, RowsOfPlans};
+ghost use Rattle.kt_ninja_reader.specs.Rows.{RowsOfReadFaults, RowsOfPlans};
 ghost use Rattle.kt_ninja_reader.specs.Spellings.{PieceLaw};
 
 /// Worked texts that have a reading.
@@ -16,7 +16,7 @@ pub fn rows_of_plans()
 
 /// Worked texts that have none.
 pub fn rows_of_faults()
-    ensures { RowsOfFaults }
+    ensures { RowsOfReadFaults }
 {}
 
 /// A plan that can be written is what its text says.
