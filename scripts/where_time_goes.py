@@ -30,7 +30,7 @@ GROUPS = [
     ("Reading and expanding", r"\[\.\] kt_(text|syntax|eval)::"),
     ("Rules", r"\[\.\] kt_rules::"),
     ("Recipes", r"\[\.\] kt_recipe::"),
-    ("Ninja text", r"\[\.\] kt_ninja::"),
+    ("Ninja text", r"\[\.\] kt_ninja(_reader)?::"),
     ("Graph and plan", r"\[\.\] (kt_graph|kati|kati_args|kati_program|kt_list)::"),
     ("Names hashed, sorted", r"\[\.\] .*(indexmap|index_table|hash|sip|sort)"),
     ("Bytes searched, copied", r"\[\.\] .*(memchr|memcpy|memmove|memset|memcmp|memmem|bstr|slice|iter)"),

@@ -13,7 +13,7 @@ use Rattle.kt_ninja.specs.declared.plan.Plan.{Plan}
 use Rattle.kt_ninja.specs.declared.plan.Statement.{Statement}
 use Rattle.kt_ninja.specs.Writable.{IsWritable, Obstacle, no_output, bad_name, bad_command, repeated, not_an_output, obstacle_of_statements}
 use Rattle.kt_ninja.proofs.Deciding.{texts_exactly}
-use Rattle.kt_ninja.proofs.PrintThenRead.{printed_is_read}
+use Rattle.kt_ninja_reader.proofs.PrintThenRead.{printed_is_read}
 use Rattle.kati_args.specs.declared.args.Args.{Args}
 use Rattle.kati.specs.Meaning.{Meaning, Means, MeansAfter, MeansGoals, Wanted, meaning_of, prepared}
 use Rattle.kati.specs.Planning.{plan_groups, plan_of, plan_unless, planned, text_fault, unwritable_in, written}

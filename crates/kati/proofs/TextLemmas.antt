@@ -23,7 +23,7 @@ use Rattle.kt_ninja.specs.declared.plan.Statement.{Statement}
 use Rattle.kt_ninja.specs.Plan.{names_of}
 use Rattle.kt_ninja.specs.Writable.{HasWritableTexts, is_made, is_name}
 use Rattle.kt_ninja.proofs.Deciding.{texts_unobstructed}
-use Rattle.kt_ninja.proofs.PrintedPieces.{all_both}
+use Rattle.kt_ninja_reader.proofs.PrintedPieces.{all_both}
 use Rattle.kati.specs.Planning.{always_built, command_for, has_implicit, has_phony, implicit_of, joined_inputs, joined_order_only, made_by, outs_of, plan_groups, plan_of, statement_of, text_fault, unwritable_in, with_always_built}
 use Rattle.kati.specs.inner.Drawn.{Drawn, statements_drawn}
 use Rattle.kt_recipe.proofs.CommandLemmas.{gave_both}

@@ -3,7 +3,7 @@ use Rattle.std.specs.Prelude.{◌≡◌, List, Ok}
 use Rattle.kt_text.specs.Words.{Text}
 use Rattle.kt_eval.specs.files.Files.{Store}
 use Rattle.kt_ninja.specs.declared.plan.Plan.{Plan}
-use Rattle.kt_ninja.specs.NinjaRead.{ninja_read}
+use Rattle.kt_ninja_reader.specs.NinjaRead.{ninja_read}
 use Rattle.kt_ninja.specs.Text.{plan_text}
 use Rattle.kt_ninja.specs.Writable.{IsWritable}
 use Rattle.kati_args.specs.declared.args.Args.{Args}

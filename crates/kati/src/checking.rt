@@ -11,7 +11,8 @@ use crate::expecting::Expecting;
 use crate::faults::RunFault;
 use crate::status::Status;
 use kt_eval::{FileFault, Files};
-use kt_ninja::{Plan, ReadFault, read_plan, write_plan};
+use kt_ninja::{Plan, write_plan};
+use kt_ninja_reader::{ReadFault, read_plan};
 use std::alloc::Global;
 
 /// Whether the file with this name exists and is read as the plan, however it is spelled.

@@ -1,10 +1,9 @@
 -- Lists by their places.
-use Rattle.std.proofs.Common.{◌≡◌, ◌≢◌, ℕ, ◌+◌, ◌<◌, ◌≤◌, List, [], ◌∷◌, ◌++◌, length, take, drop, refl, sym, ap, ◌∙◌, arith, zero, suc}
+use Rattle.std.proofs.Common.{◌≡◌, ℕ, ◌+◌, ◌<◌, ◌≤◌, List, [], ◌∷◌, ◌++◌, length, take, drop, sym, ap, ◌∙◌, arith, zero, suc}
 use Rattle.std.specs.Prelude.{Bool, true, false, ◌||◌, Some, None, find, slice_get, if◌then◌else◌}
 use Rattle.std.specs.List.{list_any, position_from}
 use Rattle.std.proofs.lemmas.List.{drop_all, drop_more, take_more}
 use Rattle.std.proofs.lemmas.Option.{get_or_from_slice_get, slice_get_within}
-use Rattle.kt_ninja.specs.Writable.{is_empty}
 
 -- the list from a place on is the item there, and the list from the next on
 pub drop_at : {A : Type 0} (xs : List A) (i : ℕ) (x : A) → slice_get xs i ≡ Some x → drop i xs ≡ x ∷ drop (i + 1) xs
@@ -32,16 +31,6 @@ module _ {A : Type 0} (p : A → Bool) (xs : List A) (i : ℕ) (x : A) (is : sli
 pub found_none : {A : Type 0} (p : A → Bool) (xs : List A) (i : ℕ) → length xs ≤ i → Looks p xs i → None ≡ find p xs
 found_none p xs i all so = ap (find p) (sym (drop_all i xs all)) ∙ so
 
--- ---- whether there are items
-
-pub no_items : {A : Type 0} (xs : List A) (n : ℕ) → n ≡ length xs → n ≡ 0 → is_empty xs ≡ true
-no_items [] n is none = refl
-no_items (x ∷ xs) n is none = absurd (omega (arith, is, none))
-
-pub some_items : {A : Type 0} (xs : List A) (n : ℕ) → n ≡ length xs → n ≢ 0 → is_empty xs ≡ false
-some_items [] n is some = absurd (some is)
-some_items (x ∷ xs) n is some = refl
-
 -- ---- the place of the first item that passes
 
 abbrev pub LooksFor : {A : Type 0} → (A → Bool) → List A → ℕ → Type 0
@@ -57,9 +46,6 @@ module _ {A : Type 0} (p : A → Bool) (xs : List A) (i : ℕ) (x : A) (is : sli
 
   pub place_later : p x ≡ false → LooksFor p xs i → LooksFor p xs (i + 1)
   place_later e so = sym (place_by false e) ∙ so
-
-pub place_none : {A : Type 0} (p : A → Bool) (xs : List A) (i : ℕ) → length xs ≤ i → LooksFor p xs i → None ≡ position_from p 0 xs
-place_none p xs i all so = ap (position_from p i) (sym (drop_all i xs all)) ∙ so
 
 -- ---- whether one of so many items passes
 

@@ -6,14 +6,4 @@ pub mod Written
 pub mod Blocks
 pub mod Memory
 pub mod Escaping
-pub mod JoinedLines
-pub mod Continued
-pub mod Pieces
-pub mod Spellings
-pub mod Forms
-pub mod Scopes
-pub mod NinjaRead
-pub mod Rows
-pub mod Reading
-pub mod Layout
 pub mod inner

@@ -17,9 +17,9 @@ pub struct MemSink {
 
 impl Model for MemSink {
     ghost use Rattle.std.specs.Prelude.{◌≤◌, vec_len, vec_capacity};
-    ghost use Rattle.kt_ninja.specs.Memory.{Memory};
+    ghost use Rattle.kt_ninja.specs.Memory.{SinkMemory};
 
-    ghost Value = { Memory };
+    ghost Value = { SinkMemory };
 
     ghost view = { λ s. record {
       bytes = s.bytes.items;
@@ -33,7 +33,7 @@ impl Model for MemSink {
 }
 
 impl MemSink {
-    ghost use Rattle.kt_ninja.specs.Memory.{Memory};
+    ghost use Rattle.kt_ninja.specs.Memory.{SinkMemory};
 
     /// A sink with room for a given number of bytes, reserved at once, of which it takes up to
     /// `step` in a call. With a step of 0 it returns 0 for every piece.

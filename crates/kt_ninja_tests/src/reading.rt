@@ -1,6 +1,6 @@
 //! Texts that are read and texts that aren't, by the Ninja manual and by kati's own rules.
-use kt_ninja::{ReadFault, read_plan};
 use kt_ninja_doubles::shown;
+use kt_ninja_reader::{ReadFault, read_plan};
 use std::alloc::{AllocError, Global};
 
 /// Texts, and the plans that they say.

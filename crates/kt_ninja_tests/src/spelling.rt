@@ -1,7 +1,8 @@
 //! Random plans: what is printed of them, beside a plain printing, and what is read of other spellings of it.
 use crate::writing::written;
-use kt_ninja::{Made, Name, Plan, Statement, read_plan};
+use kt_ninja::{Made, Name, Plan, Statement};
 use kt_ninja_doubles::plan_of;
+use kt_ninja_reader::read_plan;
 use kt_testing::{Random, put};
 use std::alloc::Global;
 

@@ -2,7 +2,7 @@ use Rattle.std.proofs.Common.{◌∙◌, ◌≡◌, ℕ, List, arith, sym}
 use Rattle.std.specs.Prelude.{option_map, slice_get}
 use Rattle.std.specs.Borrow.{Bor}
 use Rattle.kt_ninja.specs.Text.{number_text}
-use Rattle.kt_ninja.proofs.PrintedNames.{number_decimal}
+use Rattle.kt_ninja.proofs.Numbers.{number_decimal}
 use Rattle.kt_ninja.proofs.Putting.{puts_then}
 use Rattle.kt_ninja.proofs.ViewLemmas.{rule_put}
 use Rattle.kt_ninja.proofs.block.Block.put_statement.Goals as goal

@@ -1,5 +1,0 @@
-use Rattle.kt_ninja.proofs.ReaderLemmas.{copy}
-use Rattle.kt_ninja.proofs.ninja_read.read_plan.Goals as goal
-
-pub returns-clause-printed : goal.returns-clause-printed
-returns-clause-printed c = copy c.read.result c.args.text.now c.read.ensures

@@ -1,7 +1,0 @@
-use Rattle.std.proofs.Common.{◌≡◌, ◌++◌, drop}
-use Rattle.std.specs.List.{flat_map}
-use Rattle.kt_ninja.specs.Scopes.{byte_in_quotes}
-use Rattle.kt_ninja.proofs.scopes.add_quoted.Given as goal
-
-abbrev pub invariant-loop-byte : goal.invariant-loop-byte
-invariant-loop-byte l = l.text.items ++ flat_map byte_in_quotes (drop l.byte-index l.path) ≡ l.fn.text.items ++ flat_map byte_in_quotes l.path

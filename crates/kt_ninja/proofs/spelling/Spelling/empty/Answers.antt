@@ -1,8 +1,0 @@
-use Rattle.kt_ninja.proofs.SpelledParts.{nothing_in, spelled_nil}
-use Rattle.kt_ninja.proofs.spelling.Spelling.empty.Goals as goal
-
-pub invariant_of-result : goal.invariant_of-result
-invariant_of-result c = spelled_nil
-
-pub returns : goal.returns
-returns c = nothing_in

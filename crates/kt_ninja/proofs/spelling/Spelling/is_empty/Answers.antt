@@ -1,6 +1,0 @@
-use Rattle.std.proofs.Common.{◌∙◌}
-use Rattle.kt_ninja.proofs.SpelledParts.{empty_length}
-use Rattle.kt_ninja.proofs.spelling.Spelling.is_empty.Goals as goal
-
-pub returns : goal.returns
-returns c = c.is_empty.ensures ∙ empty_length c.self.inside.text.now c.args.self.now c.self.invariant c.self.view_is

@@ -1,9 +1,0 @@
-use Rattle.std.proofs.Common.{length}
-use Rattle.kt_ninja.proofs.SpelledLemmas.{Scanned}
-use Rattle.kt_ninja.proofs.spelling.sides.Given as goal
-
-abbrev pub invariant-loop-byte : goal.invariant-loop-byte
-invariant-loop-byte l = Scanned l.mark l.text l.rest
-
-abbrev pub decreases-loop-byte : goal.decreases-loop-byte
-decreases-loop-byte l = length l.rest

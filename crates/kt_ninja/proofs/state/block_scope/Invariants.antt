@@ -1,7 +1,0 @@
-use Rattle.std.proofs.Common.{◌≡◌, [], drop, map}
-use Rattle.kt_ninja.specs.NinjaRead.{block_scope}
-use Rattle.kt_ninja.specs.inner.Wording.{binding_view}
-use Rattle.kt_ninja.proofs.state.block_scope.Given as goal
-
-abbrev pub invariant-loop-binding : goal.invariant-loop-binding
-invariant-loop-binding l = block_scope l.file l.block (map binding_view (drop l.binding-index l.bindings)) ≡ block_scope l.file [] (map binding_view l.bindings)

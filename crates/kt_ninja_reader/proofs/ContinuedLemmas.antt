@@ -1,0 +1,434 @@
+-- Joined lines and what stands in the file.
+use Rattle.std.proofs.Common.{◌≡◌, ℕ, ◌+◌, ◌-◌, Bool, true, false, not, ◌==◌, ◌&&◌, List, [], ◌∷◌, ◌++◌, refl, sym, ◌∙◌, ap, subst, append_assoc, append-nil, length, take, arith, Option, Some, None, ⊎_elim, ◌⊎◌, inl, inr}
+use Rattle.std.proofs.lemmas.Bool.{cases_Bool, false≢true, eqb-true, and_from, and_parts, not-true}
+use Rattle.std.proofs.lemmas.List.Folds.{list_all-append}
+use Rattle.std.proofs.lemmas.List.Concat.{flat_map-append}
+use Rattle.std.specs.List.{flat_map, list_all}
+use Rattle.kt_list.proofs.general.Booleans.{and_nothing}
+use Rattle.kt_ninja_reader.specs.JoinedLines.{Begun, FileLine, JoinedLine, Text, ends_in_dollar, file_lines, first_number, goes_on, is_comment, joined_from, joined_lines, joined_text, with_byte, without_indent}
+use Rattle.kt_ninja_reader.specs.Continued.{AreContinued, AreUnescaped, Continued, EndsRight, HasNoNewline, IsEnd, JoinedLaw, end_in_file, fronts_in_file, in_file, kept_of, numbered}
+use Rattle.kt_ninja_reader.proofs.JoinedLemmas.{last-append}
+
+-- ---- one line of the file
+
+free_first : (b : ℕ) (bs : Text) → HasNoNewline (b ∷ bs) → ((b == 10) ≡ false) × HasNoNewline bs
+free_first b bs h =
+    let both = and_parts (not (b == 10)) (list_all (λ c. not (c == 10)) bs) h in
+    (⊎_elim (λ e. absurd (false≢true (sym (ap not e) ∙ both.0))) (λ e. e) (cases_Bool (b == 10)), both.1)
+
+ended_line : (bytes rest : Text) → HasNoNewline bytes
+    → file_lines (bytes ++ 10 ∷ rest) ≡ record { bytes = bytes; ended = true } ∷ file_lines rest
+unfolding file_lines
+ended_line [] rest h = refl
+ended_line (b ∷ bs) rest h = let f = free_first b bs h in rw f.0 (ap (with_byte b) (ended_line bs rest f.1))
+
+last_line : (b : ℕ) (bs : Text) → HasNoNewline (b ∷ bs)
+    → file_lines (b ∷ bs) ≡ record { bytes = b ∷ bs; ended = false } ∷ []
+unfolding file_lines
+last_line b [] h = let f = free_first b [] h in rw f.0 refl
+last_line b (c ∷ bs) h = let f = free_first b (c ∷ bs) h in rw f.0 (ap (with_byte b) (last_line c bs f.1))
+
+free_with_dollar : (bytes : Text) → HasNoNewline bytes → HasNoNewline (bytes ++ 36 ∷ [])
+free_with_dollar bytes h =
+    list_all-append (λ b. not (b == 10)) bytes (36 ∷ [])
+    ∙ and_from (list_all (λ b. not (b == 10)) bytes) (list_all (λ b. not (b == 10)) (36 ∷ [])) h refl
+
+-- ---- a dollar at the end
+
+one_dollar : (pending : Bool) → (not pending && true) ≡ not pending
+one_dollar true = refl
+one_dollar false = refl
+
+dollar_last : (pending : Bool) (bytes : Text)
+    → ends_in_dollar pending (bytes ++ 36 ∷ []) ≡ not (ends_in_dollar pending bytes)
+unfolding ends_in_dollar
+dollar_last pending [] = one_dollar pending
+dollar_last pending (b ∷ bs) = dollar_last (not pending && b == 36) bs
+
+indent_one : (b : ℕ) (bs : Text) → (b == 32) ≡ true → without_indent (b ∷ bs) ≡ without_indent bs
+indent_one b bs h = rw h (grind arith)
+
+indent_none : (b : ℕ) (bs : Text) → (b == 32) ≡ false → without_indent (b ∷ bs) ≡ b ∷ bs
+indent_none b bs h = rw h refl
+
+indent_dollar : (bytes : Text) → without_indent (bytes ++ 36 ∷ []) ≡ without_indent bytes ++ 36 ∷ []
+indent_dollar [] = refl
+indent_dollar (b ∷ bs) =
+    ⊎_elim
+    (λ h. indent_one b (bs ++ 36 ∷ []) h ∙ indent_dollar bs
+    ∙ ap (λ (t : Text). t ++ 36 ∷ []) (sym (indent_one b bs h)))
+    (λ h. indent_none b (bs ++ 36 ∷ []) h ∙ ap (λ (t : Text). t ++ 36 ∷ []) (sym (indent_none b bs h)))
+    (cases_Bool (b == 32))
+
+joined_dollar : (begun : Option Begun) (bytes : Text)
+    → joined_text begun (bytes ++ 36 ∷ []) ≡ joined_text begun bytes ++ 36 ∷ []
+joined_dollar None bytes = refl
+joined_dollar (Some begun) bytes =
+    ap (λ (t : Text). begun.front ++ t) (indent_dollar bytes)
+    ∙ sym (append_assoc begun.front (without_indent bytes) (36 ∷ []))
+
+comment_dollar : (text : Text) → is_comment (text ++ 36 ∷ []) ≡ is_comment text
+unfolding is_comment
+comment_dollar [] = refl
+comment_dollar (b ∷ bs) = ⊎_elim (λ h. rw h (comment_dollar bs)) (λ h. rw h refl) (cases_Bool (b == 32))
+
+without_dollar : (text : Text) → take (length (text ++ 36 ∷ []) - 1) (text ++ 36 ∷ []) ≡ text
+without_dollar text = last-append text (36 ∷ []) (omega arith) ∙ append-nil text
+
+-- ---- a line that goes on, and one that doesn't
+
+abbrev begun_with : ℕ → Option Begun → Text → Option Begun
+begun_with number begun text = Some (record { first = first_number number begun; front = text })
+
+goes : (number : ℕ) (begun : Option Begun) (l : FileLine) (ls : List FileLine)
+    → goes_on l (joined_text begun l.bytes) ≡ true
+    → joined_from number begun (l ∷ ls)
+    ≡ joined_from (number + 1)
+    (begun_with number begun (take (length (joined_text begun l.bytes) - 1) (joined_text begun l.bytes))) ls
+unfolding joined_from
+goes number begun l ls h = rw h refl
+
+stops : (number : ℕ) (begun : Option Begun) (l : FileLine) (ls : List FileLine)
+    → goes_on l (joined_text begun l.bytes) ≡ false
+    → joined_from number begun (l ∷ ls) ≡ record {
+      number = first_number number begun;
+      text = joined_text begun l.bytes;
+      ended = l.ended;
+    } ∷ joined_from (number + 1) None ls
+unfolding joined_from
+stops number begun l ls h = rw h refl
+
+front_goes : (number : ℕ) (begun : Option Begun) (front rest : Text) → HasNoNewline front
+    → ends_in_dollar false front ≡ false
+    → is_comment (joined_text begun front) ≡ false
+    → joined_from number begun (file_lines (front ++ 36 ∷ 10 ∷ rest))
+    ≡ joined_from (number + 1) (begun_with number begun (joined_text begun front)) (file_lines rest)
+front_goes number begun front rest free dollar plain =
+    let text = joined_text begun front in
+    let line : FileLine = record { bytes = front ++ 36 ∷ []; ended = true } in
+    let cut : file_lines (front ++ 36 ∷ 10 ∷ rest) ≡ line ∷ file_lines rest =
+    ap file_lines (sym (append_assoc front (36 ∷ []) (10 ∷ rest)))
+    ∙ ended_line (front ++ 36 ∷ []) rest (free_with_dollar front free) in
+    let is = joined_dollar begun front in
+    let ends : ends_in_dollar false (front ++ 36 ∷ []) ≡ true = dollar_last false front ∙ ap not dollar in
+    let shown : is_comment (joined_text begun (front ++ 36 ∷ [])) ≡ false =
+    ap is_comment is ∙ comment_dollar text ∙ plain in
+    let on : goes_on line (joined_text begun line.bytes) ≡ true =
+    and_from (ends_in_dollar false (front ++ 36 ∷ []))
+    (not (is_comment (joined_text begun (front ++ 36 ∷ [])))) ends (ap not shown) in
+    ap (joined_from number begun) cut ∙ goes number begun line (file_lines rest) on
+    ∙ ap (λ (t : Text). joined_from (number + 1) (begun_with number begun t) (file_lines rest))
+    (ap (λ (t : Text). take (length t - 1) t) is ∙ without_dollar text)
+
+-- ---- the lines of the file that are one line
+
+comment_stays : (front back : Text) → is_comment (front ++ back) ≡ false → is_comment front ≡ false
+unfolding is_comment
+comment_stays [] back h = refl
+comment_stays (b ∷ bs) back h =
+    ⊎_elim (λ e. rw e (comment_stays bs back (rw e at h))) (λ e. rw e (rw e at h)) (cases_Bool (b == 32))
+
+-- what is kept of fronts after what is begun
+abbrev fronts_text : Option Begun → List Text → Text
+fronts_text None fronts = kept_of fronts
+fronts_text (Some begun) fronts = begun.front ++ flat_map without_indent fronts
+
+text_more : (number : ℕ) (begun : Option Begun) (front : Text) (fronts : List Text)
+    → fronts_text (begun_with number begun (joined_text begun front)) fronts ≡ fronts_text begun (front ∷ fronts)
+text_more number None front fronts = refl
+text_more number (Some begun) front fronts =
+    append_assoc begun.front (without_indent front) (flat_map without_indent fronts)
+
+text_one : (begun : Option Begun) (bytes : Text) → fronts_text begun (bytes ∷ []) ≡ joined_text begun bytes
+text_one None bytes = append-nil bytes
+text_one (Some begun) bytes = ap (λ (t : Text). begun.front ++ t) (append-nil (without_indent bytes))
+
+first_plain : (begun : Option Begun) (front : Text) (fronts : List Text)
+    → is_comment (fronts_text begun (front ∷ fronts)) ≡ false → is_comment (joined_text begun front) ≡ false
+first_plain None front fronts h = comment_stays front (flat_map without_indent fronts) h
+first_plain (Some begun) front fronts h =
+    comment_stays (begun.front ++ without_indent front) (flat_map without_indent fronts)
+    (ap is_comment (append_assoc begun.front (without_indent front) (flat_map without_indent fronts)) ∙ h)
+
+-- the newline that ends a line, after what is begun
+abbrev EndsBehind : Option Begun → List Text → Text → Type 0
+EndsBehind begun fronts last =
+    (ends_in_dollar false last ≡ false) ⊎ (is_comment (fronts_text begun (fronts ++ last ∷ [])) ≡ true)
+
+no_more : (last text : Text) → (ends_in_dollar false last ≡ false) ⊎ (is_comment text ≡ true)
+    → (ends_in_dollar false last && not (is_comment text)) ≡ false
+no_more last text (inl h) = rw h refl
+no_more last text (inr h) = rw h (and_nothing (ends_in_dollar false last))
+
+end_stops : (number : ℕ) (begun : Option Begun) (last rest : Text) → HasNoNewline last → EndsBehind begun [] last
+    → joined_from number begun (file_lines (last ++ 10 ∷ rest))
+    ≡ record {
+      number = first_number number begun;
+      text = fronts_text begun (last ∷ []);
+      ended = true;
+    } ∷ joined_from (number + 1) None (file_lines rest)
+end_stops number begun last rest free ends =
+    let line : FileLine = record { bytes = last; ended = true } in
+    let is = text_one begun last in
+    let off : goes_on line (joined_text begun last) ≡ false =
+    ap (λ (t : Text). ends_in_dollar false last && not (is_comment t)) (sym is)
+    ∙ no_more last (fronts_text begun (last ∷ [])) ends in
+    ap (joined_from number begun) (ended_line last rest free) ∙ stops number begun line (file_lines rest) off
+    ∙ ap (λ (t : Text). record {
+      number = first_number number begun;
+      text = t;
+      ended = true;
+    } ∷ joined_from (number + 1) None (file_lines rest)) (sym is)
+
+line_ended : (fronts : List Text) (number : ℕ) (begun : Option Begun) (last rest : Text) → AreUnescaped fronts
+    → is_comment (fronts_text begun fronts) ≡ false → HasNoNewline last → EndsBehind begun fronts last
+    → joined_from number begun (file_lines (fronts_in_file fronts ++ (last ++ 10 ∷ rest)))
+    ≡ record {
+      number = first_number number begun;
+      text = fronts_text begun (fronts ++ last ∷ []);
+      ended = true;
+    } ∷ joined_from (number + length fronts + 1) None (file_lines rest)
+line_ended [] number begun last rest are plain free ends =
+    end_stops number begun last rest free ends
+    ∙ ap (λ (n : ℕ). record {
+      number = first_number number begun;
+      text = fronts_text begun (last ∷ []);
+      ended = true;
+    } ∷ joined_from n None (file_lines rest)) (omega arith)
+line_ended (f ∷ fs) number begun last rest are plain free ends =
+    let next = begun_with number begun (joined_text begun f) in
+    let whole : Text = fronts_in_file fs ++ (last ++ 10 ∷ rest) in
+    let more : (ms : List Text) → fronts_text next ms ≡ fronts_text begun (f ∷ ms) = text_more number begun f in
+    ap (λ (t : Text). joined_from number begun (file_lines t))
+    (append_assoc f (36 ∷ 10 ∷ fronts_in_file fs) (last ++ 10 ∷ rest))
+    ∙ front_goes number begun f whole are.0 are.1 (first_plain begun f fs plain)
+    ∙ line_ended fs (number + 1) next last rest are.2 (ap is_comment (more fs) ∙ plain) free
+    (subst (λ (t : Text). (ends_in_dollar false last ≡ false) ⊎ (is_comment t ≡ true))
+    (sym (more (fs ++ last ∷ []))) ends)
+    ∙ ap (λ (t : Text). record {
+      number = first_number number begun;
+      text = t;
+      ended = true;
+    } ∷ joined_from (number + 1 + length fs + 1) None (file_lines rest)) (more (fs ++ last ∷ []))
+    ∙ ap (λ (n : ℕ). record {
+      number = first_number number begun;
+      text = fronts_text begun (f ∷ fs ++ last ∷ []);
+      ended = true;
+    } ∷ joined_from n None (file_lines rest)) (omega arith)
+
+open_stops : (last : Text) (number : ℕ) (begun : Option Begun) → HasNoNewline last → (begun ≡ None → last ≡ [] → ⊥)
+    → joined_from number begun (file_lines last) ≡ record {
+      number = first_number number begun;
+      text = fronts_text begun (last ∷ []);
+      ended = false;
+    } ∷ []
+unfolding file_lines joined_from
+open_stops [] number None free some = absurd (some refl refl)
+open_stops [] number (Some begun) free some =
+    ap (λ (t : Text). record { number = begun.first; text = t; ended = false } ∷ []) (sym (append-nil begun.front))
+open_stops (c ∷ cs) number begun free some =
+    ap (joined_from number begun) (last_line c cs free)
+    ∙ stops number begun (record { bytes = c ∷ cs; ended = false }) [] refl
+    ∙ ap (λ (t : Text). record { number = first_number number begun; text = t; ended = false } ∷ [])
+    (sym (text_one begun (c ∷ cs)))
+
+is_some : {P : Type 0} (begun : Begun) → Some begun ≡ None → P
+is_some begun e = absurd (cc e)
+
+line_unended : (fronts : List Text) (number : ℕ) (begun : Option Begun) (last : Text) → AreUnescaped fronts
+    → is_comment (fronts_text begun fronts) ≡ false
+    → HasNoNewline last → (begun ≡ None → fronts ++ last ∷ [] ≡ [] ∷ [] → ⊥)
+    → joined_from number begun (file_lines (fronts_in_file fronts ++ last))
+    ≡ record {
+      number = first_number number begun;
+      text = fronts_text begun (fronts ++ last ∷ []);
+      ended = false;
+    } ∷ []
+line_unended [] number begun last are plain free some =
+    open_stops last number begun free (λ n e. some n (ap (λ (t : Text). t ∷ []) e))
+line_unended (f ∷ fs) number begun last are plain free some =
+    let next = begun_with number begun (joined_text begun f) in
+    let more : (ms : List Text) → fronts_text next ms ≡ fronts_text begun (f ∷ ms) = text_more number begun f in
+    ap (λ (t : Text). joined_from number begun (file_lines t)) (append_assoc f (36 ∷ 10 ∷ fronts_in_file fs) last)
+    ∙ front_goes number begun f (fronts_in_file fs ++ last) are.0 are.1 (first_plain begun f fs plain)
+    ∙ line_unended fs (number + 1) next last are.2 (ap is_comment (more fs) ∙ plain) free
+    (λ n e. is_some (record { first = first_number number begun; front = joined_text begun f }) n)
+    ∙ ap (λ (t : Text). record { number = first_number number begun; text = t; ended = false } ∷ [])
+    (more (fs ++ last ∷ []))
+
+by_end : (ended : Bool) (fronts : List Text) (last : Text) (ls : List Continued) (number : ℕ) → AreUnescaped fronts
+    → is_comment (kept_of fronts) ≡ false
+    → HasNoNewline last → EndsRight ended fronts last ls
+    → ((n : ℕ) → joined_from n None (file_lines (in_file ls)) ≡ numbered n ls)
+    → joined_from number None (file_lines (fronts_in_file fronts ++ (last ++ (end_in_file ended ++ in_file ls))))
+    ≡ record {
+      number = number;
+      text = kept_of (fronts ++ last ∷ []);
+      ended = ended;
+    } ∷ numbered (number + length fronts + 1) ls
+by_end true fronts last ls number are plain free ends later =
+    line_ended fronts number None last (in_file ls) are plain free ends
+    ∙ ap (λ (ms : List JoinedLine). record { number = number; text = kept_of (fronts ++ last ∷ []); ended = true } ∷ ms)
+    (later (number + length fronts + 1))
+by_end false fronts last ls number are plain free ends later =
+    rw ends.0 (ap (λ (t : Text). joined_from number None (file_lines (fronts_in_file fronts ++ t))) (append-nil last)
+    ∙ line_unended fronts number None last are plain free (λ n. ends.1))
+
+joins_all : (lines : List Continued) (number : ℕ) → AreContinued lines
+    → joined_from number None (file_lines (in_file lines)) ≡ numbered number lines
+unfolding joined_from file_lines
+joins_all [] number h = refl
+joins_all (l ∷ ls) number h = by_end l.ended l.fronts l.last ls number h.0 h.1 h.2 h.3 (λ n. joins_all ls n h.4)
+
+-- ---- each text is such lines
+
+dollar_cut : (pending : Bool) (bytes : Text) → ends_in_dollar pending bytes ≡ true
+    → ((bytes ≡ []) × (pending ≡ true)) ⊎
+    ((front : Text) × (bytes ≡ front ++ 36 ∷ []) × (ends_in_dollar pending front ≡ false))
+unfolding ends_in_dollar
+dollar_cut pending [] h = inl (refl, h)
+dollar_cut pending (b ∷ bs) h = past (dollar_cut (not pending && b == 36) bs h)
+  where
+    past : ((bs ≡ []) × ((not pending && b == 36) ≡ true)) ⊎
+        ((front : Text) × (bs ≡ front ++ 36 ∷ []) × (ends_in_dollar (not pending && b == 36) front ≡ false))
+        → ((b ∷ bs ≡ []) × (pending ≡ true)) ⊎
+        ((front : Text) × (b ∷ bs ≡ front ++ 36 ∷ []) × (ends_in_dollar pending front ≡ false))
+    past (inl found) =
+        let both = and_parts (not pending) (b == 36) found.1 in
+        inr ([], rw found.0 (ap (λ (c : ℕ). c ∷ []) (eqb-true b 36 both.1)), not-true pending both.0)
+    past (inr found) = inr (b ∷ found.0, ap (λ (t : Text). b ∷ t) found.1, found.2)
+
+last_dollar : (bytes : Text) → ends_in_dollar false bytes ≡ true
+    → (front : Text) × (bytes ≡ front ++ 36 ∷ []) × (ends_in_dollar false front ≡ false)
+last_dollar bytes h = ⊎_elim (λ e. absurd (false≢true e.1)) (λ e. e) (dollar_cut false bytes h)
+
+free_part : (front back : Text) → HasNoNewline (front ++ back) → HasNoNewline front
+free_part front back h =
+    (and_parts (list_all (λ b. not (b == 10)) front) (list_all (λ b. not (b == 10)) back)
+    (sym (list_all-append (λ b. not (b == 10)) front back) ∙ h)).0
+
+fronts_more : (fronts : List Text) (front : Text) → AreUnescaped fronts → HasNoNewline front
+    → ends_in_dollar false front ≡ false → AreUnescaped (fronts ++ front ∷ [])
+fronts_more [] front are free dollar = (free, dollar, tt)
+fronts_more (f ∷ fs) front are free dollar = (are.0, are.1, fronts_more fs front are.2 free dollar)
+
+in_file_more : (fronts : List Text) (front rest : Text)
+    → fronts_in_file (fronts ++ front ∷ []) ++ rest ≡ fronts_in_file fronts ++ (front ++ 36 ∷ 10 ∷ rest)
+in_file_more [] front rest = append_assoc front (36 ∷ 10 ∷ []) rest
+in_file_more (f ∷ fs) front rest =
+    append_assoc f (36 ∷ 10 ∷ fronts_in_file (fs ++ front ∷ [])) rest
+    ∙ ap (λ (t : Text). f ++ 36 ∷ 10 ∷ t) (in_file_more fs front rest)
+    ∙ sym (append_assoc f (36 ∷ 10 ∷ fronts_in_file fs) (front ++ 36 ∷ 10 ∷ rest))
+
+-- what is begun where these fronts are put together
+abbrev begun_by : List Text → Option Begun
+begun_by [] = None
+begun_by (f ∷ fs) = Some (record { first = 0; front = kept_of (f ∷ fs) })
+
+kept_more : (fronts : List Text) (bytes : Text) → kept_of (fronts ++ bytes ∷ []) ≡ joined_text (begun_by fronts) bytes
+kept_more [] bytes = append-nil bytes
+kept_more (f ∷ fs) bytes =
+    ap (λ (t : Text). f ++ t)
+    (flat_map-append without_indent fs (bytes ∷ [])
+    ∙ ap (λ (t : Text). flat_map without_indent fs ++ t) (append-nil (without_indent bytes)))
+    ∙ sym (append_assoc f (flat_map without_indent fs) (without_indent bytes))
+
+plain_more : (fronts : List Text) (front : Text) → is_comment (kept_of (fronts ++ (front ++ 36 ∷ []) ∷ [])) ≡ false
+    → is_comment (kept_of (fronts ++ front ∷ [])) ≡ false
+plain_more fronts front h =
+    let text = joined_text (begun_by fronts) front in
+    ap is_comment (kept_more fronts front) ∙ sym (comment_dollar text)
+    ∙ ap is_comment (sym (joined_dollar (begun_by fronts) front))
+    ∙ ap is_comment (sym (kept_more fronts (front ++ 36 ∷ []))) ∙ h
+
+none_plain : is_comment (kept_of []) ≡ false
+unfolding is_comment
+none_plain = refl
+
+abbrev HasLines : Text → Type 0
+HasLines text = (lines : List Continued) × (in_file lines ≡ text) × AreContinued lines
+
+-- the text after these fronts and these bytes of the next line
+abbrev Goes : Text → Type 0
+Goes text = (fronts : List Text) (bytes : Text) → AreUnescaped fronts → is_comment (kept_of fronts) ≡ false
+    → HasNoNewline bytes
+    → HasLines (fronts_in_file fronts ++ (bytes ++ text))
+
+line_first : (fronts : List Text) (last : Text) (ended : Bool) (ls : List Continued) → AreUnescaped fronts
+    → is_comment (kept_of fronts) ≡ false → HasNoNewline last
+    → EndsRight ended fronts last ls → AreContinued ls
+    → HasLines (fronts_in_file fronts ++ (last ++ (end_in_file ended ++ in_file ls)))
+line_first fronts last ended ls are plain free ends later =
+    (record { fronts = fronts; last = last; ended = ended } ∷ ls, refl, (are, plain, free, ends, later))
+
+no_line : HasLines []
+no_line = ([], refl, tt)
+
+some_line : (fronts : List Text) (bytes : Text) → AreUnescaped fronts → is_comment (kept_of fronts) ≡ false
+    → HasNoNewline bytes
+    → (fronts ++ bytes ∷ [] ≡ [] ∷ [] → ⊥) → HasLines (fronts_in_file fronts ++ (bytes ++ []))
+some_line fronts bytes are plain free some = line_first fronts bytes false [] are plain free (refl, some) tt
+
+goes_end : Goes []
+goes_end [] [] are plain free = no_line
+goes_end [] (b ∷ bs) are plain free = some_line [] (b ∷ bs) are plain free (λ e. absurd (cc e))
+goes_end (f ∷ []) bytes are plain free = some_line (f ∷ []) bytes are plain free (λ e. absurd (cc e))
+goes_end (f ∷ g ∷ fs) bytes are plain free = some_line (f ∷ g ∷ fs) bytes are plain free (λ e. absurd (cc e))
+
+goes_on_by : (fronts : List Text) (bytes rest : Text) → Goes rest → AreUnescaped fronts → HasNoNewline bytes
+    → ends_in_dollar false bytes ≡ true
+    → is_comment (kept_of (fronts ++ bytes ∷ [])) ≡ false → HasLines (fronts_in_file fronts ++ (bytes ++ 10 ∷ rest))
+goes_on_by fronts bytes rest later are free dollar plain =
+    let (front, is, even) = last_dollar bytes dollar in
+    let front_free = free_part front (36 ∷ []) (subst HasNoNewline is free) in
+    let shown = plain_more fronts front
+    (subst (λ (t : Text). is_comment (kept_of (fronts ++ t ∷ [])) ≡ false) is plain) in
+    let same : fronts_in_file (fronts ++ front ∷ []) ++ rest ≡ fronts_in_file fronts ++ (bytes ++ 10 ∷ rest) =
+    in_file_more fronts front rest
+    ∙ ap (λ (t : Text). fronts_in_file fronts ++ t)
+    (sym (append_assoc front (36 ∷ []) (10 ∷ rest)) ∙ ap (λ (t : Text). t ++ 10 ∷ rest) (sym is)) in
+    subst HasLines same (later (fronts ++ front ∷ []) [] (fronts_more fronts front are front_free even) shown refl)
+
+stops_by : (fronts : List Text) (bytes rest : Text) → Goes rest → AreUnescaped fronts
+    → is_comment (kept_of fronts) ≡ false → HasNoNewline bytes
+    → IsEnd fronts bytes → HasLines (fronts_in_file fronts ++ (bytes ++ 10 ∷ rest))
+stops_by fronts bytes rest later are plain free ends =
+    let (ls, is, right) = later [] [] tt none_plain refl in
+    subst (λ (t : Text). HasLines (fronts_in_file fronts ++ (bytes ++ 10 ∷ t))) is
+    (line_first fronts bytes true ls are plain free ends right)
+
+byte_more : (fronts : List Text) (bytes rest : Text) (b : ℕ) → Goes rest → AreUnescaped fronts
+    → is_comment (kept_of fronts) ≡ false → HasNoNewline bytes
+    → (b == 10) ≡ false → HasLines (fronts_in_file fronts ++ (bytes ++ b ∷ rest))
+byte_more fronts bytes rest b later are plain free h =
+    let more : HasNoNewline (bytes ++ b ∷ []) =
+    list_all-append (λ c. not (c == 10)) bytes (b ∷ [])
+    ∙ and_from (list_all (λ c. not (c == 10)) bytes) (list_all (λ c. not (c == 10)) (b ∷ [])) free
+    (and_from (not (b == 10)) true (ap not h) refl) in
+    subst (λ (t : Text). HasLines (fronts_in_file fronts ++ t)) (append_assoc bytes (b ∷ []) rest)
+    (later fronts (bytes ++ b ∷ []) are plain more)
+
+goes_byte : (b : ℕ) (rest : Text) → Goes rest → Goes (b ∷ rest)
+goes_byte b rest later fronts bytes are plain free =
+    ⊎_elim
+    (λ h. subst (λ (c : ℕ). HasLines (fronts_in_file fronts ++ (bytes ++ c ∷ rest))) (sym (eqb-true b 10 h))
+    (⊎_elim
+    (λ d. ⊎_elim
+    (λ c. stops_by fronts bytes rest later are plain free (inr c))
+    (λ c. goes_on_by fronts bytes rest later are free d c)
+    (cases_Bool (is_comment (kept_of (fronts ++ bytes ∷ [])))))
+    (λ d. stops_by fronts bytes rest later are plain free (inl d))
+    (cases_Bool (ends_in_dollar false bytes))))
+    (λ h. byte_more fronts bytes rest b later are plain free h)
+    (cases_Bool (b == 10))
+
+all_go : (text : Text) → Goes text
+all_go [] = goes_end
+all_go (b ∷ rest) = goes_byte b rest (all_go rest)
+
+pub joined_law : JoinedLaw
+unfolding joined_lines
+joined_law = record {
+  some = λ text. all_go text [] [] tt none_plain refl;
+  only = λ lines h. joins_all lines 1 h;
+}

@@ -1,0 +1,243 @@
+-- Joined lines, line by line of the file.
+use Rattle.std.proofs.Common.{◌≡◌, ℕ, suc, zero, ◌+◌, ◌-◌, ◌<◌, ◌≤◌, Bool, true, false, not, ◌==◌, ◌&&◌, unwrap_or, List, [], ◌∷◌, ◌++◌, refl, sym, ◌∙◌, ap, append_assoc, length, length-append, take, drop, get_or, slice_index_or, subst, arith, Option, Some, None, find, if◌then◌else◌, ⊎_elim}
+use Rattle.std.proofs.lemmas.Bool.{cases_Bool, false≢true, false_from_ne_true, eqb-true, and_parts, not-true}
+use Rattle.std.proofs.lemmas.List.Folds.{list_all-append}
+use Rattle.std.proofs.Math.Seq.{take-append-add, drop-cons}
+use Rattle.kt_ninja_reader.specs.declared.joined.FileLine.{FileLine as CutLine}
+use Rattle.kt_ninja_reader.specs.declared.joined.Begun.{Begun as OpenLine}
+use Rattle.kt_ninja_reader.specs.inner.Joining.{Joins, added_text, begun_by, file_line, kept_text, text_with}
+use Rattle.std.proofs.lemmas.List.Sums.{position_or_len_is}
+use Rattle.memchr.specs.Find.{IsFirstByte, is_byte}
+use Rattle.std.specs.List.{position_or_len}
+use Rattle.kt_ninja_reader.specs.JoinedLines.{FileLine, JoinedLine, Text, ends_in_dollar, file_lines, first_number, goes_on, is_blank, is_comment, joined_from, joined_text, left_over, with_byte, without_indent}
+
+-- whether a byte that was found is a hash
+abbrev pub is_hash : Option ℕ → Bool
+is_hash None = false
+is_hash (Some b) = b == 35
+
+-- a comment by its first byte that is no space
+pub comment_place : (text : Text) → is_comment text ≡ is_hash (find (λ b. not (b == 32)) text)
+unfolding is_comment
+comment_place [] = refl
+comment_place (b ∷ bs) = ⊎_elim (λ h. rw h (comment_place bs)) (λ h. rw h refl) (cases_Bool (b == 32))
+
+pub comment_found : (text : Text) (found : Option ℕ) → found ≡ find (λ b. not (b == 32)) text → is_hash found ≡ is_comment text
+comment_found text found h = ap is_hash h ∙ sym (comment_place text)
+
+-- the place that memchr finds
+pub newline_found : (text : Text) (found : Option ℕ) → IsFirstByte (is_byte 10) text found → unwrap_or found (length text) ≡ position_or_len (λ b. b == 10) text
+newline_found text None h =
+    sym (position_or_len_is (λ b. b == 10) text (length text) 0 (omega arith) (λ k l. false_from_ne_true _ (h k (omega arith) l)) (λ l. absurd (omega arith)))
+newline_found text (Some place) h =
+    let low : place ≤ length text = omega (arith, h.0.high) in
+    sym (position_or_len_is (λ b. b == 10) text place 0 low (λ k l. false_from_ne_true _ (h.0.before k (omega arith) l)) (λ l. h.1))
+
+-- the file lines of a text by its first newline: what stands after the place
+abbrev pub lines_at : Text → Text → List FileLine
+lines_at bytes [] = record { bytes = bytes; ended = false } ∷ []
+lines_at bytes (b ∷ after) = record { bytes = bytes; ended = true } ∷ file_lines after
+
+with_lines_at : (b : ℕ) (bytes after : Text) → with_byte b (lines_at bytes after) ≡ lines_at (b ∷ bytes) after
+with_lines_at b bytes [] = refl
+with_lines_at b bytes (c ∷ after) = refl
+
+pub file_lines_at : (text : Text) → 0 < length text
+    → file_lines text ≡ lines_at (take (position_or_len (λ b. b == 10) text) text) (drop (position_or_len (λ b. b == 10) text) text)
+unfolding file_lines
+file_lines_at [] some = absurd (omega arith)
+file_lines_at (b ∷ []) some = ⊎_elim (λ h. rw h refl) (λ h. rw h refl) (cases_Bool (b == 10))
+file_lines_at (b ∷ c ∷ bs) some =
+    let n = position_or_len (λ b. b == 10) (c ∷ bs) in
+    ⊎_elim (λ h. rw h refl) (λ h. rw h (ap (with_byte b) (file_lines_at (c ∷ bs) (omega arith)) ∙ with_lines_at b (take n (c ∷ bs)) (drop n (c ∷ bs)) ∙ grind arith)) (cases_Bool (b == 10))
+
+-- a text that is cut at its first newline
+pub lines_cut : (text bytes rest tail : Text) (n : ℕ) → 0 < length text → n ≡ position_or_len (λ b. b == 10) text → bytes ≡ take n text → rest ≡ drop n text → rest ≡ tail
+    → file_lines text ≡ lines_at bytes tail
+lines_cut text bytes rest tail n some place front back is =
+    file_lines_at text some ∙ rw (sym place) (rw (sym front) (ap (lines_at bytes) (sym back ∙ is)))
+
+pub lines_none : (rest : Text) → rest ≡ [] → file_lines rest ≡ []
+unfolding file_lines
+lines_none rest h = rw h refl
+
+-- dollars, byte by byte
+pub dollar_step : (pending : Bool) (text : Text) (i : ℕ) → i < length text
+    → ends_in_dollar pending (drop i text) ≡ ends_in_dollar (not pending && get_or text i 0 == 36) (drop (i + 1) text)
+unfolding ends_in_dollar
+dollar_step pending text i low =
+    let e : i + 1 ≡ suc i = omega arith in
+    rw (e, drop-cons text i 0 low) refl
+
+-- a comment in two parts: the second counts where the first is blank
+pub comment-append : (front back : Text) → is_comment (front ++ back) ≡ (if is_blank front then is_comment back else is_comment front)
+unfolding is_comment
+comment-append [] back = refl
+comment-append (b ∷ bs) back = ⊎_elim (λ h. rw h (comment-append bs back)) (λ h. rw h refl) (cases_Bool (b == 32))
+
+comment_by : (blank : Bool) (front back : Bool) → front ≡ false → (if blank then back else front) ≡ (blank && back)
+comment_by true front back h = refl
+comment_by false front back h = h
+
+pub comment-joined : (front back : Text) → is_comment front ≡ false → is_comment (front ++ back) ≡ (is_blank front && is_comment back)
+comment-joined front back h = comment-append front back ∙ comment_by (is_blank front) (is_comment front) (is_comment back) h
+
+pub comment-take : (n : ℕ) (text : Text) → is_comment text ≡ false → is_comment (take n text) ≡ false
+unfolding is_comment
+comment-take zero text h = refl
+comment-take (suc n) [] h = refl
+comment-take (suc n) (b ∷ bs) h = ⊎_elim (λ d. rw d (comment-take n bs (rw d at h))) (λ d. rw d (rw d at h)) (cases_Bool (b == 32))
+
+-- all but the last byte of two parts, the second of which has one
+pub last-append : (front back : Text) → 0 < length back → take (length (front ++ back) - 1) (front ++ back) ≡ front ++ take (length back - 1) back
+last-append front back some =
+    let e : length (front ++ back) - 1 ≡ length front + (length back - 1) = omega (arith, length-append front back) in
+    rw e (take-append-add front back (length back - 1))
+
+-- a text that ends in a dollar has one after its indent
+some-dollar : (pending : Bool) (bs : Text) → pending ≡ false → ends_in_dollar pending bs ≡ true → 0 < length (without_indent bs)
+unfolding ends_in_dollar
+some-dollar pending [] none h = absurd (false≢true (sym none ∙ h))
+some-dollar pending (b ∷ bs) none h =
+    ⊎_elim
+    (λ d. let e : b ≡ 32 = eqb-true _ _ d in let below = some-dollar false bs refl (rw (none, e) at h) in rw (drop-prefix b bs d) below)
+    (λ d. rw d (omega arith))
+    (cases_Bool (b == 32))
+  where
+    drop-prefix : (c : ℕ) (cs : Text) → (c == 32) ≡ true → without_indent (c ∷ cs) ≡ without_indent cs
+    drop-prefix c cs d = rw d (grind arith)
+
+some-text : (bs : Text) → ends_in_dollar false bs ≡ true → 0 < length bs
+unfolding ends_in_dollar
+some-text [] h = absurd (false≢true h)
+some-text (b ∷ bs) h = omega arith
+
+pub some-added : (going_on : Bool) (bs : Text) → ends_in_dollar false bs ≡ true → 0 < length (added_text going_on bs)
+some-added true bs h = some-dollar false bs refl h
+some-added false bs h = some-text bs h
+
+-- what is kept after what was begun, by whether the line goes on
+kept-append : (going_on : Bool) (front back : Text) → (going_on ≡ true → 0 < length back)
+    → front ++ kept_text going_on back ≡ (if going_on then take (length (front ++ back) - 1) (front ++ back) else front ++ back)
+kept-append true front back some = sym (last-append front back (some refl))
+kept-append false front back some = refl
+
+comment-kept : (going_on : Bool) (joined : Text) → (going_on ≡ true → is_comment joined ≡ false) → going_on ≡ true
+    → is_comment (if going_on then take (length joined - 1) joined else joined) ≡ false
+comment-kept true joined plain h = comment-take (length joined - 1) joined (plain refl)
+comment-kept false joined plain h = absurd (false≢true h)
+
+-- a line of the file that is joined
+pub joins : (old : OpenLine) (line : CutLine) (new : OpenLine) (bytes kept : Text)
+    → old.blank ≡ is_blank old.text → is_comment old.text ≡ false
+    → bytes ≡ added_text old.going_on line.bytes.now
+    → new.going_on ≡ (line.ended && (ends_in_dollar false line.bytes.now && not (old.blank && is_comment bytes)))
+    → kept ≡ kept_text new.going_on bytes
+    → new.blank ≡ (old.blank && is_blank kept)
+    → new.text ≡ old.text ++ kept
+    → new.number ≡ old.number
+    → Joins old line new
+joins old line new bytes kept blank plain is_added going is_kept is_blank_now text number =
+    let front = old.text in
+    let joined = text_with old line in
+    let whole : front ++ bytes ≡ joined = ap (λ b. front ++ b) is_added in
+    let comment : is_comment joined ≡ (old.blank && is_comment bytes) =
+    ap is_comment (sym whole) ∙ comment-joined front bytes plain ∙ ap (λ b. b && is_comment bytes) (sym blank) in
+    let goes : new.going_on ≡ goes_on (file_line line) joined = going ∙ ap (λ b. line.ended && (ends_in_dollar false line.bytes.now && not b)) (sym comment) in
+    let on : new.going_on ≡ true → (ends_in_dollar false line.bytes.now ≡ true) × (is_comment joined ≡ false) = λ h.
+    let parts = and_parts _ _ (sym goes ∙ h) in let inner = and_parts _ _ parts.1 in (inner.0, not-true _ inner.1) in
+    let some : new.going_on ≡ true → 0 < length bytes = λ h. rw is_added (some-added old.going_on line.bytes.now (on h).0) in
+    let kept_is : new.text ≡ (if new.going_on then take (length joined - 1) joined else joined) =
+    text ∙ ap (λ k. front ++ k) is_kept ∙ kept-append new.going_on front bytes some ∙ ap (λ j. if new.going_on then take (length j - 1) j else j) whole in
+    record {
+      going_on = goes;
+      kept = kept_is;
+      same_number = number;
+      blank = is_blank_now ∙ ap (λ b. b && is_blank kept) blank ∙ sym (list_all-append (λ b. b == 32) front kept) ∙ ap is_blank (sym text);
+      plain = λ h. ap is_comment kept_is ∙ comment-kept new.going_on joined (λ g. (on g).1) h;
+    }
+
+-- the lines from a place on, by what was begun there
+joined_text-by : (g : Bool) (begun : OpenLine) (bytes : Text) → begun.going_on ≡ g → (g ≡ false → begun.text ≡ [])
+    → joined_text (begun_by g begun) bytes ≡ begun.text ++ added_text begun.going_on bytes
+joined_text-by true begun bytes h none = rw h refl
+joined_text-by false begun bytes h none = rw (h, none refl) refl
+
+first_number-by : (g : Bool) (begun : OpenLine) (number : ℕ) → (g ≡ false → begun.number ≡ number) → first_number number (begun_by g begun) ≡ begun.number
+first_number-by true begun number h = refl
+first_number-by false begun number h = sym (h refl)
+
+-- what a step leaves
+abbrev pub stepped : Bool → ℕ → OpenLine → CutLine → List FileLine → List JoinedLine
+stepped true number new line later = joined_from (number + 1) (begun_by true new) later
+stepped false number new line later = record { number = new.number; text = new.text; ended = line.ended } ∷ joined_from (number + 1) None later
+
+step_by : (g : Bool) (number first : ℕ) (joined : Text) (new : OpenLine) (line : CutLine) (later : List FileLine)
+    → new.going_on ≡ g → new.number ≡ first → new.text ≡ (if g then take (length joined - 1) joined else joined)
+    → (if g then joined_from (number + 1) (Some (record { first = first; front = take (length joined - 1) joined })) later
+    else record { number = first; text = joined; ended = line.ended } ∷ joined_from (number + 1) None later)
+    ≡ stepped g number new line later
+step_by true number first joined new line later h n t = rw (n, t) refl
+step_by false number first joined new line later h n t = rw (n, t) refl
+
+pub joined_step : (number : ℕ) (begun : OpenLine) (line : CutLine) (later : List FileLine) (new : OpenLine)
+    → Joins begun line new → (begun.going_on ≡ false → begun.number ≡ number) → (begun.going_on ≡ false → begun.text ≡ [])
+    → joined_from number (begun_by begun.going_on begun) (file_line line ∷ later) ≡ stepped new.going_on number new line later
+unfolding joined_from
+joined_step number begun line later new joins numbered fresh =
+    let text : joined_text (begun_by begun.going_on begun) line.bytes.now ≡ text_with begun line = joined_text-by begun.going_on begun line.bytes.now refl fresh in
+    let first : first_number number (begun_by begun.going_on begun) ≡ begun.number = first_number-by begun.going_on begun number numbered in
+    rw (text, first, sym joins.going_on) (step_by new.going_on number begun.number (text_with begun line) new line later refl joins.same_number joins.kept)
+
+pub joined_end : (g : Bool) (number : ℕ) (begun : OpenLine) → joined_from number (begun_by g begun) [] ≡ left_over (begun_by g begun)
+unfolding joined_from
+joined_end g number begun = refl
+
+-- the lines that are left after a step: one ended
+pub pushed : (number : ℕ) (lines more : List JoinedLine) (begun new last : OpenLine) (line : CutLine) (rest later : List FileLine) (whole : List JoinedLine)
+    → joined_from number (begun_by begun.going_on begun) (file_line line ∷ later) ≡ stepped new.going_on number new line later
+    → rest ≡ file_line line ∷ later
+    → lines ++ joined_from number (begun_by begun.going_on begun) rest ≡ whole
+    → new.going_on ≡ false → more ≡ lines ++ record { number = new.number; text = new.text; ended = line.ended } ∷ [] → last.going_on ≡ new.going_on
+    → more ++ joined_from (number + 1) (begun_by last.going_on last) later ≡ whole
+pushed number lines more begun new last line rest later whole step cut before off longer same =
+    rw (same, off, longer)
+    (append_assoc lines (record { number = new.number; text = new.text; ended = line.ended } ∷ []) (joined_from (number + 1) None later)
+    ∙ ap (λ l. lines ++ l) (rw off at (sym step))
+    ∙ rw cut at before)
+
+-- the same where it goes on
+pub passed : (number : ℕ) (lines : List JoinedLine) (begun new : OpenLine) (line : CutLine) (rest later : List FileLine) (whole : List JoinedLine)
+    → joined_from number (begun_by begun.going_on begun) (file_line line ∷ later) ≡ stepped new.going_on number new line later
+    → rest ≡ file_line line ∷ later
+    → lines ++ joined_from number (begun_by begun.going_on begun) rest ≡ whole
+    → new.going_on ≡ true
+    → lines ++ joined_from (number + 1) (begun_by new.going_on new) later ≡ whole
+passed number lines begun new line rest later whole step cut before on =
+    rw on (ap (λ l. lines ++ l) (rw on at (sym step)) ∙ rw cut at before)
+
+-- at the end of the text
+pub over : (g : Bool) (number : ℕ) (lines : List JoinedLine) (begun : OpenLine) (rest : List FileLine) (whole : List JoinedLine)
+    → begun.going_on ≡ g → rest ≡ [] → lines ++ joined_from number (begun_by begun.going_on begun) rest ≡ whole
+    → lines ++ left_over (begun_by g begun) ≡ whole
+over g number lines begun rest whole is none before =
+    let P : Bool → Type 0 = λ b. lines ++ joined_from number (begun_by b begun) [] ≡ whole in
+    ap (λ l. lines ++ l) (sym (joined_end g number begun)) ∙ subst P is (rw none at before)
+
+-- a text that ends in another byte
+and_false : (pending : Bool) → (not pending && false) ≡ false
+and_false true = refl
+and_false false = refl
+
+pub other_end : (pending : Bool) (text : Text) → 1 ≤ length text → (slice_index_or text (length text - 1) 0 ≡ 36 → ⊥) → ends_in_dollar pending text ≡ false
+unfolding ends_in_dollar
+other_end pending [] some other = absurd (omega (arith, some))
+other_end pending (b ∷ []) some other = ⊎_elim (λ h. absurd (other (eqb-true _ _ h))) (λ h. rw h (and_false pending)) (cases_Bool (b == 36))
+other_end pending (b ∷ c ∷ bs) some other =
+    let long : length (b ∷ c ∷ bs) - 1 ≡ suc (length (c ∷ bs) - 1) = omega arith in
+    other_end (not pending && b == 36) (c ∷ bs) (omega arith) (λ e. other (ap (λ n. slice_index_or (b ∷ c ∷ bs) n 0) long ∙ e))
+
+pub no_end : (text : Text) → length text < 1 → ends_in_dollar false text ≡ false
+unfolding ends_in_dollar
+no_end [] none = refl
+no_end (b ∷ bs) none = absurd (omega (arith, none))

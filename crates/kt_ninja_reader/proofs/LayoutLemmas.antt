@@ -1,0 +1,213 @@
+-- Comments, and blank lines between statements, change nothing: the parts that a file is cut into are read alike.
+use Rattle.std.proofs.Common.{◌≡◌, ℕ, ◌+◌, Bool, true, false, not, ◌==◌, ◌&&◌, ◌||◌, List, [], ◌∷◌, ◌++◌, refl, sym, ◌∙◌, ap, length, Option, Some, None, option_map, if◌then◌else◌, Result, Ok, Err}
+use Rattle.std.proofs.lemmas.Bool.{and_from, and_parts, false≢true}
+use Rattle.std.specs.List.{list_all}
+use Rattle.std.specs.Result.{result_ok}
+use Rattle.kt_ninja_reader.specs.Continued.{AreContinued, Continued, EndsRight, numbered}
+use Rattle.kt_ninja_reader.specs.Forms.{Binding}
+use Rattle.kt_ninja_reader.specs.JoinedLines.{JoinedLine, Text, is_blank, is_comment}
+use Rattle.kt_ninja_reader.specs.Layout.{LayoutLaw, SaysNothing, is_between, text_of}
+use Rattle.kt_ninja_reader.specs.NinjaRead.{Cut, FilePart, State, all_parts, and_then_parts, begins_part, block_from, cut_lines, cut_with, is_sound, ninja_read, nothing_read, plan_in, plan_of, read_head, read_part, read_parts}
+use Rattle.kt_ninja_reader.specs.Reading.{part_before, part_of}
+use Rattle.kt_ninja_reader.proofs.ContinuedLemmas.{joined_law}
+use Rattle.kt_ninja_reader.proofs.ReaderLemmas.{begin_by}
+
+-- ---- lines and parts that are read alike
+
+-- lines below a line at the margin that are read alike
+record SameBlock (xs ys : List JoinedLine) : Type 0 where
+  sound : list_all is_sound xs ≡ list_all is_sound ys
+  block : (closed : Bool) → block_from closed xs ≡ block_from closed ys
+
+abbrev SamePart : FilePart → FilePart → Type 0
+SamePart p q = (state : State) → read_part state p ≡ read_part state q
+
+abbrev SameParts : List FilePart → List FilePart → Type 0
+SameParts [] [] = Unit {0}
+SameParts [] (q ∷ qs) = ⊥
+SameParts (p ∷ ps) [] = ⊥
+SameParts (p ∷ ps) (q ∷ qs) = SamePart p q × SameParts ps qs
+
+record SameCut (c d : Cut) : Type 0 where
+  before : SameBlock c.before d.before
+  parts : SameParts c.parts d.parts
+
+-- the same line under another number
+abbrev line_at : ℕ → Text → Bool → JoinedLine
+line_at number text ended = record { number = number; text = text; ended = ended }
+
+same_part : (p q : FilePart) → ((state : State) → read_head state p.head ≡ read_head state q.head) → SameBlock p.body q.body → SamePart p q
+unfolding read_part
+same_part p q head same state = rw (head state, same.sound, same.block false) refl
+
+block_with : (n m : ℕ) (text : Text) (ended : Bool) (xs ys : List JoinedLine) → SameBlock xs ys → SameBlock (line_at n text ended ∷ xs) (line_at m text ended ∷ ys)
+unfolding block_from
+block_with n m text ended xs ys same = record {
+  sound = ap (λ sound. is_sound (line_at n text ended) && sound) same.sound;
+  block = λ closed. rw (same.block closed, same.block true, same.block false) refl;
+}
+
+cut_both : (b : Bool) (n m : ℕ) (text : Text) (ended : Bool) (c d : Cut) → begins_part text ≡ b → SameCut c d
+    → SameCut (cut_with (line_at n text ended) c) (cut_with (line_at m text ended) d)
+cut_both true n m text ended c d is same = rw is (record {
+  before = record { sound = refl; block = λ closed. refl };
+  parts = (same_part (part_of (line_at n text ended) c.before) (part_of (line_at m text ended) d.before) (λ state. refl) same.before, same.parts);
+})
+cut_both false n m text ended c d is same = rw is (record { before = block_with n m text ended c.before d.before same.before; parts = same.parts })
+
+-- the same lines under other numbers
+cut_same : (n m : ℕ) (lines : List Continued) → SameCut (cut_lines (numbered n lines)) (cut_lines (numbered m lines))
+unfolding cut_lines
+cut_same n m [] = record { before = record { sound = refl; block = λ closed. refl }; parts = tt }
+cut_same n m (l ∷ ls) =
+    cut_both (begins_part (text_of l)) n m (text_of l) l.ended _ _ refl (cut_same (n + length l.fronts + 1) (m + length l.fronts + 1) ls)
+
+-- ---- one more line
+
+-- a sound line that begins no part, in front of lines whose block it leaves as it is
+cut_between : (line : JoinedLine) (c d : Cut) → begins_part line.text ≡ false → is_sound line ≡ true
+    → ((closed : Bool) → block_from closed (line ∷ c.before) ≡ block_from closed c.before) → SameCut c d → SameCut (cut_with line c) d
+cut_between line c d is sound stays same = rw is (record {
+  before = record {
+    sound = ap (λ b. b && list_all is_sound c.before) sound ∙ same.before.sound;
+    block = λ closed. stays closed ∙ same.before.block closed;
+  };
+  parts = same.parts;
+})
+
+-- after lines that both have
+cut_front : (n : ℕ) (front back : List Continued) (line : Continued)
+    → ((n m : ℕ) → SameCut (cut_lines (numbered n (line ∷ back))) (cut_lines (numbered m back)))
+    → SameCut (cut_lines (numbered n (front ++ line ∷ back))) (cut_lines (numbered n (front ++ back)))
+unfolding cut_lines
+cut_front n [] back line same = same n n
+cut_front n (l ∷ ls) back line same =
+    cut_both (begins_part (text_of l)) n n (text_of l) l.ended _ _ refl (cut_front (n + length l.fronts + 1) ls back line same)
+
+-- ---- what is read
+
+parts_read : (state : State) (ps qs : List FilePart) → SameParts ps qs → result_ok (read_parts state ps) ≡ result_ok (read_parts state qs)
+unfolding read_parts
+parts_read state [] [] same = refl
+parts_read state [] (q ∷ qs) same = absurd same
+parts_read state (p ∷ ps) [] same = absurd same
+parts_read state (p ∷ ps) (q ∷ qs) same = rw (same.0 state) (by (read_part state q) (λ s. parts_read s ps qs same.1))
+  where
+    by : (o : Option State) → ((s : State) → result_ok (read_parts s ps) ≡ result_ok (read_parts s qs))
+        → result_ok (and_then_parts p.number o (λ s. read_parts s ps)) ≡ result_ok (and_then_parts q.number o (λ s. read_parts s qs))
+    by None rest = refl
+    by (Some s) rest = rest s
+
+plan_ok : (r : Result State ℕ) → result_ok (plan_in r) ≡ option_map plan_of (result_ok r)
+plan_ok (Ok state) = refl
+plan_ok (Err number) = refl
+
+cuts_read : (c d : Cut) → SameCut c d → result_ok (plan_in (read_parts nothing_read (all_parts c))) ≡ result_ok (plan_in (read_parts nothing_read (all_parts d)))
+unfolding read_parts
+cuts_read c d same =
+    plan_ok (read_parts nothing_read (all_parts c))
+    ∙ (ap (option_map plan_of) (ap result_ok (begin_by c.before c.parts)
+    ∙ (parts_read nothing_read (part_before c.before ∷ c.parts) (part_before d.before ∷ d.parts)
+    (same_part (part_before c.before) (part_before d.before) (λ state. refl) same.before, same.parts)
+    ∙ sym (ap result_ok (begin_by d.before d.parts)))) ∙ sym (plan_ok (read_parts nothing_read (all_parts d))))
+
+-- ---- the lines of a file
+
+not_last : (ls back : List Continued) (line : Continued) → ls ++ line ∷ back ≡ [] → ⊥
+not_last [] back line e = absurd (cc e)
+not_last (l ∷ ls) back line e = absurd (cc e)
+
+ends_right : (ended : Bool) (fronts : List Text) (last : Text) (ls back : List Continued) (line : Continued)
+    → EndsRight ended fronts last (ls ++ line ∷ back) → EndsRight ended fronts last (ls ++ back)
+ends_right true fronts last ls back line h = h
+ends_right false fronts last ls back line h = absurd (not_last ls back line h.0)
+
+-- lines of a file without one of them
+without : (front back : List Continued) (line : Continued) → AreContinued (front ++ line ∷ back) → AreContinued (front ++ back)
+without [] back line h = h.4
+without (l ∷ ls) back line h = (h.0, h.1, h.2, ends_right l.ended l.fronts l.last ls back line h.3, without ls back line h.4)
+
+says_nothing : (front back : List Continued) (line : Continued) → AreContinued (front ++ line ∷ back)
+    → ((n m : ℕ) → SameCut (cut_lines (numbered n (line ∷ back))) (cut_lines (numbered m back))) → SaysNothing front line back
+unfolding ninja_read
+says_nothing front back line are same =
+    rw (joined_law.only (front ++ line ∷ back) are, joined_law.only (front ++ back) (without front back line are))
+    (cuts_read (cut_lines (numbered 1 (front ++ line ∷ back))) (cut_lines (numbered 1 (front ++ back))) (cut_front 1 front back line same))
+
+-- ---- comments and blank lines
+
+comment_begins : (text : Text) → is_comment text ≡ true → begins_part text ≡ false
+unfolding is_comment
+comment_begins [] is = refl
+comment_begins (b ∷ bs) is = by (b == 32) is
+  where
+    by : (space : Bool) → (if space then is_comment bs else b == 35) ≡ true → not (space || b == 35) ≡ false
+    by true is = refl
+    by false is = rw is refl
+
+comment_skipped : (closed : Bool) (line : JoinedLine) (lines : List JoinedLine) → is_comment line.text ≡ true → block_from closed (line ∷ lines) ≡ block_from closed lines
+unfolding block_from
+comment_skipped closed line lines is = rw is refl
+
+blank_begins : (text : Text) → is_blank text ≡ true → begins_part text ≡ false
+blank_begins [] is = refl
+blank_begins (b ∷ bs) is = rw (and_parts (b == 32) (is_blank bs) is).0 refl
+
+abbrev has_no_binding : JoinedLine → Bool
+has_no_binding line = is_comment line.text || is_blank line.text
+
+-- where no binding follows, it doesn't matter whether the block has ended
+closed_alike : (lines : List JoinedLine) → list_all has_no_binding lines ≡ true → block_from true lines ≡ block_from false lines
+unfolding block_from
+closed_alike [] none = refl
+closed_alike (l ∷ ls) none =
+    by (is_comment l.text) (is_blank l.text) _ _ (and_parts (has_no_binding l) (list_all has_no_binding ls) none).0
+    (closed_alike ls (and_parts (has_no_binding l) (list_all has_no_binding ls) none).1)
+  where
+    by : (comment blank : Bool) (x y : Option (List Binding)) → (comment || blank) ≡ true → block_from true ls ≡ block_from false ls
+        → (if comment then block_from true ls else (if blank then block_from true ls else x)) ≡ (if comment then block_from false ls else (if blank then block_from true ls else y))
+    by true blank x y is same = same
+    by false true x y is same = refl
+    by false false x y is same = absurd (false≢true is)
+
+blank_skipped : (closed : Bool) (line : JoinedLine) (lines : List JoinedLine) → is_blank line.text ≡ true → list_all has_no_binding lines ≡ true
+    → block_from closed (line ∷ lines) ≡ block_from closed lines
+unfolding block_from
+blank_skipped closed line lines is none = rw is (by (is_comment line.text) closed)
+  where
+    by : (comment closed : Bool) → (if comment then block_from closed lines else block_from true lines) ≡ block_from closed lines
+    by true closed = refl
+    by false true = refl
+    by false false = closed_alike lines none
+
+-- up to the next line at the margin no binding stands
+before_more : (b : Bool) (n : ℕ) (text : Text) (ended : Bool) (c : Cut) (rest : Bool) → begins_part text ≡ b
+    → (b || ((is_comment text || is_blank text) && rest)) ≡ true → (rest ≡ true → list_all has_no_binding c.before ≡ true)
+    → list_all has_no_binding (cut_with (line_at n text ended) c).before ≡ true
+before_more true n text ended c rest is between more = rw is refl
+before_more false n text ended c rest is between more =
+    let both = and_parts (is_comment text || is_blank text) rest between in
+    rw is (and_from (is_comment text || is_blank text) (list_all has_no_binding c.before) both.0 (more both.1))
+
+none_before : (n : ℕ) (back : List Continued) → is_between back ≡ true → list_all has_no_binding (cut_lines (numbered n back)).before ≡ true
+unfolding cut_lines
+none_before n [] between = refl
+none_before n (l ∷ ls) between =
+    before_more (begins_part (text_of l)) n (text_of l) l.ended _ (is_between ls) refl between (none_before (n + length l.fronts + 1) ls)
+
+pub layout_law : LayoutLaw
+unfolding cut_lines
+layout_law = record {
+  comment = λ front back line are sound is. says_nothing front back line are (λ n m.
+      let after = n + length line.fronts + 1 in
+      cut_between (line_at n (text_of line) line.ended) (cut_lines (numbered after back)) (cut_lines (numbered m back))
+      (comment_begins (text_of line) is) sound
+      (λ closed. comment_skipped closed (line_at n (text_of line) line.ended) (cut_lines (numbered after back)).before is)
+      (cut_same after m back));
+  blank = λ front back line are sound is between. says_nothing front back line are (λ n m.
+      let after = n + length line.fronts + 1 in
+      cut_between (line_at n (text_of line) line.ended) (cut_lines (numbered after back)) (cut_lines (numbered m back))
+      (blank_begins (text_of line) is) sound
+      (λ closed. blank_skipped closed (line_at n (text_of line) line.ended) (cut_lines (numbered after back)).before is (none_before after back between))
+      (cut_same after m back));
+}

@@ -1,0 +1,286 @@
+-- The lines that the printer writes, cut as a reader cuts them.
+use Rattle.std.proofs.Common.{◌≡◌, ◌∙◌, ℕ, List, [], ◌∷◌, ◌++◌, refl, sym, ap, ap₂, map, append-nil, eq-eqb}
+use Rattle.std.specs.Prelude.{Bool, true, false, not, ◌==◌, ◌||◌, Some, option_map, filter, codes}
+use Rattle.std.specs.List.{list_all, list_any, flat_map, slice_split}
+use Rattle.std.specs.Option.{option_and_then}
+use Rattle.std.proofs.lemmas.Bool.{and_from, and_parts, not-true}
+use Rattle.std.proofs.lemmas.List.Elements.{filter-append}
+use Rattle.kt_ninja_reader.specs.JoinedLines.{Text}
+use Rattle.kt_ninja_reader.specs.Pieces.{Piece, Plain, Escaped, Variable, is_escapable}
+use Rattle.kt_ninja_reader.specs.Forms.{Build, Inputs, Pieces, binding_of, bound_to, build_after, build_cut, build_of, build_with, defaults_of, inputs_of, is_plain, name_bytes, name_in, paths_of, rule_of, without_lead, words_of}
+use Rattle.kt_ninja.specs.Writable.{is_empty, is_name_byte}
+use Rattle.kt_ninja_reader.proofs.PrintedPieces.{all_both, all_implies, neither, piece_by}
+use Rattle.kt_ninja_reader.proofs.PrintedNames.{command_pieces, is_name_piece, is_word}
+
+-- ---- cutting at a plain byte
+
+-- not this byte, written without a dollar
+abbrev pub lacks : ℕ → Piece → Bool
+lacks c p = not (is_plain c p)
+
+-- pieces without it are one part
+pub uncut : (c : ℕ) (ps : Pieces) → list_all (lacks c) ps ≡ true → slice_split (is_plain c) ps ≡ ps ∷ []
+uncut c [] e = refl
+uncut c (p ∷ ps) e =
+    let both = and_parts (lacks c p) (list_all (lacks c) ps) e in
+    rw (not-true (is_plain c p) both.0, uncut c ps both.1) refl
+
+-- the first part ends where it first stands
+pub cut_here : (c : ℕ) (ps qs : Pieces) → list_all (lacks c) ps ≡ true → slice_split (is_plain c) (ps ++ Plain c ∷ qs) ≡ ps ∷ slice_split (is_plain c) qs
+cut_here c [] qs e = rw (eq-eqb c c refl) refl
+cut_here c (p ∷ ps) qs e =
+    let both = and_parts (lacks c p) (list_all (lacks c) ps) e in
+    rw (not-true (is_plain c p) both.0, cut_here c ps qs both.1) refl
+
+-- it stands nowhere
+pub none_plain : (c : ℕ) (ps : Pieces) → list_all (lacks c) ps ≡ true → list_any (is_plain c) ps ≡ false
+none_plain c [] e = refl
+none_plain c (p ∷ ps) e =
+    let both = and_parts (lacks c p) (list_all (lacks c) ps) e in
+    rw (not-true (is_plain c p) both.0) (none_plain c ps both.1)
+
+-- a name's pieces have no plain space, colon or bar
+name_lacks_space : (p : Piece) → is_name_piece p ≡ true → lacks 32 p ≡ true
+name_lacks_space (Plain b) e =
+    let special = (neither (b == 36) (b == 32 || b == 58) (and_parts (not (is_escapable b)) (is_name_byte b) e).0).1 in
+    ap not (neither (b == 32) (b == 58) (ap not special)).0
+name_lacks_space (Escaped b) e = refl
+name_lacks_space (Variable name) e = refl
+
+name_lacks_colon : (p : Piece) → is_name_piece p ≡ true → lacks 58 p ≡ true
+name_lacks_colon (Plain b) e =
+    let special = (neither (b == 36) (b == 32 || b == 58) (and_parts (not (is_escapable b)) (is_name_byte b) e).0).1 in
+    ap not (neither (b == 32) (b == 58) (ap not special)).1
+name_lacks_colon (Escaped b) e = refl
+name_lacks_colon (Variable name) e = refl
+
+name_lacks_bar : (p : Piece) → is_name_piece p ≡ true → lacks 124 p ≡ true
+name_lacks_bar (Plain b) e =
+    ap not (neither (b == 124) (b == 13 || (b == 10 || b == 0)) (and_parts (not (is_escapable b)) (is_name_byte b) e).1).0
+name_lacks_bar (Escaped b) e = refl
+name_lacks_bar (Variable name) e = refl
+
+-- ---- words
+
+-- each word after a plain space
+abbrev pub spaced : List Pieces → Pieces
+spaced words = flat_map (λ w. Plain 32 ∷ w) words
+
+-- each piece of each word passes
+pub words_pass : (q : Piece → Bool) → ((p : Piece) → is_name_piece p ≡ true → q p ≡ true) → (ws : List Pieces) → list_all is_word ws ≡ true
+    → list_all (list_all q) ws ≡ true
+words_pass q each ws e =
+    all_implies is_word (list_all q) (λ w is. all_implies is_name_piece q each w (and_parts (not (is_empty w)) (list_all is_name_piece w) is).1) ws e
+
+-- so does the space before each
+pub spaced_pass : (q : Piece → Bool) → q (Plain 32) ≡ true → (ws : List Pieces) → list_all (list_all q) ws ≡ true → list_all q (spaced ws) ≡ true
+spaced_pass q space [] e = refl
+spaced_pass q space (w ∷ ws) e =
+    let both = and_parts (list_all q w) (list_all (list_all q) ws) e in
+    and_from (q (Plain 32)) _ space (all_both q w (spaced ws) both.0 (spaced_pass q space ws both.1))
+
+-- words after a first one, cut at their spaces
+split_spaced : (w : Pieces) (ws : List Pieces) → list_all (lacks 32) w ≡ true → list_all (list_all (lacks 32)) ws ≡ true
+    → slice_split (is_plain 32) (w ++ spaced ws) ≡ w ∷ ws
+split_spaced w [] e es = rw append-nil (uncut 32 w e)
+split_spaced w (v ∷ vs) e es =
+    let both = and_parts (list_all (lacks 32) v) (list_all (list_all (lacks 32)) vs) es in
+    cut_here 32 w (v ++ spaced vs) e ∙ ap (λ l. w ∷ l) (split_spaced v vs both.0 both.1)
+
+-- no word is empty
+kept : (ws : List Pieces) → list_all is_word ws ≡ true → filter (λ w. not (is_empty w)) ws ≡ ws
+kept [] e = refl
+kept (w ∷ ws) e =
+    let both = and_parts (is_word w) (list_all is_word ws) e in
+    rw ((and_parts (not (is_empty w)) (list_all is_name_piece w) both.0).0, kept ws both.1) refl
+
+-- an empty part after them is dropped
+kept_but_last : (ws : List Pieces) → list_all is_word ws ≡ true → filter (λ w. not (is_empty w)) (ws ++ [] ∷ []) ≡ ws
+kept_but_last ws e = filter-append (λ (w : Pieces). not (is_empty w)) ws ([] ∷ []) ∙ append-nil _ ∙ kept ws e
+
+-- words have no plain space
+lack_spaces : (ws : List Pieces) → list_all is_word ws ≡ true → list_all (list_all (lacks 32)) ws ≡ true
+lack_spaces ws e = words_pass (lacks 32) name_lacks_space ws e
+
+-- the words of a list that begins with its first word
+pub words_from : (w : Pieces) (ws : List Pieces) → list_all is_word (w ∷ ws) ≡ true → words_of (w ++ spaced ws) ≡ w ∷ ws
+unfolding words_of
+words_from w ws e =
+    let lack = and_parts (list_all (lacks 32) w) (list_all (list_all (lacks 32)) ws) (lack_spaces (w ∷ ws) e) in
+    ap (filter (λ v. not (is_empty v))) (split_spaced w ws lack.0 lack.1) ∙ kept (w ∷ ws) e
+
+-- words after their spaces, cut there
+split_after : (ws : List Pieces) → list_all (list_all (lacks 32)) ws ≡ true → slice_split (is_plain 32) (spaced ws) ≡ [] ∷ ws
+split_after [] e = refl
+split_after (w ∷ ws) e =
+    let both = and_parts (list_all (lacks 32) w) (list_all (list_all (lacks 32)) ws) e in
+    ap (λ (l : List Pieces). [] ∷ l) (split_spaced w ws both.0 both.1)
+
+-- the words of a list that begins with a space
+pub words_after : (ws : List Pieces) → list_all is_word ws ≡ true → words_of (spaced ws) ≡ ws
+unfolding words_of
+words_after ws e = ap (filter (λ v. not (is_empty v))) (split_after ws (lack_spaces ws e)) ∙ kept ws e
+
+-- the words with a space after them
+abbrev pub ended : List Pieces → List Pieces
+ended ws = ws ++ [] ∷ []
+
+-- what their pieces pass, they pass so too
+ended_pass : (q : Piece → Bool) (ws : List Pieces) → list_all (list_all q) ws ≡ true → list_all (list_all q) (ended ws) ≡ true
+ended_pass q ws e = all_both (list_all q) ws ([] ∷ []) e refl
+
+-- and these are the same words
+pub words_ended : (ws : List Pieces) → list_all is_word ws ≡ true → words_of (spaced (ended ws)) ≡ ws
+unfolding words_of
+words_ended ws e =
+    ap (filter (λ v. not (is_empty v))) (split_after (ended ws) (ended_pass (lacks 32) ws (lack_spaces ws e))) ∙ kept_but_last ws e
+
+-- ---- what stands after the colon of a build line
+
+-- words, and implicit and order-only inputs after their bars
+abbrev pub after_colon : List Pieces → List Pieces → List Pieces → Pieces
+after_colon front [] [] = spaced front
+after_colon front (i ∷ is) [] = spaced (ended front) ++ (Plain 124 ∷ spaced (i ∷ is))
+after_colon front [] (o ∷ os) = spaced (ended front) ++ (Plain 124 ∷ Plain 124 ∷ spaced (o ∷ os))
+after_colon front (i ∷ is) (o ∷ os) =
+    spaced (ended front) ++ (Plain 124 ∷ (spaced (ended (i ∷ is)) ++ (Plain 124 ∷ Plain 124 ∷ spaced (o ∷ os))))
+
+-- what spaces, bars and the pieces of words pass, all of it passes
+pub after_pass : (q : Piece → Bool) → q (Plain 32) ≡ true → q (Plain 124) ≡ true → (front is os : List Pieces)
+    → list_all (list_all q) front ≡ true → list_all (list_all q) is ≡ true → list_all (list_all q) os ≡ true → list_all q (after_colon front is os) ≡ true
+after_pass q space bar front [] [] f i o = spaced_pass q space front f
+after_pass q space bar front (x ∷ xs) [] f i o =
+    all_both q (spaced (ended front)) _ (spaced_pass q space (ended front) (ended_pass q front f)) (and_from (q (Plain 124)) _ bar (spaced_pass q space (x ∷ xs) i))
+after_pass q space bar front [] (y ∷ ys) f i o =
+    all_both q (spaced (ended front)) _ (spaced_pass q space (ended front) (ended_pass q front f))
+    (and_from (q (Plain 124)) _ bar (and_from (q (Plain 124)) _ bar (spaced_pass q space (y ∷ ys) o)))
+after_pass q space bar front (x ∷ xs) (y ∷ ys) f i o =
+    all_both q (spaced (ended front)) _ (spaced_pass q space (ended front) (ended_pass q front f))
+    (and_from (q (Plain 124)) _ bar (all_both q (spaced (ended (x ∷ xs))) _ (spaced_pass q space (ended (x ∷ xs)) (ended_pass q (x ∷ xs) i))
+    (and_from (q (Plain 124)) _ bar (and_from (q (Plain 124)) _ bar (spaced_pass q space (y ∷ ys) o)))))
+
+-- words have no plain bar
+lack_bars : (ws : List Pieces) → list_all is_word ws ≡ true → list_all (list_all (lacks 124)) ws ≡ true
+lack_bars ws e = words_pass (lacks 124) name_lacks_bar ws e
+
+-- words have no plain colon
+lack_colons : (ws : List Pieces) → list_all is_word ws ≡ true → list_all (list_all (lacks 58)) ws ≡ true
+lack_colons ws e = words_pass (lacks 58) name_lacks_colon ws e
+
+-- nor do they with spaces before them
+no_bar : (ws : List Pieces) → list_all is_word ws ≡ true → list_all (lacks 124) (spaced ws) ≡ true
+no_bar ws e = spaced_pass (lacks 124) refl ws (lack_bars ws e)
+
+-- or after them
+no_bar_ended : (ws : List Pieces) → list_all is_word ws ≡ true → list_all (lacks 124) (spaced (ended ws)) ≡ true
+no_bar_ended ws e = spaced_pass (lacks 124) refl (ended ws) (ended_pass (lacks 124) ws (lack_bars ws e))
+
+-- what stands between the bars
+abbrev parts_of : List Pieces → List Pieces → List Pieces → List Pieces
+parts_of front [] [] = spaced front ∷ []
+parts_of front (i ∷ is) [] = spaced (ended front) ∷ spaced (i ∷ is) ∷ []
+parts_of front [] (o ∷ os) = spaced (ended front) ∷ [] ∷ spaced (o ∷ os) ∷ []
+parts_of front (i ∷ is) (o ∷ os) = spaced (ended front) ∷ spaced (ended (i ∷ is)) ∷ [] ∷ spaced (o ∷ os) ∷ []
+
+-- what stands after the colon, cut at its bars
+cut_at_bars : (front is os : List Pieces) → list_all is_word front ≡ true → list_all is_word is ≡ true → list_all is_word os ≡ true
+    → slice_split (is_plain 124) (after_colon front is os) ≡ parts_of front is os
+cut_at_bars front [] [] f i o = uncut 124 (spaced front) (no_bar front f)
+cut_at_bars front (x ∷ xs) [] f i o =
+    cut_here 124 (spaced (ended front)) (spaced (x ∷ xs)) (no_bar_ended front f)
+    ∙ ap (λ (l : List Pieces). spaced (ended front) ∷ l) (uncut 124 (spaced (x ∷ xs)) (no_bar (x ∷ xs) i))
+cut_at_bars front [] (y ∷ ys) f i o =
+    cut_here 124 (spaced (ended front)) (Plain 124 ∷ spaced (y ∷ ys)) (no_bar_ended front f)
+    ∙ ap (λ (l : List Pieces). spaced (ended front) ∷ [] ∷ l) (uncut 124 (spaced (y ∷ ys)) (no_bar (y ∷ ys) o))
+cut_at_bars front (x ∷ xs) (y ∷ ys) f i o =
+    cut_here 124 (spaced (ended front)) (spaced (ended (x ∷ xs)) ++ (Plain 124 ∷ Plain 124 ∷ spaced (y ∷ ys))) (no_bar_ended front f)
+    ∙ ap (λ (l : List Pieces). spaced (ended front) ∷ l) (cut_here 124 (spaced (ended (x ∷ xs))) (Plain 124 ∷ spaced (y ∷ ys)) (no_bar_ended (x ∷ xs) i))
+    ∙ ap (λ (l : List Pieces). spaced (ended front) ∷ spaced (ended (x ∷ xs)) ∷ [] ∷ l) (uncut 124 (spaced (y ∷ ys)) (no_bar (y ∷ ys) o))
+
+-- three kinds of inputs
+abbrev pub inputs_are : List Pieces → List Pieces → List Pieces → Inputs
+inputs_are ins is os = record { explicit = ins; implicit = is; order_only = os }
+
+-- a build line
+abbrev pub built : List Pieces → Text → Inputs → Build
+built outs name inputs = record { outs = outs; rule_name = name; inputs = inputs }
+
+-- a build line by its parts
+with_parts : (outs : List Pieces) (name : Text) (rule : Pieces) (ins parts : List Pieces) (front : Pieces) (inputs : Inputs) → words_of front ≡ rule ∷ ins
+    → name_bytes rule ≡ Some name → inputs_of ins parts ≡ Some inputs → build_after outs (front ∷ parts) ≡ Some (built outs name inputs)
+with_parts outs name rule ins parts front inputs words named are =
+    ap (λ ws. build_with outs ws parts) words
+    ∙ ap (option_and_then (λ n. option_map (built outs n) (inputs_of ins parts))) named
+    ∙ ap (option_map (built outs name)) are
+
+-- these parts say the inputs
+parts_say : (outs : List Pieces) (name : Text) (rule : Pieces) (ins is os : List Pieces) → name_bytes rule ≡ Some name
+    → list_all is_word (rule ∷ ins) ≡ true → list_all is_word is ≡ true → list_all is_word os ≡ true
+    → build_after outs (parts_of (rule ∷ ins) is os) ≡ Some (built outs name (inputs_are ins is os))
+parts_say outs name rule ins [] [] named f i o =
+    with_parts outs name rule ins [] (spaced (rule ∷ ins)) (inputs_are ins [] []) (words_after (rule ∷ ins) f) named refl
+parts_say outs name rule ins (x ∷ xs) [] named f i o =
+    with_parts outs name rule ins (spaced (x ∷ xs) ∷ []) (spaced (ended (rule ∷ ins))) (inputs_are ins (x ∷ xs) []) (words_ended (rule ∷ ins) f) named
+    (ap (λ ws. Some (inputs_are ins ws [])) (words_after (x ∷ xs) i))
+parts_say outs name rule ins [] (y ∷ ys) named f i o =
+    with_parts outs name rule ins ([] ∷ spaced (y ∷ ys) ∷ []) (spaced (ended (rule ∷ ins))) (inputs_are ins [] (y ∷ ys)) (words_ended (rule ∷ ins) f) named
+    (ap (λ ws. Some (inputs_are ins [] ws)) (words_after (y ∷ ys) o))
+parts_say outs name rule ins (x ∷ xs) (y ∷ ys) named f i o =
+    with_parts outs name rule ins (spaced (ended (x ∷ xs)) ∷ [] ∷ spaced (y ∷ ys) ∷ []) (spaced (ended (rule ∷ ins))) (inputs_are ins (x ∷ xs) (y ∷ ys))
+    (words_ended (rule ∷ ins) f) named
+    (ap₂ (λ v w. Some (inputs_are ins v w)) (words_ended (x ∷ xs) i) (words_after (y ∷ ys) o))
+
+-- ---- whole lines
+
+-- paths that the printer writes are read
+paths_printed : (o : Pieces) (os : List Pieces) → list_all is_word (o ∷ os) ≡ true → paths_of (o ++ spaced os) ≡ Some (o ∷ os)
+paths_printed o os e =
+    let bars = none_plain 124 (o ++ spaced os) (no_bar (o ∷ os) e) in
+    rw (bars, words_from o os e) refl
+
+-- what stands after `build `
+abbrev pub after_build : Pieces → List Pieces → List Pieces → List Pieces → List Pieces → Pieces
+after_build o os front is ord = (o ++ spaced os) ++ (Plain 58 ∷ after_colon front is ord)
+
+-- a build line that it writes is read
+pub build_printed : (o : Pieces) (os : List Pieces) (name : Text) (rule : Pieces) (ins is ord : List Pieces) → name_bytes rule ≡ Some name
+    → list_all is_word (o ∷ os) ≡ true → list_all is_word (rule ∷ ins) ≡ true → list_all is_word is ≡ true → list_all is_word ord ≡ true
+    → build_of (after_build o os (rule ∷ ins) is ord) ≡ Some (built (o ∷ os) name (inputs_are ins is ord))
+unfolding build_of
+build_printed o os name rule ins is ord named outs front i order =
+    let past = after_colon (rule ∷ ins) is ord in
+    let before = spaced_pass (lacks 58) refl (o ∷ os) (lack_colons (o ∷ os) outs) in
+    let colons = after_pass (lacks 58) refl refl (rule ∷ ins) is ord (lack_colons (rule ∷ ins) front) (lack_colons is i) (lack_colons ord order) in
+    ap build_cut (cut_here 58 (o ++ spaced os) past before ∙ ap (λ (l : List Pieces). (o ++ spaced os) ∷ l) (uncut 58 past colons))
+    ∙ ap (option_and_then (λ paths. build_after paths (slice_split (is_plain 124) past))) (paths_printed o os outs)
+    ∙ ap (build_after (o ∷ os)) (cut_at_bars (rule ∷ ins) is ord front i order)
+    ∙ parts_say (o ∷ os) name rule ins is ord named front i order
+
+-- so are default targets
+pub defaults_printed : (o : Pieces) (os : List Pieces) → list_all is_word (o ∷ os) ≡ true → defaults_of (o ++ spaced os) ≡ Some (o ∷ os)
+unfolding defaults_of
+defaults_printed o os e =
+    let colons = none_plain 58 (o ++ spaced os) (spaced_pass (lacks 58) refl (o ∷ os) (lack_colons (o ∷ os) e)) in
+    rw colons (paths_printed o os e)
+
+-- so is a rule's name
+pub rule_printed : (rule : Pieces) (name : Text) → is_word rule ≡ true → name_bytes rule ≡ Some name → rule_of rule ≡ Some name
+unfolding rule_of
+rule_printed rule name e named =
+    let one = ap words_of (sym (append-nil rule)) ∙ words_from rule [] (and_from (is_word rule) true e refl) in
+    ap name_in one ∙ named
+
+-- a command begins with no plain space
+no_lead : (b : ℕ) (special : Bool) → (b == 32 || b == 36) ≡ special → is_plain 32 (piece_by special b) ≡ false
+no_lead b true e = refl
+no_lead b false e = (neither (b == 32) (b == 36) (ap not e)).0
+
+-- one space before it is dropped, and no more
+lead_dropped : (c : Text) → without_lead (Plain 32 ∷ command_pieces c) ≡ command_pieces c
+lead_dropped [] = refl
+lead_dropped (b ∷ bs) = rw (no_lead b (b == 32 || b == 36) refl) refl
+
+-- the line of a rule's command binds it
+pub binding_printed : (c : Text) → binding_of (map Plain (codes " command = ") ++ command_pieces c) ≡ Some (record { key = codes "command"; value = command_pieces c })
+unfolding binding_of words_of name_bytes
+binding_printed c = ap (λ (v : Pieces). bound_to v (codes "command")) (lead_dropped c)

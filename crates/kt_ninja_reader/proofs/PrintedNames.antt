@@ -1,0 +1,212 @@
+-- What the printer writes for names, rules' names and commands, as pieces.
+use Rattle.std.proofs.Common.{◌≡◌, ◌∙◌, ◌<◌, ℕ, zero, suc, ◌+◌, List, [], ◌∷◌, ◌++◌, refl, sym, ap, ap₂, map, get_or, eqb-true, arith, le-leb, append_assoc, append-nil}
+use Rattle.std.specs.Prelude.{Bool, true, false, not, ◌==◌, ◌&&◌, ◌||◌, nat_le, Some, codes, if◌then◌else◌}
+use Rattle.std.specs.List.{list_all}
+use Rattle.std.specs.Int.Digits.{AllBelowBase, digits_of}
+use Rattle.std.proofs.Math.Bool.{or_assoc}
+use Rattle.std.proofs.lemmas.Bool.{and_from, and_parts, or_left, or_right}
+use Rattle.std.proofs.lemmas.Int.Digits.{all_below_base_digits_of, first_digits_of, same_from_digits_of}
+use Rattle.kt_ninja.specs.declared.plan.Made.{Made}
+use Rattle.kt_ninja.specs.declared.plan.Made.TheVariants.{Command, Phony}
+use Rattle.kt_ninja_reader.specs.JoinedLines.{Text}
+use Rattle.kt_ninja_reader.specs.Pieces.{Piece, Plain, Escaped, Variable, is_escapable, is_letter_or_digit, is_long_name_byte, is_short_name_byte}
+use Rattle.kt_ninja_reader.specs.Forms.{Pieces, name_bytes}
+use Rattle.kt_ninja_reader.specs.Scopes.{expanded, names_one, refers_to}
+use Rattle.kt_ninja.specs.Text.{command_text, is_special_in_command, is_special_in_name, lead_text, number_text, rule_name_text}
+use Rattle.kt_ninja.specs.Writable.{is_command_byte, is_empty, is_name, is_name_byte}
+use Rattle.kt_ninja.proofs.Numbers.{number_more, number_zero}
+use Rattle.kt_ninja_reader.proofs.PrintedPieces.{by_passes, expanded_by, is_printed, neither, one_expanded, piece_by, piece_written, pieces_by, written, written_by}
+
+-- ---- names
+
+-- a piece of a printed name
+abbrev pub is_name_piece : Piece → Bool
+is_name_piece (Plain b) = not (is_escapable b) && is_name_byte b
+is_name_piece (Escaped b) = is_escapable b
+is_name_piece (Variable name) = false
+
+-- one name or more pieces
+abbrev pub is_word : Pieces → Bool
+is_word ps = not (is_empty ps) && list_all is_name_piece ps
+
+abbrev pub name_pieces : Text → Pieces
+name_pieces name = pieces_by is_special_in_name name
+
+-- what is special in a name is what a dollar can escape
+same_special : (b : ℕ) → is_special_in_name b ≡ is_escapable b
+same_special b = or_assoc (b == 36) (b == 32) (b == 58)
+
+-- each byte of a name gives such a piece
+name_piece_case : (b : ℕ) (special : Bool) → is_special_in_name b ≡ special → is_name_byte b ≡ true → is_name_piece (piece_by special b) ≡ true
+name_piece_case b true is byte = sym (same_special b) ∙ is
+name_piece_case b false is byte = and_from (not (is_escapable b)) (is_name_byte b) (ap not (sym (same_special b) ∙ is)) byte
+
+-- a name that can be written is a word
+pub name_is_word : (name : Text) → is_name name ≡ true → is_word (name_pieces name) ≡ true
+name_is_word [] e = e
+name_is_word (b ∷ bs) e = by_passes is_name_piece is_special_in_name is_name_byte (λ c. name_piece_case c (is_special_in_name c) refl) (b ∷ bs) e
+
+-- so are all names of a list
+pub names_are_words : (names : List Text) → list_all is_name names ≡ true → list_all is_word (map name_pieces names) ≡ true
+names_are_words [] e = refl
+names_are_words (n ∷ ns) e =
+    let both = and_parts (is_name n) (list_all is_name ns) e in
+    and_from (is_word (name_pieces n)) (list_all is_word (map name_pieces ns)) (name_is_word n both.0) (names_are_words ns both.1)
+
+-- a byte of a name can stand in a command
+command_byte : (b : ℕ) → is_name_byte b ≡ true → is_command_byte b ≡ true
+command_byte b e = ap not (neither (b == 124) (b == 13 || (b == 10 || b == 0)) e).1
+
+-- a piece of a name is one that the printer writes
+pub name_printed : (p : Piece) → is_name_piece p ≡ true → is_printed p ≡ true
+name_printed (Plain b) e =
+    let both = and_parts (not (is_escapable b)) (is_name_byte b) e in
+    and_from (not (b == 36)) (is_command_byte b) (ap not (neither (b == 36) (b == 32 || b == 58) both.0).0) (command_byte b both.1)
+name_printed (Escaped b) e = e
+name_printed (Variable name) e = absurd (cc e)
+
+-- ---- rules' names
+
+-- a digit is a byte of a name
+digit_byte : (d : ℕ) → d < 10 → is_long_name_byte (48 + d) ≡ true
+digit_byte d h =
+    let digit = and_from (nat_le 48 (48 + d)) (nat_le (48 + d) 57) (le-leb _ _ (omega arith)) (le-leb _ _ (omega arith)) in
+    or_left (is_short_name_byte (48 + d)) _ (or_left (is_letter_or_digit (48 + d)) _ (or_right _ _ (or_right _ _ digit)))
+
+-- so are all digits
+digits_bytes : (ds : List ℕ) → AllBelowBase 10 ds → list_all is_long_name_byte (map (λ d. 48 + d) ds) ≡ true
+digits_bytes [] h = refl
+digits_bytes (d ∷ ds) h = and_from _ _ (digit_byte d h.0) (digits_bytes ds h.1)
+
+-- also of zero
+number_case : (zero : Bool) (ds : List ℕ) → AllBelowBase 10 ds → list_all is_long_name_byte (if zero then codes "0" else map (λ d. 48 + d) ds) ≡ true
+number_case true ds h = refl
+number_case false ds h = digits_bytes ds h
+
+-- the text of a number is made of bytes that a name has
+number_bytes : (n : ℕ) → list_all is_long_name_byte (number_text n) ≡ true
+unfolding number_text
+number_bytes n = number_case (n == 0) (digits_of 10 n) (all_below_base_digits_of 10 n (omega arith))
+
+-- no other number is written as zero is
+zero_differs : (ds : List ℕ) → 0 < get_or ds 0 0 → codes "0" ≡ map (λ d. 48 + d) ds → ⊥
+zero_differs [] h e = omega arith
+zero_differs (d ∷ ds) h e = omega (arith, ap (λ (l : List ℕ). get_or l 0 0) e)
+
+-- the digits by their bytes
+same_digits : (ds es : List ℕ) → map (λ d. 48 + d) ds ≡ map (λ d. 48 + d) es → ds ≡ es
+same_digits [] [] e = refl
+same_digits [] (x ∷ xs) e = absurd (cc e)
+same_digits (x ∷ xs) [] e = absurd (cc e)
+same_digits (x ∷ xs) (y ∷ ys) e =
+    let head : x ≡ y = omega (arith, ap (λ (l : List ℕ). get_or l 0 0) e) in
+    let tail = same_digits xs ys (cc e) in cc
+
+-- different numbers have different texts
+pub number_once : (m n : ℕ) → number_text m ≡ number_text n → m ≡ n
+number_once zero zero e = refl
+number_once zero (suc n) e =
+    absurd (zero_differs (digits_of 10 (suc n)) (first_digits_of 10 (suc n) (omega arith) (omega arith)) (sym number_zero ∙ e ∙ number_more n))
+number_once (suc m) zero e =
+    absurd (zero_differs (digits_of 10 (suc m)) (first_digits_of 10 (suc m) (omega arith) (omega arith)) (sym number_zero ∙ sym e ∙ number_more m))
+number_once (suc m) (suc n) e =
+    same_from_digits_of 10 (suc m) (suc n) (omega arith) (same_digits (digits_of 10 (suc m)) (digits_of 10 (suc n)) (sym (number_more m) ∙ e ∙ number_more n))
+
+-- a rule's name is made of bytes that a name has
+pub rule_name_bytes : (number : ℕ) (made : Made) → list_all is_long_name_byte (rule_name_text number made) ≡ true
+rule_name_bytes number (Command c) = ap (list_all is_long_name_byte) (append-nil (number_text number)) ∙ number_bytes number
+rule_name_bytes number Phony = refl
+
+-- such a name is read from plain pieces
+pub name_bytes_plain : (bs : Text) → list_all is_long_name_byte bs ≡ true → name_bytes (map Plain bs) ≡ Some bs
+unfolding name_bytes
+name_bytes_plain [] e = refl
+name_bytes_plain (b ∷ bs) e =
+    let both = and_parts (is_long_name_byte b) (list_all is_long_name_byte bs) e in
+    rw (both.0, name_bytes_plain bs both.1) refl
+
+-- plain pieces are written as they are
+pub written_plain : (bs : Text) → written (map Plain bs) ≡ bs
+written_plain [] = refl
+written_plain (b ∷ bs) = ap (λ later. b ∷ later) (written_plain bs)
+
+-- a byte that a name has is no other byte
+other_byte : (c : ℕ) → is_long_name_byte c ≡ false → (b : ℕ) (same : Bool) → (b == c) ≡ same → is_long_name_byte b ≡ true → same ≡ false
+other_byte c none b true is e = let here = eqb-true b c is in absurd (cc)
+other_byte c none b false is e = refl
+
+-- so that it stands in a name's text as it is
+long_piece : (b : ℕ) → is_long_name_byte b ≡ true → is_name_piece (Plain b) ≡ true
+long_piece b e =
+    let other = λ (c : ℕ) (none : is_long_name_byte c ≡ false). other_byte c none b (b == c) refl e in
+    rw (other 36 refl, other 32 refl, other 58 refl, other 124 refl, other 13 refl, other 10 refl, other 0 refl) refl
+
+-- and so does the whole name
+pub plain_pieces : (bs : Text) → list_all is_long_name_byte bs ≡ true → list_all is_name_piece (map Plain bs) ≡ true
+plain_pieces [] e = refl
+plain_pieces (b ∷ bs) e =
+    let both = and_parts (is_long_name_byte b) (list_all is_long_name_byte bs) e in
+    and_from (is_name_piece (Plain b)) (list_all is_name_piece (map Plain bs)) (long_piece b both.0) (plain_pieces bs both.1)
+
+-- ---- commands
+
+-- the pieces of a printed command: a first space stands after a dollar too
+abbrev pub command_pieces : Text → Pieces
+command_pieces [] = []
+command_pieces (b ∷ bs) = piece_by (b == 32 || b == 36) b ∷ pieces_by is_special_in_command bs
+
+-- the first byte of a command
+first_written : (b : ℕ) (space dollar : Bool) → (b == 32) ≡ space → (b == 36) ≡ dollar
+    → piece_written (piece_by (space || dollar) b) ≡ (if space then codes "$" else []) ++ (if dollar then codes "$" ++ b ∷ [] else b ∷ [])
+first_written b true true s d = absurd (omega (arith, eqb-true b 32 s, eqb-true b 36 d))
+first_written b true false s d = refl
+first_written b false true s d = refl
+first_written b false false s d = refl
+
+-- a command, written, is its text
+pub command_written : (c : Text) → written (command_pieces c) ≡ command_text c
+command_written [] = refl
+command_written (b ∷ bs) =
+    ap₂ (λ one later. one ++ later) (first_written b (b == 32) (b == 36) refl refl) (written_by is_special_in_command bs)
+    ∙ append_assoc (lead_text (b ∷ bs)) _ _
+
+-- it stands for the command
+pub command_expanded : (value_of : Text → Text) (c : Text) → expanded value_of (command_pieces c) ≡ c
+unfolding expanded
+command_expanded value_of [] = refl
+command_expanded value_of (b ∷ bs) =
+    ap₂ (λ one later. one ++ later) (one_expanded value_of (b == 32 || b == 36) b) (expanded_by value_of is_special_in_command bs)
+
+-- each byte of a command is printed
+command_piece : (b : ℕ) (special : Bool) → (b == 36) ≡ special → is_command_byte b ≡ true → is_printed (piece_by special b) ≡ true
+command_piece b true is byte = or_left (b == 36) _ is
+command_piece b false is byte = and_from (not (b == 36)) (is_command_byte b) (ap not is) byte
+
+-- the first one too
+first_piece : (b : ℕ) (space dollar : Bool) → (b == 32) ≡ space → (b == 36) ≡ dollar → is_command_byte b ≡ true
+    → is_printed (piece_by (space || dollar) b) ≡ true
+first_piece b true dollar s d byte = or_right (b == 36) _ (or_left (b == 32) _ s)
+first_piece b false dollar s d byte = command_piece b dollar d byte
+
+-- and so is the whole command
+pub command_printed : (c : Text) → list_all is_command_byte c ≡ true → list_all is_printed (command_pieces c) ≡ true
+command_printed [] e = refl
+command_printed (b ∷ bs) e =
+    let both = and_parts (is_command_byte b) (list_all is_command_byte bs) e in
+    and_from _ _ (first_piece b (b == 32) (b == 36) refl refl both.0)
+    (by_passes is_printed is_special_in_command is_command_byte (λ x. command_piece x (x == 36) refl) bs both.1)
+
+-- a byte is no variable
+unnamed : (test : Text → Bool) (special : Bool) (b : ℕ) → names_one test (piece_by special b) ≡ false
+unnamed test true b = refl
+unnamed test false b = refl
+
+-- no byte of an escaped text is
+by_unnamed : (test : Text → Bool) (special : ℕ → Bool) (bs : Text) → refers_to test (pieces_by special bs) ≡ false
+by_unnamed test special [] = refl
+by_unnamed test special (b ∷ bs) = ap₂ (λ one later. one || later) (unnamed test (special b) b) (by_unnamed test special bs)
+
+-- a printed command refers to no variable
+pub command_alone : (test : Text → Bool) (c : Text) → refers_to test (command_pieces c) ≡ false
+command_alone test [] = refl
+command_alone test (b ∷ bs) = ap₂ (λ one later. one || later) (unnamed test (b == 32 || b == 36) b) (by_unnamed test is_special_in_command bs)

@@ -1,0 +1,59 @@
+-- Shell words, path by path.
+use Rattle.std.proofs.Common.{◌≡◌, ℕ, Bool, ◌||◌, List, [], ◌∷◌, ◌++◌, refl, sym, ◌∙◌, ap, append_assoc, append-nil, map}
+use Rattle.std.specs.Borrow.{Bor}
+use Rattle.std.specs.List.{flat_map, join_with_byte, list_any}
+use Rattle.kt_ninja_reader.specs.JoinedLines.{Text}
+use Rattle.kt_ninja_reader.specs.Pieces.{Piece, Plain}
+use Rattle.kt_ninja_reader.specs.Scopes.{expanded, piece_text, shell_word, shell_words}
+use Rattle.kt_ninja_reader.proofs.SpelledParts.{expanded_after}
+
+joined_words : (between : ℕ) (path : Text) (paths : List Text)
+    → join_with_byte between (map shell_word (path ∷ paths)) ≡ shell_word path ++ flat_map (λ q. between ∷ shell_word q) paths
+joined_words between path [] = sym (append-nil (shell_word path))
+joined_words between path (next ∷ paths) = ap (λ later. shell_word path ++ (between ∷ later)) (joined_words between next paths)
+
+pub shell_words-first : (between : ℕ) (path : Text) (paths : List Text)
+    → shell_words between (path ∷ paths) ≡ shell_word path ++ flat_map (λ q. between ∷ shell_word q) paths
+unfolding shell_words
+shell_words-first between path paths = joined_words between path paths
+
+pub shell_words-none : (between : ℕ) → shell_words between [] ≡ []
+unfolding shell_words
+shell_words-none between = refl
+
+-- a word and the words after it, put one after the other
+pub words_put : (text first last : Text) (between : ℕ) (path : Text) (paths all : List Text) → all ≡ path ∷ paths → first ≡ text ++ shell_word path
+    → last ≡ first ++ flat_map (λ q. between ∷ shell_word q) paths → last ≡ text ++ shell_words between all
+words_put text first last between path paths all is one more =
+    more ∙ rw one (append_assoc text (shell_word path) (flat_map (λ q. between ∷ shell_word q) paths)) ∙ ap (λ l. text ++ l) (sym (shell_words-first between path paths)) ∙ ap (λ l. text ++ shell_words between l) (sym is)
+
+-- what a spelling stands for, run by run
+expanded_one : (value_of : Text → Text) (p : Piece) (ps : List Piece) → expanded value_of (p ∷ ps) ≡ piece_text value_of p ++ expanded value_of ps
+unfolding expanded
+expanded_one value_of p ps = refl
+
+expanded_none : (value_of : Text → Text) → expanded value_of [] ≡ []
+unfolding expanded
+expanded_none value_of = refl
+
+pub expanded_run : (value_of : Text → Text) (text more now plain : Text) (p : Piece) (after rest whole : List Piece) → rest ≡ map Plain plain ++ p ∷ after → more ≡ text ++ plain
+    → now ≡ more ++ piece_text value_of p → text ++ expanded value_of rest ≡ expanded value_of whole → now ++ expanded value_of after ≡ expanded value_of whole
+expanded_run value_of text more now plain p after rest whole is one two h =
+    let out : expanded value_of rest ≡ plain ++ (piece_text value_of p ++ expanded value_of after) =
+    ap (expanded value_of) is ∙ expanded_after value_of plain (p ∷ after) ∙ ap (λ l. plain ++ l) (expanded_one value_of p after) in
+    ap (λ l. l ++ expanded value_of after) (two ∙ ap (λ l. l ++ piece_text value_of p) one)
+    ∙ append_assoc (text ++ plain) (piece_text value_of p) (expanded value_of after)
+    ∙ append_assoc text plain (piece_text value_of p ++ expanded value_of after)
+    ∙ ap (λ l. text ++ l) (sym out) ∙ h
+
+pub expanded_end : (value_of : Text → Text) (text more plain : Text) (after rest whole : List Piece) → rest ≡ map Plain plain ++ after → after ≡ [] → more ≡ text ++ plain
+    → text ++ expanded value_of rest ≡ expanded value_of whole → more ≡ expanded value_of whole
+expanded_end value_of text more plain after rest whole is end one h =
+    let out : expanded value_of rest ≡ plain =
+    ap (expanded value_of) (is ∙ ap (λ l. map Plain plain ++ l) end) ∙ expanded_after value_of plain [] ∙ ap (λ l. plain ++ l) (expanded_none value_of) ∙ append-nil plain in
+    one ∙ ap (λ l. text ++ l) (sym out) ∙ h
+
+-- a test of borrowed names is one of what they hold
+pub any_now : (test : Text → Bool) (names : List (Bor Text)) → list_any (λ name. test name.now) names ≡ list_any test (map (λ name. name.now) names)
+any_now test [] = refl
+any_now test (n ∷ ns) = ap (λ r. test n.now || r) (any_now test ns)

@@ -1,0 +1,258 @@
+-- Spellings by their first piece: names, spaces, variables, and what they stand for.
+use Rattle.std.proofs.Common.{◌≡◌, ◌≢◌, ℕ, suc, ◌+◌, Bool, true, false, ◌==◌, ◌||◌, List, [], ◌∷◌, ◌++◌, refl, sym, ◌∙◌, ap, append-nil, map, length, take, drop, arith, Option, Some, None, option_map, unwrap_or, is_some, IfSome, ⊎_elim}
+use Rattle.std.proofs.lemmas.Bool.{cases_Bool, false≢true, eqb-true, eq-eqb, ne_eqb}
+use Rattle.std.specs.Borrow.{Bor}
+use Rattle.std.specs.List.{list_any, prefix_len, slice_split, onto_first}
+use Rattle.std.proofs.lemmas.List.Splits.{slice_split-cons_no}
+use Rattle.kt_ninja_reader.specs.JoinedLines.{Text}
+use Rattle.kt_ninja_reader.specs.Pieces.{Piece, Plain, Escaped, Variable, after_dollar, is_escapable, is_long_name_byte, is_short_name_byte, outside, pieces, pieces_from}
+use Rattle.kt_ninja_reader.specs.inner.Spelled.{is_spelled, pieces_in}
+use Rattle.kt_ninja_reader.specs.Forms.{begins_with_at, is_plain, name_bytes, without_lead}
+use Rattle.kt_ninja_reader.specs.Scopes.{expanded, refers_to}
+use Rattle.kt_ninja.specs.Writable.{is_empty}
+use Rattle.kt_ninja_reader.specs.inner.Cutting.{variable_names}
+use Rattle.kt_ninja_reader.proofs.PieceLemmas.{closed, escape-brace, escape-escapable, escape-nil, escape-none, escape-short, in_braces-prefix, in_name-prefix, outside-dollar, outside-plain}
+use Rattle.kt_ninja_reader.proofs.SpelledLemmas.{outside_some, spelled_some}
+
+-- what a spelling begins with: after a dollar no plain byte
+abbrev begins_escaped : List Piece → Bool
+begins_escaped [] = false
+begins_escaped (Plain b ∷ ps) = false
+begins_escaped (Escaped b ∷ ps) = true
+begins_escaped (Variable name ∷ ps) = true
+
+named_first : (name : Text) (found : Option (List Piece)) → IfSome (option_map (λ later. Variable name ∷ later) found) (λ ps. begins_escaped ps ≡ true)
+named_first name None = tt
+named_first name (Some ps) = refl
+
+closed_first : (name after : Text) → IfSome (closed name after) (λ ps. begins_escaped ps ≡ true)
+closed_first name [] = tt
+closed_first name (b ∷ bs) =
+    ⊎_elim (λ d. rw d (⊎_elim (λ e. rw e tt) (λ e. rw e (named_first name (pieces_from outside bs))) (cases_Bool (is_empty name)))) (λ d. rw d tt) (cases_Bool (b == 125))
+
+escaped_first : (b : ℕ) (found : Option (List Piece)) → IfSome (option_map (λ later. Escaped b ∷ later) found) (λ ps. begins_escaped ps ≡ true)
+escaped_first b None = tt
+escaped_first b (Some ps) = refl
+
+after_first : (text : Text) → IfSome (pieces_from after_dollar text) (λ ps. begins_escaped ps ≡ true)
+after_first [] = rw escape-nil tt
+after_first (b ∷ bs) =
+    ⊎_elim
+    (λ d. rw (escape-escapable b bs d) (escaped_first b (pieces_from outside bs)))
+    (λ d. ⊎_elim
+    (λ e. rw (escape-brace b bs d e ∙ in_braces-prefix [] bs) (closed_first (take (prefix_len is_long_name_byte bs) bs) (drop (prefix_len is_long_name_byte bs) bs)))
+    (λ e. ⊎_elim
+    (λ f. rw (escape-short b bs d e f ∙ in_name-prefix [] (b ∷ bs)) (named_first (take (prefix_len is_short_name_byte (b ∷ bs)) (b ∷ bs)) (pieces_from outside (drop (prefix_len is_short_name_byte (b ∷ bs)) (b ∷ bs)))))
+    (λ f. rw (escape-none b bs d e f) tt)
+    (cases_Bool (is_short_name_byte b)))
+    (cases_Bool (b == 123)))
+    (cases_Bool (is_escapable b))
+
+-- a spelling by its first byte: a dollar begins no plain piece, and each other byte is one
+pub dollar_first : (b : ℕ) (bs : Text) → is_spelled (b ∷ bs) ≡ true → (b == 36) ≡ true → begins_escaped (pieces_in (b ∷ bs)) ≡ true
+dollar_first b bs spelled d = rw (outside_some (b ∷ bs) spelled) at (rw (sym (outside-dollar b bs d)) at (after_first bs))
+
+some_tail : (p : Piece) (found : Option (List Piece)) → is_some (option_map (λ later. p ∷ later) found) ≡ is_some found
+some_tail p None = refl
+some_tail p (Some ps) = refl
+
+pub plain_first : (b : ℕ) (bs : Text) → is_spelled (b ∷ bs) ≡ true → (b == 36) ≡ false → (is_spelled bs ≡ true) × (pieces_in (b ∷ bs) ≡ Plain b ∷ pieces_in bs)
+unfolding pieces
+plain_first b bs spelled d =
+    let all : pieces (b ∷ bs) ≡ option_map (λ later. Plain b ∷ later) (pieces bs) = outside-plain b bs d in
+    let left : is_spelled bs ≡ true = sym (some_tail (Plain b) (pieces bs)) ∙ sym (ap is_some all) ∙ spelled in
+    (left, ap (λ found. unwrap_or found []) (all ∙ ap (option_map (λ later. Plain b ∷ later)) (spelled_some bs left)))
+
+pub spelled_nil : is_spelled [] ≡ true
+unfolding pieces pieces_from
+spelled_nil = refl
+
+pub nothing_in : pieces_in [] ≡ []
+unfolding pieces pieces_from
+nothing_in = refl
+
+-- whether there is a piece
+escaped_some : (ps : List Piece) → begins_escaped ps ≡ true → is_empty ps ≡ false
+escaped_some [] h = absurd (false≢true h)
+escaped_some (p ∷ ps) h = refl
+
+pub empty_text : (text : Text) → is_spelled text ≡ true → is_empty (pieces_in text) ≡ is_empty text
+empty_text [] spelled = ap is_empty nothing_in
+empty_text (b ∷ bs) spelled =
+    ⊎_elim (λ d. escaped_some (pieces_in (b ∷ bs)) (dollar_first b bs spelled d)) (λ d. ap is_empty (plain_first b bs spelled d).1) (cases_Bool (b == 36))
+
+pub empty_length : (text : Text) (ps : List Piece) → is_spelled text ≡ true → pieces_in text ≡ ps → (length text == 0) ≡ is_empty ps
+empty_length [] ps spelled view = sym (empty_text [] spelled) ∙ ap is_empty view
+empty_length (b ∷ bs) ps spelled view = let some : (length (b ∷ bs) == 0) ≡ false = ne_eqb _ _ (λ e. omega (arith, e)) in some ∙ sym (empty_text (b ∷ bs) spelled) ∙ ap is_empty view
+
+-- whether the first piece is `@`
+escaped_at : (ps : List Piece) → begins_escaped ps ≡ true → begins_with_at ps ≡ false
+escaped_at [] h = refl
+escaped_at (Plain b ∷ ps) h = absurd (false≢true h)
+escaped_at (Escaped b ∷ ps) h = refl
+escaped_at (Variable name ∷ ps) h = refl
+
+pub at_first : (text : Text) (b : ℕ) (bs : Text) → text ≡ b ∷ bs → is_spelled text ≡ true → begins_with_at (pieces_in text) ≡ (b == 64)
+at_first text b bs is spelled =
+    let here : is_spelled (b ∷ bs) ≡ true = rw is at spelled in
+    ap (λ l. begins_with_at (pieces_in l)) is
+    ∙ ⊎_elim
+    (λ d. let e : b ≡ 36 = eqb-true _ _ d in escaped_at (pieces_in (b ∷ bs)) (dollar_first b bs here d) ∙ sym (rw e refl))
+    (λ d. ap begins_with_at (plain_first b bs here d).1)
+    (cases_Bool (b == 36))
+
+pub at_none : (text : Text) → text ≡ [] → begins_with_at (pieces_in text) ≡ false
+at_none text is = ap (λ l. begins_with_at (pieces_in l)) is ∙ ap begins_with_at nothing_in
+
+-- without the spaces at its begin
+escaped_lead : (ps : List Piece) → begins_escaped ps ≡ true → prefix_len (is_plain 32) ps ≡ 0
+escaped_lead [] h = absurd (false≢true h)
+escaped_lead (Plain b ∷ ps) h = absurd (false≢true h)
+escaped_lead (Escaped b ∷ ps) h = refl
+escaped_lead (Variable name ∷ ps) h = refl
+
+abbrev indent : Text → ℕ
+indent text = prefix_len (λ b. b == 32) text
+
+drop_more : (n : ℕ) (c : ℕ) (cs : Text) → drop (1 + n) (c ∷ cs) ≡ drop n cs
+drop_more n c cs = let e : 1 + n ≡ suc n = omega arith in rw e refl
+
+drop_piece : (n : ℕ) (p : Piece) (ps : List Piece) → drop (1 + n) (p ∷ ps) ≡ drop n ps
+drop_piece n p ps = let e : 1 + n ≡ suc n = omega arith in rw e refl
+
+spaced : (c : ℕ) (cs : Text) → (is_spelled (drop (indent cs) cs) ≡ true) × (pieces_in (drop (indent cs) cs) ≡ without_lead (pieces_in cs)) → pieces_in (c ∷ cs) ≡ Plain c ∷ pieces_in cs → (c == 32) ≡ true
+    → (is_spelled (drop (indent (c ∷ cs)) (c ∷ cs)) ≡ true) × (pieces_in (drop (indent (c ∷ cs)) (c ∷ cs)) ≡ without_lead (pieces_in (c ∷ cs)))
+spaced c cs later first s =
+    let more : indent (c ∷ cs) ≡ 1 + indent cs = rw s refl in
+    let rest : drop (indent (c ∷ cs)) (c ∷ cs) ≡ drop (indent cs) cs = ap (λ n. drop n (c ∷ cs)) more ∙ drop_more (indent cs) c cs in
+    let lead : prefix_len (is_plain 32) (Plain c ∷ pieces_in cs) ≡ 1 + prefix_len (is_plain 32) (pieces_in cs) = rw s refl in
+    let others : without_lead (pieces_in (c ∷ cs)) ≡ without_lead (pieces_in cs) =
+    ap without_lead first ∙ ap (λ n. drop n (Plain c ∷ pieces_in cs)) lead ∙ drop_piece (prefix_len (is_plain 32) (pieces_in cs)) (Plain c) (pieces_in cs) in
+    (rw rest later.0, ap pieces_in rest ∙ later.1 ∙ sym others)
+
+unspaced : (c : ℕ) (cs : Text) → is_spelled (c ∷ cs) ≡ true → pieces_in (c ∷ cs) ≡ Plain c ∷ pieces_in cs → (c == 32) ≡ false
+    → (is_spelled (drop (indent (c ∷ cs)) (c ∷ cs)) ≡ true) × (pieces_in (drop (indent (c ∷ cs)) (c ∷ cs)) ≡ without_lead (pieces_in (c ∷ cs)))
+unspaced c cs whole first s =
+    let none : indent (c ∷ cs) ≡ 0 = rw s refl in
+    let rest : drop (indent (c ∷ cs)) (c ∷ cs) ≡ c ∷ cs = rw none refl in
+    let lead : without_lead (Plain c ∷ pieces_in cs) ≡ Plain c ∷ pieces_in cs = rw s refl in
+    (rw rest whole, ap pieces_in rest ∙ first ∙ sym lead ∙ sym (ap without_lead first))
+
+pub lead_cut : (text : Text) → is_spelled text ≡ true → (is_spelled (drop (indent text) text) ≡ true) × (pieces_in (drop (indent text) text) ≡ without_lead (pieces_in text))
+lead_cut [] spelled = (spelled_nil, rw nothing_in refl)
+lead_cut (b ∷ bs) spelled =
+    ⊎_elim
+    (λ d. let e : b ≡ 36 = eqb-true _ _ d in
+    let none : indent (b ∷ bs) ≡ 0 = rw e refl in
+    let whole : drop (indent (b ∷ bs)) (b ∷ bs) ≡ b ∷ bs = rw none refl in
+    let kept : pieces_in (b ∷ bs) ≡ without_lead (pieces_in (b ∷ bs)) = rw (escaped_lead (pieces_in (b ∷ bs)) (dollar_first b bs spelled d)) refl in
+    (rw whole spelled, ap pieces_in whole ∙ kept))
+    (λ d. let first = plain_first b bs spelled d in ⊎_elim (λ s. spaced b bs (lead_cut bs first.0) first.1 s) (λ s. unspaced b bs spelled first.1 s) (cases_Bool (b == 32)))
+    (cases_Bool (b == 36))
+
+-- a name is all bytes of its text
+escaped_name : (ps : List Piece) → begins_escaped ps ≡ true → name_bytes ps ≡ None
+unfolding name_bytes
+escaped_name [] h = absurd (false≢true h)
+escaped_name (Plain b ∷ ps) h = absurd (false≢true h)
+escaped_name (Escaped b ∷ ps) h = refl
+escaped_name (Variable name ∷ ps) h = refl
+
+plain_name : (b : ℕ) (ps : List Piece) → is_long_name_byte b ≡ true → name_bytes (Plain b ∷ ps) ≡ option_map (λ bs. b ∷ bs) (name_bytes ps)
+unfolding name_bytes
+plain_name b ps h = rw h refl
+
+other_name : (b : ℕ) (ps : List Piece) → is_long_name_byte b ≡ false → name_bytes (Plain b ∷ ps) ≡ None
+unfolding name_bytes
+other_name b ps h = rw h refl
+
+no_name : name_bytes [] ≡ Some []
+unfolding name_bytes
+no_name = refl
+
+long_plain : (b : ℕ) → is_long_name_byte b ≡ true → (b == 36) ≡ false
+long_plain b h = ⊎_elim (λ d. absurd (let e : b ≡ 36 = eqb-true _ _ d in let no : is_long_name_byte b ≡ false = rw e refl in false≢true (sym no ∙ h))) (λ d. d) (cases_Bool (b == 36))
+
+pub name_all : (text : Text) (n : ℕ) → n ≡ prefix_len is_long_name_byte text → n ≡ length text → is_spelled text ≡ true → name_bytes (pieces_in text) ≡ Some text
+name_all [] n is all spelled = ap name_bytes nothing_in ∙ no_name
+name_all (b ∷ bs) n is all spelled =
+    ⊎_elim
+    (λ h. let first = plain_first b bs spelled (long_plain b h) in
+    let more : n ≡ 1 + prefix_len is_long_name_byte bs = is ∙ rw h refl in
+    let later : prefix_len is_long_name_byte bs ≡ length bs = omega (arith, more, all) in
+    ap name_bytes first.1 ∙ plain_name b (pieces_in bs) h ∙ ap (option_map (λ cs. b ∷ cs)) (name_all bs (prefix_len is_long_name_byte bs) refl later first.0))
+    (λ h. absurd (let none : n ≡ 0 = is ∙ rw h refl in omega (arith, none, all)))
+    (cases_Bool (is_long_name_byte b))
+
+pub name_not : (text : Text) (n : ℕ) → n ≡ prefix_len is_long_name_byte text → n ≢ length text → is_spelled text ≡ true → name_bytes (pieces_in text) ≡ None
+name_not [] n is other spelled = absurd (other is)
+name_not (b ∷ bs) n is other spelled =
+    ⊎_elim
+    (λ h. let first = plain_first b bs spelled (long_plain b h) in
+    let more : n ≡ 1 + prefix_len is_long_name_byte bs = is ∙ rw h refl in
+    let later : prefix_len is_long_name_byte bs ≢ length bs = λ e. other (omega (arith, more, e)) in
+    ap name_bytes first.1 ∙ plain_name b (pieces_in bs) h ∙ ap (option_map (λ cs. b ∷ cs)) (name_not bs (prefix_len is_long_name_byte bs) refl later first.0))
+    (λ h. ⊎_elim
+    (λ d. escaped_name (pieces_in (b ∷ bs)) (dollar_first b bs spelled d))
+    (λ d. ap name_bytes (plain_first b bs spelled d).1 ∙ other_name b (pieces_in bs) h)
+    (cases_Bool (b == 36)))
+    (cases_Bool (is_long_name_byte b))
+
+-- plain bytes name no variable, and stand for themselves
+pub names_after : (plain : Text) (ps : List Piece) → variable_names (map Plain plain ++ ps) ≡ variable_names ps
+unfolding variable_names
+names_after [] ps = refl
+names_after (b ∷ bs) ps = names_after bs ps
+
+pub expanded_after : (value_of : Text → Text) (plain : Text) (ps : List Piece) → expanded value_of (map Plain plain ++ ps) ≡ plain ++ expanded value_of ps
+unfolding expanded
+expanded_after value_of [] ps = refl
+expanded_after value_of (b ∷ bs) ps = ap (λ l. b ∷ l) (expanded_after value_of bs ps)
+
+-- whether a variable is referred to, by the names
+pub refers_by_names : (test : Text → Bool) (ps : List Piece) → refers_to test ps ≡ list_any test (variable_names ps)
+unfolding variable_names
+refers_by_names test [] = refl
+refers_by_names test (Plain b ∷ ps) = refers_by_names test ps
+refers_by_names test (Escaped b ∷ ps) = refers_by_names test ps
+refers_by_names test (Variable name ∷ ps) = ap (λ r. test name || r) (refers_by_names test ps)
+
+pub variable_name : (names : List (Bor Text)) (name : Bor Text) → map (λ n. n.now) (names ++ name ∷ []) ≡ map (λ n. n.now) names ++ variable_names (Variable name.now ∷ [])
+unfolding variable_names
+variable_name [] name = refl
+variable_name (n ∷ ns) name = ap (λ l. n.now ∷ l) (variable_name ns name)
+
+pub byte_names : (names : List (Bor Text)) (b : ℕ) → map (λ n. n.now) names ≡ map (λ n. n.now) names ++ variable_names (Escaped b ∷ [])
+unfolding variable_names
+byte_names names b = sym (append-nil (map (λ n. n.now) names))
+
+-- the names of what a run begins with
+pub names_from : (plain : Text) (p : Piece) (ps whole : List Piece) → whole ≡ map Plain plain ++ p ∷ ps → variable_names whole ≡ variable_names (p ∷ []) ++ variable_names ps
+unfolding variable_names
+names_from plain p ps whole is = ap variable_names is ∙ names_after plain (p ∷ ps) ∙ one p
+  where
+    one : (first : Piece) → variable_names (first ∷ ps) ≡ variable_names (first ∷ []) ++ variable_names ps
+    one (Plain b) = refl
+    one (Escaped b) = refl
+    one (Variable name) = refl
+
+pub names_end : (plain : Text) (whole : List Piece) → whole ≡ map Plain plain ++ [] → variable_names whole ≡ []
+unfolding variable_names
+names_end plain whole is = ap variable_names is ∙ names_after plain []
+
+-- what a mark cuts
+pub split_free : (mark : ℕ) (ps : List Piece) → list_any (is_plain mark) ps ≡ false → slice_split (is_plain mark) ps ≡ ps ∷ []
+split_free mark [] h = refl
+split_free mark (p ∷ ps) h =
+    ⊎_elim
+    (λ d. absurd (let yes : list_any (is_plain mark) (p ∷ ps) ≡ true = rw d refl in false≢true (sym h ∙ yes)))
+    (λ d. slice_split-cons_no (is_plain mark) p ps d ∙ ap (onto_first p) (split_free mark ps (rw d at h)))
+    (cases_Bool (is_plain mark p))
+
+pub split_cut : (mark : ℕ) (front back : List Piece) → list_any (is_plain mark) front ≡ false → slice_split (is_plain mark) (front ++ Plain mark ∷ back) ≡ front ∷ slice_split (is_plain mark) back
+split_cut mark [] back h = let same : (mark == mark) ≡ true = eq-eqb mark mark refl in rw same refl
+split_cut mark (p ∷ ps) back h =
+    ⊎_elim
+    (λ d. absurd (let yes : list_any (is_plain mark) (p ∷ ps) ≡ true = rw d refl in false≢true (sym h ∙ yes)))
+    (λ d. slice_split-cons_no (is_plain mark) p (ps ++ Plain mark ∷ back) d ∙ ap (onto_first p) (split_cut mark ps back (rw d at h)))
+    (cases_Bool (is_plain mark p))

@@ -1,0 +1,138 @@
+-- What was read so far, step by step.
+use Rattle.std.proofs.Common.{◌≡◌, ℕ, ◌+◌, ◌<◌, Bool, true, false, not, ◌&&◌, ◌||◌, List, [], ◌∷◌, ◌++◌, refl, sym, ◌∙◌, ap, append_assoc, append-nil, length, drop, map, get_or, Option, Some, None, option_map, is_some, subst, Result, MatchResult, if◌then◌else◌}
+use Rattle.std.proofs.lemmas.List.{drop_more}
+use Rattle.std.specs.List.{list_all}
+use Rattle.kt_ninja.specs.declared.plan.Made.{Made}
+use Rattle.kt_ninja_reader.specs.declared.read_fault.Fault.{Fault}
+use Rattle.kt_ninja_reader.specs.declared.pending_statement.Making.{Making as HeldMaking}
+use Rattle.kt_ninja_reader.specs.declared.pending_statement.Making.TheVariants.{ByNothing, ByOwn, ByRule}
+use Rattle.kt_ninja_reader.specs.JoinedLines.{Text}
+use Rattle.kt_ninja_reader.specs.Forms.{Binding, Build, Pieces}
+use Rattle.kt_ninja_reader.specs.Scopes.{Scope, expanded, find_in, put_in, refers_to, value_in, value_within}
+use Rattle.kt_ninja_reader.specs.NinjaRead.{Making, State, PendingStatement, add_defaults, are_new, block_scope, made_of, outs_of, paths_in, pending_with, statement_of}
+use Rattle.kt_list.specs.Names.{is_among, with_name}
+use Rattle.kt_ninja.specs.Writable.{is_empty}
+use Rattle.kt_ninja_reader.specs.inner.Refusals.{LacksReading}
+use Rattle.kt_ninja_reader.specs.inner.Holding.{block_with, made_as, making_as, path_in}
+
+-- what is left begins with the item that comes next
+pub left_at : {X : Type 0} (xs : List X) (i : ℕ) (x : X) → i < length xs → x ≡ get_or xs i x → drop i xs ≡ x ∷ drop (i + 1) xs
+left_at xs i x below is = drop_more xs i x below ∙ ap (λ y. y ∷ drop (i + 1) xs) (sym is)
+
+pub told_at : {X Y : Type 0} (f : X → Y) (xs : List X) (i : ℕ) (x : X) → i < length xs → x ≡ get_or xs i x → map f (drop i xs) ≡ f x ∷ map f (drop (i + 1) xs)
+told_at f xs i x below is = ap (map f) (left_at xs i x below is)
+
+-- blocks, binding by binding
+taken_by : (test : Bool) (put next : Scope) (rest : Scope → Option Scope) → (if test then None else Some put) ≡ Some next
+    → (if test then None else rest put) ≡ rest next
+taken_by true put next rest h = absurd (cc h)
+taken_by false put next rest h = let same : put ≡ next = cc h in ap rest same
+
+refused_by : (test : Bool) (put : Scope) (rest : Scope → Option Scope) → (if test then None else Some put) ≡ None → (if test then None else rest put) ≡ None
+refused_by true put rest h = refl
+refused_by false put rest h = absurd (cc h)
+
+pub block_taken : (file block next : Scope) (b : Binding) (bs : List Binding) → block_with file block b ≡ Some next → block_scope file block (b ∷ bs) ≡ block_scope file next bs
+unfolding block_scope
+block_taken file block next b bs h =
+    taken_by (is_some (find_in block b.key) || refers_to (λ name. is_some (find_in block name)) b.value)
+    (put_in block b.key (expanded (value_in file) b.value)) next (λ later. block_scope file later bs) h
+
+pub block_refused : (file block : Scope) (b : Binding) (bs : List Binding) → block_with file block b ≡ None → block_scope file block (b ∷ bs) ≡ None
+unfolding block_scope
+block_refused file block b bs h =
+    refused_by (is_some (find_in block b.key) || refers_to (λ name. is_some (find_in block name)) b.value)
+    (put_in block b.key (expanded (value_in file) b.value)) (λ later. block_scope file later bs) h
+
+pub block_end : (file block : Scope) → block_scope file block [] ≡ Some block
+unfolding block_scope
+block_end file block = refl
+
+-- paths, one after another
+in_front : (front : List Text) (name : Text) (later : Option (List Text))
+    → option_map (λ more. front ++ more) (option_map (λ more. name ∷ more) later) ≡ option_map (λ more. (front ++ name ∷ []) ++ more) later
+in_front front name None = refl
+in_front front name (Some names) = ap Some (sym (append_assoc front (name ∷ []) names))
+
+path_by : (empty : Bool) (front : List Text) (value name : Text) (later : Option (List Text)) → (if empty then None else Some value) ≡ Some name
+    → option_map (λ more. front ++ more) (if empty then None else option_map (λ more. value ∷ more) later) ≡ option_map (λ more. (front ++ name ∷ []) ++ more) later
+path_by true front value name later h = absurd (cc h)
+path_by false front value name later h = let same : value ≡ name = cc h in rw same (in_front front name later)
+
+no_path_by : (empty : Bool) (front : List Text) (value : Text) (later : Option (List Text)) → (if empty then None else Some value) ≡ None
+    → option_map (λ more. front ++ more) (if empty then None else option_map (λ more. value ∷ more) later) ≡ None
+no_path_by true front value later h = refl
+no_path_by false front value later h = absurd (cc h)
+
+pub path_taken : (value_of : Text → Text) (front : List Text) (p : Pieces) (ps : List Pieces) (name : Text) → path_in value_of p ≡ Some name
+    → option_map (λ more. front ++ more) (paths_in value_of (p ∷ ps)) ≡ option_map (λ more. (front ++ name ∷ []) ++ more) (paths_in value_of ps)
+unfolding paths_in
+path_taken value_of front p ps name h = path_by (is_empty (expanded value_of p)) front (expanded value_of p) name (paths_in value_of ps) h
+
+pub path_refused : (value_of : Text → Text) (front : List Text) (p : Pieces) (ps : List Pieces) → path_in value_of p ≡ None
+    → option_map (λ more. front ++ more) (paths_in value_of (p ∷ ps)) ≡ None
+unfolding paths_in
+path_refused value_of front p ps h = no_path_by (is_empty (expanded value_of p)) front (expanded value_of p) (paths_in value_of ps) h
+
+pub paths_end : (value_of : Text → Text) (front : List Text) → option_map (λ more. front ++ more) (paths_in value_of []) ≡ Some front
+unfolding paths_in
+paths_end value_of front = ap Some (append-nil front)
+
+-- outputs, one after another
+pub new_taken : (names next : List Text) (out : Text) (outs : List Text) → is_among names out ≡ false → next ≡ with_name names out
+    → (are_new names (out ∷ outs) ≡ are_new next outs) × (next ++ outs ≡ names ++ out ∷ outs)
+unfolding are_new
+new_taken names next out outs new_one longer =
+    let grown : next ≡ names ++ out ∷ [] = longer ∙ ap (λ b. if b then names else names ++ out ∷ []) new_one in
+    (ap (λ b. not b && are_new (names ++ out ∷ []) outs) new_one ∙ ap (λ l. are_new l outs) (sym grown), ap (λ l. l ++ outs) grown ∙ append_assoc names (out ∷ []) outs)
+
+pub new_refused : (names : List Text) (out : Text) (outs : List Text) → is_among names out ≡ true → are_new names (out ∷ outs) ≡ false
+unfolding are_new
+new_refused names out outs old_one = ap (λ b. not b && are_new (names ++ out ∷ []) outs) old_one
+
+pub new_end : (names : List Text) → are_new names [] ≡ true
+unfolding are_new
+new_end names = refl
+
+-- how a statement is made
+pub made_told : (file : Scope) (s : PendingStatement) (block : Scope) (making : HeldMaking) → made_as s.inputs s.outs block file making ≡ made_of file s (making_as block making)
+unfolding made_of
+made_told file s block ByNothing = refl
+made_told file s block (ByOwn command) = refl
+made_told file s block (ByRule command) = refl
+
+pub statement_told : (file : Scope) (s : PendingStatement) (block : Scope) (making : HeldMaking) (made : Made) → s.making ≡ making_as block making
+    → made ≡ made_as s.inputs s.outs block file making
+    → record { outs = s.outs; made = made; inputs = s.inputs; implicit = s.implicit; order_only = s.order_only } ≡ statement_of file s
+unfolding statement_of
+statement_told file s block making made held is =
+    ap (λ m. record { outs = s.outs; made = m; inputs = s.inputs; implicit = s.implicit; order_only = s.order_only })
+    (is ∙ made_told file s block making ∙ ap (made_of file s) (sym held))
+
+-- an answer for one value is one for another that is the same
+pub carried : {X : Type 0} (old new : Option X) (r : Result X Fault) → old ≡ new → MatchResult r (λ x. old ≡ Some x) (LacksReading old) → MatchResult r (λ x. new ≡ Some x) (LacksReading new)
+carried {X} old new r same h = let P : Option X → Type 0 = λ o. MatchResult r (λ x. o ≡ Some x) (LacksReading o) in subst P same h
+
+-- a build line without all of its paths
+pub no_inputs : (value_of : Text → Text) (making : Making) (b : Build) (outs : List Text) → paths_in value_of b.outs ≡ Some outs
+    → paths_in value_of b.inputs.explicit ≡ None → pending_with value_of making b ≡ None
+no_inputs value_of making b outs h i = rw (h, i) refl
+
+pub no_implicit : (value_of : Text → Text) (making : Making) (b : Build) (outs inputs : List Text) → paths_in value_of b.outs ≡ Some outs
+    → paths_in value_of b.inputs.explicit ≡ Some inputs → paths_in value_of b.inputs.implicit ≡ None → pending_with value_of making b ≡ None
+no_implicit value_of making b outs inputs h i j = rw (h, i, j) refl
+
+pub no_order_only : (value_of : Text → Text) (making : Making) (b : Build) (outs inputs implicit : List Text) → paths_in value_of b.outs ≡ Some outs
+    → paths_in value_of b.inputs.explicit ≡ Some inputs → paths_in value_of b.inputs.implicit ≡ Some implicit
+    → paths_in value_of b.inputs.order_only ≡ None → pending_with value_of making b ≡ None
+no_order_only value_of making b outs inputs implicit h i j k = rw (h, i, j, k) refl
+
+-- no block hides nothing
+pub within_none : (none file : Scope) → none ≡ [] → value_within none file ≡ value_in file
+unfolding find_in
+within_none none file h = ap (λ block. value_within block file) h
+
+-- default targets, put after those above
+pub defaults_added : (state : State) (names all : List Text) → list_all (is_among (outs_of state.pending)) names ≡ true → all ≡ state.defaults ++ names
+    → add_defaults state names ≡ Some (record state { defaults = all })
+defaults_added state names all outs is = rw outs (ap (λ d. Some (record state { defaults = d })) (sym is))

@@ -1,0 +1,17 @@
+use Rattle.std.proofs.Common.{◌≡◌, ◌++◌, [], ap, sym, ◌∙◌, append-nil}
+use Rattle.std.proofs.lemmas.List.{nil_from_length}
+use Rattle.std.proofs.lemmas.Result.{on_ok_weaker}
+use Rattle.kt_ninja_reader.specs.Scopes.{shell_word}
+use Rattle.kt_ninja_reader.proofs.ScopeLemmas.{shell_words-none, words_put}
+use Rattle.kt_ninja_reader.proofs.scopes.add_shell_words.Goals as goal
+
+pub returns-in-None : goal.returns-in-None
+returns-in-None c =
+    let none : c.args.paths.now ≡ [] = nil_from_length c.args.paths.now c.in-None.ensures.cases in
+    rw none (sym (ap (λ l. c.args.text.now.items ++ l) (shell_words-none c.args.between) ∙ append-nil c.args.text.now.items))
+
+pub returns-in_ok-add_shell_word-in-Some : goal.returns-in_ok-add_shell_word-in-Some
+returns-in_ok-add_shell_word-in-Some c =
+    on_ok_weaker c.add_later_words.result
+    (λ more. words_put c.args.text.now.items c.add_shell_word.new.text.items c.add_later_words.new.text.items c.args.between c.in-Some.first.now c.in-Some.later.now c.args.paths.now c.in-Some.ensures.cases.0 (c.in_ok-add_shell_word-in-Some.ensures ∙ ap (λ p. c.args.text.now.items ++ shell_word p) c.as_slice.ensures) more)
+    c.add_later_words.ensures

@@ -1,0 +1,11 @@
+pub mod JoinedLines
+pub mod Continued
+pub mod Pieces
+pub mod Spellings
+pub mod Forms
+pub mod Scopes
+pub mod NinjaRead
+pub mod Rows
+pub mod Reading
+pub mod Layout
+pub mod inner

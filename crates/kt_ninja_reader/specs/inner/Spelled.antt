@@ -1,0 +1,12 @@
+-- Texts that are paths or values, and their pieces (the reader's own).
+use Rattle.std.specs.Prelude.{Bool, List, [], is_some, unwrap_or}
+use Rattle.kt_ninja_reader.specs.JoinedLines.{Text}
+use Rattle.kt_ninja_reader.specs.Pieces.{Piece, pieces}
+
+-- whether each dollar of the text begins an escape or a variable
+abbrev pub is_spelled : Text → Bool
+is_spelled text = is_some (pieces text)
+
+-- the pieces of such a text
+abbrev pub pieces_in : Text → List Piece
+pieces_in text = unwrap_or (pieces text) []
