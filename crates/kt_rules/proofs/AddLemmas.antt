@@ -2,10 +2,10 @@
 use Rattle.std.proofs.Common.{◌≡◌, Result, Err, sym, ap, ◌∙◌}
 use Rattle.kt_rules.specs.declared.fault.RuleFault.{RuleFault}
 use Rattle.kt_rules.specs.declared.fault.RuleFault.TheVariants.{Memory, Refused}
-use Rattle.kt_rules.specs.Refusals.{Fault, ReportsFault, Answers}
+use Rattle.kt_rules.specs.Refusals.{Fault, ReportsFault, GivesExpected}
 
 -- a reported fault is the expected result
 pub answers_refused : {A : Type 0} (fault : RuleFault) (expected : Result A Fault) (told : Fault) → ReportsFault fault told → expected ≡ Err told
-    → Answers {A = A} (Err fault) expected
+    → GivesExpected {A = A} (Err fault) expected
 answers_refused Memory expected told h e = tt
 answers_refused (Refused number place words) expected told h e = e ∙ ap Err (sym h)

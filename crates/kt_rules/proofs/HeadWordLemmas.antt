@@ -10,7 +10,7 @@ use Rattle.kt_text.specs.Words.{Text, is_nonempty, is_separator}
 use Rattle.kt_rules.specs.declared.cutting.Cut.TheVariants.{Separator}
 use Rattle.kt_rules.specs.Names.{pieces_of, written_words}
 use Rattle.kt_rules.specs.Cuts.{ends_in_backslash}
-use Rattle.kt_rules.specs.HeadWords.{separates, HoldsNoSeparator, Part, part_text, part_word, IsPart, HasGap, AreApart, AreWords, WrittenWordsLaw}
+use Rattle.kt_rules.specs.HeadWords.{separates, HoldsNoSeparator, HeadWord, part_text, part_word, IsPart, HasGap, AreSeparated, AreWords, WrittenWordsLaw}
 use Rattle.kt_rules.proofs.PartLemmas.{AreSeparators, QuotesNone, first_is, others_are, one_more_is, no_backslash, cuts_is, is_one, not_quoted, separates_too, holds_less, holds_none, holds_more}
 
 -- a word ends at the first byte that separates
@@ -69,20 +69,20 @@ one_word word (byte ∷ gap) rest some holds gaps q end =
     ∙ ap (λ (words : List Text). word ∷ words) (gap_skipped gap rest (others_are byte gap gaps))
 
 -- the gaps of parts, without the first, and with one more
-apart_first : (part next : Part) (parts : List Part) → AreApart (part ∷ next ∷ parts) → HasGap part
+apart_first : (part next : HeadWord) (parts : List HeadWord) → AreSeparated (part ∷ next ∷ parts) → HasGap part
 apart_first part next parts h =
     All-head HasGap part (take (length parts) (next ∷ parts))
     (subst (λ n. All HasGap (take n (part ∷ next ∷ parts))) (less_one (suc (length parts))) h)
 
-apart_less : (part next : Part) (parts : List Part) → AreApart (part ∷ next ∷ parts)
-    → AreApart (next ∷ parts)
+apart_less : (part next : HeadWord) (parts : List HeadWord) → AreSeparated (part ∷ next ∷ parts)
+    → AreSeparated (next ∷ parts)
 apart_less part next parts h =
     subst (λ n. All HasGap (take n (next ∷ parts))) (sym (less_one (length parts)))
     (All-tail HasGap part (take (length parts) (next ∷ parts))
     (subst (λ n. All HasGap (take n (part ∷ next ∷ parts))) (less_one (suc (length parts))) h))
 
-apart_more : (part : Part) (parts : List Part) → Goes part.gap parts → AreApart parts
-    → AreApart (part ∷ parts)
+apart_more : (part : HeadWord) (parts : List HeadWord) → Goes part.gap parts → AreSeparated parts
+    → AreSeparated (part ∷ parts)
 apart_more part [] g h = subst (λ n. All HasGap (take n (part ∷ []))) (sym (less_one 0)) (All-nil HasGap)
 apart_more part (next ∷ parts) g h =
     let has : HasGap part = ⊎_elim (λ yes. yes) (λ no. absurd (none_in next [] parts (sym no))) g in
@@ -91,7 +91,7 @@ apart_more part (next ∷ parts) g h =
     (subst (λ n. All HasGap (take n (next ∷ parts))) (less_one (length parts)) h))
 
 -- parts that are put together are cut again
-words_of_parts : (parts : List Part) → All IsPart parts → AreApart parts
+words_of_parts : (parts : List HeadWord) → All IsPart parts → AreSeparated parts
     → written_words (flat_map part_text parts) ≡ map part_word parts
 unfolding written_words pieces_of
 words_of_parts [] each apart = refl
@@ -106,9 +106,9 @@ words_of_parts (part ∷ next ∷ parts) each apart =
     ∙ ap (λ (words : List Text). part.word ∷ words)
     (words_of_parts (next ∷ parts) (All-tail IsPart part (next ∷ parts) each) (apart_less part next parts apart))
 
-are_written : (text leading : Text) (parts : List Part) → text ≡ leading ++ flat_map part_text parts
+are_written : (text leading : Text) (parts : List HeadWord) → text ≡ leading ++ flat_map part_text parts
     → AreSeparators leading
-    → All IsPart parts → AreApart parts → written_words text ≡ map part_word parts
+    → All IsPart parts → AreSeparated parts → written_words text ≡ map part_word parts
 are_written text leading parts e gap each apart =
     ap written_words e ∙ gap_skipped leading (flat_map part_text parts) gap ∙ words_of_parts parts each apart
 
@@ -116,16 +116,16 @@ are_written text leading parts e gap each apart =
 record CutUp (before : Bool) (text : Text) : Type 0 where
   first : Text
   gap : Text
-  parts : List Part
+  parts : List HeadWord
   together : text ≡ first ++ (gap ++ flat_map part_text parts)
   holds : HoldsNoSeparator before first
   separators : AreSeparators gap
   unquoted : QuotesNone before first gap
   each : All IsPart parts
-  apart : AreApart parts
+  apart : AreSeparated parts
   between : Goes gap parts
 
-abbrev part_of : Text → Text → Part
+abbrev part_of : Text → Text → HeadWord
 part_of word gap = record { word = word; gap = gap }
 
 is_part : (byte : ℕ) (word gap : Text) → HoldsNoSeparator false (byte ∷ word) → AreSeparators gap
@@ -134,9 +134,9 @@ is_part byte word gap holds gaps q =
     record { some = refl; whole = holds; past = record { separators = gaps; unquoted = q } }
 
 -- a byte that separates, before a word or before separators
-cut_gap : (before : Bool) (byte : ℕ) (text first gap : Text) (parts : List Part) → separates before byte ≡ true
+cut_gap : (before : Bool) (byte : ℕ) (text first gap : Text) (parts : List HeadWord) → separates before byte ≡ true
     → text ≡ first ++ (gap ++ flat_map part_text parts) → HoldsNoSeparator false first → AreSeparators gap
-    → QuotesNone false first gap → All IsPart parts → AreApart parts
+    → QuotesNone false first gap → All IsPart parts → AreSeparated parts
     → Goes gap parts → CutUp before (byte ∷ text)
 cut_gap before byte text [] gap parts s e holds gaps q each apart between = record {
   first = [];
@@ -199,8 +199,8 @@ cut_up before [] = record {
 }
 cut_up before (byte ∷ text) = cut_more before byte text (cut_up (byte == 92) text) (separates before byte) refl
 
-from_all : (text leading : Text) (parts : List Part) → text ≡ leading ++ flat_map part_text parts
-    → AreSeparators leading → All IsPart parts → AreApart parts → AreWords text (written_words text)
+from_all : (text leading : Text) (parts : List HeadWord) → text ≡ leading ++ flat_map part_text parts
+    → AreSeparators leading → All IsPart parts → AreSeparated parts → AreWords text (written_words text)
 from_all text leading parts e gap each apart = record {
   leading = leading;
   parts = parts;
@@ -212,8 +212,8 @@ from_all text leading parts e gap each apart = record {
 }
 
 -- from the start: the first word may be missing
-from_parts : (text first gap : Text) (parts : List Part) → text ≡ first ++ (gap ++ flat_map part_text parts)
-    → HoldsNoSeparator false first → AreSeparators gap → QuotesNone false first gap → All IsPart parts → AreApart parts
+from_parts : (text first gap : Text) (parts : List HeadWord) → text ≡ first ++ (gap ++ flat_map part_text parts)
+    → HoldsNoSeparator false first → AreSeparators gap → QuotesNone false first gap → All IsPart parts → AreSeparated parts
     → Goes gap parts → AreWords text (written_words text)
 from_parts text [] gap parts e holds gaps q each apart between = from_all text gap parts e gaps each apart
 from_parts text (letter ∷ word) gap parts e holds gaps q each apart between =

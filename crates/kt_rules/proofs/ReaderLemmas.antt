@@ -12,7 +12,7 @@ use Rattle.kt_rules.specs.declared.head.Separator.TheVariants.{Single}
 use Rattle.kt_rules.specs.declared.line.Line.{Line}
 use Rattle.kt_rules.specs.Entry.{read_line, tested_line}
 use Rattle.kt_rules.specs.RuleLine.{Head, after_double, head_of, line_of}
-use Rattle.kt_rules.specs.inner.Remembered.{IsLongCut, Names, ReadsAs, is_colon, long_line}
+use Rattle.kt_rules.specs.inner.Remembered.{IsLongCut, Names, ReadsAsLong, is_colon, long_line}
 use Rattle.kt_rules.specs.inner.Telling.{is_telling, signs_of}
 use Rattle.kt_rules.proofs.BackslashLemmas.{never_colon}
 use Rattle.kt_rules.proofs.SignLemmas.{signs_tell}
@@ -30,7 +30,7 @@ alone true = refl
 alone false = refl
 
 pub reads_long : (text targets after : Text) (needs : Needs) → IsLongCut text targets after → Names after needs
-    → ReadsAs text (long_line targets needs)
+    → ReadsAsLong text (long_line targets needs)
 unfolding read_line head_of
 reads_long text targets after needs cut names =
     let head : Head = record { separator = Single; targets = targets; pattern = None; needs = after } in

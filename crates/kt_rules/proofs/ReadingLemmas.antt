@@ -9,7 +9,7 @@ use Rattle.kt_rules.specs.declared.fault.RuleFault.{RuleFault}
 use Rattle.kt_rules.specs.declared.fault.RuleFault.TheVariants.{Memory, Refused}
 use Rattle.kt_rules.specs.declared.line.Line.{Line}
 use Rattle.kt_rules.specs.declared.place.Place.{Place}
-use Rattle.kt_rules.specs.Refusals.{Refusal, Fault, Answers, ReportsFault, fault_at, faults_at}
+use Rattle.kt_rules.specs.Refusals.{Refusal, Fault, GivesExpected, ReportsFault, fault_at, faults_at}
 use Rattle.kt_rules.specs.RuleLine.{Head, head_of, line_of}
 use Rattle.kt_rules.specs.Entry.{Rule, empty_line, is_nil, read_line, rule_of, rule_with, rules_with, tested_line}
 
@@ -30,7 +30,7 @@ blank_words (byte ∷ text) =
 
 -- a reported fault is the expected result
 pub told_fault : {A : Type 0} (told : RuleFault) (fault : Fault) (expected : Result A Fault)
-    → ReportsFault told fault → expected ≡ Err fault → Answers (Err told) expected
+    → ReportsFault told fault → expected ≡ Err fault → GivesExpected (Err told) expected
 told_fault Memory fault expected tells is = tt
 told_fault (Refused number place words) fault expected tells is = is ∙ ap Err (sym tells)
 

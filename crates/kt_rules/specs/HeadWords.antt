@@ -22,43 +22,43 @@ begins_with_space [] = false
 begins_with_space (byte ∷ text) = byte == 32
 
 -- separators alone after a text, whose last byte doesn't quote the first of them
-pub record IsGap (text gap : Text) : Type 0 where
+pub record IsWordGap (text gap : Text) : Type 0 where
   pub separators : list_all is_separator gap ≡ true
   pub unquoted : (ends_in_backslash false text && begins_with_space gap) ≡ false
 
 -- a word with the separators after it
-pub record Part : Type 0 where
+pub record HeadWord : Type 0 where
   pub word : Text
   pub gap : Text
 
-abbrev pub part_text : Part → Text
+abbrev pub part_text : HeadWord → Text
 part_text part = part.word ++ part.gap
 
-abbrev pub part_word : Part → Text
+abbrev pub part_word : HeadWord → Text
 part_word part = part.word
 
 -- a word isn't empty and has no byte that separates; only separators are after it
-pub record IsPart (part : Part) : Type 0 where
+pub record IsPart (part : HeadWord) : Type 0 where
   pub some : is_nonempty part.word ≡ true
   pub whole : HoldsNoSeparator false part.word
-  pub past : IsGap part.word part.gap
+  pub past : IsWordGap part.word part.gap
 
-abbrev pub HasGap : Part → Type 0
+abbrev pub HasGap : HeadWord → Type 0
 HasGap part = is_nonempty part.gap ≡ true
 
 -- each part but the last has separators after it
-abbrev pub AreApart : List Part → Type 0
-AreApart parts = All HasGap (take (length parts - 1) parts)
+abbrev pub AreSeparated : List HeadWord → Type 0
+AreSeparated parts = All HasGap (take (length parts - 1) parts)
 
 -- a text is separators and its words, each with the separators after it
 pub record AreWords (text : Text) (words : List Text) : Type 0 where
   pub leading : Text
-  pub parts : List Part
+  pub parts : List HeadWord
   pub together : text ≡ leading ++ flat_map part_text parts
   pub are_words : words ≡ map part_word parts
-  pub before : IsGap [] leading
+  pub before : IsWordGap [] leading
   pub each : All IsPart parts
-  pub apart : AreApart parts
+  pub apart : AreSeparated parts
 
 -- the written words of a text are such words, and no others are
 pub record WrittenWordsLaw : Type 0 where
@@ -79,8 +79,8 @@ pub record IsMiddle (text middle : Text) : Type 0 where
   pub leading : Text
   pub trailing : Text
   pub together : text ≡ leading ++ (middle ++ trailing)
-  pub before : IsGap [] leading
-  pub past : IsGap middle trailing
+  pub before : IsWordGap [] leading
+  pub past : IsWordGap middle trailing
   pub begin : BeginsWithNone middle
   pub end : EndsWithNone false middle
 

@@ -63,8 +63,8 @@ ReportsFault Memory fault = Unit {0}
 ReportsFault (Refused number place words) fault = record { number = number; place = place; words = words } ≡ fault
 
 -- the call returns the expected value or fault, or runs out of memory
-abbrev pub Answers : {A : Type 0} → Result A RuleFault → Result A Fault → Type 0
-Answers (Ok value) expected = expected ≡ Ok value
-Answers (Err Memory) expected = Unit {0}
-Answers (Err (Refused number place words)) expected =
+abbrev pub GivesExpected : {A : Type 0} → Result A RuleFault → Result A Fault → Type 0
+GivesExpected (Ok value) expected = expected ≡ Ok value
+GivesExpected (Err Memory) expected = Unit {0}
+GivesExpected (Err (Refused number place words)) expected =
     expected ≡ Err (record { number = number; place = place; words = words })

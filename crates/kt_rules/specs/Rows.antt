@@ -19,7 +19,7 @@ line separator targets prerequisites order_only = record {
 }
 
 -- lines that are accepted
-pub record RowsOfLines : Type 0 where
+pub record RowsOfRuleLines : Type 0 where
   pub order_only : read_line (codes "t: x | x y") ≡ Ok (line Single (codes "t" ∷ []) (codes "x" ∷ []) (codes "x" ∷ codes "y" ∷ []))
   pub double_colon : read_line (codes "a:: b") ≡ Ok (line Double (codes "a" ∷ []) (codes "b" ∷ []) [])
   pub group : read_line (codes "b.o a.o &: c") ≡ Ok (line Grouped (codes "b.o" ∷ codes "a.o" ∷ []) (codes "c" ∷ []) [])

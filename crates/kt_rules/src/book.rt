@@ -5,7 +5,7 @@ ghost use Rattle.std.specs.List.{Contains, ends_with};
 ghost use Rattle.kt_rules.specs.Book.{AreMadeAlike, GroupsStandAlone, added, explicit_rules, first_goal_of};
 ghost use Rattle.kt_rules.specs.Book.{is_explicit, is_phony, override_messages, patterns_of, refusal_of};
 ghost use Rattle.kt_rules.specs.Known.{named_by, names_in};
-ghost use Rattle.kt_rules.specs.Refusals.{Answers};
+ghost use Rattle.kt_rules.specs.Refusals.{GivesExpected};
 ghost use Rattle.kt_rules.specs.Slots.{rule_view};
 ghost use Rattle.kt_rules.specs.Suffixes.{suffixes_of};
 
@@ -111,7 +111,7 @@ impl Book {
     /// with two recipes, one of them a group's. So a group shares no target with another entry that has a recipe.
     #[tactic(auto, using(crate::proofs::AddLemmas::answers_refused))]
     pub fn add(&mut self, entry: Entry) -> Result<Warnings, RuleFault>
-        ensures answers { Answers result (added self.old entry (refusal_of self.old entry)) }
+        ensures answers { GivesExpected result (added self.old entry (refusal_of self.old entry)) }
         ensures grown { OnOk result (self.new ≡ self.old ++ entry ∷ []) }
         ensures refused { OnErr result (self.new ≡ self.old) }
         ensures groups { GroupsStandAlone self.new }
@@ -240,7 +240,7 @@ impl Book {
 
     fn add_accepted(&mut self, entry: Entry) -> Result<Warnings, RuleFault>
         requires { refusal_of self.old entry ≡ None }
-        ensures answers { Answers result (added self.old entry None) }
+        ensures answers { GivesExpected result (added self.old entry None) }
         ensures grown { OnOk result (self.new ≡ self.old ++ entry ∷ []) }
         ensures refused { OnErr result (self.new ≡ self.old) }
     {

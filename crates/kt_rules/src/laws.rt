@@ -3,11 +3,11 @@ ghost use Rattle.kt_rules.specs.Book.{NumbersTellRules};
 ghost use Rattle.kt_rules.specs.BookRows.{RowsOfAdding, RowsOfAnswers, RowsOfPatternRules, RowsOfSuffixRules};
 ghost use Rattle.kt_rules.specs.Cuts.{CutsAtFirstColon, DropsDots};
 ghost use Rattle.kt_rules.specs.HeadWords.{OuterLaw, UnquotedLaw, WrittenWordsLaw};
-ghost use Rattle.kt_rules.specs.Rows.{RowsOfLines, RowsOfNames, RowsOfRefusals};
+ghost use Rattle.kt_rules.specs.Rows.{RowsOfRuleLines, RowsOfNames, RowsOfRefusals};
 
 /// Worked rule lines that are accepted.
 pub fn rows_of_lines()
-    ensures { RowsOfLines }
+    ensures { RowsOfRuleLines }
 {}
 
 /// Worked rule lines that are refused.

@@ -5,9 +5,9 @@ ghost use Rattle.kt_text.specs.Match.{has_percent};
 ghost use Rattle.kt_text.specs.Words.{words_of};
 ghost use Rattle.kt_rules.specs.Entry.{is_nil, rule_of};
 ghost use Rattle.kt_rules.specs.Names.{name_of, without_repeats, written_words};
-ghost use Rattle.kt_rules.specs.Refusals.{Answers};
+ghost use Rattle.kt_rules.specs.Refusals.{GivesExpected};
 ghost use Rattle.kt_rules.specs.RuleLine.{colon_cut, group_targets, needs_of};
-ghost use Rattle.kt_rules.specs.inner.Remembered.{IsLongCut, IsPlain, Names, ReadsAs, long_line};
+ghost use Rattle.kt_rules.specs.inner.Remembered.{IsLongCut, IsPlain, Names, ReadsAsLong, long_line};
 ghost use Rattle.kt_rules.specs.inner.Telling.{is_telling};
 
 use crate::cutting::colon_cut;
@@ -65,7 +65,7 @@ impl RuleReader {
         recipe: Option<Sequence<u8>>,
         place: Place,
     ) -> Result<Entry, RuleFault>
-        ensures { Answers result (rule_of text.now recipe place) }
+        ensures { GivesExpected result (rule_of text.now recipe place) }
     {
         match self.long_line(text) {
             Ok(Some(long)) => accepted(self.alloc, long.line, long.signs, recipe, place),
@@ -77,7 +77,7 @@ impl RuleReader {
     // The line of a text, if its prerequisites are long and plain.
     #[inline(never)]
     fn long_line(&mut self, text: &[u8]) -> Result<Option<LongLine>, AllocError>
-        ensures { IfOk result (λ found. IfSome found (ReadsAs text.now)) }
+        ensures { IfOk result (λ found. IfSome found (ReadsAsLong text.now)) }
     {
         match long_cut(text) {
             None => Ok(None),

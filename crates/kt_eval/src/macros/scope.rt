@@ -3,7 +3,7 @@ ghost use Rattle.std.specs.Prelude.{◌≡◌, ◌++◌, ◌∷◌, [], Bool, Li
 ghost use Rattle.std.specs.Prelude.{MatchOption, OnErr, OnOk};
 ghost use Rattle.kt_rules.specs.Book.{added, refusal_of};
 ghost use Rattle.kt_rules.specs.Entry.{Rule};
-ghost use Rattle.kt_rules.specs.Refusals.{Answers};
+ghost use Rattle.kt_rules.specs.Refusals.{GivesExpected};
 ghost use Rattle.kt_eval.specs.macros.Macros.{Table, find, put, set_by_makefile};
 ghost use Rattle.kt_eval.specs.State.{unbound};
 ghost use Rattle.kt_eval.specs.files.Files.{Store};
@@ -75,7 +75,7 @@ pub(crate) trait Scope {
     // Adds a rule, if rules may be made.
     fn add(&mut self, rule: Entry) -> Option<Result<Warnings, RuleFault>>
         ensures answers { MatchOption result (writable ≡ false)
-            (λ result. Answers result (added (book self.old) rule (refusal_of (book self.old) rule))) }
+            (λ result. GivesExpected result (added (book self.old) rule (refusal_of (book self.old) rule))) }
         ensures grown { IfSome result (λ result. OnOk result (book self.new ≡ book self.old ++ rule ∷ [])) }
         ensures refused { IfSome result (λ result. OnErr result (book self.new ≡ book self.old)) }
         ensures kept_automatic { automatic self.new ≡ automatic self.old }

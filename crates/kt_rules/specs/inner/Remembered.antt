@@ -34,7 +34,7 @@ pub record AreToldOf (text : Text) (needs : Needs) (waits : Bool) : Type 0 where
   pub told : waits ≡ needs_wait needs
 
 -- reading the text comes down to the tests of the line, of which the signs tell
-pub record ReadsAs (text : Text) (long : LongLine) : Type 0 where
+pub record ReadsAsLong (text : Text) (long : LongLine) : Type 0 where
   pub read : read_line text ≡ tested_line long.line
   pub told : Tells long.signs long.line
 
