@@ -16,30 +16,31 @@ use Rattle.kt_syntax.specs.Parts.{Open, after, define_after, depth_of, open_at_e
 use Rattle.kt_syntax.specs.Steps.{Ahead, ahead_of, places_after, step_of, steps_from}
 
 -- the lines from a place on, the first of them apart
-heads-cons : (text : Text) (lines : List Line) (place : ℕ) (other : Line) (head : Head) → place < length lines → head ≡ head_of text (get_or lines place other)
-    → heads_of text (drop place lines) ≡ head ∷ heads_of text (drop (place + 1) lines)
-heads-cons text lines place other head within e =
+heads-cons : (text : Text) (lines : List Line) (place : ℕ) (other : Line) → place < length lines
+    → heads_of text (drop place lines) ≡ head_of text (get_or lines place other) ∷ heads_of text (drop (place + 1) lines)
+heads-cons text lines place other within =
     let cut : drop place lines ≡ get_or lines place other ∷ drop (place + 1) lines = rw add-one (drop-cons lines place other within) in
-    ap (heads_of text) cut ∙ ap (λ (x : Head). x ∷ heads_of text (drop (place + 1) lines)) (sym e)
+    ap (heads_of text) cut
 
 -- a line more is scanned
-pub parts_more : (done more : List Part) (scan next : Open) (text : Text) (lines : List Line) (place : ℕ) (other : Line) (head : Head) (found : Part) (whole : List Part)
-    → place < length lines → head ≡ head_of text (get_or lines place other) → found ≡ part_of scan head.role → next ≡ after scan head → more ≡ done ++ found ∷ []
+pub parts_more : (done more : List Part) (scan next : Open) (text : Text) (lines : List Line) (place : ℕ) (other line : Line) (found : Part) (whole : List Part)
+    → place < length lines → line ≡ get_or lines place other → found ≡ part_of scan (head_of text line).role → next ≡ after scan (head_of text line) → more ≡ done ++ found ∷ []
     → done ++ parts_from scan (heads_of text (drop place lines)) ≡ whole → more ++ parts_from next (heads_of text (drop (place + 1) lines)) ≡ whole
 unfolding parts_from
-parts_more done more scan next text lines place other head found whole within e p n m h =
+parts_more done more scan next text lines place other line found whole within e p n m h =
     let rest : List Head = heads_of text (drop (place + 1) lines) in
-    let first : found ∷ parts_from next rest ≡ parts_from scan (head ∷ rest) = rw (p, n) refl in
+    let first : found ∷ parts_from next rest ≡ parts_from scan (heads_of text (drop place lines)) = rw (heads-cons text lines place other within, sym e, p, n) refl in
     ap (λ (x : List Part). x ++ parts_from next rest) m ∙ append_assoc done (found ∷ []) (parts_from next rest)
-    ∙ ap (λ (x : List Part). done ++ x) (first ∙ ap (parts_from scan) (sym (heads-cons text lines place other head within e))) ∙ h
+    ∙ ap (λ (x : List Part). done ++ x) first ∙ h
 
-pub scanned_more : (scan next whole : Open) (text : Text) (lines : List Line) (place : ℕ) (other : Line) (head : Head)
-    → place < length lines → head ≡ head_of text (get_or lines place other) → next ≡ after scan head
+pub scanned_more : (scan next whole : Open) (text : Text) (lines : List Line) (place : ℕ) (other line : Line)
+    → place < length lines → line ≡ get_or lines place other → next ≡ after scan (head_of text line)
     → open_at_end scan (heads_of text (drop place lines)) ≡ whole → open_at_end next (heads_of text (drop (place + 1) lines)) ≡ whole
 unfolding open_at_end
-scanned_more scan next whole text lines place other head within e n h =
-    ap (λ (x : Open). open_at_end x (heads_of text (drop (place + 1) lines))) n
-    ∙ ap (open_at_end scan) (sym (heads-cons text lines place other head within e)) ∙ h
+scanned_more scan next whole text lines place other line within e n h =
+    let first : open_at_end next (heads_of text (drop (place + 1) lines)) ≡ open_at_end scan (heads_of text (drop place lines)) =
+    rw (heads-cons text lines place other within, sym e, n) refl in
+    first ∙ h
 
 -- after the last line
 pub parts_ended : (done : List Part) (scan : Open) (text : Text) (lines : List Line) (place : ℕ) (whole : List Part)

@@ -3,8 +3,8 @@ ghost use Rattle.std.specs.Prelude.{◌≡◌, length, slice_get, IfSome};
 ghost use Rattle.kt_syntax.specs.Reading.{AreReadable, IsAhead, ReadsOn};
 
 use crate::part::Missing;
-use crate::short_step::ShortStep;
 use crate::step::Step;
+use crate::step_list::StepList;
 use std::marker::Model;
 
 /// The blocks of a text: a step for each of its lines, and the end that is missing, if one is.
@@ -13,7 +13,7 @@ use std::marker::Model;
 /// the steps stand for by `tree_of`.
 #[derive(Debug, Drop)]
 pub struct Blocks {
-    steps: Vec<ShortStep>,
+    steps: StepList,
     missing: Option<Missing>,
 }
 
@@ -22,17 +22,17 @@ impl Model for Blocks {
 
     ghost Value = { Flat };
 
-    ghost view = { λ blocks. record { steps = blocks.steps.items; missing = blocks.missing } };
+    ghost view = { λ blocks. record { steps = blocks.steps; missing = blocks.missing } };
 
     ghost use Rattle.kt_syntax.specs.Reading.{AreReadable};
 
-    ghost invariant = { λ blocks. AreReadable blocks.steps.items };
+    ghost invariant = { λ blocks. AreReadable blocks.steps };
 }
 
 impl Blocks {
-    pub(crate) fn new(steps: Vec<ShortStep>, missing: Option<Missing>) -> Blocks
-        requires { AreReadable steps.items }
-        ensures { result ≡ record { steps = steps.items; missing = missing } }
+    pub(crate) fn new(steps: StepList, missing: Option<Missing>) -> Blocks
+        requires { AreReadable steps }
+        ensures { result ≡ record { steps = steps; missing = missing } }
     {
         Blocks { steps, missing }
     }
@@ -43,10 +43,7 @@ impl Blocks {
         ensures reads { IfSome result (ReadsOn self.now.steps line) }
         ensures ahead { IfSome result (IsAhead line (length self.now.steps)) }
     {
-        match self.steps.get(line) {
-            Some(short) => Some(short.step()),
-            None => None,
-        }
+        self.steps.get(line)
     }
 
     /// The end that is missing, which is met at the end of the text, once an open rule is closed.

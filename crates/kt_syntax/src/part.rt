@@ -1,7 +1,8 @@
 //! The parts of lines in blocks, found from the first line to the last.
-ghost use Rattle.std.specs.Prelude.{◌≡◌, ◌≤◌, ◌<◌, ◌^◌, None, IfOk};
+ghost use Rattle.std.specs.Prelude.{◌≡◌, ◌≤◌, ◌<◌, ◌^◌, ℕ, None, IfOk};
 ghost use Rattle.kt_syntax.specs.Parts.{after, after_else, body_part, define_after, depth_of, else_part, missing_in};
 ghost use Rattle.kt_syntax.specs.Parts.{nothing_open, part_of};
+ghost use Rattle.kt_syntax.specs.declared.role.Role.TheVariants as role;
 
 use crate::role::{Head, Role};
 use std::alloc::{AllocError, Global};
@@ -87,6 +88,18 @@ impl Scan {
         Scan {
             define: None,
             conditionals: VecDeque::new(alloc),
+        }
+    }
+
+    // The part of a line that opens, continues and ends nothing, and changes nothing.
+    #[tactic(auto, unfolding(crate::specs::Parts::part_of, crate::specs::Parts::after))]
+    pub(crate) fn ordinary_part(&self) -> Part
+        ensures part { result ≡ part_of self.now role.Ordinary }
+        ensures same { (number : ℕ) → self.now ≡ after self.now (record { role = role.Ordinary; number = number }) }
+    {
+        match self.define {
+            Some(_) => Part::Body,
+            None => Part::Line,
         }
     }
 

@@ -1,5 +1,5 @@
 -- Steps by their parts and places (kati's own).
-use Rattle.std.specs.Prelude.{ℕ}
+use Rattle.std.specs.Prelude.{ℕ, zero, suc, List, slice_get, unwrap_or}
 use Rattle.kt_syntax.specs.declared.part.Part.{Part}
 use Rattle.kt_syntax.specs.declared.part.Part.TheVariants as part
 use Rattle.kt_syntax.specs.declared.step.Step.{Step}
@@ -15,3 +15,8 @@ step_with part.Conditional next after = step.Conditional next after
 step_with (part.Branch condition) next after = step.Branch condition next after
 step_with part.Endif next after = step.Endif
 step_with (part.Stray stray) next after = step.Stray stray
+
+-- the step of a number: 0 for an ordinary line's, else its place among the held ones, from 1
+abbrev pub numbered_step : List Step → ℕ → Step
+numbered_step held zero = step.Line
+numbered_step held (suc place) = unwrap_or (slice_get held place) step.Line

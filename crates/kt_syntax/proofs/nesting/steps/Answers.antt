@@ -5,4 +5,4 @@ use Rattle.kt_syntax.proofs.nesting.steps.Goals as goal
 
 pub returns : goal.returns
 returns c =
-    c.reverse.ensures.items ∙ ap reverse c.in_ok-steps.ensures ∙ reverse-reverse (steps_from 0 c.args.parts.items)
+    c.reverse.ensures ∙ ap reverse c.in_ok-steps.ensures ∙ reverse-reverse (steps_from 0 c.args.parts.items)

@@ -5,7 +5,7 @@ use Rattle.kt_syntax.proofs.nesting.steps_from_last.Goals as goal
 
 pub loop-part-init : goal.loop-part-init
 unfolding ahead_of steps_from
-loop-part-init c = ([], append-nil c.args.parts.items, c.in_ok-steps.ensures.items, rw (c.at_end-places.ensures, c.len-2.ensures) (search rules))
+loop-part-init c = ([], append-nil c.args.parts.items, c.in_ok-steps.ensures, rw (c.at_end-places.ensures, c.len-2.ensures) (search rules))
 
 pub loop-part-preserved : goal.loop-part-preserved
 loop-part-preserved c =
@@ -14,6 +14,6 @@ loop-part-preserved c =
     let place : c.len-in-Some.result ≡ length c.pop.new.self.items = search rules in (
       c.in-Some.part ∷ after,
       sym (append_assoc c.pop.new.self.items (c.in-Some.part ∷ []) after) ∙ ap (λ (x : List _). x ++ after) (sym c.in-Some.ensures.items) ∙ c.loop-part.invariant.1,
-      c.in_ok-push.ensures.items ∙ steps_more _ _ _ _ _ _ (rw size at c.loop-part.invariant.3) (c.in_ok-of.ensures ∙ c.in_ok-step.ensures.step) (rw size at c.loop-part.invariant.2),
+      c.in_ok-push.ensures ∙ steps_more _ _ _ _ _ _ (rw size at c.loop-part.invariant.3) c.in_ok-step.ensures.step (rw size at c.loop-part.invariant.2),
       ahead_more _ _ _ _ _ (rw size at c.loop-part.invariant.3) (rw place at c.in_ok-step.ensures.places),
     )

@@ -6,7 +6,7 @@ use Rattle.kt_syntax.proofs.nesting.steps_from_last.Given as goal
 abbrev pub invariant-loop-part : goal.invariant-loop-part
 invariant-loop-part l =
     (after : List Part) × (l.parts.items ++ after ≡ l.fn.parts.items)
-    × (l.steps.items ≡ reverse (steps_from (length l.parts.items) after))
+    × (l.steps ≡ reverse (steps_from (length l.parts.items) after))
     × (l.places ≡ ahead_of (length l.parts.items) after)
 
 abbrev pub decreases-loop-part : goal.decreases-loop-part
