@@ -133,10 +133,6 @@ skip-other : (braces : Bool) (depth byte : ℕ) (text : Text) → (byte == opene
 unfolding closing
 skip-other braces depth byte text h g = rw (h, g) (closing_more braces depth byte text)
 
-skip-nil : (braces : Bool) (depth : ℕ) → skip_at braces depth [] ≡ 0
-unfolding closing skip_of
-skip-nil braces depth = refl
-
 -- symbols that a byte takes with it
 stop_inside : (odd : Bool) (mask : List ℕ) → stop odd (inside ∷ mask) ≡ later (stop false mask)
 unfolding stop
