@@ -1,7 +1,7 @@
 -- One line more in the passes over the lines of a text.
-use Rattle.std.proofs.Common.{◌≡◌, ◌≤◌, ◌<◌, ◌+◌, ℕ, zero, suc, arith, List, [], ◌∷◌, ◌++◌, drop, length, reverse, Option, Some, None, refl, sym, ap, ◌∙◌, append_assoc, append-nil, get_or, add-one}
+use Rattle.std.proofs.Common.{◌≡◌, ◌≤◌, ◌<◌, ◌+◌, ℕ, zero, suc, arith, List, [], ◌∷◌, ◌++◌, drop, length, replicate, set, Option, Some, None, refl, sym, ap, ◌∙◌, append_assoc, append-nil, get_or, add-one}
 use Rattle.std.proofs.Math.Seq.{drop-cons}
-use Rattle.std.proofs.lemmas.List.{drop_all, reverse-append}
+use Rattle.std.proofs.lemmas.List.{drop_all}
 use Rattle.kt_text.specs.declared.line.Line.{Line}
 use Rattle.kt_syntax.specs.declared.part.OpenDefine.{OpenDefine}
 use Rattle.kt_syntax.specs.declared.part.OpenConditional.{OpenConditional}
@@ -13,6 +13,8 @@ use Rattle.kt_syntax.specs.declared.step.Step.{Step}
 use Rattle.kt_text.specs.Words.{Text}
 use Rattle.kt_syntax.specs.Roles.{head_of, heads_of}
 use Rattle.kt_syntax.specs.Parts.{Open, after, define_after, depth_of, open_at_end, part_of, parts_from}
+use Rattle.kt_syntax.specs.declared.step.Step.TheVariants as step
+use Rattle.kt_syntax.proofs.StepListLemmas.{put_before}
 use Rattle.kt_syntax.specs.Steps.{Ahead, ahead_of, places_after, step_of, steps_from}
 
 -- the lines from a place on, the first of them apart
@@ -81,12 +83,14 @@ depth-after None [] role.Endif number = omega arith
 depth-after None (innermost ∷ outer) role.Endif number = omega arith
 
 -- a line more is placed, from the end
-pub steps_more : (place : ℕ) (found : Part) (lines : List Part) (ahead : Ahead) (step : Step) (steps : List Step)
-    → ahead ≡ ahead_of (place + 1) lines → step ≡ step_of ahead found → steps ≡ reverse (steps_from (place + 1) lines)
-    → steps ++ step ∷ [] ≡ reverse (steps_from place (found ∷ lines))
+pub steps_more : (place : ℕ) (found : Part) (lines : List Part) (ahead : Ahead) (found_step : Step) (before after : List Step)
+    → ahead ≡ ahead_of (place + 1) lines → found_step ≡ step_of ahead found → before ≡ replicate (place + 1) step.Line ++ steps_from (place + 1) lines
+    → after ≡ set before place found_step → after ≡ replicate place step.Line ++ steps_from place (found ∷ lines)
 unfolding steps_from
-steps_more place found lines ahead step steps a s r =
-    rw (s, r, a) (sym (reverse-append (step_of (ahead_of (place + 1) lines) found ∷ []) (steps_from (place + 1) lines)))
+steps_more place found lines ahead found_step before after a s b e =
+    let count : place + 1 ≡ suc place = omega arith in
+    let opened : before ≡ replicate (suc place) step.Line ++ steps_from (place + 1) lines = b ∙ ap (λ (n : ℕ). replicate n step.Line ++ steps_from (place + 1) lines) count in
+    e ∙ rw (opened, s, a) (put_before place (step_of (ahead_of (place + 1) lines) found) (steps_from (place + 1) lines))
 
 pub ahead_more : (place : ℕ) (found : Part) (lines : List Part) (ahead next : Ahead)
     → ahead ≡ ahead_of (place + 1) lines → next ≡ places_after ahead found place → next ≡ ahead_of place (found ∷ lines)

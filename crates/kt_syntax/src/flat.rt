@@ -38,6 +38,7 @@ impl Blocks {
     }
 
     /// The step of a line, counted from 0; none after the last one.
+    #[inline(always)]
     pub fn get(&self, line: usize) -> Option<Step>
         ensures value { result ≡ slice_get self.now.steps line }
         ensures reads { IfSome result (ReadsOn self.now.steps line) }

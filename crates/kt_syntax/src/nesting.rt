@@ -1,5 +1,5 @@
 //! The blocks of a text found, by one pass over its lines and one back over their parts.
-ghost use Rattle.std.specs.Prelude.{◌≡◌, ◌≤◌, ◌<◌, ◌^◌, length, reverse, IfOk};
+ghost use Rattle.std.specs.Prelude.{◌≡◌, ◌≤◌, ◌<◌, ◌^◌, length, IfOk};
 ghost use Rattle.kt_text.specs.Lines.{AreInOrder};
 ghost use Rattle.kt_syntax.specs.Blocks.{blocks_of, tree_of};
 ghost use Rattle.kt_syntax.specs.Grammar.{IsTreeOf};
@@ -89,24 +89,16 @@ fn next_part(alloc: Global, text: &[u8], line: &Mark, scan: &mut Scan) -> Result
     scan.advance(head_of(alloc, text, &line)?)
 }
 
-// The steps of lines with these parts.
-fn steps(alloc: Global, parts: Vec<Part>) -> Result<StepList, AllocError>
+// The steps of lines with these parts, found from the last line to the first.
+fn steps(alloc: Global, mut parts: Vec<Part>) -> Result<StepList, AllocError>
     ensures { IfOk result (λ steps. steps ≡ steps_from 0 parts.items) }
 {
-    let mut steps = steps_from_last(alloc, parts)?;
-    steps.reverse();
-    Ok(steps)
-}
-
-// The same from the last line to the first.
-fn steps_from_last(alloc: Global, mut parts: Vec<Part>) -> Result<StepList, AllocError>
-    ensures { IfOk result (λ steps. steps ≡ reverse (steps_from 0 parts.items)) }
-{
-    let mut steps = StepList::with_capacity(alloc, parts.len())?;
+    let mut steps = StepList::ordinary(alloc, parts.len())?;
     let mut places = Places::at_end(alloc, parts.len());
     while let Some(part) = parts.pop() {
-        let step = places.step(part, parts.len())?;
-        steps.push(step)?;
+        let place = parts.len();
+        let step = places.step(part, place)?;
+        steps.put(place, step)?;
     }
     Ok(steps)
 }

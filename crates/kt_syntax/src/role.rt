@@ -7,7 +7,7 @@ ghost use Rattle.kt_syntax.specs.Roles.{first_word, head_of, line_text, may_open
 ghost use Rattle.kt_syntax.specs.Roles.{role_by_word, role_of, starts_condition};
 
 use crate::form::{Directive, Form};
-use crate::kind::{block_word, classify_text};
+use crate::kind::{block_word, classify_text, is_word};
 use crate::leading::leading_block_word;
 use crate::places::{comment_place, past_word};
 use kt_text::{Line, joined, trim_start};
@@ -72,10 +72,16 @@ pub(crate) fn opens_nothing(text: &[u8], line: &Line) -> bool
     !may_open(line_text(text, line))
 }
 
-// The role of a line that begins with no tab.
+// The role of a line that begins with no tab. Many are one word and nothing else.
 fn line_role(alloc: Global, line: &[u8]) -> Result<Role, AllocError>
     ensures { IfOk result (λ role. role ≡ role_of (line_kind line.now false)) }
 {
+    if is_word(line, b"endif") {
+        return Ok(Role::Endif);
+    }
+    if is_word(line, b"else") {
+        return Ok(Role::Else(false));
+    }
     let text = joined(alloc, line)?;
     Ok(role_of(text.as_slice()))
 }

@@ -1,5 +1,5 @@
 //! The steps of a text's lines, of which most are those of ordinary lines.
-ghost use Rattle.std.specs.Prelude.{◌≡◌, ◌++◌, ◌∷◌, [], reverse, slice_get, IfOk};
+ghost use Rattle.std.specs.Prelude.{◌≡◌, ◌<◌, length, replicate, slice_get, slice_set, unwrap_or, IfOk, Some};
 ghost use Rattle.kt_syntax.specs.declared.step.Step.TheVariants as step;
 ghost use Rattle.kt_syntax.specs.inner.ShortSteps.{numbered_step};
 
@@ -9,7 +9,7 @@ use kt_list::narrow;
 use std::alloc::{AllocError, Global};
 use std::marker::Model;
 
-// Steps in a row; contracts see their list. An ordinary line's takes a number of 32 bits and no more.
+// A step for each line; contracts see their list. An ordinary line's takes a number of 32 bits and no more.
 #[derive(Debug, Drop)]
 pub(crate) struct StepList {
     // Of each step 0, if it is that of an ordinary line, else the place of the held one, from 1.
@@ -31,49 +31,44 @@ impl Model for StepList {
 }
 
 impl StepList {
-    // No steps, with room for this many.
-    pub(crate) fn with_capacity(alloc: Global, count: usize) -> Result<StepList, AllocError>
-        ensures { IfOk result (λ list. list ≡ []) }
+    // The steps of so many ordinary lines.
+    #[tactic(auto, using(crate::proofs::StepListLemmas::none_held))]
+    pub(crate) fn ordinary(alloc: Global, count: usize) -> Result<StepList, AllocError>
+        ensures { IfOk result (λ list. list ≡ replicate count step.Line) }
     {
         Ok(StepList {
-            numbers: Vec::with_capacity(alloc, count)?,
+            numbers: vec![in alloc; 0u32; count]?,
             held: Vec::new(alloc),
         })
     }
 
-    pub(crate) fn push(&mut self, step: Step) -> Result<(), AllocError>
-        ensures { IfOk result (λ _. self.new ≡ self.old ++ step ∷ []) }
+    // Puts a step in the place of an ordinary line's.
+    #[inline(always)]
+    #[tactic(auto, using(crate::proofs::StepListLemmas::stays_ordinary))]
+    pub(crate) fn put(&mut self, place: usize, found: Step) -> Result<(), AllocError>
+        requires within { place < length self.old }
+        requires ordinary { slice_get self.old place ≡ Some step.Line }
+        ensures { IfOk result (λ _. self.new ≡ slice_set self.old place found) }
     {
-        if matches!(step, Step::Line) {
-            self.push_line()
-        } else {
-            self.push_held(ShortStep::of(step)?)
+        if matches!(found, Step::Line) {
+            return Ok(());
         }
+        self.hold(place, ShortStep::of(found)?)
     }
 
-    fn push_line(&mut self) -> Result<(), AllocError>
-        ensures { IfOk result (λ _. self.new ≡ self.old ++ step.Line ∷ []) }
-    {
-        self.numbers.push(0)?;
-        Ok(())
-    }
-
+    #[inline(never)]
     #[tactic(auto, using(crate::proofs::StepListLemmas::held_more))]
-    fn push_held(&mut self, step: ShortStep) -> Result<(), AllocError>
-        ensures { IfOk result (λ _. self.new ≡ self.old ++ step ∷ []) }
+    fn hold(&mut self, place: usize, step: ShortStep) -> Result<(), AllocError>
+        requires { place < length self.old }
+        ensures { IfOk result (λ _. self.new ≡ slice_set self.old place step) }
     {
         self.held.push(step)?;
-        self.numbers.push(narrow(self.held.len())?)?;
+        let number = narrow(self.held.len())?;
+        self.numbers[place] = number;
         Ok(())
     }
 
-    #[tactic(auto, using(crate::proofs::StepListLemmas::reversed_map))]
-    pub(crate) fn reverse(&mut self)
-        ensures { self.new ≡ reverse self.old }
-    {
-        self.numbers.reverse();
-    }
-
+    #[inline(always)]
     pub(crate) fn get(&self, place: usize) -> Option<Step>
         ensures { result ≡ slice_get self.now place }
     {
@@ -85,13 +80,21 @@ impl StepList {
 }
 
 // The step of a number.
+#[inline(always)]
 fn numbered_step(held: &[ShortStep], number: u32) -> Step
     ensures { result ≡ numbered_step held.now number }
 {
     if number == 0 {
         return Step::Line;
     }
-    match held.get(number as usize - 1) {
+    held_step(held, number as usize - 1)
+}
+
+#[inline(never)]
+fn held_step(held: &[ShortStep], place: usize) -> Step
+    ensures { result ≡ unwrap_or (slice_get held.now place) step.Line }
+{
+    match held.get(place) {
         Some(short) => short.step(),
         None => Step::Line,
     }
