@@ -1,6 +1,7 @@
 //! The blocks of a text, as a flat list.
-ghost use Rattle.std.specs.Prelude.{◌≡◌, length, slice_get, IfSome};
+ghost use Rattle.std.specs.Prelude.{◌≡◌, ◌≢◌, length, slice_get, true, false, IfSome, Some};
 ghost use Rattle.kt_syntax.specs.Reading.{AreReadable, IsAhead, ReadsOn};
+ghost use Rattle.kt_syntax.specs.declared.step.Step.TheVariants as step;
 
 use crate::part::Missing;
 use crate::step::Step;
@@ -38,13 +39,24 @@ impl Blocks {
     }
 
     /// The step of a line, counted from 0; none after the last one.
-    #[inline(always)]
     pub fn get(&self, line: usize) -> Option<Step>
         ensures value { result ≡ slice_get self.now.steps line }
         ensures reads { IfSome result (ReadsOn self.now.steps line) }
         ensures ahead { IfSome result (IsAhead line (length self.now.steps)) }
     {
         self.steps.get(line)
+    }
+
+    /// Whether the step of a line, counted from 0, is that of an ordinary one.
+    pub fn is_ordinary(&self, line: usize) -> bool
+        ensures step { result ≡ true → slice_get self.now.steps line ≡ Some step.Line }
+        ensures other { result ≡ false → slice_get self.now.steps line ≢ Some step.Line }
+        ensures reads { result ≡ true → ReadsOn self.now.steps line step.Line }
+    {
+        if self.steps.is_unput(line) {
+            return true;
+        }
+        matches!(self.get(line), Some(Step::Line))
     }
 
     /// The end that is missing, which is met at the end of the text, once an open rule is closed.

@@ -1,5 +1,5 @@
 //! The steps of a text's lines, of which most are those of ordinary lines.
-ghost use Rattle.std.specs.Prelude.{◌≡◌, ◌<◌, length, replicate, slice_get, slice_set, unwrap_or, IfOk, Some};
+ghost use Rattle.std.specs.Prelude.{◌≡◌, ◌<◌, length, replicate, slice_get, slice_set, unwrap_or, true, IfOk, Some};
 ghost use Rattle.kt_syntax.specs.declared.step.Step.TheVariants as step;
 ghost use Rattle.kt_syntax.specs.inner.ShortSteps.{numbered_step};
 
@@ -43,7 +43,6 @@ impl StepList {
     }
 
     // Puts a step in the place of an ordinary line's.
-    #[inline(always)]
     #[tactic(auto, using(crate::proofs::StepListLemmas::stays_ordinary))]
     pub(crate) fn put(&mut self, place: usize, found: Step) -> Result<(), AllocError>
         requires within { place < length self.old }
@@ -56,7 +55,6 @@ impl StepList {
         self.hold(place, ShortStep::of(found)?)
     }
 
-    #[inline(never)]
     #[tactic(auto, using(crate::proofs::StepListLemmas::held_more))]
     fn hold(&mut self, place: usize, step: ShortStep) -> Result<(), AllocError>
         requires { place < length self.old }
@@ -68,7 +66,16 @@ impl StepList {
         Ok(())
     }
 
-    #[inline(always)]
+    // Whether that of a place is told to be an ordinary line's by its number alone, as each is that was never put.
+    pub(crate) fn is_unput(&self, place: usize) -> bool
+        ensures { result ≡ true → slice_get self.now place ≡ Some step.Line }
+    {
+        match self.numbers.get(place) {
+            Some(number) => *number == 0,
+            None => false,
+        }
+    }
+
     pub(crate) fn get(&self, place: usize) -> Option<Step>
         ensures { result ≡ slice_get self.now place }
     {
@@ -80,7 +87,6 @@ impl StepList {
 }
 
 // The step of a number.
-#[inline(always)]
 fn numbered_step(held: &[ShortStep], number: u32) -> Step
     ensures { result ≡ numbered_step held.now number }
 {
@@ -90,7 +96,6 @@ fn numbered_step(held: &[ShortStep], number: u32) -> Step
     held_step(held, number as usize - 1)
 }
 
-#[inline(never)]
 fn held_step(held: &[ShortStep], place: usize) -> Step
     ensures { result ≡ unwrap_or (slice_get held.now place) step.Line }
 {
