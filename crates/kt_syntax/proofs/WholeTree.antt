@@ -5,7 +5,7 @@ use Rattle.kt_syntax.specs.declared.part.OpenDefine.{OpenDefine}
 use Rattle.kt_syntax.specs.declared.role.Head.{Head}
 use Rattle.kt_syntax.specs.declared.role.Role.{Role}
 use Rattle.kt_syntax.specs.declared.role.Role.TheVariants as role
-use Rattle.kt_syntax.specs.Blocks.{Branches, Level, line, no_branch, blocks_of, innermost, levels_from, outer, tree_of}
+use Rattle.kt_syntax.specs.Blocks.{Branches, Level, no_branch, blocks_of, innermost, levels_from, outer, tree_of}
 use Rattle.kt_syntax.specs.Parts.{after, part_of, parts_from}
 use Rattle.kt_syntax.specs.Steps.{ahead_of, places_after, step_of, steps_from}
 use Rattle.kt_syntax.specs.Reading.{after_branches, append, left_at, left_of}
