@@ -5,7 +5,7 @@ use Rattle.std.proofs.lemmas.List.{drop_all}
 use Rattle.kt_text.specs.declared.line.Line.{Line}
 use Rattle.kt_syntax.specs.declared.part.OpenDefine.{OpenDefine}
 use Rattle.kt_syntax.specs.declared.part.OpenConditional.{OpenConditional}
-use Rattle.kt_syntax.specs.declared.part.Part.{Part}
+use Rattle.kt_syntax.specs.declared.part.BlockPart.{BlockPart}
 use Rattle.kt_syntax.specs.declared.role.Head.{Head}
 use Rattle.kt_syntax.specs.declared.role.Role.{Role}
 use Rattle.kt_syntax.specs.declared.role.Role.TheVariants as role
@@ -25,15 +25,15 @@ heads-cons text lines place other within =
     ap (heads_of text) cut
 
 -- a line more is scanned
-pub parts_more : (done more : List Part) (scan next : Open) (text : Text) (lines : List Line) (place : ℕ) (other line : Line) (found : Part) (whole : List Part)
+pub parts_more : (done more : List BlockPart) (scan next : Open) (text : Text) (lines : List Line) (place : ℕ) (other line : Line) (found : BlockPart) (whole : List BlockPart)
     → place < length lines → line ≡ get_or lines place other → found ≡ part_of scan (head_of text line).role → next ≡ after scan (head_of text line) → more ≡ done ++ found ∷ []
     → done ++ parts_from scan (heads_of text (drop place lines)) ≡ whole → more ++ parts_from next (heads_of text (drop (place + 1) lines)) ≡ whole
 unfolding parts_from
 parts_more done more scan next text lines place other line found whole within e p n m h =
     let rest : List Head = heads_of text (drop (place + 1) lines) in
     let first : found ∷ parts_from next rest ≡ parts_from scan (heads_of text (drop place lines)) = rw (heads-cons text lines place other within, sym e, p, n) refl in
-    ap (λ (x : List Part). x ++ parts_from next rest) m ∙ append_assoc done (found ∷ []) (parts_from next rest)
-    ∙ ap (λ (x : List Part). done ++ x) first ∙ h
+    ap (λ (x : List BlockPart). x ++ parts_from next rest) m ∙ append_assoc done (found ∷ []) (parts_from next rest)
+    ∙ ap (λ (x : List BlockPart). done ++ x) first ∙ h
 
 pub scanned_more : (scan next whole : Open) (text : Text) (lines : List Line) (place : ℕ) (other line : Line)
     → place < length lines → line ≡ get_or lines place other → next ≡ after scan (head_of text line)
@@ -45,12 +45,12 @@ scanned_more scan next whole text lines place other line within e n h =
     first ∙ h
 
 -- after the last line
-pub parts_ended : (done : List Part) (scan : Open) (text : Text) (lines : List Line) (place : ℕ) (whole : List Part)
+pub parts_ended : (done : List BlockPart) (scan : Open) (text : Text) (lines : List Line) (place : ℕ) (whole : List BlockPart)
     → length lines ≤ place → done ++ parts_from scan (heads_of text (drop place lines)) ≡ whole → done ≡ whole
 unfolding parts_from
 parts_ended done scan text lines place whole beyond h =
     let ended : parts_from scan (heads_of text (drop place lines)) ≡ [] = rw (drop_all place lines beyond) refl in
-    sym (append-nil done) ∙ ap (λ (x : List Part). done ++ x) (sym ended) ∙ h
+    sym (append-nil done) ∙ ap (λ (x : List BlockPart). done ++ x) (sym ended) ∙ h
 
 pub scanned_ended : (scan whole : Open) (text : Text) (lines : List Line) (place : ℕ)
     → length lines ≤ place → open_at_end scan (heads_of text (drop place lines)) ≡ whole → scan ≡ whole
@@ -83,7 +83,7 @@ depth-after None [] role.Endif number = omega arith
 depth-after None (innermost ∷ outer) role.Endif number = omega arith
 
 -- a line more is placed, from the end
-pub steps_more : (place : ℕ) (found : Part) (lines : List Part) (ahead : Ahead) (found_step : Step) (before after : List Step)
+pub steps_more : (place : ℕ) (found : BlockPart) (lines : List BlockPart) (ahead : Ahead) (found_step : Step) (before after : List Step)
     → ahead ≡ ahead_of (place + 1) lines → found_step ≡ step_of ahead found → before ≡ replicate (place + 1) step.Line ++ steps_from (place + 1) lines
     → after ≡ set before place found_step → after ≡ replicate place step.Line ++ steps_from place (found ∷ lines)
 unfolding steps_from
@@ -92,7 +92,7 @@ steps_more place found lines ahead found_step before after a s b e =
     let opened : before ≡ replicate (suc place) step.Line ++ steps_from (place + 1) lines = b ∙ ap (λ (n : ℕ). replicate n step.Line ++ steps_from (place + 1) lines) count in
     e ∙ rw (opened, s, a) (put_before place (step_of (ahead_of (place + 1) lines) found) (steps_from (place + 1) lines))
 
-pub ahead_more : (place : ℕ) (found : Part) (lines : List Part) (ahead next : Ahead)
+pub ahead_more : (place : ℕ) (found : BlockPart) (lines : List BlockPart) (ahead next : Ahead)
     → ahead ≡ ahead_of (place + 1) lines → next ≡ places_after ahead found place → next ≡ ahead_of place (found ∷ lines)
 unfolding ahead_of
 ahead_more place found lines ahead next a n = n ∙ ap (λ (x : Ahead). places_after x found place) a

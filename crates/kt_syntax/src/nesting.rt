@@ -9,7 +9,7 @@ ghost use Rattle.kt_syntax.specs.Roles.{head_of, heads_of};
 ghost use Rattle.kt_syntax.specs.Steps.{steps_from};
 
 use crate::flat::Blocks;
-use crate::part::{Missing, Part, Scan};
+use crate::part::{BlockPart, Missing, Scan};
 use crate::role::{head_of, opens_nothing};
 use crate::step::Places;
 use crate::step_list::StepList;
@@ -60,7 +60,7 @@ fn parts(
     alloc: Global,
     text: &[u8],
     lines: &[Mark],
-) -> Result<(Vec<Part>, Option<Missing>), AllocError>
+) -> Result<(Vec<BlockPart>, Option<Missing>), AllocError>
     requires { AreInOrder (length text.now) lines.now }
     ensures parts { IfOk result (λ found. found.0.items ≡ parts_of (heads_of text.now lines.now)) }
     ensures missing { IfOk result (λ found. found.1 ≡ missing_end (heads_of text.now lines.now)) }
@@ -75,7 +75,12 @@ fn parts(
 }
 
 // The part of the next line.
-fn next_part(alloc: Global, text: &[u8], line: &Mark, scan: &mut Scan) -> Result<Part, AllocError>
+fn next_part(
+    alloc: Global,
+    text: &[u8],
+    line: &Mark,
+    scan: &mut Scan,
+) -> Result<BlockPart, AllocError>
     requires depth { depth_of scan.old < 2 ^ 63 }
     requires order { line.now.span.start ≤ line.now.span.end }
     requires within { line.now.span.end ≤ length text.now }
@@ -90,7 +95,7 @@ fn next_part(alloc: Global, text: &[u8], line: &Mark, scan: &mut Scan) -> Result
 }
 
 // The steps of lines with these parts, found from the last line to the first.
-fn steps(alloc: Global, mut parts: Vec<Part>) -> Result<StepList, AllocError>
+fn steps(alloc: Global, mut parts: Vec<BlockPart>) -> Result<StepList, AllocError>
     ensures { IfOk result (λ steps. steps ≡ steps_from 0 parts.items) }
 {
     let mut steps = StepList::ordinary(alloc, parts.len())?;
