@@ -8,6 +8,7 @@ use Rattle.kt_text.specs.Words.{Text}
 use Rattle.kt_syntax.specs.Mask.{goes_odd, mask_byte, mask_from, mask_of, more_masked}
 use Rattle.kt_syntax.specs.Kinds.{before_comment, comment_place}
 use Rattle.kt_syntax.specs.Comments.{backslashes, uncommented, uncommented_of}
+use Rattle.kt_syntax.proofs.SignLemmas.{comment-nil}
 use Rattle.kt_syntax.specs.CommentTexts.{CommentLaw, IsFirstSign, Uncomments, has_no_sign, signed}
 
 -- ---- symbols and bytes
@@ -129,10 +130,6 @@ place_literal : (mask : List ℕ) → before_comment true (35 ∷ mask) ≡ suc 
 unfolding before_comment
 place_literal mask = refl
 
-place_end : (odd : Bool) → before_comment odd [] ≡ 0
-unfolding before_comment
-place_end odd = refl
-
 -- whether a run so long is odd, one symbol later
 odd_run : ℕ → Bool
 odd_run run = run % 2 == 1
@@ -161,7 +158,7 @@ text_stays run (symbol ∷ mask) (byte ∷ text) s n =
     (cases_Bool (symbol == 92))
 
 place_stays : (odd : Bool) (mask : List ℕ) → has_no_sign mask ≡ true → before_comment odd mask ≡ length mask
-place_stays odd [] n = place_end odd
+place_stays odd [] n = comment-nil odd
 place_stays odd (symbol ∷ mask) n =
     let free = sign_free symbol mask n in
     place_goes odd symbol mask free.0 ∙ ap suc (place_stays (goes_odd odd symbol) mask free.1)

@@ -154,7 +154,7 @@ unfolding more_masked is_blank
 first_open byte text blank backslash =
     ⊎_elim (λ (h : (byte == 36) ≡ true). rw h refl) (λ (h : (byte == 36) ≡ false). rw (h, backslash) blank) (cases_Bool (byte == 36))
 
-none_taken : (count symbol : ℕ) (mask : List ℕ) → is_blank symbol ≡ false → prefix_len is_blank (take count (symbol ∷ mask)) ≡ 0
+pub none_taken : (count symbol : ℕ) (mask : List ℕ) → is_blank symbol ≡ false → prefix_len is_blank (take count (symbol ∷ mask)) ≡ 0
 none_taken zero symbol mask h = refl
 none_taken (suc count) symbol mask h = rw h refl
 

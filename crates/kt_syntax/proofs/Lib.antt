@@ -28,6 +28,7 @@ pub mod SignLemmas
 pub mod Sound
 pub mod SplicingLemmas
 pub mod Splitting
+pub mod StepListLemmas
 pub mod StopLemmas
 pub mod StopPlaces
 pub mod SymbolLemmas

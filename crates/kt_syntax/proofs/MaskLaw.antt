@@ -12,7 +12,7 @@ use Rattle.kt_syntax.specs.Terms.{Token, literal, dollar, reference, unclosed, k
 use Rattle.kt_syntax.specs.Mask.{inside, goes_odd, mask_byte, more_masked, mask_from, mask_of}
 use Rattle.kt_syntax.specs.Masked.{IsContinued, IsSymbol, IsMasked, IsMaskOf, MaskLaw, is_outside}
 use Rattle.kt_syntax.proofs.Masking.{mask_from-nil, length-mask_of}
-use Rattle.kt_syntax.proofs.Runs.{run, run_within, run_ends, no_dollar}
+use Rattle.kt_syntax.proofs.Runs.{run, run-no, run-yes, run_within, run_ends, no_dollar}
 use Rattle.kt_syntax.proofs.Splitting.{first_sound, only_splitting}
 use Rattle.kt_syntax.proofs.MaskRuns.{at_most_or_less, zero_or_more, odd_at, odd-next, unit, at_start, after_start, continued_within, Fresh, fresh_start, earlier, fresh_next, fresh_past, mask_at, takes, Run, nothing, alike, joined}
 
@@ -267,18 +267,12 @@ first-reference line tail place l e t fresh =
     (subst (λ n. Fresh line (place + n)) size
     (fresh_after line place (first_term kept 36 tail).0 spelled (drop more tail) (record { within = omega arith; is_spelled = whole; is = f.is; fresh = fresh; begins = e }) (omega arith))))
 
-run-more : (byte : ℕ) (text : Text) → (byte == 36) ≡ false → run (byte ∷ text) ≡ suc (run text)
-run-more byte text h = rw h (omega arith)
-
-run-none : (byte : ℕ) (text : Text) → (byte == 36) ≡ true → run (byte ∷ text) ≡ 0
-run-none byte text h = rw h refl
-
 before_run : (text : Text) (k : ℕ) → k < run text → (get_or text k 0 == 36) ≡ false
 before_run [] k l = absurd (omega arith)
 before_run (byte ∷ text) zero l =
-    ⊎_elim (λ h. absurd (let e = run-none byte text h in omega arith)) (λ h. h) (cases_Bool (byte == 36))
+    ⊎_elim (λ h. absurd (let e = run-yes byte text h in omega arith)) (λ h. h) (cases_Bool (byte == 36))
 before_run (byte ∷ text) (suc k) l =
-    ⊎_elim (λ h. absurd (let e = run-none byte text h in omega arith)) (λ h. before_run text k (let e = run-more byte text h in omega arith)) (cases_Bool (byte == 36))
+    ⊎_elim (λ h. absurd (let e = run-yes byte text h in omega arith)) (λ h. before_run text k (let e = run-no byte text h in omega arith)) (cases_Bool (byte == 36))
 
 first-literal : (line tail : Text) (place : ℕ) → place < length line → (get_or line place 0 == 36) ≡ false → drop (place + 1) line ≡ tail → Fresh line place
     → Run line true place (suc (run tail)) (mask_at line place)

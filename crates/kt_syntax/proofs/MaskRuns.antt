@@ -51,7 +51,7 @@ pub record IsUnit (text : Text) : Type 0 where
   pub others : (k : ℕ) → 0 < k → k < unit_length kept text → (get_or text k 0 ≡ 10) ⊎ (get_or text k 0 ≡ 13)
   pub within : unit_length kept text ≤ length text
 
-no_unit : (text : Text) → starts_with nat_eq text (92 ∷ 10 ∷ []) ≡ false → starts_with nat_eq text (92 ∷ 13 ∷ 10 ∷ []) ≡ false → unit_length kept text ≡ 1
+pub no_unit : (text : Text) → starts_with nat_eq text (92 ∷ 10 ∷ []) ≡ false → starts_with nat_eq text (92 ∷ 13 ∷ 10 ∷ []) ≡ false → unit_length kept text ≡ 1
 no_unit text h g = rw (h, g) refl
 
 pub unit : (text : Text) → 1 < unit_length kept text → IsUnit text

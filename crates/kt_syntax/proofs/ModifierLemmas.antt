@@ -49,9 +49,6 @@ pub record Scan (mask : List ℕ) (found begin place : ℕ) : Type 0 where
   pub first : begin < place → past_blanks begin mask ≡ begin
   pub word : past_word begin mask ≡ past_word place mask
 
-pub scan_start : (mask : List ℕ) (from : ℕ) → Scan mask from from from
-scan_start mask from = record { order = omega arith; within = omega arith; lead = refl; first = λ l. absurd (omega arith); word = refl }
-
 -- a blank after others, and one after a word
 pub scan_blank : (mask rest : List ℕ) (found begin place symbol : ℕ) → Scan mask found begin place → drop place mask ≡ symbol ∷ rest → is_blank symbol ≡ true → place ≤ begin
     → Scan mask found (place + 1) (place + 1)
@@ -125,9 +122,6 @@ pub record Ahead (text : Text) (mask : List ℕ) (end found whole : ℕ) : Type 
   pub most : ℕ
   pub room : end ≤ most + found
   pub value : after_modifiers most text mask found ≡ whole
-
-pub ahead_start : (text : Text) (mask : List ℕ) (end from : ℕ) → Ahead text mask end from (after_modifiers end text mask from)
-ahead_start text mask end from = record { most = end; room = omega arith; value = refl }
 
 pub ahead_next : (text : Text) (mask : List ℕ) (end found place whole : ℕ) → Ahead text mask end found whole → Some place ≡ after_modifier text mask found → found < place → place < end
     → Ahead text mask end place whole

@@ -1,8 +1,8 @@
 -- The steps of a text's lines can be read one after another.
 use Rattle.std.proofs.Common.{◌≡◌, ◌≤◌, ℕ, zero, suc, ◌+◌, arith, List, [], ◌∷◌, drop, length, Some, refl, sym, ap, subst, ◌∙◌, zero-add}
 use Rattle.std.specs.List.{slice_get}
-use Rattle.kt_syntax.specs.declared.part.Part.{Part}
-use Rattle.kt_syntax.specs.declared.part.Part.TheVariants as part
+use Rattle.kt_syntax.specs.declared.part.BlockPart.{BlockPart}
+use Rattle.kt_syntax.specs.declared.part.BlockPart.TheVariants as part
 use Rattle.kt_syntax.specs.declared.part.Stray.TheVariants as stray
 use Rattle.kt_syntax.specs.declared.step.Exits.{Exits}
 use Rattle.kt_syntax.specs.declared.step.Step.{Step}
@@ -52,11 +52,11 @@ items_lead steps end [] levels items h = h
 items_lead steps end (exits ∷ others) levels items h = h
 
 -- a line more, before those ahead
-record OneMore (steps : List Step) (ahead : Ahead) (levels : List Level) (place : ℕ) (found : Part) : Type 0 where
+record OneMore (steps : List Step) (ahead : Ahead) (levels : List Level) (place : ℕ) (found : BlockPart) : Type 0 where
   agrees : Agrees steps (places_after ahead found place) (levels_with place (step_of ahead found) levels)
   reads : ReadsOn steps place (step_of ahead found)
 
-one_more : (found : Part) (steps : List Step) (ahead : Ahead) (levels : List Level) (place : ℕ)
+one_more : (found : BlockPart) (steps : List Step) (ahead : Ahead) (levels : List Level) (place : ℕ)
     → left_at steps place ≡ left_of (levels_with place (step_of ahead found) levels) → left_at steps (place + 1) ≡ left_of levels
     → slice_get steps place ≡ Some (step_of ahead found) → Agrees steps ahead levels → OneMore steps ahead levels place found
 unfolding places_after step_of AreTried
@@ -153,12 +153,12 @@ first_within : (place end body_end : ℕ) (exits : List Exits) → place ≤ end
 first_within place end body_end [] l h = (l, omega arith, omega arith)
 first_within place end body_end (exits ∷ others) l h = h.0
 
-record OneWithin (ahead : Ahead) (place : ℕ) (found : Part) : Type 0 where
+record OneWithin (ahead : Ahead) (place : ℕ) (found : BlockPart) : Type 0 where
   within : Within place (places_after ahead found place)
   ahead_is : IsAhead place ahead.end (step_of ahead found)
   end_is : (places_after ahead found place).end ≡ ahead.end
 
-one_within : (found : Part) (ahead : Ahead) (place : ℕ) → Within (place + 1) ahead → OneWithin ahead place found
+one_within : (found : BlockPart) (ahead : Ahead) (place : ℕ) → Within (place + 1) ahead → OneWithin ahead place found
 unfolding places_after step_of
 one_within part.Line ahead place w = record {
   within = record { low = omega (arith, w.low); body_low = omega arith; body_high = omega (arith, w.low); exits = widen place ahead.end ahead.conditionals w.exits };
@@ -268,14 +268,14 @@ at-each P place first others here after (suc more) found h =
     subst Q at (after more found h)
 
 -- all from a place on
-record Readable (steps : List Step) (place : ℕ) (lines : List Part) : Type 0 where
+record Readable (steps : List Step) (place : ℕ) (lines : List BlockPart) : Type 0 where
   agrees : Agrees steps (ahead_of place lines) (levels_from place (steps_from place lines))
   within : Within place (ahead_of place lines)
   end_is : (ahead_of place lines).end ≡ place + length lines
   reads : (more : ℕ) (found : Step) → slice_get (steps_from place lines) more ≡ Some found → ReadsOn steps (place + more) found
   ahead : (more : ℕ) (found : Step) → slice_get (steps_from place lines) more ≡ Some found → IsAhead (place + more) (ahead_of place lines).end found
 
-readable : (lines : List Part) (steps : List Step) (place : ℕ) → drop place steps ≡ steps_from place lines → Readable steps place lines
+readable : (lines : List BlockPart) (steps : List Step) (place : ℕ) → drop place steps ≡ steps_from place lines → Readable steps place lines
 unfolding steps_from ahead_of levels_from left_at AreTried
 readable [] steps place e =
     let nothing : left_at steps place ≡ none = ap (λ (x : List Step). left_of (levels_from place x)) e in
@@ -309,12 +309,12 @@ readable (found ∷ lines) steps place e =
     }
 
 -- a step for each line
-pub length-steps : (lines : List Part) (place : ℕ) → length (steps_from place lines) ≡ length lines
+pub length-steps : (lines : List BlockPart) (place : ℕ) → length (steps_from place lines) ≡ length lines
 unfolding steps_from
 length-steps [] place = refl
 length-steps (found ∷ lines) place = ap suc (length-steps lines (place + 1))
 
-pub steps_are_readable : (lines : List Part) → AreReadable (steps_from 0 lines)
+pub steps_are_readable : (lines : List BlockPart) → AreReadable (steps_from 0 lines)
 steps_are_readable lines =
     let steps : List Step = steps_from 0 lines in
     let r = readable lines steps 0 refl in

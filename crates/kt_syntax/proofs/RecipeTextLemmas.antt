@@ -4,7 +4,7 @@ use Rattle.std.proofs.lemmas.Bool.{and_parts, cases_Bool, eqb-true, false≢true
 use Rattle.std.proofs.lemmas.List.{reverse-append, take-append-le}
 use Rattle.std.proofs.lemmas.List.Elements.{filter-append}
 use Rattle.std.proofs.lemmas.List.Sums.{sum_by-append, sum_by-cons}
-use Rattle.std.proofs.Math.Seq.{get_or-append_seam, take-append_seam, take-length}
+use Rattle.std.proofs.Math.Seq.{take-append_seam, take-length}
 use Rattle.std.specs.Prelude.{count_by, nat_lt, slice_index}
 use Rattle.std.specs.List.{concat, onto_first, prefix_len, suffix_len}
 use Rattle.bstr.specs.Text.{no_cr, without_terminator}
@@ -13,7 +13,7 @@ use Rattle.kt_text.specs.Lines.{before_backslash, is_continued, is_continued_tex
 use Rattle.kt_text.proofs.NewlineLemmas.{IsFree, free_nil, free_space}
 use Rattle.kt_text.proofs.CondensedLemmas.{one_piece}
 use Rattle.kt_text.proofs.CondensingLemmas.{ArePieces, are_pieces, free_backslash, free_end, free_start, front_content}
-use Rattle.kt_text.proofs.CuttingLemmas.{HasLast, last_of}
+use Rattle.kt_text.proofs.CuttingLemmas.{HasLast, last_at, last_of}
 use Rattle.kt_text.proofs.LineTextLemmas.{content_ended}
 use Rattle.kt_syntax.specs.declared.recipe.Joint.{Joint}
 use Rattle.kt_syntax.specs.declared.recipe.Joint.TheVariants.{Edge, Newline, Outside, Inside}
@@ -103,11 +103,6 @@ front_is : (front : Text) (last : ℕ) → take (length (front ++ last ∷ []) -
 front_is front last =
     let n : length (front ++ last ∷ []) - 1 ≡ length front = omega (arith, long front last) in
     ap (λ k. take k (front ++ last ∷ [])) n ∙ take-append_seam front (last ∷ [])
-
-last_at : (front : Text) (last : ℕ) → slice_index (front ++ last ∷ []) (length (front ++ last ∷ []) - 1) ≡ last
-last_at front last =
-    let n : length (front ++ last ∷ []) - 1 ≡ length front = omega (arith, long front last) in
-    ap (slice_index (front ++ last ∷ [])) n ∙ get_or-append_seam front last [] 0
 
 cr_hidden : (byte : ℕ) → byte ≡ 13 → is_shown byte ≡ false
 unfolding is_blank

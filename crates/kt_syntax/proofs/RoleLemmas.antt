@@ -1,6 +1,7 @@
 -- Roles of lines by their first words alone.
 use Rattle.std.proofs.Common.{◌≡◌, ◌==◌, ◌||◌, ◌-◌, ℕ, zero, suc, List, [], ◌∷◌, Bool, true, false, Option, None, Some, length, take, drop, codes, zero-add, refl, sym, ap, ◌∙◌, ⊎_elim}
 use Rattle.std.proofs.lemmas.Bool.{cases_Bool, eqb-true}
+use Rattle.std.proofs.lemmas.Slice.Eq.{bytes_eq-Decides}
 use Rattle.std.specs.List.{prefix_len}
 use Rattle.std.specs.List.{slice_range}
 use Rattle.std.specs.Str.{bytes_eq}
@@ -9,15 +10,16 @@ use Rattle.kt_text.proofs.CondensedLemmas.{without_newline}
 use Rattle.kt_text.proofs.PlaceLemmas.{drop-prefix_len}
 use Rattle.kt_text.specs.Words.{Text, is_blank, trimmed_start}
 use Rattle.kt_text.specs.Lines.{condensed_of}
-use Rattle.kt_syntax.specs.declared.role.Role.TheVariants.{Ordinary}
+use Rattle.kt_syntax.specs.declared.role.Role.TheVariants.{Else, Endif, Ordinary}
 use Rattle.kt_list.proofs.general.Places.{take_nil}
 use Rattle.kt_syntax.proofs.CondensedBegins.{begins_alike}
+use Rattle.kt_syntax.proofs.LeadingWords.{none_taken}
 use Rattle.kt_syntax.proofs.Masking.{mask_from-nil}
 use Rattle.kt_syntax.proofs.OwnRuns.{blank_unmarked, prefix_no, prefix_yes}
 use Rattle.kt_syntax.proofs.OwnSymbols.{own_byte}
 use Rattle.kt_syntax.specs.Mask.{mask_byte, mask_from, mask_of, more_masked}
-use Rattle.kt_syntax.specs.Kinds.{Parts, before_comment, block_word, comment_place, directive_of, include_word, is_refused_word, kind_by_parts, kind_by_word, kind_of, kind_within, assignment_parts, line_kind, past_blanks, past_word, worded}
-use Rattle.kt_syntax.specs.Roles.{may_open, role_by_word, role_of}
+use Rattle.kt_syntax.specs.Kinds.{Parts, before_comment, block_word, comment_place, directive_of, include_word, is_refused_word, kind_by_parts, kind_by_word, kind_of, kind_within, assignment_parts, line_kind, name_end, operator_of, past_blanks, past_word, worded}
+use Rattle.kt_syntax.specs.Roles.{first_word, may_open, role_by_word, role_of, starts_condition}
 
 refused_or_rule : (first rest : Text) → role_of (kind_by_word None first rest) ≡ Ordinary
 unfolding role_of
@@ -101,10 +103,6 @@ none_of byte text h =
       i = or_second _ (byte == 105) h;
     }
 
-front_blanks : (count symbol : ℕ) (mask : List ℕ) → is_blank symbol ≡ false → prefix_len is_blank (take count (symbol ∷ mask)) ≡ 0
-front_blanks zero symbol mask h = refl
-front_blanks (suc count) symbol mask h = rw h refl
-
 first_other : (byte : ℕ) (text : Text) → IsNone byte → is_blank (mask_byte byte (more_masked false byte text)) ≡ false
 unfolding more_masked is_blank
 first_other byte text none =
@@ -152,7 +150,7 @@ no_word (suc count) symbol size (byte ∷ text) h =
     ∙ no_word count byte size text (sym (opens_later byte text blank) ∙ h))
     (λ (solid : is_blank byte ≡ false).
     let none = none_of byte text (sym (opens_here byte text solid) ∙ h) in
-    ap (λ n. block_word (take size (drop n (byte ∷ text)))) (front_blanks (suc count) (mask_byte byte (more_masked false byte text)) _ (first_other byte text none))
+    ap (λ n. block_word (take size (drop n (byte ∷ text)))) (none_taken (suc count) (mask_byte byte (more_masked false byte text)) _ (first_other byte text none))
     ∙ no_word_taken size byte text none)
     (cases_Bool (is_blank byte))
 
@@ -177,3 +175,18 @@ first_role (byte ∷ line) h =
     let none = none_of byte line h in
     let begun = begins_alike byte line (record { blank = none.blank; backslash = none.backslash; newline = none.newline; return = none.return }) in
     text_role (byte ∷ begun.0) (opens_here byte begun.0 none.blank ∙ h) ∙ ap (λ text. role_of (kind_of text false)) (sym begun.1)
+
+-- a line that is one word
+endif_alone : Endif ≡ role_of (kind_of (codes "endif") false)
+unfolding is_blank mask_from mask_of more_masked assignment_parts before_comment block_word directive_of include_word is_refused_word kind_of kind_within name_end operator_of worded role_by_word role_of
+endif_alone = refl
+
+else_alone : Else false ≡ role_of (kind_of (codes "else") false)
+unfolding is_blank mask_from mask_of more_masked assignment_parts before_comment block_word directive_of include_word is_refused_word kind_of kind_within name_end operator_of worded first_word role_by_word role_of starts_condition
+else_alone = refl
+
+pub endif_role : (line : Text) → bytes_eq line (codes "endif") ≡ true → Endif ≡ role_of (line_kind line false)
+endif_role line h = rw ((bytes_eq-Decides line (codes "endif")).0 h, without_newline (codes "endif") refl) endif_alone
+
+pub else_role : (line : Text) → bytes_eq line (codes "else") ≡ true → Else false ≡ role_of (line_kind line false)
+else_role line h = rw ((bytes_eq-Decides line (codes "else")).0 h, without_newline (codes "else") refl) else_alone

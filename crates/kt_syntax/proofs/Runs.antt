@@ -10,10 +10,10 @@ use Rattle.kt_syntax.proofs.Closing.{count_yes, count_no, count_nil}
 abbrev pub run : Text → ℕ
 run text = position_or_len (λ b. b == 36) text
 
-run-yes : (byte : ℕ) (text : Text) → (byte == 36) ≡ true → run (byte ∷ text) ≡ 0
+pub run-yes : (byte : ℕ) (text : Text) → (byte == 36) ≡ true → run (byte ∷ text) ≡ 0
 run-yes byte text h = rw h refl
 
-run-no : (byte : ℕ) (text : Text) → (byte == 36) ≡ false → run (byte ∷ text) ≡ suc (run text)
+pub run-no : (byte : ℕ) (text : Text) → (byte == 36) ≡ false → run (byte ∷ text) ≡ suc (run text)
 run-no byte text h = rw h (omega arith)
 
 pub run_within : (text : Text) → run text ≤ length text

@@ -10,6 +10,8 @@ use Rattle.kt_text.specs.Words.{Text}
 use Rattle.kt_syntax.specs.Terms.{after_dollar, closing, kept, referred, unit_length}
 use Rattle.kt_syntax.specs.declared.term.Mark.TheVariants.{Parentheses, Braces}
 use Rattle.kt_syntax.specs.Mask.{goes_odd, inside, mask_byte, mask_from, mask_of, more_masked}
+use Rattle.kt_syntax.proofs.Masking.{mask_from-nil}
+use Rattle.kt_syntax.proofs.MaskRuns.{no_unit}
 use Rattle.kt_syntax.proofs.StopPlaces.{IsFound, Stop, found_stop, is_stop, later, stop, stop-nil, stop-no, stop-yes}
 
 -- ---- by the bytes
@@ -133,10 +135,6 @@ skip-other : (braces : Bool) (depth byte : ℕ) (text : Text) → (byte == opene
 unfolding closing
 skip-other braces depth byte text h g = rw (h, g) (closing_more braces depth byte text)
 
-skip-nil : (braces : Bool) (depth : ℕ) → skip_at braces depth [] ≡ 0
-unfolding closing skip_of
-skip-nil braces depth = refl
-
 -- symbols that a byte takes with it
 stop_inside : (odd : Bool) (mask : List ℕ) → stop odd (inside ∷ mask) ≡ later (stop false mask)
 unfolding stop
@@ -154,10 +152,6 @@ mask_new : (symbol more : ℕ) (odd : Bool) (byte : ℕ) (text : Text) → more_
     → mask_from 0 symbol odd (byte ∷ text) ≡ mask_byte byte more ∷ mask_from more (mask_byte byte more) (goes_odd odd byte) text
 unfolding mask_from
 mask_new symbol more odd byte text e = ap (λ n. mask_byte byte n ∷ mask_from n (mask_byte byte n) (goes_odd odd byte) text) e
-
-mask_nil : (skip symbol : ℕ) (odd : Bool) → mask_from skip symbol odd [] ≡ []
-unfolding mask_from
-mask_nil skip symbol odd = refl
 
 -- what is shown of all texts up to a length
 record Same (fuel : ℕ) : Type 0 where
@@ -239,9 +233,6 @@ dollar_single : (byte : ℕ) (text : Text) → (byte == 36) ≡ false → (byte 
 unfolding after_dollar
 dollar_single byte text h g f = rw (h, g, f) refl
 
-unit_one : (text : Text) → starts_with nat_eq text (92 ∷ 10 ∷ []) ≡ false → starts_with nat_eq text (92 ∷ 13 ∷ 10 ∷ []) ≡ false → unit_length kept text ≡ 1
-unit_one text h g = rw (h, g) refl
-
 -- the rest of a continuation in a reference of one byte
 newline_inside : (fuel : ℕ) → Same fuel → (odd : Bool) (text : Text) → length text ≤ fuel → stop false (mask_from 1 inside odd (10 ∷ text)) ≡ found_at (plain false) (10 ∷ text)
 newline_inside fuel same odd text small =
@@ -287,13 +278,13 @@ single_step fuel same odd byte text small h g f =
     let size = ap length begins in
     dollar_is odd 3 whole (single ∙ single_three whole a b)
     (subst (λ (t : Text). stop false (mask_from 3 inside odd t) ≡ found_at dollar t) (sym begins) (returned_single fuel same odd (drop 3 whole) (omega (arith, size, small)))))
-    (λ b. dollar_is odd 1 whole (single ∙ unit_one whole a b)
+    (λ b. dollar_is odd 1 whole (single ∙ no_unit whole a b)
     (in_reference false odd 0 byte text dollar (plain false) refl (rw (h, g, f) refl) (same.outside false (goes_odd odd byte) inside text small)))
     (cases_Bool (starts_with nat_eq whole (92 ∷ 13 ∷ 10 ∷ []))))
     (cases_Bool (starts_with nat_eq whole (92 ∷ 10 ∷ [])))
 
 dollar_step : (fuel : ℕ) → Same fuel → (odd : Bool) (text : Text) → length text ≤ fuel → DollarSame odd text
-dollar_step fuel same odd [] small = dollar_is odd 0 [] dollar_none (ap (stop false) (mask_nil 0 inside odd) ∙ stop-nil false ∙ sym (at-nil dollar))
+dollar_step fuel same odd [] small = dollar_is odd 0 [] dollar_none (ap (stop false) (mask_from-nil 0 inside odd) ∙ stop-nil false ∙ sym (at-nil dollar))
 dollar_step fuel same odd (byte ∷ text) small =
     let less : length text ≤ fuel = omega (arith, small) in
     let flag : Bool = goes_odd odd byte in
@@ -406,10 +397,10 @@ outside_step fuel same told odd symbol byte text small =
     (cases_Bool (byte == 36))
 
 outside_nil : (told odd : Bool) (symbol : ℕ) → OutsideSame told odd symbol []
-outside_nil told odd symbol = ap (stop told) (mask_nil 0 symbol odd) ∙ stop-nil told ∙ sym (at-nil (plain told))
+outside_nil told odd symbol = ap (stop told) (mask_from-nil 0 symbol odd) ∙ stop-nil told ∙ sym (at-nil (plain told))
 
 referred_nil : (told odd braces : Bool) (depth : ℕ) → stop told (mask_from (skip_at braces depth []) inside odd []) ≡ found_at (within braces depth) []
-referred_nil told odd braces depth = ap (stop told) (mask_nil (skip_at braces depth []) inside odd) ∙ stop-nil told ∙ sym (at-nil (within braces depth))
+referred_nil told odd braces depth = ap (stop told) (mask_from-nil (skip_at braces depth []) inside odd) ∙ stop-nil told ∙ sym (at-nil (within braces depth))
 
 none_same : Same 0
 none_same = record { outside = outside; inner = inner }

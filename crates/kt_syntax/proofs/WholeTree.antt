@@ -5,11 +5,12 @@ use Rattle.kt_syntax.specs.declared.part.OpenDefine.{OpenDefine}
 use Rattle.kt_syntax.specs.declared.role.Head.{Head}
 use Rattle.kt_syntax.specs.declared.role.Role.{Role}
 use Rattle.kt_syntax.specs.declared.role.Role.TheVariants as role
-use Rattle.kt_syntax.specs.Blocks.{Items, Branches, Level, none, line, fault, definition, conditional, no_branch, blocks_of, innermost, levels_from, outer, tree_of}
+use Rattle.kt_syntax.specs.Blocks.{Branches, Level, no_branch, blocks_of, innermost, levels_from, outer, tree_of}
 use Rattle.kt_syntax.specs.Parts.{after, part_of, parts_from}
 use Rattle.kt_syntax.specs.Steps.{ahead_of, places_after, step_of, steps_from}
 use Rattle.kt_syntax.specs.Reading.{after_branches, append, left_at, left_of}
 use Rattle.kt_syntax.proofs.Sound.{levels_at}
+use Rattle.kt_syntax.proofs.Unique.{append-none}
 
 -- after the open conditionals the text itself is left, which has no branches and nothing round it
 abbrev IsRooted : List OpenConditional → List Level → Type 0
@@ -70,20 +71,13 @@ rooted (head ∷ heads) place None conditionals = outside head.role head.number 
 rooted (head ∷ heads) place (Some define) conditionals =
     inside head.role head.number heads place define.number define.depth conditionals (rooted heads (place + 1))
 
-append_none : (items : Items) → append items none ≡ items
-append_none none = refl
-append_none (line place next) = ap (line place) (append_none next)
-append_none (fault kind place next) = ap (fault kind place) (append_none next)
-append_none (definition place end next) = ap (definition place end) (append_none next)
-append_none (conditional place first branches next) = ap (conditional place first branches) (append_none next)
-
 -- where only the text itself is left, its items are all that is
 root_items : (levels : List Level) → IsRooted [] levels → left_of levels ≡ (innermost levels).items
 root_items [] root = refl
 root_items (level ∷ levels) root =
     ap (λ (others : Branches). append level.items (after_branches others (left_of levels))) root.0
     ∙ ap (λ (round : List Level). append level.items (left_of round)) root.1
-    ∙ append_none level.items
+    ∙ append-none level.items
 
 pub whole_tree_is_left : (heads : List Head) → left_at (blocks_of heads).steps 0 ≡ tree_of (blocks_of heads).steps
 unfolding left_at

@@ -6,8 +6,8 @@ use Rattle.kt_syntax.specs.declared.part.Missing.{Missing}
 use Rattle.kt_syntax.specs.declared.part.Missing.TheVariants as missing
 use Rattle.kt_syntax.specs.declared.part.OpenConditional.{OpenConditional}
 use Rattle.kt_syntax.specs.declared.part.OpenDefine.{OpenDefine}
-use Rattle.kt_syntax.specs.declared.part.Part.{Part}
-use Rattle.kt_syntax.specs.declared.part.Part.TheVariants as part
+use Rattle.kt_syntax.specs.declared.part.BlockPart.{BlockPart}
+use Rattle.kt_syntax.specs.declared.part.BlockPart.TheVariants as part
 use Rattle.kt_syntax.specs.declared.part.Stray.TheVariants as stray
 use Rattle.kt_syntax.specs.declared.role.Head.{Head}
 use Rattle.kt_syntax.specs.declared.role.Role.{Role}
@@ -32,7 +32,7 @@ depth_of open_blocks = depth_in open_blocks.define
     depth_in (Some define) = define.depth
 
 -- a line of a define in whose body a given number of defines are open: its own `endef` ends it, all else is text
-abbrev pub body_part : Role → ℕ → Part
+abbrev pub body_part : Role → ℕ → BlockPart
 body_part role.Endef zero = part.Endef
 body_part line depth = part.Body
 
@@ -44,7 +44,7 @@ define_after number (suc depth) role.Endef = Some (record { number = number; dep
 define_after number depth line = Some (record { number = number; depth = depth })
 
 -- an `else`: stray outside conditionals, late after the plain `else` of the innermost one, else a further branch
-abbrev pub else_part : List OpenConditional → Bool → Part
+abbrev pub else_part : List OpenConditional → Bool → BlockPart
 else_part [] condition = part.Stray stray.Else
 else_part (innermost ∷ outer) condition = if innermost.plain_else then part.Stray stray.LateElse
     else part.Branch condition
@@ -56,10 +56,10 @@ after_else (innermost ∷ outer) condition =
     record { number = innermost.number; plain_else = innermost.plain_else || not condition } ∷ outer
 
 -- the part of a line
-unfoldable pub part_of : Open → Role → Part
+unfoldable pub part_of : Open → Role → BlockPart
 part_of open_blocks line = part_by open_blocks.define open_blocks.conditionals line
   where
-    part_by : Option OpenDefine → List OpenConditional → Role → Part
+    part_by : Option OpenDefine → List OpenConditional → Role → BlockPart
     part_by (Some define) conditionals line = body_part line define.depth
     part_by None conditionals role.Ordinary = part.Line
     part_by None conditionals role.Define = part.Define
@@ -94,7 +94,7 @@ after open_blocks head = after_line open_blocks.define open_blocks.conditionals 
     after_line None (innermost ∷ outer) role.Endif number = record { define = None; conditionals = outer }
 
 -- the parts of the lines from one on
-unfoldable pub parts_from : Open → List Head → List Part
+unfoldable pub parts_from : Open → List Head → List BlockPart
 parts_from open_blocks [] = []
 parts_from open_blocks (head ∷ heads) = part_of open_blocks head.role ∷ parts_from (after open_blocks head) heads
 
@@ -113,7 +113,7 @@ missing_in open_blocks = missing_of open_blocks.define open_blocks.conditionals
     missing_of None [] = None
 
 -- the parts of all lines of a text, and its missing end
-abbrev pub parts_of : List Head → List Part
+abbrev pub parts_of : List Head → List BlockPart
 parts_of heads = parts_from nothing_open heads
 
 abbrev pub missing_end : List Head → Option Missing

@@ -1,8 +1,8 @@
 -- The steps of reading blocks line by line: where a conditional and its branches go on, and where a body ends. Kati's
 -- own.
 use Rattle.std.specs.Prelude.{ℕ, ◌+◌, List, [], ◌∷◌, drop}
-use Rattle.kt_syntax.specs.declared.part.Part.{Part}
-use Rattle.kt_syntax.specs.declared.part.Part.TheVariants as part
+use Rattle.kt_syntax.specs.declared.part.BlockPart.{BlockPart}
+use Rattle.kt_syntax.specs.declared.part.BlockPart.TheVariants as part
 use Rattle.kt_syntax.specs.declared.part.Stray.TheVariants as stray
 use Rattle.kt_syntax.specs.declared.step.Exits.{Exits}
 use Rattle.kt_syntax.specs.declared.step.Step.{Step}
@@ -28,7 +28,7 @@ exits_of ahead = first_exits ahead.end ahead.conditionals
     first_exits end (exits ∷ outer) = exits
 
 -- the step of a line, by what is known of the lines after it
-unfoldable pub step_of : Ahead → Part → Step
+unfoldable pub step_of : Ahead → BlockPart → Step
 step_of ahead part.Line = step.Line
 step_of ahead part.Body = step.Body
 step_of ahead part.Define = step.Define ahead.body_end
@@ -40,7 +40,7 @@ step_of ahead (part.Stray fault) = step.Stray fault
 
 -- what is known at the place of a line, with the line itself: a further branch is where the branch before it goes on,
 -- and a late `else` or an `endif` where each branch goes on
-unfoldable pub places_after : Ahead → Part → ℕ → Ahead
+unfoldable pub places_after : Ahead → BlockPart → ℕ → Ahead
 places_after ahead part.Line place = record { end = ahead.end; body_end = place; conditionals = ahead.conditionals }
 places_after ahead part.Body place = ahead
 places_after ahead part.Define place = record { end = ahead.end; body_end = place; conditionals = ahead.conditionals }
@@ -78,11 +78,11 @@ places_after ahead (part.Stray fault) place = record {
 }
 
 -- what is known at a place, by the parts of the lines from there on
-unfoldable pub ahead_of : ℕ → List Part → Ahead
+unfoldable pub ahead_of : ℕ → List BlockPart → Ahead
 ahead_of place [] = places_at_end place
 ahead_of place (line ∷ lines) = places_after (ahead_of (place + 1) lines) line place
 
 -- the steps of the lines from a place on
-unfoldable pub steps_from : ℕ → List Part → List Step
+unfoldable pub steps_from : ℕ → List BlockPart → List Step
 steps_from place [] = []
 steps_from place (line ∷ lines) = step_of (ahead_of (place + 1) lines) line ∷ steps_from (place + 1) lines

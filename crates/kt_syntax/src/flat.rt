@@ -1,10 +1,11 @@
 //! The blocks of a text, as a flat list.
-ghost use Rattle.std.specs.Prelude.{◌≡◌, length, slice_get, IfSome};
+ghost use Rattle.std.specs.Prelude.{◌≡◌, ◌≢◌, length, slice_get, true, false, IfSome, Some};
 ghost use Rattle.kt_syntax.specs.Reading.{AreReadable, IsAhead, ReadsOn};
+ghost use Rattle.kt_syntax.specs.declared.step.Step.TheVariants as step;
 
 use crate::part::Missing;
-use crate::short_step::ShortStep;
 use crate::step::Step;
+use crate::step_list::StepList;
 use std::marker::Model;
 
 /// The blocks of a text: a step for each of its lines, and the end that is missing, if one is.
@@ -13,7 +14,7 @@ use std::marker::Model;
 /// the steps stand for by `tree_of`.
 #[derive(Debug, Drop)]
 pub struct Blocks {
-    steps: Vec<ShortStep>,
+    steps: StepList,
     missing: Option<Missing>,
 }
 
@@ -22,17 +23,17 @@ impl Model for Blocks {
 
     ghost Value = { Flat };
 
-    ghost view = { λ blocks. record { steps = blocks.steps.items; missing = blocks.missing } };
+    ghost view = { λ blocks. record { steps = blocks.steps; missing = blocks.missing } };
 
     ghost use Rattle.kt_syntax.specs.Reading.{AreReadable};
 
-    ghost invariant = { λ blocks. AreReadable blocks.steps.items };
+    ghost invariant = { λ blocks. AreReadable blocks.steps };
 }
 
 impl Blocks {
-    pub(crate) fn new(steps: Vec<ShortStep>, missing: Option<Missing>) -> Blocks
-        requires { AreReadable steps.items }
-        ensures { result ≡ record { steps = steps.items; missing = missing } }
+    pub(crate) fn new(steps: StepList, missing: Option<Missing>) -> Blocks
+        requires { AreReadable steps }
+        ensures { result ≡ record { steps = steps; missing = missing } }
     {
         Blocks { steps, missing }
     }
@@ -43,10 +44,19 @@ impl Blocks {
         ensures reads { IfSome result (ReadsOn self.now.steps line) }
         ensures ahead { IfSome result (IsAhead line (length self.now.steps)) }
     {
-        match self.steps.get(line) {
-            Some(short) => Some(short.step()),
-            None => None,
+        self.steps.get(line)
+    }
+
+    /// Whether the step of a line, counted from 0, is that of an ordinary one.
+    pub fn is_ordinary(&self, line: usize) -> bool
+        ensures step { result ≡ true → slice_get self.now.steps line ≡ Some step.Line }
+        ensures other { result ≡ false → slice_get self.now.steps line ≢ Some step.Line }
+        ensures reads { result ≡ true → ReadsOn self.now.steps line step.Line }
+    {
+        if self.steps.is_unput(line) {
+            return true;
         }
+        matches!(self.get(line), Some(Step::Line))
     }
 
     /// The end that is missing, which is met at the end of the text, once an open rule is closed.

@@ -1,5 +1,5 @@
 //! Lines that begin with a word of blocks, recognised by their first bytes alone: most of them are.
-ghost use Rattle.std.specs.Prelude.{◌≡◌, IfSome, Some, false};
+ghost use Rattle.std.specs.Prelude.{◌≡◌, ◌∷◌, IfSome, Some, false};
 ghost use Rattle.kt_syntax.specs.Kinds.{block_word, directive, kind_of};
 ghost use Rattle.kt_syntax.specs.Roles.{first_word};
 ghost use Rattle.kt_syntax.specs.inner.Leading.{IsLed, is_apart, may_assign};
@@ -36,14 +36,35 @@ fn leading_word(text: &[u8]) -> Option<(Directive, &[u8])>
     ensures { IfSome result (λ found. IsLed found.0 text.now found.1.now) }
 {
     match text {
-        [b'i', b'f', b'e', b'q', after @ ..] => Some((Directive::Ifeq, after)),
-        [b'i', b'f', b'n', b'e', b'q', after @ ..] => Some((Directive::Ifneq, after)),
-        [b'i', b'f', b'd', b'e', b'f', after @ ..] => Some((Directive::Ifdef, after)),
-        [b'i', b'f', b'n', b'd', b'e', b'f', after @ ..] => Some((Directive::Ifndef, after)),
-        [b'e', b'l', b's', b'e', after @ ..] => Some((Directive::Else, after)),
-        [b'e', b'n', b'd', b'i', b'f', after @ ..] => Some((Directive::Endif, after)),
-        [b'e', b'n', b'd', b'e', b'f', after @ ..] => Some((Directive::Endef, after)),
+        [b'i', b'f', rest @ ..] => word_after_if(rest),
+        [b'e', rest @ ..] => word_after_e(rest),
         [b'd', b'e', b'f', b'i', b'n', b'e', after @ ..] => Some((Directive::Define, after)),
+        _ => None,
+    }
+}
+
+// The same of a text with `if` before it, and of one with an `e`.
+#[tactic(auto, unfolding(crate::specs::Kinds::block_word))]
+fn word_after_if(rest: &[u8]) -> Option<(Directive, &[u8])>
+    ensures { IfSome result (λ found. IsLed found.0 (105 ∷ 102 ∷ rest.now) found.1.now) }
+{
+    match rest {
+        [b'e', b'q', after @ ..] => Some((Directive::Ifeq, after)),
+        [b'n', b'e', b'q', after @ ..] => Some((Directive::Ifneq, after)),
+        [b'd', b'e', b'f', after @ ..] => Some((Directive::Ifdef, after)),
+        [b'n', b'd', b'e', b'f', after @ ..] => Some((Directive::Ifndef, after)),
+        _ => None,
+    }
+}
+
+#[tactic(auto, unfolding(crate::specs::Kinds::block_word))]
+fn word_after_e(rest: &[u8]) -> Option<(Directive, &[u8])>
+    ensures { IfSome result (λ found. IsLed found.0 (101 ∷ rest.now) found.1.now) }
+{
+    match rest {
+        [b'l', b's', b'e', after @ ..] => Some((Directive::Else, after)),
+        [b'n', b'd', b'i', b'f', after @ ..] => Some((Directive::Endif, after)),
+        [b'n', b'd', b'e', b'f', after @ ..] => Some((Directive::Endef, after)),
         _ => None,
     }
 }

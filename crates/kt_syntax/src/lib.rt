@@ -21,6 +21,7 @@ mod recipe;
 mod role;
 mod short_step;
 mod step;
+mod step_list;
 mod symbol;
 mod term;
 mod term_list;

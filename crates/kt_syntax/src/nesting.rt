@@ -1,18 +1,18 @@
 //! The blocks of a text found, by one pass over its lines and one back over their parts.
-ghost use Rattle.std.specs.Prelude.{◌≡◌, length, reverse, IfOk};
+ghost use Rattle.std.specs.Prelude.{◌≡◌, ◌≤◌, ◌<◌, ◌^◌, length, IfOk};
 ghost use Rattle.kt_text.specs.Lines.{AreInOrder};
 ghost use Rattle.kt_syntax.specs.Blocks.{blocks_of, tree_of};
 ghost use Rattle.kt_syntax.specs.Grammar.{IsTreeOf};
-ghost use Rattle.kt_syntax.specs.Parts.{missing_end, parts_of};
+ghost use Rattle.kt_syntax.specs.Parts.{after, depth_of, missing_end, part_of, parts_of};
 ghost use Rattle.kt_syntax.specs.Reading.{left_at};
-ghost use Rattle.kt_syntax.specs.Roles.{heads_of};
+ghost use Rattle.kt_syntax.specs.Roles.{head_of, heads_of};
 ghost use Rattle.kt_syntax.specs.Steps.{steps_from};
 
 use crate::flat::Blocks;
-use crate::part::{Missing, Part, Scan};
-use crate::role::head_of;
-use crate::short_step::ShortStep;
+use crate::part::{BlockPart, Missing, Scan};
+use crate::role::{head_of, opens_nothing};
 use crate::step::Places;
+use crate::step_list::StepList;
 use kt_text::{Line, Mark};
 use std::alloc::{AllocError, Global};
 
@@ -60,7 +60,7 @@ fn parts(
     alloc: Global,
     text: &[u8],
     lines: &[Mark],
-) -> Result<(Vec<Part>, Option<Missing>), AllocError>
+) -> Result<(Vec<BlockPart>, Option<Missing>), AllocError>
     requires { AreInOrder (length text.now) lines.now }
     ensures parts { IfOk result (λ found. found.0.items ≡ parts_of (heads_of text.now lines.now)) }
     ensures missing { IfOk result (λ found. found.1 ≡ missing_end (heads_of text.now lines.now)) }
@@ -68,31 +68,42 @@ fn parts(
     let mut parts = Vec::with_capacity(alloc, lines.len())?;
     let mut scan = Scan::new(alloc);
     for line in lines {
-        let head = head_of(alloc, text, &line.line())?;
-        parts.push(scan.advance(head)?)?;
+        parts.push(next_part(alloc, text, line, &mut scan)?)?;
     }
     let missing = scan.missing();
     Ok((parts, missing))
 }
 
-// The steps of lines with these parts.
-fn steps(alloc: Global, parts: Vec<Part>) -> Result<Vec<ShortStep>, AllocError>
-    ensures { IfOk result (λ steps. steps.items ≡ steps_from 0 parts.items) }
+// The part of the next line.
+fn next_part(
+    alloc: Global,
+    text: &[u8],
+    line: &Mark,
+    scan: &mut Scan,
+) -> Result<BlockPart, AllocError>
+    requires depth { depth_of scan.old < 2 ^ 63 }
+    requires order { line.now.span.start ≤ line.now.span.end }
+    requires within { line.now.span.end ≤ length text.now }
+    ensures part { IfOk result (λ part. part ≡ part_of scan.old (head_of text.now line.now).role) }
+    ensures scan { IfOk result (λ _. scan.new ≡ after scan.old (head_of text.now line.now)) }
 {
-    let mut steps = steps_from_last(alloc, parts)?;
-    steps.reverse();
-    Ok(steps)
+    let line = line.line();
+    if opens_nothing(text, &line) {
+        return Ok(scan.ordinary_part());
+    }
+    scan.advance(head_of(alloc, text, &line)?)
 }
 
-// The same from the last line to the first.
-fn steps_from_last(alloc: Global, mut parts: Vec<Part>) -> Result<Vec<ShortStep>, AllocError>
-    ensures { IfOk result (λ steps. steps.items ≡ reverse (steps_from 0 parts.items)) }
+// The steps of lines with these parts, found from the last line to the first.
+fn steps(alloc: Global, mut parts: Vec<BlockPart>) -> Result<StepList, AllocError>
+    ensures { IfOk result (λ steps. steps ≡ steps_from 0 parts.items) }
 {
-    let mut steps = Vec::with_capacity(alloc, parts.len())?;
+    let mut steps = StepList::ordinary(alloc, parts.len())?;
     let mut places = Places::at_end(alloc, parts.len());
     while let Some(part) = parts.pop() {
-        let step = places.step(part, parts.len())?;
-        steps.push(ShortStep::of(step)?)?;
+        let place = parts.len();
+        let step = places.step(part, place)?;
+        steps.put(place, step)?;
     }
     Ok(steps)
 }

@@ -1,7 +1,8 @@
 //! The parts of lines in blocks, found from the first line to the last.
-ghost use Rattle.std.specs.Prelude.{◌≡◌, ◌≤◌, ◌<◌, ◌^◌, None, IfOk};
+ghost use Rattle.std.specs.Prelude.{◌≡◌, ◌≤◌, ◌<◌, ◌^◌, ℕ, None, IfOk};
 ghost use Rattle.kt_syntax.specs.Parts.{after, after_else, body_part, define_after, depth_of, else_part, missing_in};
 ghost use Rattle.kt_syntax.specs.Parts.{nothing_open, part_of};
+ghost use Rattle.kt_syntax.specs.declared.role.Role.TheVariants as role;
 
 use crate::role::{Head, Role};
 use std::alloc::{AllocError, Global};
@@ -32,7 +33,7 @@ pub enum Missing {
 
 /// The part of a line in the blocks of its text.
 #[derive(Clone, Copy, Debug, PartialEq, Eq)]
-pub(crate) enum Part {
+pub(crate) enum BlockPart {
     /// It is in no define, and opens, continues and ends nothing.
     Line,
     /// It is in the body of a define.
@@ -90,9 +91,21 @@ impl Scan {
         }
     }
 
+    // The part of a line that opens, continues and ends nothing, and changes nothing.
+    #[tactic(auto, unfolding(crate::specs::Parts::part_of, crate::specs::Parts::after))]
+    pub(crate) fn ordinary_part(&self) -> BlockPart
+        ensures part { result ≡ part_of self.now role.Ordinary }
+        ensures same { (number : ℕ) → self.now ≡ after self.now (record { role = role.Ordinary; number = number }) }
+    {
+        match self.define {
+            Some(_) => BlockPart::Body,
+            None => BlockPart::Line,
+        }
+    }
+
     // The part of the next line.
     #[tactic(auto, unfolding(crate::specs::Parts::part_of, crate::specs::Parts::after))]
-    pub(crate) fn advance(&mut self, head: Head) -> Result<Part, AllocError>
+    pub(crate) fn advance(&mut self, head: Head) -> Result<BlockPart, AllocError>
         requires { depth_of self.old < 2 ^ 63 }
         ensures part { IfOk result (λ part. part ≡ part_of self.old head.role) }
         ensures scan { IfOk result (λ _. self.new ≡ after self.old head) }
@@ -108,54 +121,54 @@ impl Scan {
     }
 
     #[tactic(auto, unfolding(crate::specs::Parts::part_of, crate::specs::Parts::after))]
-    fn advance_outside(&mut self, head: Head) -> Result<Part, AllocError>
+    fn advance_outside(&mut self, head: Head) -> Result<BlockPart, AllocError>
         requires { self.old.define ≡ None }
         ensures part { IfOk result (λ part. part ≡ part_of self.old head.role) }
         ensures scan { IfOk result (λ _. self.new ≡ after self.old head) }
     {
         match head.role {
-            Role::Ordinary => Ok(Part::Line),
+            Role::Ordinary => Ok(BlockPart::Line),
             Role::Define => {
                 self.define = Some(OpenDefine {
                     number: head.number,
                     depth: 0,
                 });
-                Ok(Part::Define)
+                Ok(BlockPart::Define)
             }
-            Role::Endef => Ok(Part::Stray(Stray::Endef)),
+            Role::Endef => Ok(BlockPart::Stray(Stray::Endef)),
             Role::Conditional => {
                 self.conditionals.push_front(OpenConditional {
                     number: head.number,
                     plain_else: false,
                 })?;
-                Ok(Part::Conditional)
+                Ok(BlockPart::Conditional)
             }
             Role::Else(condition) => self.branch(condition),
             Role::Endif => match self.conditionals.pop_front() {
-                Some(_) => Ok(Part::Endif),
-                None => Ok(Part::Stray(Stray::Endif)),
+                Some(_) => Ok(BlockPart::Endif),
+                None => Ok(BlockPart::Stray(Stray::Endif)),
             },
         }
     }
 
     // The part of an `else` outside defines.
-    fn branch(&mut self, condition: bool) -> Result<Part, AllocError>
+    fn branch(&mut self, condition: bool) -> Result<BlockPart, AllocError>
         requires { self.old.define ≡ None }
         ensures part { IfOk result (λ part. part ≡ else_part self.old.conditionals condition) }
         ensures scan { IfOk result (λ _. self.new
             ≡ record self.old { conditionals = after_else self.old.conditionals condition }) }
     {
         let Some(innermost) = self.conditionals.pop_front() else {
-            return Ok(Part::Stray(Stray::Else));
+            return Ok(BlockPart::Stray(Stray::Else));
         };
         self.conditionals.push_front(OpenConditional {
             number: innermost.number,
             plain_else: innermost.plain_else || !condition,
         })?;
         if innermost.plain_else {
-            Ok(Part::Stray(Stray::LateElse))
+            Ok(BlockPart::Stray(Stray::LateElse))
         } else {
-            Ok(Part::Branch(condition))
+            Ok(BlockPart::Branch(condition))
         }
     }
 
@@ -172,14 +185,14 @@ impl Scan {
 }
 
 // The part of a line of a define's body, or of its end, and the define if it is still open.
-fn in_define(define: OpenDefine, role: Role) -> (Part, Option<OpenDefine>)
+fn in_define(define: OpenDefine, role: Role) -> (BlockPart, Option<OpenDefine>)
     requires { define.depth < 2 ^ 63 }
     ensures part { result.0 ≡ body_part role define.depth }
     ensures left { result.1 ≡ define_after define.number define.depth role }
 {
     let depth = match role {
         Role::Define => define.depth + 1,
-        Role::Endef if define.depth == 0 => return (Part::Endef, None),
+        Role::Endef if define.depth == 0 => return (BlockPart::Endef, None),
         Role::Endef => define.depth - 1,
         _ => define.depth,
     };
@@ -187,5 +200,5 @@ fn in_define(define: OpenDefine, role: Role) -> (Part, Option<OpenDefine>)
         number: define.number,
         depth,
     };
-    (Part::Body, Some(still_open))
+    (BlockPart::Body, Some(still_open))
 }

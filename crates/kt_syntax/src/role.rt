@@ -1,12 +1,13 @@
 //! What lines are to the blocks round them.
-ghost use Rattle.std.specs.Prelude.{◌≡◌, ◌≤◌, false, length, IfOk};
+ghost use Rattle.std.specs.Prelude.{◌≡◌, ◌≤◌, false, length, true, IfOk};
 ghost use Rattle.std.specs.List.{slice_range};
+ghost use Rattle.kt_syntax.specs.declared.role.Role.TheVariants as role;
 ghost use Rattle.kt_syntax.specs.Kinds.{block_word, kind_of, line_kind};
 ghost use Rattle.kt_syntax.specs.Roles.{first_word, head_of, line_text, may_open, opens_conditional};
 ghost use Rattle.kt_syntax.specs.Roles.{role_by_word, role_of, starts_condition};
 
 use crate::form::{Directive, Form};
-use crate::kind::{block_word, classify_text};
+use crate::kind::{block_word, classify_text, is_word};
 use crate::leading::leading_block_word;
 use crate::places::{comment_place, past_word};
 use kt_text::{Line, joined, trim_start};
@@ -36,13 +37,15 @@ pub(crate) struct Head {
     pub number: u64,
 }
 
+// The head of a line that begins with no tab.
 pub(crate) fn head_of(alloc: Global, text: &[u8], line: &Line) -> Result<Head, AllocError>
+    requires tab { line.now.tab ≡ false }
     requires order { line.now.span.start ≤ line.now.span.end }
     requires within { line.now.span.end ≤ length text.now }
     ensures { IfOk result (λ head. head ≡ head_of text.now line.now) }
 {
     Ok(Head {
-        role: line_role(alloc, line_text(text, line), line.tab)?,
+        role: line_role(alloc, line_text(text, line))?,
         number: line.number,
     })
 }
@@ -55,16 +58,29 @@ fn line_text<'a>(text: &'a [u8], line: &Line) -> &'a [u8]
     &text[line.span.start..line.span.end]
 }
 
-// The role of a line. One that begins with a tab has none, whatever stands on it, and few others begin as those do
-// that have one.
-fn line_role(alloc: Global, line: &[u8], tab: bool) -> Result<Role, AllocError>
-    ensures { IfOk result (λ role. role ≡ role_of (line_kind line.now tab)) }
+// Whether a line has no role, as its first byte tells of most: one that begins with a tab has none, whatever stands on
+// it, and few others begin as those do that have one.
+pub(crate) fn opens_nothing(text: &[u8], line: &Line) -> bool
+    requires order { line.now.span.start ≤ line.now.span.end }
+    requires within { line.now.span.end ≤ length text.now }
+    ensures role { result ≡ true → (head_of text.now line.now).role ≡ role.Ordinary }
+    ensures tab { result ≡ false → line.now.tab ≡ false }
 {
-    if tab {
-        return Ok(Role::Ordinary);
+    if line.tab {
+        return true;
     }
-    if !may_open(line) {
-        return Ok(Role::Ordinary);
+    !may_open(line_text(text, line))
+}
+
+// The role of a line that begins with no tab. Many are one word and nothing else.
+fn line_role(alloc: Global, line: &[u8]) -> Result<Role, AllocError>
+    ensures { IfOk result (λ role. role ≡ role_of (line_kind line.now false)) }
+{
+    if is_word(line, b"endif") {
+        return Ok(Role::Endif);
+    }
+    if is_word(line, b"else") {
+        return Ok(Role::Else(false));
     }
     let text = joined(alloc, line)?;
     Ok(role_of(text.as_slice()))

@@ -2,7 +2,7 @@
 ghost use Rattle.std.specs.Prelude.{◌≡◌, IfOk};
 ghost use Rattle.kt_syntax.specs.inner.ShortSteps.{step_with};
 
-use crate::part::Part;
+use crate::part::BlockPart;
 use crate::step::Step;
 use kt_list::narrow;
 use std::alloc::AllocError;
@@ -11,7 +11,7 @@ use std::marker::Model;
 // A step with places in numbers of 32 bits; contracts see the step.
 #[derive(Debug, Drop)]
 pub(crate) struct ShortStep {
-    part: Part,
+    part: BlockPart,
     next: u32,
     after: u32,
 }
@@ -31,22 +31,26 @@ impl ShortStep {
         ensures { IfOk result (λ short. short ≡ step) }
     {
         match step {
-            Step::Line => ShortStep::with(Part::Line, 0, 0),
-            Step::Body => ShortStep::with(Part::Body, 0, 0),
-            Step::Define { end } => ShortStep::with(Part::Define, end, 0),
-            Step::Endef => ShortStep::with(Part::Endef, 0, 0),
-            Step::Conditional { next, after } => ShortStep::with(Part::Conditional, next, after),
+            Step::Line => ShortStep::with(BlockPart::Line, 0, 0),
+            Step::Body => ShortStep::with(BlockPart::Body, 0, 0),
+            Step::Define { end } => ShortStep::with(BlockPart::Define, end, 0),
+            Step::Endef => ShortStep::with(BlockPart::Endef, 0, 0),
+            Step::Conditional { next, after } => ShortStep::with(
+                BlockPart::Conditional,
+                next,
+                after,
+            ),
             Step::Branch {
                 condition,
                 next,
                 after,
-            } => ShortStep::with(Part::Branch(condition), next, after),
-            Step::Endif => ShortStep::with(Part::Endif, 0, 0),
-            Step::Stray(stray) => ShortStep::with(Part::Stray(stray), 0, 0),
+            } => ShortStep::with(BlockPart::Branch(condition), next, after),
+            Step::Endif => ShortStep::with(BlockPart::Endif, 0, 0),
+            Step::Stray(stray) => ShortStep::with(BlockPart::Stray(stray), 0, 0),
         }
     }
 
-    fn with(part: Part, next: usize, after: usize) -> Result<ShortStep, AllocError>
+    fn with(part: BlockPart, next: usize, after: usize) -> Result<ShortStep, AllocError>
         ensures { IfOk result (λ short. short ≡ step_with part next after) }
     {
         Ok(ShortStep {
@@ -62,18 +66,18 @@ impl ShortStep {
         let next = self.next as usize;
         let after = self.after as usize;
         match self.part {
-            Part::Line => Step::Line,
-            Part::Body => Step::Body,
-            Part::Define => Step::Define { end: next },
-            Part::Endef => Step::Endef,
-            Part::Conditional => Step::Conditional { next, after },
-            Part::Branch(condition) => Step::Branch {
+            BlockPart::Line => Step::Line,
+            BlockPart::Body => Step::Body,
+            BlockPart::Define => Step::Define { end: next },
+            BlockPart::Endef => Step::Endef,
+            BlockPart::Conditional => Step::Conditional { next, after },
+            BlockPart::Branch(condition) => Step::Branch {
                 condition,
                 next,
                 after,
             },
-            Part::Endif => Step::Endif,
-            Part::Stray(stray) => Step::Stray(stray),
+            BlockPart::Endif => Step::Endif,
+            BlockPart::Stray(stray) => Step::Stray(stray),
         }
     }
 }

@@ -2,7 +2,7 @@
 ghost use Rattle.std.specs.Prelude.{◌≡◌, ◌∷◌, drop, IfOk};
 ghost use Rattle.kt_syntax.specs.Steps.{exits_of, places_after, places_at_end, step_of};
 
-use crate::part::{Part, Stray};
+use crate::part::{BlockPart, Stray};
 use std::alloc::{AllocError, Global};
 use std::collections::VecDeque;
 use std::marker::Model;
@@ -82,24 +82,24 @@ impl Places {
 
     // The step of the line before, which stands at `place`.
     #[tactic(auto, unfolding(crate::specs::Steps::step_of, crate::specs::Steps::places_after))]
-    pub(crate) fn step(&mut self, part: Part, place: usize) -> Result<Step, AllocError>
+    pub(crate) fn step(&mut self, part: BlockPart, place: usize) -> Result<Step, AllocError>
         ensures step { IfOk result (λ step. step ≡ step_of self.old part) }
         ensures places { IfOk result (λ _. self.new ≡ places_after self.old part place) }
     {
         let body_end = self.body_end;
-        if part != Part::Body {
+        if part != BlockPart::Body {
             self.body_end = place;
         }
         Ok(match part {
-            Part::Line => Step::Line,
-            Part::Body => Step::Body,
-            Part::Define => Step::Define { end: body_end },
-            Part::Endef => Step::Endef,
-            Part::Conditional => {
+            BlockPart::Line => Step::Line,
+            BlockPart::Body => Step::Body,
+            BlockPart::Define => Step::Define { end: body_end },
+            BlockPart::Endef => Step::Endef,
+            BlockPart::Conditional => {
                 let Exits { next, after } = self.leave();
                 Step::Conditional { next, after }
             }
-            Part::Branch(condition) => {
+            BlockPart::Branch(condition) => {
                 let Exits { next, after } = self.leave();
                 self.enter(place, after)?;
                 Step::Branch {
@@ -108,14 +108,14 @@ impl Places {
                     after,
                 }
             }
-            Part::Stray(stray) => {
+            BlockPart::Stray(stray) => {
                 if stray == Stray::LateElse {
                     let _ = self.leave();
                     self.enter(place, place)?;
                 }
                 Step::Stray(stray)
             }
-            Part::Endif => {
+            BlockPart::Endif => {
                 self.enter(place, place)?;
                 Step::Endif
             }

@@ -19,8 +19,10 @@ fn told(text: &[u8], rt: &HostRuntime) -> Result<Vec<u8>, Fail> {
     let found = blocks(rt.alloc(), text, &lines)?;
     let mut told = Vec::new(rt.alloc());
     for line in 0..lines.len() {
+        let ordinary = found.is_ordinary(line);
         match found.get(line) {
-            Some(Step::Line) => put(&mut told, b'l', &[])?,
+            Some(Step::Line) if ordinary => put(&mut told, b'l', &[])?,
+            Some(Step::Line) => put(&mut told, b'?', &[])?,
             Some(Step::Body) => put(&mut told, b'b', &[])?,
             Some(Step::Define { end }) => put(&mut told, b'd', &[end])?,
             Some(Step::Endef) => put(&mut told, b'D', &[])?,

@@ -154,7 +154,7 @@ impl<'a> Page<'a> {
         ensures step { result ≡ true → slice_get self.now.blocks.steps place ≡ Some step.Line }
         ensures reads { result ≡ true → ReadsOn self.now.blocks.steps place step.Line }
     {
-        matches!(self.blocks.get(place), Some(Step::Line))
+        self.blocks.is_ordinary(place)
     }
 
     fn begins_comment(&self, place: usize) -> bool

@@ -1,12 +1,12 @@
 -- Steps by their parts and places (kati's own).
-use Rattle.std.specs.Prelude.{ℕ}
-use Rattle.kt_syntax.specs.declared.part.Part.{Part}
-use Rattle.kt_syntax.specs.declared.part.Part.TheVariants as part
+use Rattle.std.specs.Prelude.{ℕ, zero, suc, List, slice_get, unwrap_or}
+use Rattle.kt_syntax.specs.declared.part.BlockPart.{BlockPart}
+use Rattle.kt_syntax.specs.declared.part.BlockPart.TheVariants as part
 use Rattle.kt_syntax.specs.declared.step.Step.{Step}
 use Rattle.kt_syntax.specs.declared.step.Step.TheVariants as step
 
 -- the step of a line with this part, which names these places or none
-abbrev pub step_with : Part → ℕ → ℕ → Step
+abbrev pub step_with : BlockPart → ℕ → ℕ → Step
 step_with part.Line next after = step.Line
 step_with part.Body next after = step.Body
 step_with part.Define next after = step.Define next
@@ -15,3 +15,8 @@ step_with part.Conditional next after = step.Conditional next after
 step_with (part.Branch condition) next after = step.Branch condition next after
 step_with part.Endif next after = step.Endif
 step_with (part.Stray stray) next after = step.Stray stray
+
+-- the step of a number: 0 for an ordinary line's, else its place among the held ones, from 1
+abbrev pub numbered_step : List Step → ℕ → Step
+numbered_step held zero = step.Line
+numbered_step held (suc place) = unwrap_or (slice_get held place) step.Line

@@ -1,9 +1,9 @@
 -- A text with each dollar doubled, expanded.
-use Rattle.std.proofs.Common.{◌≡◌, ◌==◌, ℕ, suc, Bool, true, false, [], ◌∷◌, ◌++◌, Some, take, refl, sym, ap, subst, ◌∙◌, append_assoc, append-nil, ⊎_elim, arith}
+use Rattle.std.proofs.Common.{◌≡◌, ◌==◌, ℕ, suc, Bool, true, false, [], ◌∷◌, ◌++◌, Some, take, refl, sym, ap, subst, ◌∙◌, append_assoc, append-nil, ⊎_elim}
 use Rattle.std.proofs.lemmas.Bool.{cases_Bool, eqb-true}
 use Rattle.kt_text.specs.Words.{Text}
 use Rattle.kt_syntax.specs.Terms.{dropped, terms_of, terms_after, first_term, after_dollar}
-use Rattle.kt_syntax.proofs.Runs.{run}
+use Rattle.kt_syntax.proofs.Runs.{run, run-no}
 use Rattle.kt_eval.specs.macros.Macros.{set_by_makefile, doubled}
 use Rattle.kt_eval.specs.declared.macros.Flavour.TheVariants.{Deferred}
 use Rattle.kt_eval.specs.files.Files.{Store}
@@ -23,12 +23,6 @@ doubled-yes byte text h = rw h refl
 doubled-no : (byte : ℕ) (text : Text) → (byte == 36) ≡ false → doubled (byte ∷ text) ≡ byte ∷ doubled text
 unfolding doubled
 doubled-no byte text h = rw h refl
-
-run-dollar : (text : Text) → run (36 ∷ text) ≡ 0
-run-dollar text = refl
-
-run-other : (byte : ℕ) (text : Text) → (byte == 36) ≡ false → run (byte ∷ text) ≡ suc (run text)
-run-other byte text h = rw h (omega arith)
 
 -- two dollars make one
 after-dollars : (e : Evaluator) (w : World) (out text : Text)
@@ -97,7 +91,7 @@ doubles-other e w byte text h d = record {
       subst (λ (x : Text). after e w (out ++ take (run x) x) (run x) x ≡ Gave w (out ++ byte ∷ text))
       (sym (doubled-no byte text h))
       (subst (λ (n : ℕ). after e w (out ++ take n (byte ∷ doubled text)) n (byte ∷ doubled text) ≡ Gave w
-      (out ++ byte ∷ text)) (sym (run-other byte (doubled text) h))
+      (out ++ byte ∷ text)) (sym (run-no byte (doubled text) h))
       (after-skip e w _ _ _ _ ∙ more out));
 }
   where

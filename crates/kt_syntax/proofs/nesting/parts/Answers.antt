@@ -6,13 +6,14 @@ use Rattle.kt_syntax.proofs.nesting.parts.Goals as goal
 
 pub loop-line-preserved : goal.loop-line-preserved
 loop-line-preserved c = record {
-  found = parts_more _ _ _ _ c.args.text.now c.args.lines.now c.loop-line.line-index _ c.in_ok-head.head _ _ c.loop-line-test.true (c.in_ok-head.ensures ∙ ap (head_of c.args.text.now) (c.line.ensures ∙ c.line-item.is))
-      c.in_ok-advance.ensures.part c.in_ok-advance.ensures.scan c.in_ok-push.ensures.items c.loop-line.invariant.found;
-  scanned = scanned_more _ _ _ c.args.text.now c.args.lines.now c.loop-line.line-index _ c.in_ok-head.head c.loop-line-test.true (c.in_ok-head.ensures ∙ ap (head_of c.args.text.now) (c.line.ensures ∙ c.line-item.is))
-      c.in_ok-advance.ensures.scan c.loop-line.invariant.scanned;
+  found = parts_more _ _ _ _ c.args.text.now c.args.lines.now c.loop-line.line-index _ _ _ _ c.loop-line-test.true c.line-item.is
+      c.in_ok-next_part.ensures.part c.in_ok-next_part.ensures.scan c.in_ok-push.ensures.items c.loop-line.invariant.found;
+  scanned = scanned_more _ _ _ c.args.text.now c.args.lines.now c.loop-line.line-index _ _ c.loop-line-test.true c.line-item.is
+      c.in_ok-next_part.ensures.scan c.loop-line.invariant.scanned;
   shallow =
-      let deeper = depth-after c.loop-line.scan.define c.loop-line.scan.conditionals c.in_ok-head.head.role c.in_ok-head.head.number in
-      rw c.in_ok-advance.ensures.scan (omega (arith, deeper, c.loop-line.invariant.shallow));
+      let head = head_of c.args.text.now c.line-item.result in
+      let deeper = depth-after c.loop-line.scan.define c.loop-line.scan.conditionals head.role head.number in
+      rw c.in_ok-next_part.ensures.scan (omega (arith, deeper, c.loop-line.invariant.shallow));
 }
 
 pub returns-clause-parts : goal.returns-clause-parts

@@ -1,9 +1,9 @@
 use Rattle.std.proofs.Common.{sym, ◌∙◌}
-use Rattle.kt_syntax.proofs.RoleLemmas.{first_role, tab_role}
+use Rattle.kt_syntax.proofs.RoleLemmas.{else_role, endif_role}
 use Rattle.kt_syntax.proofs.role.line_role.Goals as goal
 
-pub returns-then-tab : goal.returns-then-tab
-returns-then-tab c = rw c.if-tab.true (tab_role c.args.line.now)
+pub returns-then-is_word : goal.returns-then-is_word
+returns-then-is_word c = endif_role c.args.line.now (sym c.is_word.ensures ∙ c.if-is_word.true)
 
-pub returns-then-not-may_open : goal.returns-then-not-may_open
-returns-then-not-may_open c = rw c.if-tab.false (first_role c.args.line.now (sym c.may_open.ensures ∙ c.if-not-may_open.true))
+pub returns-then-is_word-2 : goal.returns-then-is_word-2
+returns-then-is_word-2 c = else_role c.args.line.now (sym c.is_word-2.ensures ∙ c.if-is_word-2.true)
