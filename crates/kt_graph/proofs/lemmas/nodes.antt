@@ -16,3 +16,4 @@ pub mod GraphLemmas
 pub mod GroupLemmas
 pub mod GroupLaw
 pub mod GroupingLemmas
+pub mod SharedLemmas

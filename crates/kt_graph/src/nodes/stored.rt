@@ -3,7 +3,7 @@ ghost use Rattle.std.specs.Prelude.{◌≡◌, ◌++◌, ◌∷◌, ◌<◌, ◌
 ghost use Rattle.std.specs.Prelude.{option_map, slice_get, true, Some, None};
 ghost use Rattle.kt_graph.specs.declared.nodes.node.NodeKind.TheVariants.{DoubleColon};
 ghost use Rattle.kt_graph.specs.inner.nodes.Stored.{input_numbers, order_only_numbers};
-ghost use Rattle.kt_graph.specs.inner.nodes.Stored.{AreRowsOf, Grew, HasMore, IsHeadOf, IsPartWithin, IsWithin};
+ghost use Rattle.kt_graph.specs.inner.nodes.Stored.{AreAlike, AreRowsOf, Grew, HasMore, IsHeadOf, IsPartWithin, IsWithin};
 ghost use Rattle.kt_graph.specs.inner.nodes.Stored.{PutsParts, cut, node_with, part_held, part_seen};
 ghost use Rattle.kt_graph.specs.inner.nodes.Stored.{parts_held, parts_stored, stored_at};
 
@@ -183,6 +183,18 @@ impl<'a> StoredNodes<'a> {
         match self.heads.get(number) {
             Some(head) => row_at(&self.rows, head.inputs as usize + 1),
             None => &[],
+        }
+    }
+
+    /// Whether two nodes have one making and hold their inputs together. Nothing is promised of those that don't.
+    pub(crate) fn are_alike(&self, one: usize, other: usize) -> bool
+        ensures { result ≡ true → AreAlike (stored_at self.now one) (stored_at self.now other) }
+    {
+        match (self.heads.get(one), self.heads.get(other)) {
+            (Some(one), Some(other)) => {
+                one.inputs == other.inputs && one.made_with == other.made_with
+            }
+            _ => false,
         }
     }
 }

@@ -2,7 +2,7 @@
 use Rattle.std.proofs.Common.{◌≡◌, ℕ, zero, suc, not, ◌+◌, ◌-◌, ◌<◌, ◌≤◌, List, [], ◌∷◌, ◌++◌, All, Option, Some, length, take, drop, get_or, slice_get, refl, sym, ap, ◌∙◌, subst, arith}
 use Rattle.std.proofs.lemmas.List.{append-nil, append_assoc, drop-append-le, get_or_append_left, get_or_at, length-append, length-drop, map-append, take-append-le}
 use Rattle.std.proofs.lemmas.List.Elements.{All-drop, All-head, All-push, All-tail, All-take, All-weaker}
-use Rattle.std.proofs.lemmas.Option.{slice_get-get_or}
+use Rattle.std.proofs.lemmas.Option.{none-some, same_Some, slice_get-get_or}
 use Rattle.std.proofs.Math.Seq.{drop-append_seam}
 use Rattle.kt_graph.specs.declared.nodes.node.NodeKind.{NodeKind}
 use Rattle.kt_graph.specs.declared.nodes.stored.Head.{Head}
@@ -194,6 +194,11 @@ head_from parts rows new start kind made_with head is_kind made low begin end al
     }
 
 -- a node that is there, by its number
+pub stored_is : (nodes : List StoredNode) (number : ℕ) (node : StoredNode) → slice_get nodes number ≡ Some node → stored_at nodes number ≡ node
+stored_is [] number node at = absurd (none-some node at)
+stored_is (first ∷ nodes) zero node at = same_Some first node at
+stored_is (first ∷ nodes) (suc number) node at = stored_is nodes number node at
+
 pub stored_there : (nodes : List StoredNode) (number : ℕ) → number < length nodes → slice_get nodes number ≡ Some (stored_at nodes number)
 stored_there nodes number within = slice_get-get_or nodes number _ within
 

@@ -59,6 +59,12 @@ node_with kind made_with parts = record {
   order_only = order_only_numbers parts;
 }
 
+-- two nodes have one making and the same inputs
+pub record AreAlike (one other : StoredNode) : Type 0 where
+  pub made_with : one.made_with ≡ other.made_with
+  pub inputs : one.inputs ≡ other.inputs
+  pub order_only : one.order_only ≡ other.order_only
+
 -- ---- before they are stored
 
 abbrev pub part_held : Part → Numbered → StoredPart
