@@ -17,3 +17,4 @@ pub mod GroupLemmas
 pub mod GroupLaw
 pub mod GroupingLemmas
 pub mod SharedLemmas
+pub mod LikeLemmas
