@@ -1,5 +1,6 @@
 //! Nodes of names from their explicit rules.
-ghost use Rattle.std.specs.Prelude.{◌≡◌, IsTrue, None, Some, false, true, MatchOption, fold, map, option_map, IfOk, OnOk};
+ghost use Rattle.std.specs.Prelude.{◌≡◌, IsTrue, None, Some, false, true, MatchOption, fold, map, option_map};
+ghost use Rattle.std.specs.Prelude.{IfOk, OnOk};
 ghost use Rattle.std.specs.List.{list_any};
 ghost use Rattle.kt_rules.specs.Book.{has_recipe, is_double};
 ghost use Rattle.kt_rules.specs.Names.{with_name};
