@@ -247,21 +247,21 @@ fn groups(rt: HostRuntime) -> Result<(), Fail> {
             b"b.o a.o &: c;gen",
             b"",
             b"b.o a.o",
-            b"a.o b.o : c c ;gen\n",
+            b"a.o b.o : c c ;gen=\n",
         ),
         (b"b.o a.o &: c;gen", b"", b"b.o", b"b.o : c ;gen\n"),
         (
             b"%.h %.c: %.y;yacc\nall: p.c p.h",
             b"p.y",
             b"all",
-            b"all : p.c p.h\np.c p.h : p.y p.y ;yacc\n",
+            b"all : p.c p.h\np.c p.h : p.y p.y ;yacc=\n",
         ),
         // Directory and stem are compared as a pair.
         (
             b"%.h %.c: %.y;yacc\nall: d/p.c d/p.h p.c",
             b"p.y\nd/p.y\n",
             b"all",
-            b"all : d/p.c d/p.h p.c\nd/p.c d/p.h : d/p.y d/p.y ;yacc\np.c : p.y ;yacc\n",
+            b"all : d/p.c d/p.h p.c\nd/p.c d/p.h : d/p.y d/p.y ;yacc=\np.c : p.y ;yacc\n",
         ),
         // A group's member has what its other rules need, too.
         (

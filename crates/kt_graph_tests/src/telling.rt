@@ -26,8 +26,8 @@ pub(crate) fn put_inputs(told: &mut Vec<u8>, inputs: Inputs) {
     }
 }
 
-/// The made names of a graph as statements, a line each: the names that one making makes, what they need, and
-/// after a semicolon the recipe of the first.
+/// The made names of a graph as statements, a line each: the names that one making makes, what they need, after a
+/// semicolon the recipe of the first, and at the end `=` if several hold their inputs together.
 pub(crate) fn put_graph(told: &mut Vec<u8>, alloc: Global, graph: &Graph) {
     match graph.groups() {
         Ok(groups) => put_groups(told, alloc, graph, groups),
@@ -40,9 +40,11 @@ fn put_groups<'g>(told: &mut Vec<u8>, alloc: Global, graph: &'g Graph, groups: G
     let mut groups = groups;
     let mut group = Vec::new(alloc);
     for _ in graph.nodes() {
+        let shares = groups.next_shares_inputs();
         match groups.next_into(&mut group) {
             Ok(true) => {
                 put_group(told, group.as_slice());
+                put_shared(told, shares && group.len() > 1);
                 put(told, b"\n");
             }
             Ok(false) => return,
@@ -68,6 +70,12 @@ fn put_group(told: &mut Vec<u8>, group: &[Node]) {
     }
     if let [first, ..] = group {
         put_recipe(told, first);
+    }
+}
+
+fn put_shared(told: &mut Vec<u8>, shares: bool) {
+    if shares {
+        put(told, b"=");
     }
 }
 

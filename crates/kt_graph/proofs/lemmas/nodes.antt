@@ -16,3 +16,5 @@ pub mod GraphLemmas
 pub mod GroupLemmas
 pub mod GroupLaw
 pub mod GroupingLemmas
+pub mod SharedLemmas
+pub mod LikeLemmas

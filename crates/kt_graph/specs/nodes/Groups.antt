@@ -8,7 +8,7 @@ use Rattle.std.specs.Ordering.{nat_cmp}
 use Rattle.std.specs.Cmp.Lexicographic.{slice_cmp}
 use Rattle.kt_text.specs.Words.{Text}
 use Rattle.kt_rules.specs.Entry.{Rule}
-use Rattle.kt_graph.specs.nodes.Node.{Instance, Node, of_group, of_pattern, is_leaf}
+use Rattle.kt_graph.specs.nodes.Node.{Instance, Node, of_group, of_pattern, inputs_of, is_leaf, order_only_of}
 use Rattle.kt_graph.specs.Reach.{IsInGroup}
 
 abbrev pub instance_eq : Instance → Instance → Bool
@@ -42,6 +42,15 @@ groups_among nodes = map (λ leader. filter (are_together leader) nodes) (filter
 -- the groups of a graph's nodes
 abbrev pub groups_of : List Node → List (List Node)
 groups_of nodes = groups_among (made_nodes nodes)
+
+-- each node of a group has the same inputs, and the same order-only ones
+pub record ShareInputs (group : List Node) : Type 0 where
+  pub inputs : (one other : Node) → Contains group one → Contains group other → inputs_of one ≡ inputs_of other
+  pub order_only : (one other : Node) → Contains group one → Contains group other → order_only_of one ≡ order_only_of other
+
+-- the nodes of the first group do
+abbrev pub FirstSharesInputs : List (List Node) → Type 0
+FirstSharesInputs groups = (group : List Node) (others : List (List Node)) → groups ≡ group ∷ others → ShareInputs group
 
 -- ---- the law of groups: they are those of `IsInGroup`
 

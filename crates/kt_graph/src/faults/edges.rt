@@ -1,9 +1,9 @@
 //! Which names lead to which.
-ghost use Rattle.std.specs.Prelude.{◌≡◌, ◌++◌, [], IfOk, OnOk};
-ghost use Rattle.kt_graph.specs.inner.faults.Edges.{AreEdgesOf, AreMadeBelow, AreNeededBelow, AreReversed};
-ghost use Rattle.kt_graph.specs.inner.faults.Edges.{LeadToVertices, bare_rows, count_of, making_edges, makings_edges};
+ghost use Rattle.std.specs.Prelude.{◌≡◌, ◌++◌, [], IfOk, OnOk, true};
+ghost use Rattle.kt_graph.specs.inner.faults.Edges.{AddsNode, AreEdgesOf, AreMadeBelow, AreNeededBelow, AreReversed};
+ghost use Rattle.kt_graph.specs.inner.faults.Edges.{HaveEdges, IsRepeated, LeadToVertices, count_of, making_edges};
 ghost use Rattle.kt_graph.specs.inner.faults.Edges.{needed_numbers, next_of, numbers_after, one_at, row_of, rows_held};
-ghost use Rattle.kt_graph.specs.inner.faults.Edges.{with_edges};
+ghost use Rattle.kt_graph.specs.inner.faults.Edges.{makings_edges, with_edges};
 ghost use Rattle.kt_graph.specs.inner.nodes.Stored.{stored_at};
 
 use crate::faults::rows::{add_all, add_to, bare, row_at};
@@ -119,19 +119,38 @@ fn making_numbers(alloc: Global, names: usize, count: usize) -> Result<Vec<u32>,
     Ok(numbers)
 }
 
-// For each making, what its names need.
+// For each making, what its names need. What all names of a group need isn't added for each of them.
 fn making_rows(
     alloc: Global,
     nodes: &StoredNodes,
     count: usize,
 ) -> Result<Vec<Vec<u32>>, AllocError>
-    ensures { IfOk result (λ rows. rows_held rows.items ≡ with_edges (bare_rows count) (makings_edges nodes.now)) }
+    ensures { IfOk result (λ rows. HaveEdges count (makings_edges nodes.now) (rows_held rows.items)) }
 {
     let mut rows = bare(alloc, count)?;
     for number in 0..nodes.len() {
-        add_node(&mut rows, nodes, number)?;
+        add_new(&mut rows, nodes, number)?;
     }
     Ok(rows)
+}
+
+fn add_new(rows: &mut Vec<Vec<u32>>, nodes: &StoredNodes, number: usize) -> Result<(), AllocError>
+    ensures { OnOk result (AddsNode nodes.now number (rows_held rows.old.items) (rows_held rows.new.items)) }
+{
+    if is_repeated(nodes, number) {
+        return Ok(());
+    }
+    add_node(rows, nodes, number)
+}
+
+// Whether a node has the making and the inputs of the one before.
+fn is_repeated(nodes: &StoredNodes, number: usize) -> bool
+    ensures { result ≡ true → IsRepeated nodes.now number }
+{
+    match number.checked_sub(1) {
+        Some(before) => nodes.are_alike(before, number),
+        None => false,
+    }
 }
 
 fn add_node(rows: &mut Vec<Vec<u32>>, nodes: &StoredNodes, number: usize) -> Result<(), AllocError>

@@ -1,7 +1,8 @@
 //! Nodes of names from their explicit rules.
-ghost use Rattle.std.specs.Prelude.{◌≡◌, None, Some, MatchOption, fold, map, option_map, IfOk, OnOk};
+ghost use Rattle.std.specs.Prelude.{◌≡◌, IsTrue, None, Some, false, true, MatchOption, fold, map, option_map};
+ghost use Rattle.std.specs.Prelude.{IfOk, OnOk};
 ghost use Rattle.std.specs.List.{list_any};
-ghost use Rattle.kt_rules.specs.Book.{is_double};
+ghost use Rattle.kt_rules.specs.Book.{has_recipe, is_double};
 ghost use Rattle.kt_rules.specs.Names.{with_name};
 ghost use Rattle.kt_rules.specs.Slots.{rule_view};
 ghost use Rattle.kt_rules.specs.Targets.{entry_view, targets_view};
@@ -103,6 +104,14 @@ fn is_double(rule: TargetRule) -> bool
     ensures { result ≡ is_double (rule_view rule.entry).0.kind }
 {
     matches!(rule.entry.kind(), Kind::DoubleColon)
+}
+
+/// Whether a rule with one colon has a recipe and several targets.
+pub(crate) fn makes_several(rule: TargetRule) -> bool
+    ensures { IsTrue result → (has_recipe (rule_view rule.entry) ≡ true)
+        × (is_double (rule_view rule.entry).0.kind ≡ false) }
+{
+    !is_double(rule) && rule.entry.recipe().is_some() && rule.entry.targets().len() > 1
 }
 
 /// The making of a rule, if the rule is a group.

@@ -1,9 +1,9 @@
 //! Builds the node of each name that goals need, using a work list.
 ghost use Rattle.std.specs.Prelude.{◌≡◌, ◌<◌, ◌^◌, [], List, None, fold, length, map, option_map, slice_get, take};
-ghost use Rattle.std.specs.Prelude.{IfOk, OnOk};
+ghost use Rattle.std.specs.Prelude.{IfOk, IsTrue, OnOk};
 ghost use Rattle.kt_text.specs.Words.{Text};
 ghost use Rattle.kt_rules.specs.Book.{explicit_rules, is_phony};
-ghost use Rattle.kt_rules.specs.Entry.{Rule};
+ghost use Rattle.kt_rules.specs.Entry.{Rule, needs_for};
 ghost use Rattle.kt_rules.specs.declared.entry.Target.{Target as HeldTarget};
 ghost use Rattle.kt_rules.specs.Names.{with_name};
 ghost use Rattle.kt_rules.specs.Slots.{rule_view};
@@ -14,12 +14,15 @@ ghost use Rattle.kt_graph.specs.inner.nodes.Needed.{needing_view, single_node};
 ghost use Rattle.kt_graph.specs.nodes.Node.{double_node, explicit_node, node_by, node_of, node_with, plain_node};
 ghost use Rattle.kt_graph.specs.nodes.Node.{searched};
 ghost use Rattle.kt_graph.specs.inner.nodes.Numbering.{IsMaking};
-ghost use Rattle.kt_graph.specs.inner.nodes.GraphBuilder.{BuildsNode, IsBegun, IsBuilt, IsOver, ReachesMore};
+ghost use Rattle.kt_graph.specs.inner.nodes.GraphBuilder.{AreTold, BuildsNode, IsBegun, IsBuilt, IsLikeLast, IsOver};
+ghost use Rattle.kt_graph.specs.inner.nodes.GraphBuilder.{LastNeeds, NeedsAs, NeedsAsLast, ReachesMore, sole_node};
 ghost use Rattle.kt_graph.specs.inner.nodes.Reached.{reached_text};
 ghost use Rattle.kt_graph.specs.nodes.Views.{instance_view};
 
 use crate::known::Known;
-use crate::nodes::building::{Used, double_parts, group_of, has_double, kind_without, used_rule};
+use crate::nodes::building::{
+    Used, double_parts, group_of, has_double, kind_without, makes_several, used_rule,
+};
 use crate::nodes::inferring::Inferred;
 use crate::nodes::needing::Needing;
 use crate::nodes::node::{Instance, NodeKind};
@@ -82,7 +85,8 @@ impl<'a> GraphBuilder<'a> {
 
     /// Builds the node of each reached name, and of the names that these need in turn.
     pub(crate) fn build_all(&mut self) -> Result<(), AllocError>
-        requires { IsOver self.old }
+        requires over { IsOver self.old }
+        requires none { self.old.nodes ≡ [] }
         ensures { OnOk result ((goals : List Text) → IsBegun goals self.old
             → IsBuilt self.old.book.now self.old.known.now goals self.new) }
     {
@@ -110,15 +114,85 @@ impl<'a> GraphBuilder<'a> {
         name: &ReachedName<'a>,
         rules: &mut Vec<TargetRule<'a>>,
     ) -> Result<(), AllocError>
-        requires { IsOver self.old }
+        requires over { IsOver self.old }
+        requires told { AreTold self.old }
         ensures { OnOk result (BuildsNode self.old (node_of self.old.book.now self.old.known.now
             (reached_text name.now)) self.new) }
     {
         self.find_rules(name, rules)?;
-        self.build_by(name, rules.as_slice())
+        self.build_from(name, rules.as_slice())
     }
 
-    // The same for a name that has these explicit rules.
+    // The same for a name that has these explicit rules. What the targets of one rule need is numbered once.
+    fn build_from(
+        &mut self,
+        name: &ReachedName<'a>,
+        rules: &[TargetRule<'a>],
+    ) -> Result<(), AllocError>
+        requires over { IsOver self.old }
+        requires told { AreTold self.old }
+        requires rules { map rule_view rules.now ≡ explicit_rules self.old.book.now (reached_text name.now) }
+        ensures { OnOk result (BuildsNode self.old (node_with self.old.book.now self.old.known.now
+            (reached_text name.now) (map rule_view rules.now)) self.new) }
+    {
+        if let [rule] = rules {
+            if self.is_like_last(name, *rule) {
+                return self.node_like_last(*rule);
+            }
+        }
+        self.build_by(name, rules)
+    }
+
+    // Whether the only rule of a name has a recipe, and gives it what the last node needs.
+    fn is_like_last(&self, name: &ReachedName<'a>, rule: TargetRule<'a>) -> bool
+        ensures { IsTrue result → IsLikeLast self.now (reached_text name.now) (rule_view rule.entry) }
+    {
+        match name {
+            ReachedName::InBook(name, number) => {
+                makes_several(rule) && self.needs_as_last(name, *number)
+            }
+            ReachedName::Other(_) => false,
+        }
+    }
+
+    // Whether the rules of a name need what those of the last name with a node do.
+    fn needs_as_last(&self, name: &[u8], number: usize) -> bool
+        ensures { IsTrue result → NeedsAsLast self.now name.now }
+    {
+        match self.nodes.len().checked_sub(1) {
+            Some(last) => self.needs_as(name, number, last),
+            None => false,
+        }
+    }
+
+    fn needs_as(&self, name: &[u8], number: usize, other: usize) -> bool
+        ensures { IsTrue result → NeedsAs self.now name.now other }
+    {
+        let in_book = self.numbers.number_in_book(other);
+        match self.numbers.get(other) {
+            Some(other) => self.book.are_made_alike(name, number, other, in_book),
+            None => false,
+        }
+    }
+
+    // The node of a name with one rule, which needs what the last node does.
+    fn node_like_last(&mut self, rule: TargetRule<'a>) -> Result<(), AllocError>
+        ensures { OnOk result ((name : Text) → LastNeeds self.old (needs_for (rule_view rule.entry).0 (rule_view
+            rule.entry).1) → BuildsNode self.old (sole_node (suffixes_of self.old.book.now) name
+            (rule_view rule.entry)) self.new) }
+    {
+        let last = self.nodes.len().saturating_sub(1);
+        let making = group_of(self.alloc, rule.entry)?;
+        let part = Part::of_rule(self.book, rule);
+        let made_with = self.making(making)?;
+        let maker = Maker {
+            kind: NodeKind::Explicit,
+            made_with,
+        };
+        self.nodes.push_like(last, maker, part)
+    }
+
+    // The same, rule by rule.
     fn build_by(
         &mut self,
         name: &ReachedName<'a>,

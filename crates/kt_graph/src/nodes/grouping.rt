@@ -1,10 +1,10 @@
 //! Groups the nodes of each making.
-ghost use Rattle.std.specs.Prelude.{◌≡◌, ◌∷◌, ◌++◌, ◌&&◌, [], false, if◌then◌else◌, not, IfOk, OnOk};
+ghost use Rattle.std.specs.Prelude.{◌≡◌, ◌∷◌, ◌++◌, ◌&&◌, [], false, true, if◌then◌else◌, not, IfOk, OnOk};
 ghost use Rattle.std.specs.List.{prefix_len};
 ghost use Rattle.kt_graph.specs.inner.faults.Edges.{rows_held};
-ghost use Rattle.kt_graph.specs.inner.nodes.Grouping.{HasMembers, is_first, is_made_at, leads_at, leads_by, making_at};
-ghost use Rattle.kt_graph.specs.inner.nodes.Grouping.{members_of, with_member};
-ghost use Rattle.kt_graph.specs.nodes.Groups.{groups_of};
+ghost use Rattle.kt_graph.specs.inner.nodes.Grouping.{AreAllAlike, HasMembers, is_first, is_made_at, leads_at};
+ghost use Rattle.kt_graph.specs.inner.nodes.Grouping.{leads_by, making_at, members_of, with_member};
+ghost use Rattle.kt_graph.specs.nodes.Groups.{FirstSharesInputs, groups_of};
 ghost use Rattle.kt_graph.specs.nodes.Views.{nodes_view};
 ghost use Rattle.kt_graph.specs.inner.nodes.Graph.{AreHeld, IsWhole};
 
@@ -70,6 +70,21 @@ impl<'g> Groups<'g> {
         })
     }
 
+    /// Whether the members of the next group hold their inputs together: those of one are then those of all. Nothing is
+    /// promised where they don't. Takes no memory; looks for the group as `next_into` does.
+    pub fn next_shares_inputs(&self) -> bool
+        ensures { result ≡ true → FirstSharesInputs self.now }
+    {
+        let numbers = self.numbers;
+        let place = leader(self.nodes, self.members.as_slice(), numbers);
+        match numbers.get(place) {
+            Some(number) => {
+                are_members_alike(self.nodes, self.members.as_slice(), *number as usize)
+            }
+            None => false,
+        }
+    }
+
     /// Replaces the contents of a vector with the nodes of the next group, if one remains. Returns whether one did.
     pub fn next_into(&mut self, group: &mut Vec<Node<'g>>) -> Result<bool, AllocError>
         ensures { IfOk result (λ some. self.old ≡ (if some then group.new.items ∷ self.new else [])) }
@@ -93,6 +108,28 @@ impl<'g> Groups<'g> {
             None => Ok(false),
         }
     }
+}
+
+// Whether the nodes of the group that a number is in hold their inputs together.
+fn are_members_alike(nodes: &StoredNodes, members: &[Vec<u32>], number: usize) -> bool
+    ensures { result ≡ true → AreAllAlike nodes.now number (members_of nodes.now (rows_held members.now) number) }
+{
+    match making_at(nodes, number) {
+        Some(making) => are_all_alike(nodes, number, row_at(members, making)),
+        None => true,
+    }
+}
+
+// Whether these nodes hold their inputs together with one.
+fn are_all_alike(nodes: &StoredNodes, one: usize, numbers: &[u32]) -> bool
+    ensures { result ≡ true → AreAllAlike nodes.now one numbers.now }
+{
+    for number in numbers {
+        if !nodes.are_alike(one, *number as usize) {
+            return false;
+        }
+    }
+    true
 }
 
 // For each making, those of the numbers whose nodes it makes.

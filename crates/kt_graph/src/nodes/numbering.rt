@@ -89,6 +89,11 @@ impl<'a> NameNumbers<'a> {
         Some(name_among(self.table, &self.others, number))
     }
 
+    /// The number in the book of the name with a number. Nothing is promised of it.
+    pub(crate) fn number_in_book(&self, number: usize) -> usize {
+        self.reached.at(number).unwrap_or(0)
+    }
+
     /// The name with a number, for as long as there is the book.
     pub(crate) fn name(&self, number: usize) -> Result<Option<ReachedName<'a>>, AllocError>
         ensures { IfOk result (λ name. option_map reached_text name ≡ slice_get self.now number) }

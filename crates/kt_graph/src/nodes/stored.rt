@@ -3,7 +3,8 @@ ghost use Rattle.std.specs.Prelude.{◌≡◌, ◌++◌, ◌∷◌, ◌<◌, ◌
 ghost use Rattle.std.specs.Prelude.{option_map, slice_get, true, Some, None};
 ghost use Rattle.kt_graph.specs.declared.nodes.node.NodeKind.TheVariants.{DoubleColon};
 ghost use Rattle.kt_graph.specs.inner.nodes.Stored.{input_numbers, order_only_numbers};
-ghost use Rattle.kt_graph.specs.inner.nodes.Stored.{AreRowsOf, Grew, HasMore, IsHeadOf, IsPartWithin, IsWithin};
+ghost use Rattle.kt_graph.specs.inner.nodes.Stored.{AreAlike, AreRowsOf, AreStored, Grew, HasMore, IsHeadOf, IsLike};
+ghost use Rattle.kt_graph.specs.inner.nodes.Stored.{IsPartWithin, IsWithin, node_like, nodes_stored};
 ghost use Rattle.kt_graph.specs.inner.nodes.Stored.{PutsParts, cut, node_with, part_held, part_seen};
 ghost use Rattle.kt_graph.specs.inner.nodes.Stored.{parts_held, parts_stored, stored_at};
 
@@ -109,6 +110,29 @@ impl<'a> StoredNodes<'a> {
         Ok(())
     }
 
+    /// Adds a node with one part at the end, which needs what another such node does. Its rows are the other's: none is
+    /// looked at. Without such a node, the error is out of memory, too.
+    pub(crate) fn push_like(
+        &mut self,
+        number: usize,
+        maker: Maker,
+        part: Part<'a>,
+    ) -> Result<(), AllocError>
+        ensures { OnOk result (self.new ≡ self.old ++ node_like maker.kind maker.made_with part.entry
+            (stored_at self.old number) ∷ []) }
+    {
+        let head = put_like(
+            self.heads.as_slice(),
+            &mut self.parts,
+            &self.rows,
+            number,
+            maker,
+            part,
+        )?;
+        self.heads.push(head)?;
+        Ok(())
+    }
+
     /// Adds a double-colon node at the end.
     pub(crate) fn push_double(
         &mut self,
@@ -185,6 +209,18 @@ impl<'a> StoredNodes<'a> {
             None => &[],
         }
     }
+
+    /// Whether two nodes have one making and hold their inputs together. Nothing is promised of those that don't.
+    pub(crate) fn are_alike(&self, one: usize, other: usize) -> bool
+        ensures { result ≡ true → AreAlike (stored_at self.now one) (stored_at self.now other) }
+    {
+        match (self.heads.get(one), self.heads.get(other)) {
+            (Some(one), Some(other)) => {
+                one.inputs == other.inputs && one.made_with == other.made_with
+            }
+            _ => false,
+        }
+    }
 }
 
 // A list in a vector for all nodes.
@@ -223,6 +259,56 @@ fn put_node<'a>(
     let start = parts.len();
     put_part(parts, rows, part, needs)?;
     head_from(alloc, parts.as_slice(), rows, start, maker)
+}
+
+// Adds the part of a node that needs what another node with one part does.
+fn put_like<'a>(
+    heads: &[Head],
+    parts: &mut Vec<HeldPart<'a>>,
+    rows: &Rows<u32>,
+    number: usize,
+    maker: Maker,
+    part: Part<'a>,
+) -> Result<Head, AllocError>
+    requires { AreStored parts.old.items rows.now heads.now }
+    ensures grew { Grew parts.old.items rows.now parts.new.items rows.now }
+    ensures head { IfOk result (IsHeadOf parts.new.items rows.now (node_like maker.kind maker.made_with part.entry
+        (stored_at (nodes_stored parts.old.items rows.now heads.now) number))) }
+{
+    let (head, needs) = head_like(heads, parts.as_slice(), number, maker)?;
+    parts.push(HeldPart {
+        recipe: part.recipe,
+        stem: part.stem,
+        needs,
+    })?;
+    Ok(head)
+}
+
+// The node whose part comes next, with the inputs of another node and the rows of its only part.
+fn head_like(
+    heads: &[Head],
+    parts: &[HeldPart],
+    number: usize,
+    maker: Maker,
+) -> Result<(Head, u32), AllocError>
+    requires { All (λ head. IsWithin (length parts.now) head.parts) heads.now }
+    ensures { IfOk result (IsLike heads.now parts.now number maker) }
+{
+    let like = match heads.get(number) {
+        Some(head) => head,
+        None => return Err(AllocError),
+    };
+    let needs = match cut(parts, like.parts) {
+        [part] => part.needs,
+        _ => return Err(AllocError),
+    };
+    let head = Head {
+        kind: maker.kind,
+        made_with: narrow_making(maker.made_with)?,
+        parts: span_of(parts.len(), parts.len() + 1)?,
+        inputs: like.inputs,
+    };
+    Ok((head, needs))
 }
 
 // Adds the lists of a double-colon node at the end of those of the others.

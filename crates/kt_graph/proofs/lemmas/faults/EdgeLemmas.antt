@@ -1,16 +1,17 @@
 -- Edges that are added one by one.
-use Rattle.std.proofs.Common.{◌≡◌, ◌↔◌, ℕ, zero, suc, ◌+◌, ◌-◌, ◌<◌, ◌≤◌, ◌⊎◌, ⊎_elim, inl, inr, List, [], ◌∷◌, ◌++◌, map, length, get_or, set, drop, Vec, Global, Option, None, Some, slice_get, All, IfSome, refl, sym, ap, ◌∙◌, subst, arith}
+use Rattle.std.proofs.Common.{◌≡◌, ◌↔◌, ℕ, zero, suc, ◌+◌, ◌-◌, ◌<◌, ◌≤◌, ◌⊎◌, ⊎_elim, inl, inr, List, [], ◌∷◌, ◌++◌, map, length, get_or, set, drop, take, Vec, Global, Option, None, Some, slice_get, All, IfSome, refl, sym, ap, ◌∙◌, subst, arith}
 use Rattle.std.specs.List.{Contains, range_with_len}
 use Rattle.std.specs.Option.{option_to_list}
 use Rattle.std.proofs.lemmas.Bool.{cases_eq, cases_lt}
-use Rattle.std.proofs.lemmas.List.{append-nil, drop_more, get_or-map, map-append, map-set, get_or-replicate, get_or-set_same, get_or-set_other, get_or_past, length-replicate, length-set, set_past}
+use Rattle.std.proofs.lemmas.List.{append-nil, drop_more, get_or-map, map-append, map-set, get_or-replicate, get_or-set_same, get_or-set_other, get_or_past, length-replicate, length-set, set_past, take_more}
+use Rattle.std.proofs.lemmas.List.Concat.{flat_map-append}
 use Rattle.std.proofs.lemmas.List.Elements.{All-contains, Contains-append_left, Contains-append_right, Contains-append_cases, Contains-push, Contains-push_cases}
 use Rattle.std.proofs.lemmas.List.FromFn.{map-range_with_len_more}
 use Rattle.std.proofs.lemmas.List.Sums.{fold-append}
 use Rattle.std.proofs.lemmas.Option.{none-some, same_Some}
 use Rattle.kt_graph.specs.declared.faults.edges.Edges.{Edges}
-use Rattle.kt_graph.specs.inner.nodes.Stored.{StoredNode}
-use Rattle.kt_graph.specs.inner.faults.Edges.{AreMadeBelow, AreNeededBelow, LeadToVertices, HasNext, IsEdge, LeadsTo, bare_rows, count_of, edges_from, edges_to, making_edges, makings_edges, needed_numbers, numbers_after, one_at, row_by, row_of, rows_of, turned_from, with_edge, with_edges}
+use Rattle.kt_graph.specs.inner.nodes.Stored.{StoredNode, stored_at}
+use Rattle.kt_graph.specs.inner.faults.Edges.{AreMadeBelow, AreNeededBelow, HaveEdges, IsRepeated, LeadToVertices, HasNext, IsEdge, LeadsTo, bare_rows, count_of, edges_from, edges_to, making_edges, makings_edges, needed_numbers, numbers_after, one_at, row_by, row_of, rows_of, turned_from, with_edge, with_edges}
 use Rattle.kt_list.proofs.general.Elements.{first_or_rest, in_first, in_rest}
 use Rattle.kt_graph.proofs.lemmas.MemberLemmas.{Contains-none, Contains-map, Contains-from_map, Contains-slice_get}
 
@@ -193,14 +194,72 @@ node_added before middle after making node made inputs others =
     ∙ ap (with_edges before) (sym (map-append (λ to. (making, to)) node.inputs node.order_only))
     ∙ ap (λ (o : Option ℕ). with_edges before (making_edges o (needed_numbers node))) (sym made)
 
-pub makings_more : (nodes : List StoredNode) (place : ℕ) (node : StoredNode) (before after : List (List ℕ)) → place < length nodes → node ≡ get_or nodes place node
-    → after ≡ with_edges before (making_edges node.made_with (needed_numbers node))
-    → with_edges after (makings_edges (drop (place + 1) nodes)) ≡ with_edges before (makings_edges (drop place nodes))
-makings_more nodes place node before after within is added =
-    ap (λ (rows : List (List ℕ)). with_edges rows (makings_edges (drop (place + 1) nodes))) added
-    ∙ sym (fold-append with_edge before (making_edges node.made_with (needed_numbers node)) (makings_edges (drop (place + 1) nodes)))
-    ∙ ap (λ (s : StoredNode). with_edges before (making_edges s.made_with (needed_numbers s) ++ makings_edges (drop (place + 1) nodes))) is
-    ∙ ap (λ (ns : List StoredNode). with_edges before (makings_edges ns)) (sym (drop_more nodes place node within))
+-- the edges from a making that one node adds
+abbrev edges_at : List StoredNode → ℕ → List (ℕ × ℕ)
+edges_at nodes place = making_edges (stored_at nodes place).made_with (needed_numbers (stored_at nodes place))
+
+makings_taken : (nodes : List StoredNode) (place : ℕ) → place < length nodes
+    → makings_edges (take (place + 1) nodes) ≡ makings_edges (take place nodes) ++ edges_at nodes place
+makings_taken nodes place within =
+    let more : take (place + 1) nodes ≡ take place nodes ++ stored_at nodes place ∷ [] = take_more nodes place _ within in
+    ap (λ (ns : List StoredNode). makings_edges ns) more
+    ∙ flat_map-append (λ (node : StoredNode). making_edges node.made_with (needed_numbers node)) (take place nodes) (stored_at nodes place ∷ [])
+    ∙ ap (λ (es : List (ℕ × ℕ)). makings_edges (take place nodes) ++ es) (append-nil (edges_at nodes place))
+
+pub edges_none : (count : ℕ) (rows : List (List ℕ)) → rows ≡ bare_rows count → HaveEdges count [] rows
+edges_none count rows is = record { edges = []; are = is; same = λ edge. (λ h. h, λ h. h) }
+
+-- those of one more node
+pub edges_more : (nodes : List StoredNode) (place count : ℕ) (before after : List (List ℕ)) → place < length nodes → after ≡ with_edges before (edges_at nodes place)
+    → HaveEdges count (makings_edges (take place nodes)) before → HaveEdges count (makings_edges (take (place + 1) nodes)) after
+edges_more nodes place count before after within added h =
+    let all = makings_edges (take place nodes) in
+    let more = edges_at nodes place in
+    subst (λ (es : List (ℕ × ℕ)). HaveEdges count es after) (sym (makings_taken nodes place within)) (record {
+      edges = h.edges ++ more;
+      are = added ∙ ap (λ (rows : List (List ℕ)). with_edges rows more) h.are ∙ sym (fold-append with_edge (bare_rows count) h.edges more);
+      same = λ edge. (
+        λ has. ⊎_elim
+            (λ (g : Contains h.edges edge). Contains-append_left all more edge ((h.same edge).0 g))
+            (λ (g : Contains more edge). Contains-append_right all more edge g)
+            (Contains-append_cases h.edges more edge has),
+        λ has. ⊎_elim
+            (λ (g : Contains all edge). Contains-append_left h.edges more edge ((h.same edge).1 g))
+            (λ (g : Contains more edge). Contains-append_right h.edges more edge g)
+            (Contains-append_cases all more edge has),
+      );
+    })
+
+-- those of a node like the one before are there
+pub edges_again : (nodes : List StoredNode) (place count : ℕ) (rows : List (List ℕ)) → place < length nodes → IsRepeated nodes place
+    → HaveEdges count (makings_edges (take place nodes)) rows → HaveEdges count (makings_edges (take (place + 1) nodes)) rows
+edges_again nodes place count rows within again h =
+    let all = makings_edges (take place nodes) in
+    subst (λ (es : List (ℕ × ℕ)). HaveEdges count es rows) (sym (makings_taken nodes place within)) (record {
+      edges = h.edges;
+      are = h.are;
+      same = λ edge. (
+        λ has. Contains-append_left all (edges_at nodes place) edge ((h.same edge).0 has),
+        λ has. (h.same edge).1 (⊎_elim (λ (g : Contains all edge). g) (there edge) (Contains-append_cases all (edges_at nodes place) edge has)),
+      );
+    })
+  where
+    one : ℕ
+    one = again.before
+
+    same : edges_at nodes one ≡ edges_at nodes place
+    same =
+        ap (λ (o : Option ℕ). making_edges o (needed_numbers (stored_at nodes one))) again.alike.made_with
+        ∙ ap (λ (ns : List ℕ). making_edges (stored_at nodes place).made_with (ns ++ (stored_at nodes one).order_only)) again.alike.inputs
+        ∙ ap (λ (ns : List ℕ). making_edges (stored_at nodes place).made_with ((stored_at nodes place).inputs ++ ns)) again.alike.order_only
+
+    there : (edge : ℕ × ℕ) → Contains (edges_at nodes place) edge → Contains (makings_edges (take place nodes)) edge
+    there edge g =
+        let next : one + 1 ≡ place = omega (arith, again.next) in
+        subst (λ n. Contains (makings_edges (take n nodes)) edge) next
+        (subst (λ (es : List (ℕ × ℕ)). Contains es edge) (sym (makings_taken nodes one (omega (arith, within, again.next))))
+        (Contains-append_right (makings_edges (take one nodes)) (edges_at nodes one) edge
+        (subst (λ (es : List (ℕ × ℕ)). Contains es edge) (sym same) g)))
 
 from_edges : (from : ℕ) (numbers : List ℕ) (one to : ℕ) → Contains (edges_from from numbers) (one, to) → (one ≡ from) × Contains numbers to
 from_edges from numbers one to has =
@@ -323,7 +382,7 @@ edge_within nodes count from to made needed edge = ⊎_elim
 
 -- where the vertices of nodes and their makings lead, by their rows
 module _ (nodes : List StoredNode) (count : ℕ) (makings : List ℕ) (rows : List (List ℕ)) (below : AreMadeBelow count nodes)
-    (numbers : makings ≡ numbers_after (length nodes) count) (added : rows ≡ with_edges (bare_rows count) (makings_edges nodes)) where
+    (numbers : makings ≡ numbers_after (length nodes) count) (added : HaveEdges count (makings_edges nodes) rows) where
   making_alone : (number : ℕ) (node : StoredNode) (making : ℕ) → slice_get nodes number ≡ Some node → node.made_with ≡ Some making
       → one_at makings making ≡ (length nodes + making) ∷ []
   making_alone number node making at made =
@@ -351,7 +410,7 @@ module _ (nodes : List StoredNode) (count : ℕ) (makings : List ℕ) (rows : Li
         record { number = from; node = h.0; place = h.1; way = inl (refl, leads from h.0 to h.1 h.0.made_with refl h.2) })
         (λ (h : (place : ℕ) × (from ≡ length nodes + place) × Contains (get_or rows place []) to).
         let at : (number : ℕ) × (node : StoredNode) × (slice_get nodes number ≡ Some node) × (node.made_with ≡ Some h.0) × Contains (needed_numbers node) to =
-        makings_has nodes h.0 to (bare_added count (makings_edges nodes) h.0 to (subst (λ (rs : List (List ℕ)). Contains (get_or rs h.0 []) to) added h.2)) in
+        makings_has nodes h.0 to ((added.same (h.0, to)).0 (bare_added count added.edges h.0 to (subst (λ (rs : List (List ℕ)). Contains (get_or rs h.0 []) to) added.are h.2))) in
         record { number = at.0; node = at.1; place = at.2; way = inr (h.0, at.3, h.1, at.4) })
         (front_has (row_of makings) nodes rows from to has),
     λ edge. ⊎_elim
@@ -361,16 +420,16 @@ module _ (nodes : List StoredNode) (count : ℕ) (makings : List ℕ) (rows : Li
         (λ (h : (making : ℕ) × (edge.node.made_with ≡ Some making) × (from ≡ length nodes + making) × Contains (needed_numbers edge.node) to).
         subst (λ n. Contains (get_or (map (row_of makings) nodes ++ rows) n []) to) (sym h.2)
         (back_there (row_of makings) nodes rows h.0 to
-        (subst (λ (rs : List (List ℕ)). Contains (get_or rs h.0 []) to) (sym added)
-        (bare_there count (makings_edges nodes) h.0 to (made_below count nodes edge.number edge.node h.0 below edge.place h.1)
-        (makings_there nodes edge.number edge.node h.0 to edge.place h.1 h.3)))))
+        (subst (λ (rs : List (List ℕ)). Contains (get_or rs h.0 []) to) (sym added.are)
+        (bare_there count added.edges h.0 to (made_below count nodes edge.number edge.node h.0 below edge.place h.1)
+        ((added.same (h.0, to)).1 (makings_there nodes edge.number edge.node h.0 to edge.place h.1 h.3))))))
         edge.way,
   )
 
   pub edges_within : AreNeededBelow nodes → (from to : ℕ) → Contains (get_or (map (row_of makings) nodes ++ rows) from []) to → to < length nodes + length rows
   edges_within needed from to has =
       let below_all = edge_within nodes count from to below needed ((edges_are from to).0 has) in
-      let two = ap length added in
-      let three = length-with_edges (makings_edges nodes) (bare_rows count) in
+      let two = ap length added.are in
+      let three = length-with_edges added.edges (bare_rows count) in
       let four = length-replicate {A = List ℕ} count [] in
       omega arith

@@ -3,7 +3,7 @@ use Rattle.std.proofs.Common.{◌≡◌, ℕ, suc, zero, Bool, true, false, ◌+
 use Rattle.std.specs.Option.{option_map}
 use Rattle.std.proofs.lemmas.List.{length-append, length_push, take-append-drop}
 use Rattle.std.proofs.lemmas.List.Elements.{All-nil, All-cons, All-weaker, All-contains_itself}
-use Rattle.std.proofs.lemmas.Option.{slice_get_within, slice_get-get_or, get_or_from_slice_get}
+use Rattle.std.proofs.lemmas.Option.{none-some, slice_get_within, slice_get-get_or, get_or_from_slice_get}
 use Rattle.kt_text.specs.Words.{Text}
 use Rattle.kt_rules.specs.declared.entry.RecipeLine.{RecipeLine}
 use Rattle.kt_rules.specs.declared.entry.Target.{Target}
@@ -21,7 +21,7 @@ use Rattle.kt_graph.specs.inner.nodes.Needed.{needed_by}
 use Rattle.kt_graph.specs.nodes.Node.{Instance, Node, Part, all_inputs, node_by, node_of}
 use Rattle.kt_graph.specs.inner.nodes.Numbering.{AreBelow, HasNumbers, IsMaking, IsNumbered, Says, SaysNode, SaysPart, SayParts, StandFor}
 use Rattle.kt_graph.specs.Reach.{IsReached}
-use Rattle.kt_graph.specs.inner.nodes.GraphBuilder.{BuildsNode, IsBegun, IsDone, IsOver, IsUnderWay}
+use Rattle.kt_graph.specs.inner.nodes.GraphBuilder.{AllSay, AreTold, BuildsNode, IsBegun, IsDone, IsOver, IsUnderWay}
 use Rattle.kt_graph.specs.inner.nodes.Reached.{reached_text}
 use Rattle.kt_graph.specs.nodes.Views.{instance_at, instance_view, name_at, names_at, part_view}
 use Rattle.kt_graph.proofs.lemmas.nodes.NumberLemmas.{names_grow, parts_kept, place_kept}
@@ -71,17 +71,21 @@ node_kept names needed instances new expected node kept h = record {
 -- ---- the work
 
 -- goals are reached, and nothing else is done
-pub begun : (rules : List Rule) (known goals names : List Text) (instances : List Held) (nodes : List StoredNode) → names ≡ fold with_name [] goals → nodes ≡ []
-    → IsUnderWay rules known goals names instances nodes
-begun rules known goals names instances nodes reached none =
-    subst (λ l. IsUnderWay rules known goals l instances nodes) (sym reached)
-    (subst (λ l. IsUnderWay rules known goals (fold with_name [] goals) instances l) (sym none) (record {
+pub begun : (rules : List Rule) (known goals names : List Text) (nodes : List StoredNode) → names ≡ fold with_name [] goals → nodes ≡ []
+    → IsUnderWay rules known goals names nodes
+begun rules known goals names nodes reached none =
+    subst (λ l. IsUnderWay rules known goals l nodes) (sym reached)
+    (subst (λ l. IsUnderWay rules known goals (fold with_name [] goals) l) (sym none) (record {
       reached = reached_only (IsReached rules known goals) goals [] (All-nil (IsReached rules known goals))
           (All-weaker (Contains goals) (IsReached rules known goals) (λ goal h. goal_reached rules known goals goal h) goals (All-contains_itself goals));
       named = reached_all goals [];
       within = omega arith;
-      stored = λ number name node at none. cc;
     }))
+
+pub told_none : (builder : GraphBuilder) → builder.nodes ≡ [] → AreTold builder
+told_none builder none = record {
+  told = λ number name node at there. absurd (none-some node (ap (λ (l : List StoredNode). slice_get l number) (sym none) ∙ there));
+}
 
 grown_within : (needed names : List Text) → length names ≤ length (fold with_name names needed)
 grown_within needed names =
@@ -99,11 +103,10 @@ grown_same needed names k h =
     ap (λ l. slice_get l k) grown.1 ∙ place_same names grown.0 k h
 
 -- the next name gets its node
-one_more : (rules : List Rule) (known goals names : List Text) (instances new : List Held) (nodes : List StoredNode) (name : Text) (node : StoredNode)
-    → IsUnderWay rules known goals names instances nodes → slice_get names (length nodes) ≡ Some name → take (length instances) new ≡ instances
-    → SaysNode (fold with_name names (needed_by (node_of rules known name))) new (node_of rules known name) node
-    → IsUnderWay rules known goals (fold with_name names (needed_by (node_of rules known name))) new (nodes ++ node ∷ [])
-one_more rules known goals names instances new nodes name node h at kept says =
+one_more : (rules : List Rule) (known goals names : List Text) (nodes : List StoredNode) (name : Text) (node : StoredNode)
+    → IsUnderWay rules known goals names nodes → slice_get names (length nodes) ≡ Some name
+    → IsUnderWay rules known goals (fold with_name names (needed_by (node_of rules known name))) (nodes ++ node ∷ [])
+one_more rules known goals names nodes name node h at =
     let needed = needed_by (node_of rules known name) in
     let here : IsReached rules known goals name = holds_at (IsReached rules known goals) names (length nodes) name h.reached at in
     let within : length nodes < length names = slice_get_within names (length nodes) name at in
@@ -113,49 +116,37 @@ one_more rules known goals names instances new nodes name node h at kept says =
           (λ input k. reached_on rules known goals name input here k) needed (inputs_all (node_of rules known name)));
       named = All-weaker (Contains names) (Contains (fold with_name names needed)) (λ goal k. reached_stays needed names goal k) goals h.named;
       within = omega (arith, within, grown_within needed names, length_push nodes node);
-      stored = λ number other stored there held.
-          ⊎_elim
-          (λ before.
-          let old : slice_get names number ≡ Some other
-          = sym (grown_same needed names number (omega (arith, slice_get_within nodes number stored before, h.within))) ∙ there in
-          node_kept names needed instances new (node_of rules known other) stored kept (h.stored number other stored old before))
-          (λ last.
-          let same : Some other ≡ Some name = sym there ∙ ap (slice_get (fold with_name names needed)) last.0 ∙ grown_at needed names (length nodes) name at in
-          let e : name ≡ other = cc in
-          subst (λ n. SaysNode (fold with_name names needed) new (node_of rules known n) stored) e
-          (subst (λ s. SaysNode (fold with_name names needed) new (node_of rules known name) s) (sym last.1) says))
-          (push_cases nodes node number stored held);
     }
 
--- the same in the terms of a step
-pub stored_more : (rules : List Rule) (known goals names after : List Text) (instances new : List Held) (nodes more : List StoredNode) (name : Text) (node : StoredNode)
-    → IsUnderWay rules known goals names instances nodes → slice_get names (length nodes) ≡ Some name → take (length instances) new ≡ instances
-    → after ≡ fold with_name names (needed_by (node_of rules known name)) → SaysNode after new (node_of rules known name) node → more ≡ nodes ++ node ∷ []
-    → IsUnderWay rules known goals after new more
-stored_more rules known goals names after instances new nodes more name node h at kept grown says pushed =
-    subst (λ l. IsUnderWay rules known goals l new more) (sym grown)
-    (subst (λ l. IsUnderWay rules known goals (fold with_name names (needed_by (node_of rules known name))) new l) (sym pushed)
-    (one_more rules known goals names instances new nodes name node h at kept
-    (subst (λ l. SaysNode l new (node_of rules known name) node) grown says)))
-
--- the same if the book and the known names are those of the start
-pub stored_under : (rules same_rules : List Rule) (known same_known goals names after : List Text) (instances new : List Held) (nodes more : List StoredNode) (name : Text) (node : StoredNode)
-    → same_rules ≡ rules → same_known ≡ known → IsUnderWay rules known goals names instances nodes → slice_get names (length nodes) ≡ Some name
-    → take (length instances) new ≡ instances → after ≡ fold with_name names (needed_by (node_of same_rules same_known name))
-    → SaysNode after new (node_of same_rules same_known name) node → more ≡ nodes ++ node ∷ []
-    → IsUnderWay rules known goals after new more
-stored_under rules same_rules known same_known goals names after instances new nodes more name node by_rules by_known h at kept grown says pushed =
-    let e : node_of same_rules same_known name ≡ node_of rules known name
-    = ap (λ r. node_of r same_known name) by_rules ∙ ap (λ k. node_of rules k name) by_known in
-    stored_more rules known goals names after instances new nodes more name node h at kept
-    (grown ∙ ap (λ n. fold with_name names (needed_by n)) e) (subst (λ n. SaysNode after new n node) e says) pushed
+-- and each node is still that of its name
+told_more : (rules : List Rule) (known names : List Text) (instances new : List Held) (nodes : List StoredNode) (name : Text) (node : StoredNode)
+    → AllSay rules known names instances nodes → slice_get names (length nodes) ≡ Some name → take (length instances) new ≡ instances
+    → SaysNode (fold with_name names (needed_by (node_of rules known name))) new (node_of rules known name) node
+    → AllSay rules known (fold with_name names (needed_by (node_of rules known name))) new (nodes ++ node ∷ [])
+told_more rules known names instances new nodes name node h at kept says = λ number other stored there held.
+    ⊎_elim
+    (λ before.
+    let within = slice_get_within names (length nodes) name at in
+    let old : slice_get names number ≡ Some other
+    = sym (grown_same needed names number (omega (arith, slice_get_within nodes number stored before, within))) ∙ there in
+    node_kept names needed instances new (node_of rules known other) stored kept (h number other stored old before))
+    (λ last.
+    let same : Some other ≡ Some name = sym there ∙ ap (slice_get (fold with_name names needed)) last.0 ∙ grown_at needed names (length nodes) name at in
+    let e : name ≡ other = cc in
+    subst (λ n. SaysNode (fold with_name names needed) new (node_of rules known n) stored) e
+    (subst (λ s. SaysNode (fold with_name names needed) new (node_of rules known name) s) (sym last.1) says))
+    (push_cases nodes node number stored held)
+  where
+    needed : List Text
+    needed = needed_by (node_of rules known name)
 
 -- what holds between one name and the next
 pub record HasBuilt (start now : GraphBuilder) : Type 0 where
   pub over : IsOver now
   pub book : now.book ≡ start.book
   pub known_names : now.known ≡ start.known
-  pub right : (goals : List Text) → IsBegun goals start → IsUnderWay start.book.now start.known.now goals now.numbers now.instances.keys now.nodes
+  pub told : AreTold now
+  pub right : (goals : List Text) → IsBegun goals start → IsUnderWay start.book.now start.known.now goals now.numbers now.nodes
 
 pub built_more : (start now built : GraphBuilder) (name : Text) → HasBuilt start now → slice_get now.numbers (length now.nodes) ≡ Some name
     → BuildsNode now (node_of now.book.now now.known.now name) built → HasBuilt start built
@@ -168,10 +159,14 @@ built_more start now built name h at builds =
       };
       book = grown.book ∙ h.book;
       known_names = grown.known_names ∙ h.known_names;
+      told = record {
+        told = rw (grown.book, grown.known_names, grown.names, grown.nodes)
+            (told_more now.book.now now.known.now now.numbers now.instances.keys built.instances.keys now.nodes name builds.node h.told.told at grown.instances
+            (subst (λ (l : List Text). SaysNode l built.instances.keys (node_of now.book.now now.known.now name) builds.node) grown.names builds.says));
+      };
       right = λ goals begins.
-          stored_under start.book.now now.book.now start.known.now now.known.now goals now.numbers built.numbers now.instances.keys built.instances.keys now.nodes built.nodes name builds.node
-          (ap (λ (x : Bor (List Rule)). x.now) h.book) (ap (λ (x : Bor (List Text)). x.now) h.known_names) (h.right goals begins) at
-          grown.instances grown.names builds.says grown.nodes;
+          rw (grown.names, grown.nodes, h.book, h.known_names)
+          (one_more start.book.now start.known.now goals now.numbers now.nodes name builds.node (h.right goals begins) at);
     }
 
 -- fewer nodes are left
@@ -295,27 +290,21 @@ named_at [] number h = absurd (omega arith)
 named_at (key ∷ keys) zero h = refl
 named_at (key ∷ keys) (suc number) h = named_at keys number (omega arith)
 
-keys_done : (rules : List Rule) (known goals keys : List Text) (instances : List Held) (nodes : List StoredNode)
-    → IsUnderWay rules known goals keys instances nodes → None ≡ slice_get keys (length nodes)
-    → IsDone rules known goals keys instances nodes
-keys_done rules known goals keys instances nodes h none =
-    let count : length nodes ≡ length keys
-    = omega (arith, h.within, past keys (length nodes) none) in
+-- nothing remains
+pub all_done : (rules : List Rule) (known goals names : List Text) (instances : List Held) (nodes : List StoredNode)
+    → AllSay rules known names instances nodes → IsUnderWay rules known goals names nodes → None ≡ slice_get names (length nodes)
+    → IsDone rules known goals names instances nodes
+all_done rules known goals names instances nodes told h none =
+    let count : length nodes ≡ length names = omega (arith, h.within, past names (length nodes) none) in
     record {
       reached = h.reached;
       named = h.named;
       stored = λ number node at.
-          let name = name_at keys number in
-          let within : number < length keys = omega (arith, slice_get_within nodes number node at, count) in
-          says_told keys instances name (node_of rules known name) node (node_named rules known name) (h.stored number name node (named_at keys number within) at);
+          let name = name_at names number in
+          let within : number < length names = omega (arith, slice_get_within nodes number node at, count) in
+          says_told names instances name (node_of rules known name) node (node_named rules known name) (told number name node (named_at names number within) at);
       all = count;
     }
-
--- nothing remains
-pub all_done : (rules : List Rule) (known goals names : List Text) (instances : List Held) (nodes : List StoredNode)
-    → IsUnderWay rules known goals names instances nodes → None ≡ slice_get names (length nodes)
-    → IsDone rules known goals names instances nodes
-all_done rules known goals names instances nodes h none = keys_done rules known goals names instances nodes h none
 
 -- all numbers of each node are those of names and makings
 pub done_numbers : (rules : List Rule) (known goals names : List Text) (instances : List Held) (nodes : List StoredNode)

@@ -35,7 +35,7 @@ last_pushed o [] x = refl
 last_pushed o (y ∷ xs) x = last_pushed (Some y) xs x
 
 -- the last that passes, and what is before and after it
-last_cut : {A : Type 0} (p : A → Bool) (before : List A) (x : A) (after : List A) → p x ≡ true → filter p after ≡ []
+pub last_cut : {A : Type 0} (p : A → Bool) (before : List A) (x : A) (after : List A) → p x ≡ true → filter p after ≡ []
     → (last_or None (filter p (before ++ x ∷ after)) ≡ Some x)
     × (before_last p (before ++ x ∷ after) ≡ before) × (after_last p (before ++ x ∷ after) ≡ after)
 last_cut p before x after passes none =

@@ -105,10 +105,10 @@ order_only_same rows parts =
     ∙ ap (λ l. fold with_number [] (numbers_without (input_numbers (parts_stored rows parts)) l))
     (sym (flat_map-map (λ (part : StoredPart). part.order_only) (part_stored rows) parts))
 
-pub one_alone : (parts : List HeldPart) (part : HeldPart) → 1 ≤ length parts → length parts < 2 → part ≡ get_or parts 0 part → parts ≡ part ∷ []
-one_alone [] part some few at = absurd (omega (arith, some))
-one_alone (first ∷ []) part some few at = ap (λ p. p ∷ []) (sym at)
-one_alone (first ∷ second ∷ parts) part some few at = absurd (omega (arith, few))
+pub one_alone : {A : Type 0} (xs : List A) (x : A) → 1 ≤ length xs → length xs < 2 → x ≡ get_or xs 0 x → xs ≡ x ∷ []
+one_alone [] x some few at = absurd (omega (arith, some))
+one_alone (first ∷ []) x some few at = ap (λ y. y ∷ []) (sym at)
+one_alone (first ∷ second ∷ xs) x some few at = absurd (omega (arith, few))
 
 -- the rows of the only part
 pub own_rows : (rows : List (List ℕ)) (part : HeldPart) (parts : List HeldPart) → parts ≡ part ∷ [] → IsPartWithin (length rows) part → HasOwnInputs rows part

@@ -1,16 +1,19 @@
 -- Nodes in three lists: what is stored stays when more is added.
-use Rattle.std.proofs.Common.{◌≡◌, ℕ, zero, suc, not, ◌+◌, ◌-◌, ◌<◌, ◌≤◌, List, [], ◌∷◌, ◌++◌, All, Option, Some, length, take, drop, get_or, slice_get, refl, sym, ap, ◌∙◌, subst, arith}
-use Rattle.std.proofs.lemmas.List.{append-nil, append_assoc, drop-append-le, get_or_append_left, get_or_at, length-append, length-drop, map-append, take-append-le}
-use Rattle.std.proofs.lemmas.List.Elements.{All-drop, All-head, All-push, All-tail, All-take, All-weaker}
-use Rattle.std.proofs.lemmas.Option.{slice_get-get_or}
+use Rattle.std.proofs.Common.{◌≡◌, ℕ, zero, suc, not, ◌+◌, ◌-◌, ◌<◌, ◌≤◌, List, [], ◌∷◌, ◌++◌, All, Option, Some, option_map, length, take, drop, get_or, slice_get, refl, sym, ap, ◌∙◌, subst, arith}
+use Rattle.std.proofs.lemmas.List.{append-nil, append_assoc, drop-append-le, get_or_append_left, length-append, length-drop, map-append, take-append-le}
+use Rattle.std.proofs.lemmas.List.Elements.{All-contains, All-drop, All-head, All-push, All-tail, All-take, All-weaker}
+use Rattle.std.proofs.lemmas.Option.{none-some, same_Some, slice_get-get_or, slice_get-map}
 use Rattle.std.proofs.Math.Seq.{drop-append_seam}
 use Rattle.kt_graph.specs.declared.nodes.node.NodeKind.{NodeKind}
+use Rattle.kt_graph.specs.declared.nodes.part.Maker.{Maker}
+use Rattle.kt_graph.specs.declared.nodes.part.Part.{Part as NewPart}
 use Rattle.kt_graph.specs.declared.nodes.stored.Head.{Head}
 use Rattle.kt_graph.specs.declared.nodes.stored.HeldPart.{HeldPart}
 use Rattle.kt_graph.specs.declared.nodes.stored.Span.{Span}
-use Rattle.kt_graph.specs.inner.nodes.Stored.{AreRowsOf, AreStored, Grew, HasMore, IsHeadOf, IsHeadWithin, IsPartWithin, IsWithin, PutsParts, StoredNode, StoredPart, cut, input_numbers, node_stored, node_with, nodes_stored, order_only_numbers, part_stored, parts_stored, stored_at}
+use Rattle.kt_graph.specs.inner.nodes.Stored.{AreRowsOf, AreStored, Grew, HasMore, IsHeadOf, IsHeadWithin, IsLike, IsPartWithin, IsWithin, PutsParts, StoredNode, StoredPart, cut, input_numbers, node_like, node_stored, node_with, nodes_stored, order_only_numbers, part_stored, parts_stored, stored_at}
 use Rattle.kt_graph.specs.inner.nodes.Grouping.{is_made_at, making_at}
 use Rattle.kt_graph.specs.nodes.Node.{is_leaf}
+use Rattle.kt_graph.proofs.lemmas.MemberLemmas.{Contains-slice_get}
 
 -- ---- places
 
@@ -194,6 +197,51 @@ head_from parts rows new start kind made_with head is_kind made low begin end al
     }
 
 -- a node that is there, by its number
+pub stored_is : (nodes : List StoredNode) (number : ℕ) (node : StoredNode) → slice_get nodes number ≡ Some node → stored_at nodes number ≡ node
+stored_is [] number node at = absurd (none-some node at)
+stored_is (first ∷ nodes) zero node at = same_Some first node at
+stored_is (first ∷ nodes) (suc number) node at = stored_is nodes number node at
+
+-- a node that needs what another does
+module _ (parts : List HeldPart) (rows : List (List ℕ)) (heads : List Head) (number : ℕ) (maker : Maker) (made : Head × ℕ) (part : NewPart) (new : List HeldPart)
+    (stored : AreStored parts rows heads) (like : IsLike heads parts number maker made)
+    (pushed : new ≡ parts ++ (record { recipe = part.recipe; stem = part.stem; needs = made.1 }) ∷ []) where
+  abbrev held : HeldPart
+  held = record { recipe = part.recipe; stem = part.stem; needs = made.1 }
+
+  part_within : IsPartWithin (length rows) like.part
+  part_within = All-head (IsPartWithin (length rows)) like.part []
+      (subst (All (IsPartWithin (length rows))) like.alone (all_cut (IsPartWithin (length rows)) parts like.other.parts stored.parts_within))
+
+  other_within : IsHeadWithin (length parts) (length rows) like.other
+  other_within = All-contains (IsHeadWithin (length parts) (length rows)) heads like.other stored.heads_within (Contains-slice_get heads number like.other like.at)
+
+  pub grew_like : Grew parts rows new rows
+  grew_like = grew_part parts new rows held pushed (subst (λ n. n + 1 < length rows) (sym like.needs) part_within)
+
+  cut_like : cut new made.0.parts ≡ held ∷ []
+  cut_like =
+      let one : made.0.parts.end - made.0.parts.start ≡ 1 = omega (arith, like.start, like.end) in
+      ap (λ n. take n (drop made.0.parts.start new)) one
+      ∙ ap (λ n. take 1 (drop n new)) like.start
+      ∙ ap (λ (l : List HeldPart). take 1 (drop (length parts) l)) pushed
+      ∙ ap (take 1) (drop-append_seam parts (held ∷ []))
+
+  other_stored : stored_at (nodes_stored parts rows heads) number ≡ node_stored parts rows like.other
+  other_stored =
+      stored_is (nodes_stored parts rows heads) number (node_stored parts rows like.other)
+      (slice_get-map (node_stored parts rows) heads number ∙ ap (option_map (node_stored parts rows)) like.at)
+
+  pub head_like : IsHeadOf new rows (node_like maker.kind maker.made_with part (stored_at (nodes_stored parts rows heads) number)) made.0
+  head_like = record {
+    within = record {
+      parts = record { rises = omega (arith, like.start, like.end); ends = omega (arith, like.end, ap length pushed, length-append parts (held ∷ [])) };
+      inputs = subst (λ n. n + 1 < length rows) (sym like.inputs) other_within.inputs;
+    };
+    is =
+        rw (cut_like, other_stored, like.alone, like.needs, like.inputs, like.kind, like.made_with) refl;
+  }
+
 pub stored_there : (nodes : List StoredNode) (number : ℕ) → number < length nodes → slice_get nodes number ≡ Some (stored_at nodes number)
 stored_there nodes number within = slice_get-get_or nodes number _ within
 

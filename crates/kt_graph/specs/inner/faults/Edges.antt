@@ -1,12 +1,12 @@
 -- Vertices and their edges, as the code finds cycles in them (kati's own). The vertex of a name is its number; the
 -- makings of several names come after the names.
 use Rattle.std.specs.Prelude.{◌≡◌, ◌↔◌, ℕ, suc, ◌+◌, ◌<◌, true, false, Bool, ◌⊎◌, List, [], ◌∷◌, ◌++◌, length, get_or}
-use Rattle.std.specs.Prelude.{set, replicate, flat_map, fold, map, All, IfSome, if◌then◌else◌, Option, Some, None}
+use Rattle.std.specs.Prelude.{set, replicate, take, flat_map, fold, map, All, IfSome, if◌then◌else◌, Option, Some, None}
 use Rattle.std.specs.Prelude.{slice_get, Vec}
 use Rattle.std.specs.declared.alloc.Global.{Global}
 use Rattle.std.specs.List.{Contains, count_by, range_with_len}
 use Rattle.std.specs.Option.{option_to_list}
-use Rattle.kt_graph.specs.inner.nodes.Stored.{StoredNode}
+use Rattle.kt_graph.specs.inner.nodes.Stored.{AreAlike, StoredNode, stored_at}
 use Rattle.kt_graph.specs.declared.faults.edges.Edges.{Edges}
 use Rattle.kt_graph.specs.Reach.{Reaches}
 
@@ -99,6 +99,24 @@ making_edges (Some making) numbers = edges_from making numbers
 
 abbrev pub makings_edges : List StoredNode → List (ℕ × ℕ)
 makings_edges nodes = flat_map (λ node. making_edges node.made_with (needed_numbers node)) nodes
+
+-- the rows of makings have just these edges, maybe in another order and more than once
+pub record HaveEdges (count : ℕ) (expected : List (ℕ × ℕ)) (rows : List (List ℕ)) : Type 0 where
+  pub edges : List (ℕ × ℕ)
+  pub are : rows ≡ with_edges (bare_rows count) edges
+  pub same : (edge : ℕ × ℕ) → Contains edges edge ↔ Contains expected edge
+
+-- a node has the making and the inputs of the one before
+pub record IsRepeated (nodes : List StoredNode) (number : ℕ) : Type 0 where
+  pub before : ℕ
+  pub next : number ≡ suc before
+  pub alike : AreAlike (stored_at nodes before) (stored_at nodes number)
+
+-- after the edges that the first nodes add, those of one more node stand there, too
+abbrev pub AddsNode : List StoredNode → ℕ → List (List ℕ) → List (List ℕ) → Type 0
+AddsNode nodes number old new =
+    (count : ℕ) → number < length nodes → HaveEdges count (makings_edges (take number nodes)) old
+    → HaveEdges count (makings_edges (take (number + 1) nodes)) new
 
 -- the numbers of makings, which come after the names
 abbrev pub numbers_after : ℕ → ℕ → List ℕ

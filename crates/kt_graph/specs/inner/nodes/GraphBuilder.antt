@@ -1,16 +1,19 @@
 -- The names reached so far, and the nodes of the first of them, as the code holds them (kati's own).
-use Rattle.std.specs.Prelude.{◌≡◌, ℕ, ◌≤◌, List, [], ◌∷◌, ◌++◌, length, fold, take, All, Some, slice_get}
+use Rattle.std.specs.Prelude.{◌≡◌, ℕ, ◌+◌, ◌-◌, ◌≤◌, true, false, List, [], ◌∷◌, ◌++◌, length, fold, take, All, Some, slice_get}
 use Rattle.std.specs.List.{Contains}
 use Rattle.kt_text.specs.Words.{Text}
-use Rattle.kt_rules.specs.Book.{patterns_of}
+use Rattle.kt_rules.specs.declared.entry.Needs.{Needs}
+use Rattle.kt_rules.specs.declared.entry.Target.{Target}
+use Rattle.kt_rules.specs.Book.{AreMadeAlike, has_recipe, is_double, patterns_of}
 use Rattle.kt_rules.specs.Entry.{Rule}
 use Rattle.kt_rules.specs.Names.{with_name}
 use Rattle.kt_graph.specs.declared.nodes.node.Instance.{Instance as Held}
-use Rattle.kt_graph.specs.inner.nodes.Stored.{StoredNode}
+use Rattle.kt_graph.specs.declared.nodes.node.NodeKind.TheVariants.{Explicit}
+use Rattle.kt_graph.specs.inner.nodes.Stored.{StoredNode, StoredPart, input_numbers, order_only_numbers, stored_at}
 use Rattle.kt_graph.specs.declared.nodes.graph_builder.GraphBuilder.{GraphBuilder}
 use Rattle.kt_graph.specs.inner.nodes.Needed.{needed_by}
-use Rattle.kt_graph.specs.nodes.Node.{Node, node_of}
-use Rattle.kt_graph.specs.inner.nodes.Numbering.{Says, SaysNode}
+use Rattle.kt_graph.specs.nodes.Node.{Node, group_of, node_of, own_part}
+use Rattle.kt_graph.specs.inner.nodes.Numbering.{Says, SaysNeeds, SaysNode}
 use Rattle.kt_graph.specs.Reach.{IsReached}
 use Rattle.kt_graph.specs.nodes.Views.{name_at}
 
@@ -35,20 +38,63 @@ pub record BuildsNode (old : GraphBuilder) (expected : Node) (new : GraphBuilder
   pub grown : ReachesMore old (needed_by expected) (node ∷ []) new
   pub says : SaysNode new.numbers new.instances.keys expected node
 
+-- each node is that of its name
+abbrev pub AllSay : List Rule → List Text → List Text → List Held → List StoredNode → Type 0
+AllSay rules known names instances nodes =
+    (number : ℕ) (name : Text) (node : StoredNode) → slice_get names number ≡ Some name
+    → slice_get nodes number ≡ Some node → SaysNode names instances (node_of rules known name) node
+
+pub record AreTold (builder : GraphBuilder) : Type 0 where
+  pub told : AllSay builder.book.now builder.known.now builder.numbers builder.instances.keys builder.nodes
+
+-- ---- the node of a target that needs what the one before does
+
+-- the node of a name whose only rule has a recipe
+abbrev pub sole_node : List Text → Text → Rule × Target → Node
+sole_node suffixes name made = record {
+  name = name;
+  kind = Explicit;
+  parts = own_part suffixes made ∷ [];
+  made_with = group_of made.0;
+}
+
+-- the rules of a name need what those of a name with a number do
+pub record NeedsAs (builder : GraphBuilder) (name : Text) (number : ℕ) : Type 0 where
+  pub other : Text
+  pub at : slice_get builder.numbers number ≡ Some other
+  pub alike : AreMadeAlike builder.book.now name other
+
+-- and that is the last with a node
+pub record NeedsAsLast (builder : GraphBuilder) (name : Text) : Type 0 where
+  pub last : ℕ
+  pub next : length builder.nodes ≡ last + 1
+  pub same : NeedsAs builder name last
+
+pub record IsLikeLast (builder : GraphBuilder) (name : Text) (made : Rule × Target) : Type 0 where
+  pub recipe : has_recipe made ≡ true
+  pub single : is_double made.0.kind ≡ false
+  pub needs : NeedsAsLast builder name
+
+-- the last node has one part, with these prerequisites
+pub record LastNeeds (builder : GraphBuilder) (needs : Needs) : Type 0 where
+  pub last : StoredNode
+  pub there : stored_at builder.nodes (length builder.nodes - 1) ≡ last
+  pub part : StoredPart
+  pub alone : last.parts ≡ part ∷ []
+  pub says : SaysNeeds builder.numbers needs part.prerequisites part.order_only
+  pub inputs : last.inputs ≡ input_numbers last.parts
+  pub order_only : last.order_only ≡ order_only_numbers last.parts
+
 -- goals are reached, and no node is built yet
 pub record IsBegun (goals : List Text) (builder : GraphBuilder) : Type 0 where
   pub names : builder.numbers ≡ fold with_name [] goals
   pub nodes : builder.nodes ≡ []
 
--- what was reached is needed by goals, and each node is the right one
-pub record IsUnderWay (rules : List Rule) (known goals names : List Text) (instances : List Held)
-    (nodes : List StoredNode) : Type 0 where
+-- what was reached is needed by goals
+pub record IsUnderWay (rules : List Rule) (known goals names : List Text) (nodes : List StoredNode) : Type 0 where
   pub reached : All (IsReached rules known goals) names
   pub named : All (Contains names) goals
   pub within : length nodes ≤ length names
-  pub stored : (number : ℕ) (name : Text) (node : StoredNode) → slice_get names number ≡ Some name
-      → slice_get nodes number ≡ Some node
-      → SaysNode names instances (node_of rules known name) node
 
 -- each name has its node
 pub record IsDone (rules : List Rule) (known goals : List Text) (names : List Text) (instances : List Held)

@@ -1,10 +1,10 @@
 -- Groups of nodes by numbers, as the code finds them (kati's own).
 use Rattle.std.specs.Prelude.{◌≡◌, ℕ, ◌<◌, Bool, true, false, not, ◌&&◌, nat_eq, List, [], ◌∷◌, filter, flat_map}
-use Rattle.std.specs.Prelude.{get_or, length, Option, Some, None, slice_get, if◌then◌else◌}
+use Rattle.std.specs.Prelude.{All, get_or, length, Option, Some, None, slice_get, if◌then◌else◌}
 use Rattle.std.specs.Option.{option_and_then, option_map_or}
 use Rattle.kt_text.specs.Words.{Text}
 use Rattle.kt_graph.specs.declared.nodes.node.Instance.{Instance as Held}
-use Rattle.kt_graph.specs.inner.nodes.Stored.{StoredNode}
+use Rattle.kt_graph.specs.inner.nodes.Stored.{AreAlike, StoredNode, stored_at}
 use Rattle.kt_graph.specs.nodes.Node.{Node, is_leaf}
 use Rattle.kt_graph.specs.nodes.Views.{nodes_view}
 use Rattle.kt_graph.specs.inner.faults.Edges.{with_edge}
@@ -46,6 +46,10 @@ members_by members number (Some making) = get_or members making []
 
 abbrev pub members_of : List StoredNode → List (List ℕ) → ℕ → List ℕ
 members_of nodes members number = members_by members number (making_at nodes number)
+
+-- nodes have the making and the inputs of one
+abbrev pub AreAllAlike : List StoredNode → ℕ → List ℕ → Type 0
+AreAllAlike nodes one numbers = All (λ number. AreAlike (stored_at nodes one) (stored_at nodes number)) numbers
 
 -- whether a number is the first in a list
 abbrev pub is_first : List ℕ → ℕ → Bool

@@ -1,11 +1,12 @@
 -- Nodes as the graph holds them: with numbers for names, and with the lists of all nodes in one (kati's own).
 use Rattle.std.specs.Prelude.{◌≡◌, ℕ, ◌≤◌, ◌<◌, ◌+◌, List, [], ◌++◌, length, map, All, Option, None, option_map}
-use Rattle.std.specs.Prelude.{flat_map, fold, get_or}
+use Rattle.std.specs.Prelude.{◌∷◌, Some, flat_map, fold, get_or, slice_get}
 use Rattle.std.specs.List.{slice_range}
 use Rattle.kt_text.specs.Words.{Text}
 use Rattle.kt_rules.specs.declared.entry.RecipeLine.{RecipeLine}
 use Rattle.kt_graph.specs.declared.nodes.node.NodeKind.{NodeKind}
 use Rattle.kt_graph.specs.declared.nodes.node.NodeKind.TheVariants.{Leaf}
+use Rattle.kt_graph.specs.declared.nodes.part.Maker.{Maker}
 use Rattle.kt_graph.specs.declared.nodes.part.Numbered.{Numbered}
 use Rattle.kt_graph.specs.declared.nodes.part.NumberedPart.{NumberedPart}
 use Rattle.kt_graph.specs.declared.nodes.part.Part.{Part}
@@ -59,6 +60,12 @@ node_with kind made_with parts = record {
   order_only = order_only_numbers parts;
 }
 
+-- two nodes have one making and the same inputs
+pub record AreAlike (one other : StoredNode) : Type 0 where
+  pub made_with : one.made_with ≡ other.made_with
+  pub inputs : one.inputs ≡ other.inputs
+  pub order_only : one.order_only ≡ other.order_only
+
 -- ---- before they are stored
 
 abbrev pub part_held : Part → Numbered → StoredPart
@@ -71,6 +78,25 @@ part_held part needs = record {
 
 abbrev pub parts_held : List NumberedPart → List StoredPart
 parts_held parts = map (λ one. part_held one.part one.needs) parts
+
+-- a part that needs what another does
+abbrev pub part_like : Part → StoredPart → StoredPart
+part_like part other = record {
+  recipe = option_map (λ lines. lines.now) part.recipe;
+  stem = part.stem;
+  prerequisites = other.prerequisites;
+  order_only = other.order_only;
+}
+
+-- a node that needs what another does
+abbrev pub node_like : NodeKind → Option ℕ → Part → StoredNode → StoredNode
+node_like kind made_with part other = record {
+  kind = kind;
+  parts = map (part_like part) other.parts;
+  made_with = made_with;
+  inputs = other.inputs;
+  order_only = other.order_only;
+}
 
 -- ---- in one list
 
@@ -144,6 +170,19 @@ pub record AreRowsOf (rows : List (List ℕ)) (first second : List ℕ) (place :
   pub within : place + 1 < length rows
   pub one : get_or rows place [] ≡ first
   pub other : get_or rows (place + 1) [] ≡ second
+
+-- a node whose part comes next, and the place of the part's rows: they are those of another node with one part
+pub record IsLike (heads : List Head) (parts : List HeldPart) (number : ℕ) (maker : Maker) (made : Head × ℕ) : Type 0 where
+  pub other : Head
+  pub at : slice_get heads number ≡ Some other
+  pub part : HeldPart
+  pub alone : cut parts other.parts ≡ part ∷ []
+  pub needs : made.1 ≡ part.needs
+  pub inputs : made.0.inputs ≡ other.inputs
+  pub kind : made.0.kind ≡ maker.kind
+  pub made_with : made.0.made_with ≡ maker.made_with
+  pub start : made.0.parts.start ≡ length parts
+  pub end : made.0.parts.end ≡ length parts + 1
 
 -- parts were added at the end
 pub record PutsParts (parts new_parts : List HeldPart) (rows : List (List ℕ)) (expected : List StoredPart) : Type 0 where

@@ -1,16 +1,17 @@
 use Rattle.std.proofs.Common.{◌∙◌, ◌^◌, ap, option_map, refl, sym}
 use Rattle.kt_graph.specs.inner.nodes.Reached.{reached_text}
-use Rattle.kt_graph.proofs.lemmas.nodes.BuilderLemmas.{all_done, begun, built_more, fewer_left, none_left}
+use Rattle.kt_graph.proofs.lemmas.nodes.BuilderLemmas.{all_done, begun, built_more, fewer_left, none_left, told_none}
 use Rattle.kt_graph.proofs.nodes.graph_builder.GraphBuilder.build_all.Goals as goal
 
 pub loop-rules-init : goal.loop-rules-init
 loop-rules-init c =
     let self = c.args.self.now in
     record {
-      over = c.requires;
+      over = c.requires.over;
       book = refl;
       known_names = refl;
-      right = λ goals b. begun self.book.now self.known.now goals self.numbers self.instances.keys self.nodes b.names b.nodes;
+      told = told_none self c.requires.none;
+      right = λ goals b. begun self.book.now self.known.now goals self.numbers self.nodes b.names b.nodes;
     }
 
 pub loop-rules-preserved : goal.loop-rules-preserved
@@ -44,4 +45,4 @@ pub returns : goal.returns
 returns c = λ goals b.
     let self = c.loop-rules.self in
     all_done c.args.self.now.book.now c.args.self.now.known.now goals self.numbers self.instances.keys self.nodes
-    (c.loop-rules.invariant.right goals b) (none_left _ _ c.in_default.not-Some c.in_ok-name.ensures.next)
+    (rw (c.loop-rules.invariant.book, c.loop-rules.invariant.known_names) at c.loop-rules.invariant.told.told) (c.loop-rules.invariant.right goals b) (none_left _ _ c.in_default.not-Some c.in_ok-name.ensures.next)

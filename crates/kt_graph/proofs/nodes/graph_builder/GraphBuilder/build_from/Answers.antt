@@ -1,0 +1,28 @@
+use Rattle.std.proofs.Common.{◌≡◌, ◌∷◌, ◌∙◌, [], ap, map, subst, sym}
+use Rattle.std.proofs.lemmas.Result.{on_ok_weaker}
+use Rattle.kt_text.specs.Words.{Text}
+use Rattle.kt_rules.specs.Entry.{needs_for}
+use Rattle.kt_rules.specs.Slots.{rule_view}
+use Rattle.kt_rules.specs.Suffixes.{suffixes_of}
+use Rattle.kt_graph.specs.inner.nodes.GraphBuilder.{BuildsNode, LastNeeds, sole_node}
+use Rattle.kt_graph.specs.inner.nodes.Reached.{reached_text}
+use Rattle.kt_graph.specs.nodes.Node.{node_with}
+use Rattle.kt_graph.proofs.lemmas.nodes.InputLemmas.{one_alone}
+use Rattle.kt_graph.proofs.lemmas.nodes.LikeLemmas.{last_needs, sole_is}
+use Rattle.kt_graph.proofs.nodes.graph_builder.GraphBuilder.build_from.Goals as goal
+
+pub returns-then-is_like_last : goal.returns-then-is_like_last
+returns-then-is_like_last c =
+    let builder = c.args.self.now in
+    let book = builder.book.now in
+    let known = builder.known.now in
+    let name = reached_text c.args.name.now in
+    let rule = rule_view c.rule-item.result in
+    let new = c.node_like_last.new.self in
+    let like = c.is_like_last.ensures c.if-is_like_last.true in
+    let only : map rule_view c.args.rules.now ≡ rule ∷ []
+    = ap (map rule_view) (one_alone c.args.rules.now c.rule-item.result c.in-len1.len_at_least c.in-len1.len_below c.rule-item.is) in
+    on_ok_weaker c.node_like_last.result
+    (λ (h : (name : Text) → LastNeeds builder (needs_for rule.0 rule.1) → BuildsNode builder (sole_node (suffixes_of book) name rule) new).
+    subst (λ n. BuildsNode builder n new) (sym (ap (node_with book known name) only ∙ sole_is book known name rule like.recipe like.single))
+    (h name (last_needs builder name rule c.requires.told like (sym only ∙ c.requires.rules)))) c.node_like_last.ensures

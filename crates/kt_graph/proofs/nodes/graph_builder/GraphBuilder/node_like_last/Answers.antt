@@ -1,0 +1,21 @@
+use Rattle.std.proofs.Common.{◌≡◌, ◌++◌, ◌∷◌, ◌-◌, [], length}
+use Rattle.std.proofs.lemmas.Result.{on_ok_weaker}
+use Rattle.std.specs.Option.{option_map}
+use Rattle.kt_rules.specs.Slots.{rule_view}
+use Rattle.kt_rules.specs.Suffixes.{suffixes_of}
+use Rattle.kt_graph.specs.declared.nodes.node.NodeKind.TheVariants.{Explicit}
+use Rattle.kt_graph.specs.inner.nodes.Stored.{node_like, stored_at}
+use Rattle.kt_graph.specs.nodes.Views.{instance_view}
+use Rattle.kt_graph.proofs.lemmas.nodes.LikeLemmas.{holds_like}
+use Rattle.kt_graph.proofs.nodes.graph_builder.GraphBuilder.node_like_last.Goals as goal
+
+pub returns : goal.returns
+returns c =
+    let old = c.args.self.now in
+    let middle = c.making.new.self in
+    let made_with = c.in_ok-made_with.made_with in
+    on_ok_weaker c.push_like.result
+    (λ (h : c.push_like.new.self ≡ middle.nodes ++ node_like Explicit made_with c.of_rule-part.result (stored_at middle.nodes (length old.nodes - 1)) ∷ []) name needs.
+    holds_like old middle c.push_like.new.self (suffixes_of old.book.now) name (rule_view c.args.rule) c.of_rule-part.result
+    (option_map instance_view c.in_ok-making.making) made_with c.in_ok-made_with.ensures.others c.in_ok-made_with.ensures.kept c.in_ok-made_with.ensures.making
+    c.in_ok-making.ensures c.of_rule-part.ensures needs h) (rw (c.saturating_sub-last.ensures, c.len.ensures.len) at c.push_like.ensures)

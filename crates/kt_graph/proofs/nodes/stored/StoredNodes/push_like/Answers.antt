@@ -1,0 +1,23 @@
+use Rattle.std.proofs.Common.{List, ◌++◌, ◌∷◌, ◌∙◌, [], ap, subst, sym}
+use Rattle.kt_graph.specs.inner.nodes.Stored.{AreStored, StoredNode, node_like, nodes_stored, stored_at}
+use Rattle.kt_graph.proofs.lemmas.nodes.StoredLemmas.{nodes_push, stored_more, stored_push}
+use Rattle.kt_graph.proofs.nodes.stored.StoredNodes.push_like.Goals as goal
+
+pub invariant_of-self-2 : goal.invariant_of-self-2
+invariant_of-self-2 c =
+    let parts = c.put_like.new.parts.items in
+    let rows = c.self.inside.rows in
+    subst (AreStored parts rows) (sym c.in_ok-push.ensures.items)
+    (stored_push parts rows c.self.inside.heads.items c.in_ok-head.head
+    (stored_more c.self.inside.parts.items parts rows rows c.self.inside.heads.items c.in_ok-head.ensures.grew c.self.invariant)
+    c.in_ok-head.ensures.head.within)
+
+pub returns : goal.returns
+returns c =
+    let parts = c.put_like.new.parts.items in
+    let rows = c.self.inside.rows in
+    let like = λ (nodes : List StoredNode). node_like c.args.maker.kind c.args.maker.made_with c.args.part (stored_at nodes c.args.number) in
+    ap (nodes_stored parts rows) c.in_ok-push.ensures.items
+    ∙ nodes_push c.self.inside.parts.items parts rows rows c.self.inside.heads.items c.in_ok-head.head (like (nodes_stored c.self.inside.parts.items rows c.self.inside.heads.items))
+    c.in_ok-head.ensures.grew c.self.invariant (rw c.as_slice.ensures.value at c.in_ok-head.ensures.head.is)
+    ∙ ap (λ (nodes : List StoredNode). nodes ++ like nodes ∷ []) c.self.view_is
