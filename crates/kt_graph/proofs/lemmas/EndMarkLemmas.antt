@@ -129,11 +129,6 @@ unmarked ends known name marked none = by (is_among known name) refl
     by false e = refl
     by true e = absurd (true≢false (sym (marked name e) ∙ none))
 
-pub unknown_end : (ends : List Bool) (known : List Text) (front end : Text) → AreMarked ends known → is_marked ends end ≡ false → 2 ≤ length end
-    → is_among known (front ++ end) ≡ false
-unknown_end ends known front end marked none long =
-    unmarked ends known (front ++ end) marked (ap (λ place. get_or ends place true) (same_place front end long) ∙ none)
-
 -- ---- ends without a slash
 
 -- a text has this end

@@ -54,10 +54,6 @@ around edges here there (step ∷ steps) way on = record {
       (Reaches-join (HasNext edges) there on.next here (Reaches-step (HasNext edges) there on.next on.step) on.path);
 }
 
--- the next vertex on a path back leads back, too
-pub next_back : (edges : Edges) (vertex : ℕ) (back : LeadsBack edges vertex) → LeadsBack edges back.next
-next_back edges vertex back = around edges back.next vertex back.path.0 back.path.1 (on_step edges vertex back.next back.step)
-
 -- ---- the other direction
 
 reversed_way : (edges reversed : Edges) → AreReversed edges reversed → (from : ℕ) (steps : List ℕ) (to : ℕ)
@@ -154,10 +150,6 @@ searches_on edges first other held unvisited visited work more so_far differ vis
         (Contains-push_cases work other vertex h))
         (λ (h : IsDoneWith edges first unvisited vertex). inr (record { other = h.other; onward = λ next step. still next (h.onward next step) }))
         (so_far.done vertex on e)
-
-pub searches_found : (edges : Edges) (first : ℕ) (held unvisited : List Bool) (work : List ℕ)
-    → Searches edges first held unvisited (work ++ first ∷ []) → LeadsBack edges first
-searches_found edges first held unvisited work so_far = so_far.reached first (Contains-push work first)
 
 never_visited : (edges : Edges) (first : ℕ) (held unvisited : List Bool) → HoldsCircular edges held → Searches edges first held unvisited []
     → (vertex : ℕ) (steps : List ℕ) → LeadsOn edges first vertex → Leads (HasNext edges) vertex steps first → holds_in unvisited vertex ≡ false → ⊥

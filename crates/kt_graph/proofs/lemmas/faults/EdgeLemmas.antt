@@ -183,17 +183,6 @@ turned_parts before middle after place next more first second =
 
 -- ---- the edges of nodes
 
--- a node gives its making what it needs, in two parts
-pub node_added : (before middle after : List (List ℕ)) (making : ℕ) (node : StoredNode) → node.made_with ≡ Some making
-    → middle ≡ with_edges before (edges_from making node.inputs) → after ≡ with_edges middle (edges_from making node.order_only)
-    → after ≡ with_edges before (making_edges node.made_with (needed_numbers node))
-node_added before middle after making node made inputs others =
-    others
-    ∙ ap (λ (rows : List (List ℕ)). with_edges rows (edges_from making node.order_only)) inputs
-    ∙ sym (fold-append with_edge before (edges_from making node.inputs) (edges_from making node.order_only))
-    ∙ ap (with_edges before) (sym (map-append (λ to. (making, to)) node.inputs node.order_only))
-    ∙ ap (λ (o : Option ℕ). with_edges before (making_edges o (needed_numbers node))) (sym made)
-
 -- the edges from a making that one node adds
 abbrev edges_at : List StoredNode → ℕ → List (ℕ × ℕ)
 edges_at nodes place = making_edges (stored_at nodes place).made_with (needed_numbers (stored_at nodes place))

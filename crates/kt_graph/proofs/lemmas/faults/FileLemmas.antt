@@ -1,5 +1,5 @@
 -- Files of made names, counted as they come.
-use Rattle.std.proofs.Common.{◌≡◌, ℕ, zero, suc, ◌+◌, Bool, true, false, not, ◌&&◌, cond, if◌then◌else◌, List, [], ◌∷◌, ◌++◌, length, map, filter, find, All, nat_eq, nat_lt, Option, None, Some, is_some, unwrap_or, refl, sym, ap, ◌∙◌, subst, arith}
+use Rattle.std.proofs.Common.{◌≡◌, ℕ, zero, suc, ◌+◌, Bool, true, false, not, ◌&&◌, cond, if◌then◌else◌, List, [], ◌∷◌, ◌++◌, length, map, filter, find, All, nat_eq, nat_lt, Option, None, Some, is_some, refl, sym, ap, ◌∙◌, subst, arith}
 use Rattle.std.specs.Map.{lookup, KeepsOthers}
 use Rattle.std.specs.Str.{bytes_eq}
 use Rattle.std.proofs.lemmas.Bool.{ne_eqb, lt-ltb}
@@ -8,7 +8,7 @@ use Rattle.std.proofs.lemmas.List.{append-nil, append_assoc, length-append}
 use Rattle.std.proofs.lemmas.List.Elements.{All-append, filter-append}
 use Rattle.std.proofs.lemmas.Slice.Eq.{bytes_eq-Decides}
 use Rattle.kt_text.specs.Words.{Text}
-use Rattle.kt_graph.specs.inner.faults.Files.{count_of, held_for, is_repeated, made_names, several_in}
+use Rattle.kt_graph.specs.inner.faults.Files.{count_of, held_for, made_names, several_in}
 use Rattle.kt_graph.specs.nodes.Groups.{made_nodes}
 use Rattle.kt_graph.specs.nodes.Node.{Node, is_leaf}
 use Rattle.kt_graph.specs.faults.Paths.{canon_of}
@@ -88,14 +88,6 @@ files_with old new names name file is added held other =
         ap (λ o. Some (is_some o)) (held file ∙ ap (several_in names) (sym ((bytes_eq-Decides other file).0 e)))
         ∙ sym (ap (λ b. if b then Some (is_some (several_in names other)) else several_in names other) e)
     by false e = held other ∙ sym (ap (λ b. if b then Some (is_some (several_in names other)) else several_in names other) e)
-
--- and says whether a name is repeated
-pub repeated_is : (names : List Text) (name : Text) → unwrap_or (several_in names (canon_of name)) false ≡ is_repeated names name
-repeated_is names name = by (count_of names (canon_of name))
-  where
-    by : (count : ℕ) → unwrap_or (several_at count) false ≡ nat_lt 1 count
-    by zero = refl
-    by (suc count) = ap (λ b. unwrap_or (if b then None else Some (nat_lt 1 (suc count))) false) (ne_eqb (suc count) 0 (λ e. absurd (omega arith)))
 
 -- ---- names that come one by one
 

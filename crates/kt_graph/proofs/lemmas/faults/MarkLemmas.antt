@@ -51,17 +51,6 @@ untaken [] place off = refl
 untaken (mark ∷ marks) zero off = ap (λ m. m ∷ marks) (sym off)
 untaken (mark ∷ marks) (suc place) off = ap (λ ms. mark ∷ ms) (untaken marks place off)
 
--- nothing is visited yet
-pub visits_none : (marks : List Bool) (work : List ℕ) → Visits [] marks marks work work
-visits_none marks work = record {
-  many = refl;
-  fewer = λ vertex on. on;
-  visited = λ vertex in'. absurd (omega (arith, in'.1));
-  noted = λ vertex on off. absurd (false≢true (sym off ∙ on));
-  kept = λ vertex in'. in';
-  only = λ vertex in'. inl in';
-}
-
 -- one more vertex, which wasn't visited
 pub visits_taken : (vertices : List ℕ) (old marks : List Bool) (before work : List ℕ) (vertex : ℕ) → Visits vertices old marks before work
     → holds_in marks vertex ≡ true → Visits (vertices ++ vertex ∷ []) old (set marks vertex false) before (work ++ vertex ∷ [])
@@ -150,12 +139,3 @@ visits_join first second old middle new before between after one other = record 
     noted : (vertex : ℕ) → holds_in old vertex ≡ true → holds_in new vertex ≡ false → (b : Bool) → holds_in middle vertex ≡ b → Contains after vertex
     noted vertex was off true e = other.noted vertex e off
     noted vertex was off false e = other.kept vertex (one.noted vertex was e)
-
--- as many are marked or in the work list as before
-pub many_taken : (marks : List Bool) (work : List ℕ) (vertex : ℕ)
-    → count_held (set marks vertex false) + length (work_with (holds_in marks vertex) work vertex) ≡ count_held marks + length work
-many_taken marks work vertex = by (holds_in marks vertex) refl
-  where
-    by : (b : Bool) → holds_in marks vertex ≡ b → count_held (set marks vertex false) + length (work_with b work vertex) ≡ count_held marks + length work
-    by true on = let fewer = count_taken marks vertex on in let more = length_push work vertex in omega arith
-    by false off = rw (untaken marks vertex off) refl

@@ -5,7 +5,7 @@ use Rattle.std.specs.List.{join_with_byte, slice_split}
 use Rattle.std.specs.Option.{option_to_list}
 use Rattle.std.specs.Str.{bytes_eq}
 use Rattle.std.proofs.lemmas.Bool.{false≢true}
-use Rattle.std.proofs.lemmas.List.{append-nil, map-append, reverse-append, nil_from_length, reverse-reverse, take_rest, length-reverse, length-map}
+use Rattle.std.proofs.lemmas.List.{append-nil, map-append, reverse-append, nil_from_length, reverse-reverse, take_rest}
 use Rattle.kt_text.specs.Words.{Text}
 use Rattle.kt_graph.specs.faults.Paths.{above_name, canon_of, ends_in_name, is_rooted, parts_of, step_up, with_part}
 
@@ -50,25 +50,6 @@ taken_up rooted old new None ends cut none =
 taken_up rooted old new (Some last) ends cut some =
     let whole : reverse (told old) ≡ last.now ∷ reverse (told new) = ap (λ parts. reverse (told parts)) cut ∙ last_first new last in
     sym (ap (step_up rooted) whole ∙ name_taken rooted last.now (reverse (told new)) (sym (ap ends_in_name whole) ∙ ends))
-
-above_first : (rooted : Bool) (parts : List Text) → ends_in_name parts ≡ false → (rooted ≡ true → length parts ≡ 0 → ⊥)
-    → above_name ∷ parts ≡ step_up rooted parts
-above_first true [] ends some = absurd (some refl refl)
-above_first false [] ends some = refl
-above_first rooted (last ∷ parts) ends some = sym (above_stays rooted last parts ends)
-
--- it stays after another `..`, and at the start of a name without a root
-pub put_up : (rooted : Bool) (old new : List (Bor Text)) (above : Bor Text) → above.now ≡ above_name → ends_in_name (reverse (told old)) ≡ false
-    → (rooted ≡ true → length old ≡ 0 → ⊥) → new ≡ old ++ above ∷ []
-    → reverse (told new) ≡ step_up rooted (reverse (told old))
-put_up rooted old new above is ends some grown =
-    ap (λ parts. reverse (told parts)) grown ∙ last_first old above ∙ ap (λ part. part ∷ reverse (told old)) is
-    ∙ above_first rooted (reverse (told old)) ends (λ r none. some r (sym (length-reverse (told old) ∙ length-map old (λ (part : Bor Text). part.now)) ∙ none))
-
--- and under the root it is dropped
-pub root_up : (rooted : Bool) (old : List (Bor Text)) → rooted ≡ true → length old ≡ 0 → reverse (told old) ≡ step_up rooted (reverse (told old))
-root_up rooted [] is none = rw is refl
-root_up rooted (part ∷ old) is none = absurd (omega arith)
 
 -- components with slashes between them
 pub joined_after : (first : Text) (after : List (Bor Text)) → join_with_byte 47 (first ∷ told after) ≡ first ++ flat_map (λ (part : Bor Text). 47 ∷ part.now) after

@@ -30,9 +30,6 @@ name_step rooted parts part is =
     ap (λ b. if b then parts else (if bytes_eq part above_name then step_up rooted parts else part ∷ parts)) is.filled
     ∙ ap (λ b. if b then step_up rooted parts else part ∷ parts) is.plain
 
-up_step : (rooted : Bool) (parts : List Text) → with_part rooted parts above_name ≡ step_up rooted parts
-up_step rooted parts = refl
-
 up_name : (rooted : Bool) (last : Text) (parts : List Text) → IsName last → step_up rooted (last ∷ parts) ≡ parts
 up_name rooted last parts is = name_taken rooted last parts (ap not is.plain)
 

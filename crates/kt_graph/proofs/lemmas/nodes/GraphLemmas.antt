@@ -1,5 +1,5 @@
 -- A graph of the nodes of all reached names.
-use Rattle.std.proofs.Common.{◌≡◌, ℕ, ◌<◌, Bool, true, ⊎_elim, List, [], ◌∷◌, ◌++◌, length, get_or, map, find, All, Option, None, Some, option_map, slice_get, refl, sym, ap, ◌∙◌, subst}
+use Rattle.std.proofs.Common.{◌≡◌, ℕ, ◌<◌, Bool, true, ⊎_elim, List, [], ◌∷◌, ◌++◌, length, get_or, map, find, Option, None, Some, option_map, slice_get, refl, sym, ap, ◌∙◌, subst}
 use Rattle.std.specs.List.{Contains, cons_option, list_any, position}
 use Rattle.std.specs.List.Sorted.{IsStrictlySortedBy}
 use Rattle.std.specs.Ordering.{nat_cmp}
@@ -19,7 +19,7 @@ use Rattle.kt_graph.specs.inner.nodes.Stored.{StoredNode}
 use Rattle.kt_graph.specs.inner.faults.Edges.{needed_numbers}
 use Rattle.kt_graph.specs.inner.faults.Files.{AreDistinct}
 use Rattle.kt_graph.specs.nodes.Node.{Node, all_inputs, inputs_of, node_of}
-use Rattle.kt_graph.specs.inner.nodes.Numbering.{AreBelow, HasNumbers}
+use Rattle.kt_graph.specs.inner.nodes.Numbering.{AreBelow}
 use Rattle.kt_graph.specs.Reach.{HasInput, IsGraph, IsReached, Leads}
 use Rattle.kt_graph.specs.nodes.Views.{instance_view, name_at, names_at, node_at, node_view, nodes_view}
 use Rattle.kt_graph.specs.inner.nodes.GraphBuilder.{IsDone}
@@ -197,8 +197,3 @@ node_missing names instances nodes order whole name none =
     ∙ (bytes_eq-Decides name at.0).1 (sym e ∙ at.2)))
 
 -- ---- nodes that were settled
-
-pub all_numbered : (rules : List Rule) (known goals names : List Text) (instances : List Held) (nodes : List StoredNode)
-    → IsDone rules known goals names instances nodes → All (HasNumbers (length names) (length instances)) nodes
-all_numbered rules known goals names instances nodes done k d within =
-    (done.stored k (get_or nodes k d) (Rattle.std.proofs.lemmas.Option.slice_get-get_or nodes k d within)).numbers

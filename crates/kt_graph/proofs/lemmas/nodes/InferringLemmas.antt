@@ -1,5 +1,5 @@
 -- What a chosen rule gives is what the node of the candidate has that the search finds.
-use Rattle.std.proofs.Common.{◌≡◌, true, false, if◌then◌else◌, List, ◌++◌, Option, Some, None, slice_get, refl, sym, ap, ◌∙◌}
+use Rattle.std.proofs.Common.{◌≡◌, false, if◌then◌else◌, List, ◌++◌, Option, Some, None, slice_get, refl, sym, ap, ◌∙◌}
 use Rattle.std.specs.Option.{option_and_then, option_map}
 use Rattle.kt_text.specs.Words.{Text}
 use Rattle.kt_rules.specs.declared.entry.Target.{Target}
@@ -15,25 +15,11 @@ use Rattle.kt_graph.specs.search.Views.{choice_view}
 use Rattle.kt_graph.specs.nodes.Views.{instance_view}
 use Rattle.kt_graph.proofs.lemmas.search.ChosenLemmas.{choice_needs}
 
--- there is no search for a phony name
-pub phony_tells : (book : List Rule) (known : List Text) (name : Text) → is_phony book name ≡ true → InfersFrom (searched book known name) None
-phony_tells book known name h =
-    ap (λ b. if b then None else option_and_then (chosen_rule (patterns_of book)) (choice_of (patterns_of book) known name)) h
-
 search_is : (book : List Rule) (known : List Text) (name : Text) (choice : Option Candidate) → is_phony book name ≡ false
     → choice_of (patterns_of book) known name ≡ choice → searched book known name ≡ option_and_then (chosen_rule (patterns_of book)) choice
 search_is book known name choice h found =
     ap (λ b. if b then None else option_and_then (chosen_rule (patterns_of book)) (choice_of (patterns_of book) known name)) h
     ∙ ap (option_and_then (chosen_rule (patterns_of book))) found
-
--- nothing is found
-pub none_tells : (book : List Rule) (known : List Text) (name : Text) → is_phony book name ≡ false
-    → None ≡ option_map choice_view (choice_of (patterns_of book) known name) → InfersFrom (searched book known name) None
-none_tells book known name h none = by_choice (choice_of (patterns_of book) known name) refl none
-  where
-    by_choice : (choice : Option Candidate) → choice_of (patterns_of book) known name ≡ choice → None ≡ option_map choice_view choice → InfersFrom (searched book known name) None
-    by_choice None found e = search_is book known name None h found
-    by_choice (Some candidate) found e = cc
 
 given : (candidate : Candidate) (rule : Rule) (chosen : Chosen) (inferred : Inferred) → chosen ≡ choice_view candidate
     → candidate.needs ≡ needs_with candidate.directory candidate.stem rule.needs → GivesChosen rule chosen inferred

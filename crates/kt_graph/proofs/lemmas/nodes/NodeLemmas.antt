@@ -1,11 +1,10 @@
 -- Nodes of the definitions, and numbers for their names.
-use Rattle.std.proofs.Common.{◌≡◌, ℕ, ◌<◌, ◌≤◌, Bool, true, false, not, ◌||◌, cond, if◌then◌else◌, ⊎_elim, List, [], ◌∷◌, ◌++◌, length, get_or, map, filter, fold, nat_eq, All, None, Some, slice_get, refl, sym, ap, ◌∙◌, subst}
+use Rattle.std.proofs.Common.{◌≡◌, ℕ, ◌<◌, Bool, true, false, not, ◌||◌, cond, if◌then◌else◌, ⊎_elim, List, [], ◌∷◌, ◌++◌, length, get_or, map, filter, fold, nat_eq, All, refl, sym, ap, ◌∙◌, subst}
 use Rattle.std.specs.List.{flat_map, list_any}
 use Rattle.std.specs.Str.{bytes_eq}
 use Rattle.std.proofs.lemmas.Bool.{cases_eq, eq-eqb, ne_eqb, eqb-true, false≢true}
 use Rattle.std.proofs.lemmas.List.{map-append}
 use Rattle.std.proofs.lemmas.List.Elements.{All-append, All-head, All-nil, All-push, All-tail, filter-append}
-use Rattle.std.proofs.lemmas.Option.{slice_get-map, slice_get_past, slice_get_read}
 use Rattle.std.proofs.lemmas.Slice.Eq.{bytes_eq-Decides}
 use Rattle.kt_text.specs.Words.{Text}
 use Rattle.kt_rules.specs.Names.{is_among, with_name, without_repeats}
@@ -20,16 +19,6 @@ use Rattle.kt_graph.specs.inner.nodes.Stored.{input_numbers}
 use Rattle.kt_graph.specs.nodes.Views.{name_at, names_at, node_view, part_view}
 
 -- ---- parts
-
-pub part_there : (names : List Text) (parts : List StoredPart) (place : ℕ) (part : StoredPart) → place < length parts → part ≡ get_or parts place part
-    → slice_get (map (part_view names) parts) place ≡ Some (part_view names part)
-part_there names parts place part within is =
-    slice_get-map (part_view names) parts place
-    ∙ ap (Rattle.std.specs.Option.option_map (part_view names)) (slice_get_read parts (length parts) place part refl within is)
-
-pub part_none : (names : List Text) (parts : List StoredPart) (place : ℕ) → length parts ≤ place → slice_get (map (part_view names) parts) place ≡ None
-part_none names parts place past =
-    slice_get-map (part_view names) parts place ∙ ap (Rattle.std.specs.Option.option_map (part_view names)) (slice_get_past parts place past)
 
 -- ---- numbers of names
 

@@ -170,16 +170,6 @@ held_same : (old new : List ℕ) → HasSame old new → (found : Option ℕ) �
 held_same old new same None = refl
 held_same old new same (Some n) = ap place_marked (same n)
 
-pub placed_same : (names : List Text) (numbers new_numbers marks new_marks : List ℕ) → new_numbers ≡ numbers → HasSame marks new_marks
-    → IsPlaced names numbers marks → IsPlaced names new_numbers new_marks
-placed_same names numbers new_numbers marks new_marks stay same is =
-    subst (λ (list : List ℕ). IsPlaced names list new_marks) (sym stay) (record {
-      told = λ name. is.told name ∙ sym (held_same marks new_marks same (place_of names name));
-      differ = is.differ;
-      below = is.below;
-      free = λ number past. same number ∙ is.free number past;
-    })
-
 -- ---- a name is reached
 
 -- it was before

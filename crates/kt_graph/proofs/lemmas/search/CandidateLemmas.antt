@@ -1,5 +1,5 @@
 -- Candidates of the code, and as those of the definitions.
-use Rattle.std.proofs.Common.{◌≡◌, ℕ, suc, zero, ◌+◌, ◌-◌, ◌<◌, ◌≤◌, Bool, true, false, not, ◌||◌, ◌==◌, if◌then◌else◌, List, [], ◌∷◌, ◌++◌, length, take, drop, get_or, filter, filter_map, flat_map, fold, nat_le, All, Option, Some, None, IfSome, option_map, refl, sym, ap, ◌∙◌, subst, arith, slice_get}
+use Rattle.std.proofs.Common.{◌≡◌, ℕ, suc, zero, ◌+◌, ◌-◌, ◌<◌, ◌≤◌, Bool, true, false, not, ◌||◌, ◌==◌, if◌then◌else◌, List, [], ◌∷◌, ◌++◌, length, take, drop, get_or, filter, filter_map, flat_map, fold, All, Option, Some, None, option_map, refl, sym, ap, ◌∙◌, subst, arith, slice_get}
 use Rattle.std.specs.List.{cons_option, list_any, range_with_len, slice_range}
 use Rattle.std.specs.List.Sorted.{IsNonDecreasingBy, IsPermutation, IsStableByKey}
 use Rattle.std.specs.Option.{option_and_then, option_to_list, unwrap_or}
@@ -14,7 +14,7 @@ use Rattle.kt_rules.specs.Patterns.{is_terminal}
 use Rattle.kt_graph.proofs.lemmas.search.SizeOrder.{bucket, in_buckets, same_buckets}
 use Rattle.kt_graph.specs.declared.search.candidate.Candidate.{Candidate as HeldCandidate}
 use Rattle.kt_graph.specs.search.Candidates.{Candidate, are_short, by_size, candidate_by, candidate_of, candidates_for, drops_any, matching_from, shorter, shortest, size_of, unless_long, without_any}
-use Rattle.kt_graph.specs.search.Views.{AreWithin, IsWithin, candidate_at, candidate_view, candidates_view, fit_size, held_by_size, held_without_any, shorter_of, stays}
+use Rattle.kt_graph.specs.search.Views.{AreWithin, IsWithin, candidate_at, candidate_view, candidates_view, fit_size, held_by_size, held_without_any, stays}
 
 -- a stem is as long as its places say
 pub size_at : (name : Text) (rule : Rule) (candidate : HeldCandidate) → IsWithin name candidate.fit → size_of (candidate_at name rule candidate) ≡ fit_size candidate.fit
@@ -31,35 +31,6 @@ size_at name rule candidate within =
 abbrev pub shortest_from : Option Candidate → List Candidate → Option Candidate
 shortest_from None candidates = shortest candidates
 shortest_from (Some best) candidates = Some (fold shorter best candidates)
-
-pub shorter_keeps : (P : HeldCandidate → Type 0) (best other : Option HeldCandidate) → IfSome best P → IfSome other P → IfSome (shorter_of best other) P
-shorter_keeps P None None b o = b
-shorter_keeps P (Some best) None b o = b
-shorter_keeps P None (Some other) b o = o
-shorter_keeps P (Some best) (Some other) b o = by (nat_le (fit_size best.fit) (fit_size other.fit))
-  where
-    by : (c : Bool) → IfSome (if c then Some best else Some other) P
-    by true = b
-    by false = o
-
-some_shorter : (name : Text) (rule : Rule) (best other : HeldCandidate) (c : Bool) (rest : List Candidate)
-    → shortest_from (option_map (candidate_at name rule) (if c then Some best else Some other)) rest
-    ≡ Some (fold shorter (if c then candidate_at name rule best else candidate_at name rule other) rest)
-some_shorter name rule best other true rest = refl
-some_shorter name rule best other false rest = refl
-
-pub shortest_more : (name : Text) (rule : Rule) (best other : Option HeldCandidate) (rest : List Candidate)
-    → IfSome best (λ candidate. IsWithin name candidate.fit) → IfSome other (λ candidate. IsWithin name candidate.fit)
-    → shortest_from (option_map (candidate_at name rule) (shorter_of best other)) rest
-    ≡ shortest_from (option_map (candidate_at name rule) best) (cons_option (option_map (candidate_at name rule) other) rest)
-shortest_more name rule None None rest b o = refl
-shortest_more name rule (Some best) None rest b o = refl
-shortest_more name rule None (Some other) rest b o = refl
-shortest_more name rule (Some best) (Some other) rest b o =
-    some_shorter name rule best other (nat_le (fit_size best.fit) (fit_size other.fit)) rest
-    ∙ ap (λ c. Some (fold shorter (if c then candidate_at name rule best else candidate_at name rule other) rest))
-    (ap (λ n. nat_le n (fit_size other.fit)) (sym (size_at name rule best b))
-    ∙ ap (nat_le (size_of (candidate_at name rule best))) (sym (size_at name rule other o)))
 
 -- ---- the candidates of rules
 
