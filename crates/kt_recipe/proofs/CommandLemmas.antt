@@ -15,7 +15,7 @@ use Rattle.kt_graph.specs.nodes.Views.{part_lines}
 use Rattle.kt_recipe.specs.Automatic.{automatic_in}
 use Rattle.kt_recipe.specs.Lines.{after_run, is_marked, pieces_of}
 use Rattle.kt_recipe.specs.Shell.{joined, wrapped, Setting, setting_of, shell_text, expansion, put_piece, put_pieces, put_line, put_lines, put_part, put_parts, shell_of}
-use Rattle.kt_recipe.specs.Commands.{Line, line_with, lines_in, lines_of, Piece, piece_with, Call, call_text, command_of, Expanded, AreExpanded, MadeLine, CallsItsPieces, shell_at, expanded_for, IsCommandOf, CommandLaw}
+use Rattle.kt_recipe.specs.Commands.{Line, line_with, lines_in, lines_of, CommandPiece, piece_with, Call, call_text, command_of, Expanded, AreExpanded, MadeLine, CallsItsPieces, shell_at, expanded_for, IsCommandOf, CommandLaw}
 
 -- ---- the steps as one list of lines
 
@@ -102,13 +102,13 @@ both_expanded [] ys said left heard is rest = subst (λ said. AreExpanded ys sai
 both_expanded (x ∷ xs) ys said left heard is rest = (is.0, is.1, both_expanded xs ys is.0 left heard is.2 rest)
 
 -- the calls of pieces, behind those before them
-record Called (at : Setting) (pieces : List Piece) (before : List Call) (said heard : List Text) (command : Option Text) : Type 0 where
+record Called (at : Setting) (pieces : List CommandPiece) (before : List Call) (said heard : List Text) (command : Option Text) : Type 0 where
   calls : List Call
   each : map (λ call. call.piece) calls ≡ pieces
   shells : AreExpanded (map (shell_at at) calls) said heard
   joined : command ≡ command_of (before ++ calls)
 
-called_next : (at : Setting) (before : List Call) (call : Call) (pieces : List Piece) (said left heard : List Text) (command : Option Text)
+called_next : (at : Setting) (before : List Call) (call : Call) (pieces : List CommandPiece) (said left heard : List Text) (command : Option Text)
     → expansion at shell_text said ≡ Gave left call.shell → Called at pieces (before ++ call ∷ []) left heard command → Called at (call.piece ∷ pieces) before said heard command
 called_next at before call pieces said left heard command told more = record {
   calls = call ∷ more.calls;
@@ -118,10 +118,10 @@ called_next at before call pieces said left heard command told more = record {
 }
 
 -- a piece is put, if it isn't empty
-abbrev put_if : Bool → Setting → Piece → Option Text → StepOver (List Text) (Option Text)
+abbrev put_if : Bool → Setting → CommandPiece → Option Text → StepOver (List Text) (Option Text)
 put_if b at piece start = if b then (λ left. then_do (expansion at shell_text left) (λ shell. done (Some (joined start (wrapped piece.ignored shell piece.text))))) else done start
 
-piece_called : (b : Bool) (at : Setting) (piece : Piece) (pieces : List Piece) (before : List Call) (start longer command : Option Text) (said left heard : List Text)
+piece_called : (b : Bool) (at : Setting) (piece : CommandPiece) (pieces : List CommandPiece) (before : List Call) (start longer command : Option Text) (said left heard : List Text)
     → start ≡ command_of before → put_if b at piece start said ≡ Gave left longer
     → ((now : List Call) → longer ≡ command_of now → Called at pieces now left heard command)
     → Called at (if b then piece ∷ pieces else pieces) before said heard command
@@ -194,7 +194,7 @@ parted (x ∷ xs) ys said heard h =
     let more = parted xs ys h.0 heard h.2 in
     record { middle = more.middle; first = (h.0, h.1, more.first); rest = more.rest }
 
-piece_put : (b : Bool) (at : Setting) (piece : Piece) (pieces : List Piece) (calls before : List Call) (start : Option Text) (said heard : List Text)
+piece_put : (b : Bool) (at : Setting) (piece : CommandPiece) (pieces : List CommandPiece) (calls before : List Call) (start : Option Text) (said heard : List Text)
     (next : Option Text → StepOver (List Text) (Option Text))
     → start ≡ command_of before → map (λ call. call.piece) calls ≡ (if b then piece ∷ pieces else pieces) → AreExpanded (map (shell_at at) calls) said heard
     → ((calls before : List Call) (start : Option Text) (said : List Text) → start ≡ command_of before → map (λ call. call.piece) calls ≡ pieces
@@ -205,7 +205,7 @@ piece_put true at piece pieces (call ∷ calls) before start said heard next is 
     let same : piece ≡ call.piece = cc each in
     ap (λ o. then_do (then_do o (λ shell. done (Some (joined start (wrapped piece.ignored shell piece.text))))) next) told.1
     ∙ (rest calls (before ++ call ∷ []) (Some (joined start (wrapped piece.ignored call.shell piece.text))) told.0
-    (ap (λ (p : Piece). Some (joined start (wrapped p.ignored call.shell p.text))) same ∙ after_call before call start is) (cc each) told.2
+    (ap (λ (p : CommandPiece). Some (joined start (wrapped p.ignored call.shell p.text))) same ∙ after_call before call start is) (cc each) told.2
     ∙ ap (λ calls. Gave heard (command_of calls)) (append_assoc before (call ∷ []) calls))
 piece_put false at piece pieces calls before start said heard next is each told rest = rest calls before start said is each told
 

@@ -37,22 +37,22 @@ lines_of table limit node = flat_map (lines_in table limit node) (range_with_len
 -- ---- calls
 
 -- a piece without its run, and whether its failure is ignored
-pub record Piece : Type 0 where
+pub record CommandPiece : Type 0 where
   pub ignored : Bool
   pub text : Text
 
 -- a `-` in the run of the line, or in that of the piece itself, ignores its failure
-abbrev pub piece_with : Bool → Text → Piece
+abbrev pub piece_with : Bool → Text → CommandPiece
 piece_with marked text = record { ignored = marked || is_marked text; text = after_run text }
 
 -- the pieces of an expanded line; an empty one is none
-abbrev pub pieces_with : Bool → Text → List Piece
+abbrev pub pieces_with : Bool → Text → List CommandPiece
 pieces_with marked text = filter (λ piece. is_nonempty piece.text) (map (piece_with marked) (pieces_of text))
 
 -- a piece, and the shell that it is an argument of
 pub record Call : Type 0 where
   pub shell : Text
-  pub piece : Piece
+  pub piece : CommandPiece
 
 abbrev pub call_text : Call → Text
 call_text call = wrapped call.piece.ignored call.shell call.piece.text

@@ -17,15 +17,15 @@ abbrev pub Rests : Type 1
 Rests = Option Missing → ℕ → List Head → Type 0
 
 -- the next line has this role; the rest may depend on its number
-abbrev pub Takes : Role → List Head → (ℕ → List Head → Type 0) → Type 0
-Takes role [] Rest = ⊥
-Takes role (head ∷ heads) Rest = (head.role ≡ role) × Rest head.number heads
+abbrev pub TakesLine : Role → List Head → (ℕ → List Head → Type 0) → Type 0
+TakesLine role [] Rest = ⊥
+TakesLine role (head ∷ heads) Rest = (head.role ≡ role) × Rest head.number heads
 
 -- the next line is stray: an `endef` that ends no define, and outside conditionals an `else` of any form or an `endif`
 abbrev pub TakesStray : Bool → Stray → List Head → (ℕ → List Head → Type 0) → Type 0
-TakesStray inside stray.Endef heads Rest = Takes Endef heads Rest
-TakesStray false stray.Else heads Rest = (condition : Bool) × Takes (Else condition) heads Rest
-TakesStray false stray.Endif heads Rest = Takes Endif heads Rest
+TakesStray inside stray.Endef heads Rest = TakesLine Endef heads Rest
+TakesStray false stray.Else heads Rest = (condition : Bool) × TakesLine (Else condition) heads Rest
+TakesStray false stray.Endif heads Rest = TakesLine Endif heads Rest
 TakesStray inside kind heads Rest = ⊥
 
 -- one more missing end: that of a block inside the other counts
@@ -59,14 +59,14 @@ unfoldable mutual
   pub TakesItems : Bool → Items → Option Missing → ℕ → List Head → Rests → Type 0
   TakesItems inside none found place heads Rest = Rest found place heads
   TakesItems inside (line at next) found place heads Rest =
-      (at ≡ place) × Takes Ordinary heads (λ number more. TakesItems inside next found (place + 1) more Rest)
+      (at ≡ place) × TakesLine Ordinary heads (λ number more. TakesItems inside next found (place + 1) more Rest)
   TakesItems inside (fault kind at next) found place heads Rest =
       (at ≡ place) × TakesStray inside kind heads (λ number more. TakesItems inside next found (place + 1) more Rest)
   TakesItems inside (definition at end next) found place heads Rest =
-      (at ≡ place) × Takes Define heads (λ number body. TakesBody number 0 end found (place + 1) body (λ all after more.
+      (at ≡ place) × TakesLine Define heads (λ number body. TakesBody number 0 end found (place + 1) body (λ all after more.
       TakesItems inside next all after more Rest))
   TakesItems inside (conditional at first others next) found place heads Rest =
-      (at ≡ place) × Takes Conditional heads (λ number branches. TakesItems true first found (place + 1) branches
+      (at ≡ place) × TakesLine Conditional heads (λ number branches. TakesItems true first found (place + 1) branches
       (λ some begin further.
       TakesBranches false others some begin further
       (λ more_missing end ending. TakesEndif number more_missing end ending (λ all after more.
@@ -75,11 +75,11 @@ unfoldable mutual
   pub TakesBranches : Bool → Branches → Option Missing → ℕ → List Head → Rests → Type 0
   TakesBranches plain no_branch found place heads Rest = Rest found place heads
   TakesBranches plain (branch at condition items others) found place heads Rest =
-      (at ≡ place) × (plain ≡ false) × Takes (Else condition) heads
+      (at ≡ place) × (plain ≡ false) × TakesLine (Else condition) heads
       (λ number more. TakesItems true items found (place + 1) more (λ all begin further.
       TakesBranches (not condition) others all begin further Rest))
   TakesBranches plain (late at items others) found place heads Rest =
-      (at ≡ place) × (plain ≡ true) × ((condition : Bool) × Takes (Else condition) heads (λ number more.
+      (at ≡ place) × (plain ≡ true) × ((condition : Bool) × TakesLine (Else condition) heads (λ number more.
       TakesItems true items found (place + 1) more
       (λ all begin further. TakesBranches true others all begin further Rest)))
 

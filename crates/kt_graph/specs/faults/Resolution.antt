@@ -11,7 +11,7 @@ abbrev pub components : Text → List Text
 components name = slice_split (λ byte. byte == 47) name
 
 -- a component that isn't empty, `.` or `..`
-pub record IsName (part : Text) : Type 0 where
+pub record IsComponent (part : Text) : Type 0 where
   pub filled : is_idle part ≡ false
   pub plain : bytes_eq part above_name ≡ false
 
@@ -20,7 +20,7 @@ pub record IsName (part : Text) : Type 0 where
 abbrev pub MayGo : Bool → List Text → List Text → Type 0
 MayGo rooted front gone =
     ((part : Text) × (gone ≡ part ∷ []) × (is_idle part ≡ true))
-    ⊎ (((part : Text) × (gone ≡ part ∷ above_name ∷ []) × IsName part)
+    ⊎ (((part : Text) × (gone ≡ part ∷ above_name ∷ []) × IsComponent part)
     ⊎ ((rooted ≡ true) × (front ≡ []) × (gone ≡ above_name ∷ [])))
 
 -- one list of components is another without something that may be removed
@@ -37,7 +37,7 @@ pub record IsReduced (rooted : Bool) (parts : List Text) : Type 0 where
   pub count : ℕ
   pub names : List Text
   pub shape : parts ≡ replicate count above_name ++ names
-  pub named : All IsName names
+  pub named : All IsComponent names
   pub under_root : rooted ≡ true → count ≡ zero
 
 -- what remains of components when all that may be removed is

@@ -76,36 +76,36 @@ choice_of rules known name = fitting rules known chain_limit [] name
 -- ---- what is asked for a choice
 
 -- a name, and the rules of a chain
-abbrev pub Asked : Type 0
-Asked = Text × List ℕ
+abbrev pub Sought : Type 0
+Sought = Text × List ℕ
 
-abbrev pub asked_eq : Asked → Asked → Bool
+abbrev pub asked_eq : Sought → Sought → Bool
 asked_eq one other = bytes_eq one.0 other.0 && pointwise nat_eq one.1 other.1
 
 -- the questions that a question asks, itself first
 abbrev pub Asking : Type 0
-Asking = List ℕ → Text → List Asked
+Asking = List ℕ → Text → List Sought
 
 -- the questions for names in turn, up to the first name without a rule
-abbrev pub asked_for : Choosing → Asking → List ℕ → List Text → List Asked
+abbrev pub asked_for : Choosing → Asking → List ℕ → List Text → List Sought
 asked_for deeper asking used [] = []
 asked_for deeper asking used (name ∷ names) =
     asking used name ++ (if is_some (deeper used name) then asked_for deeper asking used names else [])
 
-abbrev pub asked_by : List Text → Choosing → Asking → List ℕ → Candidate → List Asked
+abbrev pub asked_by : List Text → Choosing → Asking → List ℕ → Candidate → List Sought
 asked_by known deeper asking used candidate =
     if candidate.is_last then [] else asked_for deeper asking (with_rule candidate.rule used)
     (unknown_needs known candidate)
 
 -- the questions for candidates in turn, up to the first that is inferred
-abbrev pub asked_among : List Text → Choosing → Asking → List ℕ → List Candidate → List Asked
+abbrev pub asked_among : List Text → Choosing → Asking → List ℕ → List Candidate → List Sought
 asked_among known deeper asking used [] = []
 asked_among known deeper asking used (candidate ∷ candidates) =
     asked_by known deeper asking used candidate
     ++ (if is_inferred known deeper used candidate then [] else asked_among known deeper asking used candidates)
 
 -- no more questions if a candidate is met
-abbrev pub asked_inside : List Text → Choosing → Asking → List ℕ → List Candidate → List Asked
+abbrev pub asked_inside : List Text → Choosing → Asking → List ℕ → List Candidate → List Sought
 asked_inside known deeper asking used candidates =
     if list_any (is_met known) candidates then [] else asked_among known deeper asking used candidates
 
@@ -116,18 +116,18 @@ asking rules known (suc left) used name =
     (open_candidates rules used name)
 
 -- questions with one more at the end, unless they have it already
-abbrev pub with_question : List Asked → Asked → List Asked
+abbrev pub with_question : List Sought → Sought → List Sought
 with_question asked question = if list_any (asked_eq question) asked then asked else asked ++ question ∷ []
 
 -- the questions so far, after one more choice
-abbrev pub asked_after : List Rule → List Text → List Asked → Text → List Asked
+abbrev pub asked_after : List Rule → List Text → List Sought → Text → List Sought
 asked_after rules known asked name = fold with_question asked (asking rules known chain_limit [] name)
 
 -- the rules and known names of a search, and its questions so far, in order and each once
 pub record Searching : Type 0 where
   pub rules : List Rule
   pub known : List Text
-  pub asked : List Asked
+  pub asked : List Sought
 
 -- ---- trees
 

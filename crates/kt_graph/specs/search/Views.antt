@@ -12,11 +12,11 @@ use Rattle.kt_graph.specs.declared.search.candidate.Fit.{Fit}
 use Rattle.kt_graph.specs.declared.search.question.Question.{Question}
 use Rattle.kt_graph.specs.declared.search.choice.Chosen.{Chosen}
 use Rattle.kt_graph.specs.search.Candidates.{Candidate, needs_with}
-use Rattle.kt_graph.specs.search.Search.{Asked}
+use Rattle.kt_graph.specs.search.Search.{Sought}
 
 -- ---- candidates
 -- the places of a fit are in the name
-pub record IsWithin (name : Text) (fit : Fit) : Type 0 where
+pub record IsFitWithin (name : Text) (fit : Fit) : Type 0 where
   pub directory : fit.directory ≤ fit.start
   pub stem : fit.start ≤ fit.end
   pub name_end : fit.end ≤ length name
@@ -54,7 +54,7 @@ found_view rules name found = option_and_then (candidate_view rules name) found
 -- each candidate has a rule, and its places are in the name
 abbrev pub AreWithin : List Rule → Text → List HeldCandidate → Type 0
 AreWithin rules name candidates = All (λ candidate. (candidate.rule < length rules)
-    × IsWithin name candidate.fit) candidates
+    × IsFitWithin name candidate.fit) candidates
 
 -- of two candidates, either of which may be absent, the one with the shorter stem, or the first
 abbrev pub shorter_of : Option HeldCandidate → Option HeldCandidate → Option HeldCandidate
@@ -84,5 +84,5 @@ abbrev pub choice_view : Candidate → Chosen
 choice_view candidate = record { rule = candidate.rule; directory = candidate.directory; stem = candidate.stem }
 
 -- ---- questions
-abbrev pub question_view : Question → Asked
+abbrev pub question_view : Question → Sought
 question_view question = (question.name, question.used.items)

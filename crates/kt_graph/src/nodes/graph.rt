@@ -15,7 +15,7 @@ ghost use Rattle.kt_graph.specs.inner.faults.Files.{is_repeated, made_names};
 ghost use Rattle.kt_graph.specs.inner.nodes.Numbering.{HasNumbers};
 ghost use Rattle.kt_graph.specs.Reach.{ComesFirst, IsCyclic, IsFirst, IsGraph};
 ghost use Rattle.kt_graph.specs.inner.nodes.GraphBuilder.{IsDone};
-ghost use Rattle.kt_graph.specs.inner.nodes.Graph.{AreHeld, makes_among};
+ghost use Rattle.kt_graph.specs.inner.nodes.Graph.{AreNodesHeld, makes_among};
 ghost use Rattle.kt_graph.specs.nodes.Views.{node_at, nodes_view};
 ghost use Rattle.kt_graph.specs.faults.Views.{trouble_view};
 
@@ -264,9 +264,9 @@ impl<'g> Model for Nodes<'g> {
 
     ghost view = { λ nodes. nodes_view nodes.names.now nodes.instances.now nodes.nodes.now nodes.numbers.now };
 
-    ghost use Rattle.kt_graph.specs.inner.nodes.Graph.{AreHeld};
+    ghost use Rattle.kt_graph.specs.inner.nodes.Graph.{AreNodesHeld};
 
-    ghost invariant = { λ nodes. AreHeld nodes.names.now nodes.instances.now nodes.nodes.now };
+    ghost invariant = { λ nodes. AreNodesHeld nodes.names.now nodes.instances.now nodes.nodes.now };
 }
 
 impl<'g> Iterator for Nodes<'g> {
@@ -290,7 +290,7 @@ fn first_node<'g>(
     nodes: &'g StoredNodes<'g>,
     numbers: &'g [u32],
 ) -> Option<(Node<'g>, &'g [u32])>
-    requires { AreHeld names.now instances.now nodes.now }
+    requires { AreNodesHeld names.now instances.now nodes.now }
     ensures { MatchOption result (nodes_view names.now instances.now nodes.now numbers.now ≡ [])
         (λ cut. nodes_view names.now instances.now nodes.now numbers.now ≡ cut.0
         ∷ nodes_view names.now instances.now nodes.now cut.1.now) }
@@ -312,7 +312,7 @@ fn node_at<'g>(
     nodes: &'g StoredNodes<'g>,
     number: usize,
 ) -> Option<Node<'g>>
-    requires { AreHeld names.now instances.now nodes.now }
+    requires { AreNodesHeld names.now instances.now nodes.now }
     ensures { result ≡ node_at names.now instances.now nodes.now number }
 {
     if number < nodes.len() {

@@ -6,7 +6,7 @@ ghost use Rattle.kt_graph.specs.inner.nodes.Grouping.{AreAllAlike, HasMembers, i
 ghost use Rattle.kt_graph.specs.inner.nodes.Grouping.{leads_by, making_at, members_of, with_member};
 ghost use Rattle.kt_graph.specs.nodes.Groups.{FirstSharesInputs, groups_of};
 ghost use Rattle.kt_graph.specs.nodes.Views.{nodes_view};
-ghost use Rattle.kt_graph.specs.inner.nodes.Graph.{AreHeld, IsWhole};
+ghost use Rattle.kt_graph.specs.inner.nodes.Graph.{AreNodesHeld, IsWhole};
 
 use crate::faults::rows::{add, bare, row_at};
 use crate::nodes::node::{Instance, Node, NodeKind};
@@ -42,9 +42,9 @@ impl<'g> Model for Groups<'g> {
     ghost view = { λ groups. groups_left groups.names.now groups.instances.now groups.nodes.now
         (rows_held groups.members.items) groups.numbers.now };
 
-    ghost use Rattle.kt_graph.specs.inner.nodes.Graph.{AreHeld};
+    ghost use Rattle.kt_graph.specs.inner.nodes.Graph.{AreNodesHeld};
 
-    ghost invariant = { λ groups. AreHeld groups.names.now groups.instances.now groups.nodes.now };
+    ghost invariant = { λ groups. AreNodesHeld groups.names.now groups.instances.now groups.nodes.now };
 }
 
 impl<'g> Groups<'g> {
@@ -217,7 +217,7 @@ fn put_group<'g>(
     number: usize,
     group: &mut Vec<Node<'g>>,
 ) -> Result<(), AllocError>
-    requires { AreHeld names.now instances.now nodes.now }
+    requires { AreNodesHeld names.now instances.now nodes.now }
     ensures { OnOk result (group.new.items ≡ group.old.items ++ nodes_view names.now instances.now nodes.now
         (members_of nodes.now (rows_held members.now) number)) }
 {
@@ -234,7 +234,7 @@ fn put_all<'g>(
     numbers: &[u32],
     group: &mut Vec<Node<'g>>,
 ) -> Result<(), AllocError>
-    requires { AreHeld names.now instances.now nodes.now }
+    requires { AreNodesHeld names.now instances.now nodes.now }
     ensures { OnOk result (group.new.items
         ≡ group.old.items ++ nodes_view names.now instances.now nodes.now numbers.now) }
 {
@@ -251,7 +251,7 @@ fn put<'g>(
     number: usize,
     group: &mut Vec<Node<'g>>,
 ) -> Result<(), AllocError>
-    requires { AreHeld names.now instances.now nodes.now }
+    requires { AreNodesHeld names.now instances.now nodes.now }
     ensures { OnOk result (group.new.items
         ≡ group.old.items ++ nodes_view names.now instances.now nodes.now (number ∷ [])) }
 {

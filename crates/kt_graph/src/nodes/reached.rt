@@ -2,7 +2,7 @@
 ghost use Rattle.std.specs.Prelude.{◌≡◌, ◌<◌, ◌^◌, [], List, length, get_or, slice_get};
 ghost use Rattle.std.specs.Prelude.{IfOk, OnErr, OnOk};
 ghost use Rattle.kt_text.specs.Words.{Text};
-ghost use Rattle.kt_graph.specs.inner.nodes.Reached.{HasSame, IsPlaced, IsPushed, Reaches, StaysPlaced};
+ghost use Rattle.kt_graph.specs.inner.nodes.Reached.{HasSame, IsPlaced, IsPushed, ReachesNumber, StaysPlaced};
 ghost use Rattle.kt_graph.specs.inner.nodes.Reached.{place_marked};
 
 use kt_list::narrow;
@@ -60,7 +60,7 @@ impl Reached {
     /// Reaches a number, and gives its place. One beyond 4,294,967,295, or with a place there, is refused as if memory
     /// were.
     pub(crate) fn reach(&mut self, number: usize) -> Result<usize, AllocError>
-        ensures reached { IfOk result (Reaches self.old number self.new) }
+        ensures reached { IfOk result (ReachesNumber self.old number self.new) }
         ensures refused { OnErr result (StaysPlaced self.old self.new) }
     {
         match self.place(number) {

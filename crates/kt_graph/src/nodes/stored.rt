@@ -4,8 +4,8 @@ ghost use Rattle.std.specs.Prelude.{option_map, slice_get, true, Some, None};
 ghost use Rattle.kt_graph.specs.declared.nodes.node.NodeKind.TheVariants.{DoubleColon};
 ghost use Rattle.kt_graph.specs.inner.nodes.Stored.{input_numbers, order_only_numbers};
 ghost use Rattle.kt_graph.specs.inner.nodes.Stored.{AreAlike, AreRowsOf, AreStored, Grew, HasMore, IsHeadOf, IsLike};
-ghost use Rattle.kt_graph.specs.inner.nodes.Stored.{IsPartWithin, IsWithin, node_like, nodes_stored};
-ghost use Rattle.kt_graph.specs.inner.nodes.Stored.{PutsParts, cut, node_with, part_held, part_seen};
+ghost use Rattle.kt_graph.specs.inner.nodes.Stored.{IsPartWithin, IsSpanWithin, node_like, nodes_stored};
+ghost use Rattle.kt_graph.specs.inner.nodes.Stored.{PutsParts, cut, stored_with, part_held, part_seen};
 ghost use Rattle.kt_graph.specs.inner.nodes.Stored.{parts_held, parts_stored, stored_at};
 
 use crate::nodes::inputs::{has_own_inputs, input_set, order_only_set};
@@ -102,7 +102,7 @@ impl<'a> StoredNodes<'a> {
         part: Part<'a>,
         needs: &Numbered,
     ) -> Result<(), AllocError>
-        ensures { OnOk result (self.new ≡ self.old ++ node_with maker.kind maker.made_with
+        ensures { OnOk result (self.new ≡ self.old ++ stored_with maker.kind maker.made_with
             (part_held part.entry needs.now ∷ []) ∷ []) }
     {
         let head = put_node(alloc, &mut self.parts, &mut self.rows, maker, part, needs)?;
@@ -139,7 +139,7 @@ impl<'a> StoredNodes<'a> {
         alloc: Global,
         parts: Vec<NumberedPart<'a>>,
     ) -> Result<(), AllocError>
-        ensures { OnOk result (self.new ≡ self.old ++ node_with DoubleColon None (parts_held parts.entry.items) ∷ []) }
+        ensures { OnOk result (self.new ≡ self.old ++ stored_with DoubleColon None (parts_held parts.entry.items) ∷ []) }
     {
         let head = put_double(alloc, &mut self.parts, &mut self.rows, parts)?;
         self.heads.push(head)?;
@@ -225,7 +225,7 @@ impl<'a> StoredNodes<'a> {
 
 // A list in a vector for all nodes.
 fn cut<T>(items: &[T], span: Span) -> &[T]
-    requires { IsWithin (length items.now) span }
+    requires { IsSpanWithin (length items.now) span }
     ensures { result.now ≡ cut items.now span }
 {
     &items[span.start as usize..span.end as usize]
@@ -253,7 +253,7 @@ fn put_node<'a>(
 ) -> Result<Head, AllocError>
     requires { All (IsPartWithin (length rows.old)) parts.old.items }
     ensures grew { Grew parts.old.items rows.old parts.new.items rows.new }
-    ensures head { IfOk result (IsHeadOf parts.new.items rows.new (node_with maker.kind maker.made_with
+    ensures head { IfOk result (IsHeadOf parts.new.items rows.new (stored_with maker.kind maker.made_with
         (part_held part.entry needs.now ∷ []))) }
 {
     let start = parts.len();
@@ -291,7 +291,7 @@ fn head_like(
     number: usize,
     maker: Maker,
 ) -> Result<(Head, u32), AllocError>
-    requires { All (λ head. IsWithin (length parts.now) head.parts) heads.now }
+    requires { All (λ head. IsSpanWithin (length parts.now) head.parts) heads.now }
     ensures { IfOk result (IsLike heads.now parts.now number maker) }
 {
     let like = match heads.get(number) {
@@ -320,7 +320,7 @@ fn put_double<'a>(
 ) -> Result<Head, AllocError>
     requires { All (IsPartWithin (length rows.old)) held.old.items }
     ensures grew { Grew held.old.items rows.old held.new.items rows.new }
-    ensures head { IfOk result (IsHeadOf held.new.items rows.new (node_with DoubleColon None
+    ensures head { IfOk result (IsHeadOf held.new.items rows.new (stored_with DoubleColon None
         (parts_held parts.entry.items))) }
 {
     let start = held.len();
@@ -343,7 +343,7 @@ fn head_from(
     requires within { All (IsPartWithin (length rows.old)) held.now }
     requires begins { start ≤ length held.now }
     ensures grew { HasMore rows.old rows.new }
-    ensures head { IfOk result (IsHeadOf held.now rows.new (node_with maker.kind maker.made_with
+    ensures head { IfOk result (IsHeadOf held.now rows.new (stored_with maker.kind maker.made_with
         (parts_stored rows.old (drop start held.now)))) }
 {
     let made_with = narrow_making(maker.made_with)?;

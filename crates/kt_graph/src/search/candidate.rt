@@ -3,7 +3,7 @@ ghost use Rattle.std.specs.Prelude.{◌≡◌, ◌≤◌, drop, length, take, op
 ghost use Rattle.std.specs.List.{slice_range};
 ghost use Rattle.kt_text.specs.Functions.{name_place};
 ghost use Rattle.kt_graph.specs.search.Candidates.{fit_of, has_slash, left_out, matched_part};
-ghost use Rattle.kt_graph.specs.search.Views.{IsWithin, fit_view};
+ghost use Rattle.kt_graph.specs.search.Views.{IsFitWithin, fit_view};
 
 use kt_text::match_pattern;
 use memchr::{memchr, memrchr};
@@ -31,7 +31,7 @@ pub(crate) struct Fit {
 impl Fit {
     /// The directory that the pattern leaves out, with its slash.
     pub(crate) fn directory<'n>(&self, name: &'n [u8]) -> &'n [u8]
-        requires { IsWithin name.now self.now }
+        requires { IsFitWithin name.now self.now }
         ensures { result.now ≡ take self.now.directory name.now }
     {
         &name[..self.directory]
@@ -39,7 +39,7 @@ impl Fit {
 
     /// The stem in a name.
     pub(crate) fn stem<'n>(&self, name: &'n [u8]) -> &'n [u8]
-        requires { IsWithin name.now self.now }
+        requires { IsFitWithin name.now self.now }
         ensures { result.now ≡ slice_range name.now self.now.start self.now.end }
     {
         &name[self.start..self.end]
@@ -52,7 +52,7 @@ impl Fit {
 /// A pattern without a slash is matched against the part after the last slash.
 pub(crate) fn fit_of(pattern: &[u8], name: &[u8]) -> Option<Fit>
     ensures fit { option_map (fit_view name.now) result ≡ fit_of pattern.now name.now }
-    ensures within { IfSome result (IsWithin name.now) }
+    ensures within { IfSome result (IsFitWithin name.now) }
 {
     let directory = left_out(pattern, name);
     let stem = match_pattern(pattern, &name[directory..])?;

@@ -7,7 +7,7 @@ ghost use Rattle.kt_rules.specs.Entry.{Rule};
 ghost use Rattle.kt_rules.specs.Patterns.{is_terminal};
 ghost use Rattle.kt_graph.specs.search.Candidates.{candidate_by, candidate_of, candidates_for, matching_from, shortest};
 ghost use Rattle.kt_graph.specs.inner.search.Ends.{candidate_numbered, candidates_numbered};
-ghost use Rattle.kt_graph.specs.search.Views.{AreWithin, IsWithin, candidate_at, candidates_view, fit_size, found_view};
+ghost use Rattle.kt_graph.specs.search.Views.{AreWithin, IsFitWithin, candidate_at, candidates_view, fit_size, found_view};
 ghost use Rattle.kt_graph.specs.search.Views.{held_by_size, held_without_any, is_last_at, shorter_of, stays};
 
 use crate::search::candidate::{Candidate, fit_of};
@@ -65,7 +65,7 @@ fn of_numbers(
 fn candidate_numbered(patterns: &Patterns, number: usize, name: &[u8]) -> Option<Candidate>
     ensures candidate { found_view patterns.now name.now result ≡ candidate_numbered patterns.now name.now number }
     ensures within { IfSome result (λ candidate. (candidate.rule < length patterns.now)
-        × IsWithin name.now candidate.fit) }
+        × IsFitWithin name.now candidate.fit) }
 {
     let pattern = patterns.get(number)?;
     candidate_of(number, pattern, name)
@@ -84,7 +84,7 @@ fn add(candidates: &mut Vec<Candidate>, candidate: Option<Candidate>) -> Result<
 fn candidate_of(number: usize, pattern: &Pattern, name: &[u8]) -> Option<Candidate>
     ensures candidate { option_map (candidate_at name.now pattern.now) result
         ≡ candidate_of number pattern.now name.now }
-    ensures within { IfSome result (λ candidate. (candidate.rule ≡ number) × IsWithin name.now candidate.fit) }
+    ensures within { IfSome result (λ candidate. (candidate.rule ≡ number) × IsFitWithin name.now candidate.fit) }
 {
     let candidate = shortest(number, pattern, name)?;
     if Stemming::new(&candidate.fit, name).keeps_short(pattern.needs()) {
@@ -98,7 +98,7 @@ fn candidate_of(number: usize, pattern: &Pattern, name: &[u8]) -> Option<Candida
 fn shortest(number: usize, pattern: &Pattern, name: &[u8]) -> Option<Candidate>
     ensures candidate { option_map (candidate_at name.now pattern.now) result
         ≡ shortest (filter_map (candidate_by number pattern.now name.now) pattern.now.targets) }
-    ensures within { IfSome result (λ candidate. (candidate.rule ≡ number) × IsWithin name.now candidate.fit) }
+    ensures within { IfSome result (λ candidate. (candidate.rule ≡ number) × IsFitWithin name.now candidate.fit) }
 {
     let mut best = None;
     for target in pattern.targets() {
@@ -112,7 +112,7 @@ fn shortest(number: usize, pattern: &Pattern, name: &[u8]) -> Option<Candidate>
 fn candidate_by(rule: usize, target: &Target, name: &[u8]) -> Option<Candidate>
     ensures candidate { (of : Rule) → option_map (candidate_at name.now of) result
         ≡ candidate_by rule of name.now target.now }
-    ensures within { IfSome result (λ candidate. (candidate.rule ≡ rule) × IsWithin name.now candidate.fit) }
+    ensures within { IfSome result (λ candidate. (candidate.rule ≡ rule) × IsFitWithin name.now candidate.fit) }
 {
     let pattern = target.name.as_slice();
     Some(Candidate {

@@ -5,12 +5,12 @@ ghost use Rattle.std.specs.List.{list_all, prefix_len};
 ghost use Rattle.kt_rules.specs.Names.{with_name, without_repeats};
 ghost use Rattle.kt_rules.specs.Suffixes.{all_needs};
 ghost use Rattle.kt_graph.specs.search.Candidates.{needed_names, needs_with};
-ghost use Rattle.kt_graph.specs.inner.search.Chains.{IsFound, IsRightFor, Keeps, HasAnswered, asked_besides};
+ghost use Rattle.kt_graph.specs.inner.search.Chains.{IsFound, IsRightFor, KeepsAnswers, HasAnswered, asked_besides};
 ghost use Rattle.kt_graph.specs.Known.{unknown_of};
 ghost use Rattle.kt_graph.specs.search.Search.{asked_among, asked_by, asked_for, asked_inside, asking, chain_limit};
 ghost use Rattle.kt_graph.specs.search.Search.{choice_of, chosen_of, fitting, is_inferred, is_met, is_used};
 ghost use Rattle.kt_graph.specs.search.Search.{open_candidates, unknown_needs, with_rule};
-ghost use Rattle.kt_graph.specs.search.Views.{AreWithin, IsWithin, candidate_view, candidates_view, choice_view};
+ghost use Rattle.kt_graph.specs.search.Views.{AreWithin, IsFitWithin, candidate_view, candidates_view, choice_view};
 ghost use Rattle.kt_graph.specs.search.Views.{fit_view};
 
 use crate::known::Known;
@@ -64,7 +64,7 @@ impl<'a> Chains<'a> {
             ≡ option_map choice_view (choice_of self.now.patterns self.now.known.now name.now)) }
         ensures leaves { OnOk result (HasAnswered self.now.patterns self.now.known.now tried.old tried.new 0
             (asking self.now.patterns self.now.known.now chain_limit [] name.now)) }
-        ensures kept { Keeps tried.old tried.new }
+        ensures kept { KeepsAnswers tried.old tried.new }
     {
         match self.ask(tried, CHAIN_LIMIT, name, &[])? {
             Some(candidate) => Ok(Some(self.chosen(name, candidate)?)),
@@ -78,7 +78,7 @@ impl<'a> Chains<'a> {
         ensures chosen { IfOk result (λ choice. choice
             ≡ option_map choice_view (choice_of self.now.patterns self.now.known.now name.now)) }
         ensures right { OnOk result (IsRightFor self.now.patterns self.now.known.now tried.new 1) }
-        ensures kept { Keeps tried.old tried.new }
+        ensures kept { KeepsAnswers tried.old tried.new }
     {
         match self.answer(tried, CHAIN_LIMIT, name, &[])? {
             Some(candidate) => Ok(Some(self.chosen(name, candidate)?)),
@@ -101,7 +101,7 @@ impl<'a> Chains<'a> {
             (fitting self.now.patterns self.now.known.now left used.now name.now)) }
         ensures leaves { OnOk result (HasAnswered self.now.patterns self.now.known.now tried.old tried.new
             (length used.now) (asking self.now.patterns self.now.known.now left used.now name.now)) }
-        ensures kept { Keeps tried.old tried.new }
+        ensures kept { KeepsAnswers tried.old tried.new }
     {
         let question = Question::new(self.alloc, name, used)?;
         match tried.put(question)? {
@@ -129,7 +129,7 @@ impl<'a> Chains<'a> {
             (fitting self.now.patterns self.now.known.now left used.now name.now)) }
         ensures leaves { OnOk result (HasAnswered self.now.patterns self.now.known.now tried.old tried.new
             (length used.now + 1) (asked_besides self.now.patterns self.now.known.now left used.now name.now)) }
-        ensures kept { Keeps tried.old tried.new }
+        ensures kept { KeepsAnswers tried.old tried.new }
     {
         if left == 0 {
             return Ok(None);
@@ -155,7 +155,7 @@ impl<'a> Chains<'a> {
             (length used.now + 1) (asked_inside self.now.known.now (fitting self.now.patterns self.now.known.now left)
             (asking self.now.patterns self.now.known.now left) used.now
             (open_candidates self.now.patterns used.now name.now))) }
-        ensures kept { Keeps tried.old tried.new }
+        ensures kept { KeepsAnswers tried.old tried.new }
     {
         let open = self.open(name, used)?;
         match self.first_met(name, open.as_slice())? {
@@ -229,7 +229,7 @@ impl<'a> Chains<'a> {
             (length used.now + 1) (asked_among self.now.known.now (fitting self.now.patterns self.now.known.now left)
             (asking self.now.patterns self.now.known.now left) used.now
             (candidates_view self.now.patterns name.now candidates.now))) }
-        ensures kept { Keeps tried.old tried.new }
+        ensures kept { KeepsAnswers tried.old tried.new }
     {
         let mut at = 0;
         while at < candidates.len() {
@@ -261,7 +261,7 @@ impl<'a> Chains<'a> {
             (λ told. HasAnswered self.now.patterns self.now.known.now tried.old tried.new (length used.now + 1)
             (asked_by self.now.known.now (fitting self.now.patterns self.now.known.now left)
             (asking self.now.patterns self.now.known.now left) used.now told))) }
-        ensures kept { Keeps tried.old tried.new }
+        ensures kept { KeepsAnswers tried.old tried.new }
     {
         if is_last(&self.patterns, &candidate) {
             return Ok(false);
@@ -287,7 +287,7 @@ impl<'a> Chains<'a> {
         ensures leaves { OnOk result (HasAnswered self.now.patterns self.now.known.now tried.old tried.new
             (length used.now) (asked_for (fitting self.now.patterns self.now.known.now left)
             (asking self.now.patterns self.now.known.now left) used.now names.now)) }
-        ensures kept { Keeps tried.old tried.new }
+        ensures kept { KeepsAnswers tried.old tried.new }
     {
         let mut at = 0;
         while at < names.len() {

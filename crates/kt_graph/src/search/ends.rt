@@ -1,7 +1,7 @@
 //! Pattern rules by the text after the percent sign of their targets.
 ghost use Rattle.std.specs.Prelude.{◌≡◌, ◌++◌, ◌∷◌, [], ℕ, List, IfOk, OnOk};
 ghost use Rattle.kt_text.specs.Match.{pattern_back};
-ghost use Rattle.kt_graph.specs.inner.search.Ends.{HasAll, Notes, NotesAll};
+ghost use Rattle.kt_graph.specs.inner.search.Ends.{HasAll, NotesEnd, NotesAll};
 
 use indexmap::IndexSet;
 use kt_rules::{Index, Target};
@@ -41,7 +41,7 @@ impl Ends {
     }
 
     fn note(&mut self, end: &[u8], number: usize) -> Result<(), AllocError>
-        ensures { OnOk result (Notes self.old self.new end.now number) }
+        ensures { OnOk result (NotesEnd self.old self.new end.now number) }
     {
         self.lengths.insert(end.len())?;
         self.numbers.note(end, number)

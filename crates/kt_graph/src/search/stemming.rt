@@ -4,7 +4,7 @@ ghost use Rattle.std.specs.List.{list_all, slice_range};
 ghost use Rattle.kt_text.specs.Functions.{with_stem};
 ghost use Rattle.kt_graph.specs.search.Candidates.{are_short, name_limit, needed_name, needed_names, needs_with};
 ghost use Rattle.kt_graph.specs.search.Candidates.{spelled_out};
-ghost use Rattle.kt_graph.specs.search.Views.{IsWithin};
+ghost use Rattle.kt_graph.specs.search.Views.{IsFitWithin};
 
 use crate::search::candidate::Fit;
 use kt_list::Sequence;
@@ -26,7 +26,7 @@ pub(crate) struct Stemming<'n> {
 
 impl<'n> Stemming<'n> {
     pub(crate) fn new(fit: &Fit, name: &'n [u8]) -> Stemming<'n>
-        requires { IsWithin name.now fit.now }
+        requires { IsFitWithin name.now fit.now }
         ensures directory { result.directory.now ≡ take fit.now.directory name.now }
         ensures stem { result.stem.now ≡ slice_range name.now fit.now.start fit.now.end }
     {

@@ -1,7 +1,7 @@
 //! The questions of a search, with their answers.
 ghost use Rattle.std.specs.Prelude.{◌≡◌, [], None, length, map, take, slice_get, slice_set, unwrap_or, IfOk};
 ghost use Rattle.std.specs.List.{IsDistinct};
-ghost use Rattle.kt_graph.specs.inner.search.Chains.{IsPlaced, Keeps};
+ghost use Rattle.kt_graph.specs.inner.search.Chains.{IsAnswerPlaced, KeepsAnswers};
 ghost use Rattle.kt_graph.specs.search.Search.{asked_eq};
 ghost use Rattle.kt_graph.specs.search.Views.{question_view};
 
@@ -66,8 +66,8 @@ impl Tried {
 
     /// Adds a question, unless it is there. If memory runs out, it may be there without a place for its answer.
     pub(crate) fn put(&mut self, question: Question) -> Result<Placed, AllocError>
-        ensures placed { IfOk result (IsPlaced self.old self.new question) }
-        ensures kept { Keeps self.old self.new }
+        ensures placed { IfOk result (IsAnswerPlaced self.old self.new question) }
+        ensures kept { KeepsAnswers self.old self.new }
     {
         let (place, is_new) = self.questions.insert_full(question)?;
         if is_new {

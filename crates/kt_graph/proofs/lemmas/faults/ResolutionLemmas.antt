@@ -8,16 +8,16 @@ use Rattle.std.proofs.lemmas.Slice.Eq.{bytes_eq-Decides}
 use Rattle.kt_text.specs.Words.{Text}
 use Rattle.kt_graph.specs.faults.Paths.{above_name, is_idle, is_rooted, parts_of, step_up, with_part}
 use Rattle.kt_graph.specs.Reach.{Leads, Reaches}
-use Rattle.kt_graph.specs.faults.Resolution.{Cancels, IsName, IsReduced, IsResolution, MayGo, components}
+use Rattle.kt_graph.specs.faults.Resolution.{Cancels, IsComponent, IsReduced, IsResolution, MayGo, components}
 use Rattle.kt_graph.proofs.lemmas.faults.CircleLemmas.{Reaches-join, Reaches-none, Reaches-step}
 use Rattle.kt_graph.proofs.lemmas.faults.PartLemmas.{above_stays, name_taken}
 
 -- ---- components by their kind
 
-kinds : (part : Text) → (is_idle part ≡ true) ⊎ ((part ≡ above_name) ⊎ IsName part)
+kinds : (part : Text) → (is_idle part ≡ true) ⊎ ((part ≡ above_name) ⊎ IsComponent part)
 kinds part = by (is_idle part) refl (bytes_eq part above_name) refl
   where
-    by : (b : Bool) → is_idle part ≡ b → (c : Bool) → bytes_eq part above_name ≡ c → (is_idle part ≡ true) ⊎ ((part ≡ above_name) ⊎ IsName part)
+    by : (b : Bool) → is_idle part ≡ b → (c : Bool) → bytes_eq part above_name ≡ c → (is_idle part ≡ true) ⊎ ((part ≡ above_name) ⊎ IsComponent part)
     by true e c f = inl e
     by false e true f = inr (inl ((bytes_eq-Decides part above_name).0 f))
     by false e false f = inr (inr (record { filled = e; plain = f }))
@@ -25,12 +25,12 @@ kinds part = by (is_idle part) refl (bytes_eq part above_name) refl
 idle_step : (rooted : Bool) (parts : List Text) (part : Text) → is_idle part ≡ true → with_part rooted parts part ≡ parts
 idle_step rooted parts part e = ap (λ b. if b then parts else (if bytes_eq part above_name then step_up rooted parts else part ∷ parts)) e
 
-name_step : (rooted : Bool) (parts : List Text) (part : Text) → IsName part → with_part rooted parts part ≡ part ∷ parts
+name_step : (rooted : Bool) (parts : List Text) (part : Text) → IsComponent part → with_part rooted parts part ≡ part ∷ parts
 name_step rooted parts part is =
     ap (λ b. if b then parts else (if bytes_eq part above_name then step_up rooted parts else part ∷ parts)) is.filled
     ∙ ap (λ b. if b then step_up rooted parts else part ∷ parts) is.plain
 
-up_name : (rooted : Bool) (last : Text) (parts : List Text) → IsName last → step_up rooted (last ∷ parts) ≡ parts
+up_name : (rooted : Bool) (last : Text) (parts : List Text) → IsComponent last → step_up rooted (last ∷ parts) ≡ parts
 up_name rooted last parts is = name_taken rooted last parts (ap not is.plain)
 
 up_above : (rooted : Bool) (parts : List Text) → step_up rooted (above_name ∷ parts) ≡ above_name ∷ above_name ∷ parts
@@ -42,7 +42,7 @@ record IsStack (rooted : Bool) (parts : List Text) : Type 0 where
   pub count : ℕ
   pub names : List Text
   pub shape : parts ≡ names ++ replicate count above_name
-  pub named : All IsName names
+  pub named : All IsComponent names
   pub under_root : rooted ≡ true → count ≡ zero
 
 none_stacked : (rooted : Bool) → IsStack rooted []
@@ -50,16 +50,16 @@ none_stacked rooted = record {
   count = zero;
   names = [];
   shape = refl;
-  named = All-nil IsName;
+  named = All-nil IsComponent;
   under_root = λ e. refl;
 }
 
-stack_with : (rooted : Bool) (parts : List Text) (part : Text) → IsName part → IsStack rooted parts → IsStack rooted (part ∷ parts)
+stack_with : (rooted : Bool) (parts : List Text) (part : Text) → IsComponent part → IsStack rooted parts → IsStack rooted (part ∷ parts)
 stack_with rooted parts part is stack = record {
   count = stack.count;
   names = part ∷ stack.names;
   shape = ap (λ (ps : List Text). part ∷ ps) stack.shape;
-  named = All-cons IsName part stack.names is stack.named;
+  named = All-cons IsComponent part stack.names is stack.named;
   under_root = stack.under_root;
 }
 
@@ -68,7 +68,7 @@ record GoesUp (rooted : Bool) (parts : List Text) : Type 0 where
   pub kept : IsStack rooted (step_up rooted parts)
   pub how : ((rooted ≡ true) × (parts ≡ []) × (step_up rooted parts ≡ []))
       ⊎ ((step_up rooted parts ≡ above_name ∷ parts)
-      ⊎ ((last : Text) × (rest : List Text) × IsName last × (parts ≡ last ∷ rest) × (step_up rooted parts ≡ rest)))
+      ⊎ ((last : Text) × (rest : List Text) × IsComponent last × (parts ≡ last ∷ rest) × (step_up rooted parts ≡ rest)))
 
 up_none : (rooted : Bool) → (b : Bool) → rooted ≡ b → GoesUp rooted []
 up_none rooted true e = subst (λ b. GoesUp b []) (sym e) (record { kept = none_stacked true; how = inl (refl, refl, refl) })
@@ -77,13 +77,13 @@ up_none rooted false e = subst (λ b. GoesUp b []) (sym e) (record {
     count = suc zero;
     names = [];
     shape = refl;
-    named = All-nil IsName;
+    named = All-nil IsComponent;
     under_root = λ f. absurd (Rattle.std.proofs.lemmas.Bool.false≢true f);
   };
   how = inr (inl refl);
 })
 
-goes_up : (rooted : Bool) (names : List Text) (count : ℕ) → All IsName names → (rooted ≡ true → count ≡ zero) → GoesUp rooted (names ++ replicate count above_name)
+goes_up : (rooted : Bool) (names : List Text) (count : ℕ) → All IsComponent names → (rooted ≡ true → count ≡ zero) → GoesUp rooted (names ++ replicate count above_name)
 goes_up rooted [] zero named under = up_none rooted rooted refl
 goes_up rooted [] (suc count) named under =
     let stays : step_up rooted (above_name ∷ replicate count above_name) ≡ above_name ∷ above_name ∷ replicate count above_name = up_above rooted (replicate count above_name) in
@@ -92,20 +92,20 @@ goes_up rooted [] (suc count) named under =
         count = suc (suc count);
         names = [];
         shape = refl;
-        named = All-nil IsName;
+        named = All-nil IsComponent;
         under_root = λ e. let none : suc count ≡ zero = under e in absurd (omega arith);
       });
       how = inr (inl stays);
     }
 goes_up rooted (last ∷ names) count named under =
-    let is = All-head IsName last names named in
+    let is = All-head IsComponent last names named in
     let goes : step_up rooted (last ∷ (names ++ replicate count above_name)) ≡ names ++ replicate count above_name = up_name rooted last (names ++ replicate count above_name) is in
     record {
       kept = subst (IsStack rooted) (sym goes) (record {
         count = count;
         names = names;
         shape = refl;
-        named = All-tail IsName last names named;
+        named = All-tail IsComponent last names named;
         under_root = under;
       });
       how = inr (inr (last, names ++ replicate count above_name, is, refl, goes));
@@ -117,9 +117,9 @@ up_stack rooted parts stack = subst (GoesUp rooted) (sym stack.shape) (goes_up r
 stack_kept : (rooted : Bool) (parts : List Text) (part : Text) → IsStack rooted parts → IsStack rooted (with_part rooted parts part)
 stack_kept rooted parts part stack = ⊎_elim
     (λ (idle : is_idle part ≡ true). subst (IsStack rooted) (sym (idle_step rooted parts part idle)) stack)
-    (λ (other : (part ≡ above_name) ⊎ IsName part). ⊎_elim
+    (λ (other : (part ≡ above_name) ⊎ IsComponent part). ⊎_elim
     (λ (above : part ≡ above_name). subst (λ (p : Text). IsStack rooted (with_part rooted parts p)) (sym above) (up_stack rooted parts stack).kept)
-    (λ (is : IsName part). subst (IsStack rooted) (sym (name_step rooted parts part is)) (stack_with rooted parts part is stack))
+    (λ (is : IsComponent part). subst (IsStack rooted) (sym (name_step rooted parts part is)) (stack_with rooted parts part is stack))
     other)
     (kinds part)
 
@@ -144,11 +144,11 @@ repeated_back (suc count) part =
     ∙ repeated_end count part []
     ∙ ap (λ (ps : List Text). part ∷ ps) (append-nil (replicate count part))
 
-all_back : (names : List Text) → All IsName names → All IsName (reverse names)
-all_back [] named = All-nil IsName
+all_back : (names : List Text) → All IsComponent names → All IsComponent (reverse names)
+all_back [] named = All-nil IsComponent
 all_back (name ∷ names) named =
-    subst (All IsName) (sym (reverse-append (name ∷ []) names))
-    (All-push IsName (reverse names) name (all_back names (All-tail IsName name names named)) (All-head IsName name names named))
+    subst (All IsComponent) (sym (reverse-append (name ∷ []) names))
+    (All-push IsComponent (reverse names) name (all_back names (All-tail IsComponent name names named)) (All-head IsComponent name names named))
 
 stack_reduced : (rooted : Bool) (parts : List Text) → IsStack rooted parts → IsReduced rooted (reverse parts)
 stack_reduced rooted parts stack = record {
@@ -177,11 +177,11 @@ way_up rooted parts left more up = ⊎_elim
     subst (λ (ps : List Text). Reaches (Cancels rooted) (reverse ps ++ above_name ∷ left) end) (sym root.1)
     (Reaches-join (Cancels rooted) (above_name ∷ left) left end here
     (subst (λ (ps : List Text). Reaches (Cancels rooted) (reverse ps ++ left) end) root.2 (more (step_up rooted parts) up.kept))))
-    (λ (other : (step_up rooted parts ≡ above_name ∷ parts) ⊎ ((last : Text) × (rest : List Text) × IsName last × (parts ≡ last ∷ rest) × (step_up rooted parts ≡ rest))). ⊎_elim
+    (λ (other : (step_up rooted parts ≡ above_name ∷ parts) ⊎ ((last : Text) × (rest : List Text) × IsComponent last × (parts ≡ last ∷ rest) × (step_up rooted parts ≡ rest))). ⊎_elim
     (λ (stays : step_up rooted parts ≡ above_name ∷ parts).
     subst (λ (ps : List Text). Reaches (Cancels rooted) ps (reverse (fold (with_part rooted) (step_up rooted parts) left)))
     (ap (λ (ps : List Text). reverse ps ++ left) stays ∙ put_over above_name parts left) (more (step_up rooted parts) up.kept))
-    (λ (taken : (last : Text) × (rest : List Text) × IsName last × (parts ≡ last ∷ rest) × (step_up rooted parts ≡ rest)).
+    (λ (taken : (last : Text) × (rest : List Text) × IsComponent last × (parts ≡ last ∷ rest) × (step_up rooted parts ≡ rest)).
     let end : List Text = reverse (fold (with_part rooted) (step_up rooted parts) left) in
     let here : Reaches (Cancels rooted) (reverse taken.1 ++ taken.0 ∷ above_name ∷ left) (reverse taken.1 ++ left)
     = step_from rooted (reverse taken.1) (taken.0 ∷ above_name ∷ []) left (inr (inl (taken.0, refl, taken.2))) in
@@ -199,10 +199,10 @@ way rooted (part ∷ left) parts stack = ⊎_elim
     subst (λ (ps : List Text). Reaches (Cancels rooted) (reverse parts ++ part ∷ left) (reverse (fold (with_part rooted) ps left))) (sym (idle_step rooted parts part idle))
     (Reaches-join (Cancels rooted) (reverse parts ++ part ∷ left) (reverse parts ++ left) (reverse (fold (with_part rooted) parts left))
     (step_from rooted (reverse parts) (part ∷ []) left (inl (part, refl, idle))) (way rooted left parts stack)))
-    (λ (other : (part ≡ above_name) ⊎ IsName part). ⊎_elim
+    (λ (other : (part ≡ above_name) ⊎ IsComponent part). ⊎_elim
     (λ (above : part ≡ above_name). subst (λ (p : Text). Way rooted (p ∷ left) parts) (sym above)
     (way_up rooted parts left (λ others held. way rooted left others held) (up_stack rooted parts stack)))
-    (λ (is : IsName part).
+    (λ (is : IsComponent part).
     subst (λ (ps : List Text). Reaches (Cancels rooted) (reverse parts ++ part ∷ left) (reverse (fold (with_part rooted) ps left))) (sym (name_step rooted parts part is))
     (subst (λ (ps : List Text). Reaches (Cancels rooted) ps (reverse (fold (with_part rooted) (part ∷ parts) left))) (put_over part parts left)
     (way rooted left (part ∷ parts) (stack_with rooted parts part is stack))))
@@ -215,8 +215,8 @@ gone_fold : (rooted : Bool) (front gone parts : List Text) → (front ≡ [] →
 gone_fold rooted front gone parts none may = ⊎_elim
     (λ (idle : (part : Text) × (gone ≡ part ∷ []) × (is_idle part ≡ true)).
     ap (fold (with_part rooted) parts) idle.1 ∙ idle_step rooted parts idle.0 idle.2)
-    (λ (other : ((part : Text) × (gone ≡ part ∷ above_name ∷ []) × IsName part) ⊎ ((rooted ≡ true) × (front ≡ []) × (gone ≡ above_name ∷ []))). ⊎_elim
-    (λ (taken : (part : Text) × (gone ≡ part ∷ above_name ∷ []) × IsName part).
+    (λ (other : ((part : Text) × (gone ≡ part ∷ above_name ∷ []) × IsComponent part) ⊎ ((rooted ≡ true) × (front ≡ []) × (gone ≡ above_name ∷ []))). ⊎_elim
+    (λ (taken : (part : Text) × (gone ≡ part ∷ above_name ∷ []) × IsComponent part).
     ap (fold (with_part rooted) parts) taken.1
     ∙ ap (λ (ps : List Text). with_part rooted ps above_name) (name_step rooted parts taken.0 taken.2)
     ∙ up_name rooted taken.0 parts taken.2)
@@ -244,11 +244,11 @@ same_way : (rooted : Bool) (one : List Text) (steps : List (List Text)) (other :
 same_way rooted one [] other same = ap (fold (with_part rooted) []) same
 same_way rooted one (next ∷ steps) other leads = same_fold rooted one next leads.0 ∙ same_way rooted next steps other leads.1
 
-names_fold : (rooted : Bool) (names parts : List Text) → All IsName names → fold (with_part rooted) parts names ≡ reverse names ++ parts
+names_fold : (rooted : Bool) (names parts : List Text) → All IsComponent names → fold (with_part rooted) parts names ≡ reverse names ++ parts
 names_fold rooted [] parts named = refl
 names_fold rooted (name ∷ names) parts named =
-    ap (λ (ps : List Text). fold (with_part rooted) ps names) (name_step rooted parts name (All-head IsName name names named))
-    ∙ names_fold rooted names (name ∷ parts) (All-tail IsName name names named)
+    ap (λ (ps : List Text). fold (with_part rooted) ps names) (name_step rooted parts name (All-head IsComponent name names named))
+    ∙ names_fold rooted names (name ∷ parts) (All-tail IsComponent name names named)
     ∙ sym (put_over name names parts)
 
 front_fold : (count held : ℕ) → fold (with_part false) (replicate held above_name) (replicate count above_name) ≡ replicate count above_name ++ replicate held above_name

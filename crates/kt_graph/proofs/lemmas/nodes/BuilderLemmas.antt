@@ -19,7 +19,7 @@ use Rattle.kt_graph.specs.inner.nodes.Stored.{StoredNode}
 use Rattle.kt_graph.specs.search.Candidates.{Candidate}
 use Rattle.kt_graph.specs.inner.nodes.Needed.{needed_by}
 use Rattle.kt_graph.specs.nodes.Node.{Instance, Node, Part, all_inputs, node_by, node_of}
-use Rattle.kt_graph.specs.inner.nodes.Numbering.{AreBelow, HasNumbers, IsMaking, IsNumbered, Says, SaysNode, SaysPart, SayParts, StandFor}
+use Rattle.kt_graph.specs.inner.nodes.Numbering.{AreBelow, HasNumbers, IsMaking, IsNumbered, IsStoredAs, SaysNode, SaysPart, SayParts, StandFor}
 use Rattle.kt_graph.specs.Reach.{IsReached}
 use Rattle.kt_graph.specs.inner.nodes.GraphBuilder.{AllSay, AreTold, BuildsNode, IsBegun, IsDone, IsOver, IsUnderWay}
 use Rattle.kt_graph.specs.inner.nodes.Reached.{reached_text}
@@ -249,7 +249,7 @@ parts_read keys (one ∷ expected) (part ∷ parts) h =
 
 -- what a node says where the names are keys
 says_told : (keys : List Text) (instances : List Held) (name : Text) (expected : Node) (node : StoredNode) → expected.name ≡ name
-    → SaysNode keys instances expected node → Says keys instances name expected node
+    → SaysNode keys instances expected node → IsStoredAs keys instances name expected node
 says_told keys instances name expected node named h = record {
   numbers = record {
     parts = parts_numbered keys expected.parts node.parts h.parts;

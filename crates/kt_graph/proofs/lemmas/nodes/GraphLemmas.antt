@@ -23,7 +23,7 @@ use Rattle.kt_graph.specs.inner.nodes.Numbering.{AreBelow}
 use Rattle.kt_graph.specs.Reach.{HasInput, IsGraph, IsReached, Leads}
 use Rattle.kt_graph.specs.nodes.Views.{instance_view, name_at, names_at, node_at, node_view, nodes_view}
 use Rattle.kt_graph.specs.inner.nodes.GraphBuilder.{IsDone}
-use Rattle.kt_graph.specs.inner.nodes.Graph.{AreApart, IsWhole}
+use Rattle.kt_graph.specs.inner.nodes.Graph.{AreDifferent, IsWhole}
 use Rattle.kt_graph.proofs.lemmas.MemberLemmas.{Contains-from_map, Contains-map, Contains-slice_get, slice_get-Contains}
 use Rattle.kt_graph.proofs.lemmas.nodes.NodeLemmas.{inputs_are, others_are}
 use Rattle.kt_graph.proofs.lemmas.faults.TroubleLemmas.{any_nowhere}
@@ -67,7 +67,7 @@ names_distinct names apart one other first second e =
 
 pub makings_apart : (same : Held → Held → Bool) → ((x y : Held) → instance_view x ≡ instance_view y → same x y ≡ true) → (instances : List Held)
     → ((i j : ℕ) (d : Held) → i < j → j < length instances → same (get_or instances i d) (get_or instances j d) ≡ Rattle.std.proofs.Common.false)
-    → AreApart instances
+    → AreDifferent instances
 makings_apart same is instances apart one other first second e =
     let x : (held : Held) × (slice_get instances one ≡ Some held) = at_place instances one first in
     let y : (held : Held) × (slice_get instances other ≡ Some held) = at_place instances other second in

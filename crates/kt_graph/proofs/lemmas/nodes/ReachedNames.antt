@@ -18,7 +18,7 @@ use Rattle.kt_text.specs.Words.{Text}
 use Rattle.kt_rules.proofs.NoteLemmas.{no_two, same_place}
 use Rattle.kt_graph.specs.declared.nodes.reached.Reached.{Reached}
 use Rattle.kt_graph.specs.inner.nodes.Numbering.{AreBelow}
-use Rattle.kt_graph.specs.inner.nodes.Reached.{HasSame, IsPlaced, IsPushed, IsReachedAt, Reaches, StaysPlaced, place_held, place_marked}
+use Rattle.kt_graph.specs.inner.nodes.Reached.{HasSame, IsPlaced, IsPushed, IsReachedAt, ReachesNumber, StaysPlaced, place_held, place_marked}
 use Rattle.kt_graph.specs.inner.nodes.Stored.{HasMore}
 use Rattle.kt_graph.specs.nodes.Views.{name_at, names_at}
 use Rattle.kt_graph.proofs.lemmas.nodes.NumberLemmas.{place_kept}
@@ -256,13 +256,13 @@ in_both P (Err e) done refused = refused
 -- a name that has a number among a table's and others is reached
 module _ {E : Type 0} (table others more view : List Text) (grown : HasMore others more) (old new : Reached) (name : Text) (number : ℕ) (result : Result ℕ E)
     (told : names_at (table ++ others) old.numbers.items ≡ view) (is : IsPlaced (table ++ others) old.numbers.items old.marks.items)
-    (at : place_of (table ++ more) name ≡ Some number) (done : IfOk result (Reaches old number new)) (refused : OnErr result (StaysPlaced old new)) where
+    (at : place_of (table ++ more) name ≡ Some number) (done : IfOk result (ReachesNumber old number new)) (refused : OnErr result (StaysPlaced old new)) where
   placed : IsPlaced (table ++ more) old.numbers.items old.marks.items
   placed = others_more table others more old.numbers.items old.marks.items grown is
 
   reached_at : IfOk result (IsReachedAt (table ++ more) old.numbers.items name new)
   reached_at =
-      IfOk-weaker result (Reaches old number new) (IsReachedAt (table ++ more) old.numbers.items name new) (λ place reaches. reaches (table ++ more) name placed at) done
+      IfOk-weaker result (ReachesNumber old number new) (IsReachedAt (table ++ more) old.numbers.items name new) (λ place reaches. reaches (table ++ more) name placed at) done
 
   pub step_placed : IsPlaced (table ++ more) new.numbers.items new.marks.items
   step_placed =

@@ -6,7 +6,7 @@ use Rattle.std.proofs.lemmas.Option.{none-some, same_Some}
 use Rattle.kt_list.proofs.general.Places.{head_is}
 use Rattle.kt_text.specs.Words.{Text}
 use Rattle.kt_graph.specs.declared.nodes.node.Instance.{Instance as Held}
-use Rattle.kt_graph.specs.inner.nodes.Graph.{AreHeld}
+use Rattle.kt_graph.specs.inner.nodes.Graph.{AreNodesHeld}
 use Rattle.kt_graph.specs.inner.nodes.Grouping.{AreAllAlike}
 use Rattle.kt_graph.specs.inner.nodes.Numbering.{HasNumbers}
 use Rattle.kt_graph.specs.inner.nodes.Stored.{AreAlike, StoredNode, stored_at}
@@ -18,7 +18,7 @@ use Rattle.kt_graph.proofs.lemmas.nodes.NodeLemmas.{inputs_are, others_are}
 use Rattle.kt_graph.proofs.lemmas.nodes.StoredLemmas.{stored_is}
 use Rattle.kt_graph.proofs.lemmas.nodes.WholeLemmas.{Contains-from_filter_map}
 
-module _ (names : List Text) (instances : List Held) (nodes : List StoredNode) (held : AreHeld names instances nodes)
+module _ (names : List Text) (instances : List Held) (nodes : List StoredNode) (held : AreNodesHeld names instances nodes)
     (one : ℕ) (numbers : List ℕ) (alike : AreAllAlike nodes one numbers) where
   abbrev HasInputs : Node → Type 0
   HasInputs node =

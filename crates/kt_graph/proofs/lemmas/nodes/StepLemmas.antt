@@ -18,7 +18,7 @@ use Rattle.kt_graph.specs.nodes.Views.{instance_view}
 use Rattle.kt_graph.specs.declared.nodes.part.Numbered.{Numbered}
 use Rattle.kt_graph.specs.declared.nodes.part.Part.{Part as NewPart}
 use Rattle.kt_graph.specs.inner.nodes.Needed.{needed_by, needed_by_parts, part_with, single_node}
-use Rattle.kt_graph.specs.inner.nodes.Stored.{StoredNode, StoredPart, node_with, part_held}
+use Rattle.kt_graph.specs.inner.nodes.Stored.{StoredNode, StoredPart, stored_with, part_held}
 use Rattle.kt_graph.specs.nodes.Node.{Instance, Node, Part, bare_part, double_node, joined_needs, kind_without, needs_after, node_by, node_of, node_with as node_given, own_part, plain_node, searched, suffix_stem, used_rule}
 use Rattle.kt_graph.specs.inner.nodes.Numbering.{IsMaking, SayParts, SaysNeeds}
 use Rattle.kt_graph.specs.inner.nodes.GraphBuilder.{BuildsNode, ReachesMore}
@@ -53,10 +53,10 @@ pub holds_node : (old middle : GraphBuilder) (names : List Text) (numbered : Num
     (making : Option Instance) (made_with : Option ℕ) → middle ≡ record old { numbers = names; needs = numbered; instances = middle.instances }
     → names ≡ fold with_name old.numbers (all_needs needs) → SaysNeeds names needs numbered.prerequisites.items numbered.order_only.items
     → take (length old.instances.keys) middle.instances.keys ≡ old.instances.keys → IsMaking middle.instances.keys making made_with
-    → nodes ≡ middle.nodes ++ node_with kind made_with (part_held part middle.needs ∷ []) ∷ []
+    → nodes ≡ middle.nodes ++ stored_with kind made_with (part_held part middle.needs ∷ []) ∷ []
     → BuildsNode old (single_node name kind part needs making) (record middle { nodes = nodes })
 holds_node old middle names numbered nodes name kind part needs making made_with others reached says kept made pushed =
-    let node = node_with kind made_with (part_held part middle.needs ∷ []) in
+    let node = stored_with kind made_with (part_held part middle.needs ∷ []) in
     record {
       node = node;
       grown = record {
@@ -87,10 +87,10 @@ holds_node old middle names numbered nodes name kind part needs making made_with
 -- a double-colon node
 pub holds_double : (old : GraphBuilder) (names : List Text) (nodes : List StoredNode) (suffixes : List Text) (name : Text) (rules : List (Rule × Target)) (parts : List StoredPart)
     → names ≡ fold with_name old.numbers (needed_by_parts (map (own_part suffixes) rules)) → SayParts names (map (own_part suffixes) rules) parts
-    → nodes ≡ old.nodes ++ node_with DoubleColon None parts ∷ []
+    → nodes ≡ old.nodes ++ stored_with DoubleColon None parts ∷ []
     → BuildsNode old (double_node suffixes name rules) (record old { numbers = names; nodes = nodes })
 holds_double old names nodes suffixes name rules parts reached say pushed = record {
-  node = node_with DoubleColon None parts;
+  node = stored_with DoubleColon None parts;
   grown = record {
     book = refl;
     known_names = refl;

@@ -10,17 +10,17 @@ use Rattle.kt_graph.specs.declared.nodes.part.Part.{Part as NewPart}
 use Rattle.kt_graph.specs.declared.nodes.stored.Head.{Head}
 use Rattle.kt_graph.specs.declared.nodes.stored.HeldPart.{HeldPart}
 use Rattle.kt_graph.specs.declared.nodes.stored.Span.{Span}
-use Rattle.kt_graph.specs.inner.nodes.Stored.{AreRowsOf, AreStored, Grew, HasMore, IsHeadOf, IsHeadWithin, IsLike, IsPartWithin, IsWithin, PutsParts, StoredNode, StoredPart, cut, input_numbers, node_like, node_stored, node_with, nodes_stored, order_only_numbers, part_stored, parts_stored, stored_at}
+use Rattle.kt_graph.specs.inner.nodes.Stored.{AreRowsOf, AreStored, Grew, HasMore, IsHeadOf, IsHeadWithin, IsLike, IsPartWithin, IsSpanWithin, PutsParts, StoredNode, StoredPart, cut, input_numbers, node_like, node_stored, stored_with, nodes_stored, order_only_numbers, part_stored, parts_stored, stored_at}
 use Rattle.kt_graph.specs.inner.nodes.Grouping.{is_made_at, making_at}
 use Rattle.kt_graph.specs.nodes.Node.{is_leaf}
 use Rattle.kt_graph.proofs.lemmas.MemberLemmas.{Contains-slice_get}
 
 -- ---- places
 
-pub within_more : (count more : ℕ) (span : Span) → count ≤ more → IsWithin count span → IsWithin more span
+pub within_more : (count more : ℕ) (span : Span) → count ≤ more → IsSpanWithin count span → IsSpanWithin more span
 within_more count more span up h = record { rises = h.rises; ends = omega (arith, up, h.ends) }
 
-pub cut_longer : {A : Type 0} (items more : List A) (span : Span) → IsWithin (length items) span → cut (items ++ more) span ≡ cut items span
+pub cut_longer : {A : Type 0} (items more : List A) (span : Span) → IsSpanWithin (length items) span → cut (items ++ more) span ≡ cut items span
 cut_longer items more span h =
     let rises = h.rises in
     let ends = h.ends in
@@ -179,7 +179,7 @@ node_from kind parts made_with inputs order_only =
 pub head_from : (parts : List HeldPart) (rows new : List (List ℕ)) (start : ℕ) (kind : NodeKind) (made_with : Option ℕ) (head : Head) → head.kind ≡ kind → head.made_with ≡ made_with
     → start ≤ length parts → head.parts.start ≡ start → head.parts.end ≡ length parts → All (IsPartWithin (length rows)) parts → HasMore rows new
     → AreRowsOf new (input_numbers (parts_stored rows (drop start parts))) (order_only_numbers (parts_stored rows (drop start parts))) head.inputs
-    → IsHeadOf parts new (node_with kind made_with (parts_stored rows (drop start parts))) head
+    → IsHeadOf parts new (stored_with kind made_with (parts_stored rows (drop start parts))) head
 head_from parts rows new start kind made_with head is_kind made low begin end all grown inputs =
     let last = drop start parts in
     let long : length last ≤ head.parts.end - head.parts.start = omega (arith, begin, end, length-drop start parts) in

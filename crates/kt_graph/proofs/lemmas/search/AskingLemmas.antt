@@ -9,7 +9,7 @@ use Rattle.kt_text.specs.Words.{Text}
 use Rattle.kt_rules.specs.Entry.{Rule}
 use Rattle.kt_graph.specs.search.Candidates.{Candidate}
 use Rattle.kt_graph.specs.inner.search.Chains.{asked_besides}
-use Rattle.kt_graph.specs.search.Search.{Asked, Asking, Choosing, asked_among, asked_by, asked_for, asked_inside, asking, fitting, is_inferred, is_met, open_candidates, unknown_needs, with_rule}
+use Rattle.kt_graph.specs.search.Search.{Sought, Asking, Choosing, asked_among, asked_by, asked_for, asked_inside, asking, fitting, is_inferred, is_met, open_candidates, unknown_needs, with_rule}
 use Rattle.kt_list.proofs.general.Elements.{first_or_rest, none_in_empty}
 
 -- one rule more
@@ -50,8 +50,8 @@ put_between rule used place e =
     ∙ ap (λ n. take n used ++ rule ∷ drop n used) e ∙ with_rule_is rule used
 
 module _ (known : List Text) (deeper : Choosing) (ask : Asking)
-    (deep : (used : List ℕ) (name : Text) (asked : Asked) → Contains (ask used name) asked → length used ≤ length asked.1) where
-  deep_for : (used : List ℕ) (names : List Text) (asked : Asked) → Contains (asked_for deeper ask used names) asked → length used ≤ length asked.1
+    (deep : (used : List ℕ) (name : Text) (asked : Sought) → Contains (ask used name) asked → length used ≤ length asked.1) where
+  deep_for : (used : List ℕ) (names : List Text) (asked : Sought) → Contains (asked_for deeper ask used names) asked → length used ≤ length asked.1
   deep_for used [] asked c = absurd (none_in_empty asked c)
   deep_for used (name ∷ names) asked c =
       ⊎_elim (λ here. deep used name asked here) (λ rest. by (is_some (deeper used name)) (deep_for used names asked) rest)
@@ -61,14 +61,14 @@ module _ (known : List Text) (deeper : Choosing) (ask : Asking)
       by true later rest = later rest
       by false later rest = absurd (none_in_empty asked rest)
 
-  deep_by : (used : List ℕ) (candidate : Candidate) (asked : Asked) → Contains (asked_by known deeper ask used candidate) asked → length used + 1 ≤ length asked.1
+  deep_by : (used : List ℕ) (candidate : Candidate) (asked : Sought) → Contains (asked_by known deeper ask used candidate) asked → length used + 1 ≤ length asked.1
   deep_by used candidate asked c = by candidate.is_last c
     where
       by : (b : Bool) → Contains (if b then [] else asked_for deeper ask (with_rule candidate.rule used) (unknown_needs known candidate)) asked → length used + 1 ≤ length asked.1
       by true none = absurd (none_in_empty asked none)
       by false some = omega (arith, length-with_rule candidate.rule used, deep_for (with_rule candidate.rule used) (unknown_needs known candidate) asked some)
 
-  deep_among : (used : List ℕ) (candidates : List Candidate) (asked : Asked) → Contains (asked_among known deeper ask used candidates) asked → length used + 1 ≤ length asked.1
+  deep_among : (used : List ℕ) (candidates : List Candidate) (asked : Sought) → Contains (asked_among known deeper ask used candidates) asked → length used + 1 ≤ length asked.1
   deep_among used [] asked c = absurd (none_in_empty asked c)
   deep_among used (candidate ∷ candidates) asked c =
       ⊎_elim (λ here. deep_by used candidate asked here) (λ rest. by (is_inferred known deeper used candidate) (deep_among used candidates asked) rest)
@@ -79,7 +79,7 @@ module _ (known : List Text) (deeper : Choosing) (ask : Asking)
       by true later none = absurd (none_in_empty asked none)
       by false later rest = later rest
 
-  deep_inside : (used : List ℕ) (candidates : List Candidate) (asked : Asked) → Contains (asked_inside known deeper ask used candidates) asked → length used + 1 ≤ length asked.1
+  deep_inside : (used : List ℕ) (candidates : List Candidate) (asked : Sought) → Contains (asked_inside known deeper ask used candidates) asked → length used + 1 ≤ length asked.1
   deep_inside used candidates asked c = by (list_any (is_met known) candidates) c
     where
       by : (b : Bool) → Contains (if b then [] else asked_among known deeper ask used candidates) asked → length used + 1 ≤ length asked.1
@@ -87,7 +87,7 @@ module _ (known : List Text) (deeper : Choosing) (ask : Asking)
       by false some = deep_among used candidates asked some
 
 -- what a question asks has at least the rules of its own chain
-pub asking_deep : (rules : List Rule) (known : List Text) (left : ℕ) (used : List ℕ) (name : Text) (asked : Asked)
+pub asking_deep : (rules : List Rule) (known : List Text) (left : ℕ) (used : List ℕ) (name : Text) (asked : Sought)
     → Contains (asking rules known left used name) asked → length used ≤ length asked.1
 unfolding asking
 asking_deep rules known zero used name asked c =
@@ -98,7 +98,7 @@ asking_deep rules known (suc left) used name asked c =
     (first_or_rest (name, used) asked (asked_inside known (fitting rules known left) (asking rules known left) used (open_candidates rules used name)) c)
 
 -- and what it asks besides itself has more
-pub after_deep : (rules : List Rule) (known : List Text) (left : ℕ) (used : List ℕ) (name : Text) (asked : Asked)
+pub after_deep : (rules : List Rule) (known : List Text) (left : ℕ) (used : List ℕ) (name : Text) (asked : Sought)
     → Contains (asked_besides rules known left used name) asked → length used + 1 ≤ length asked.1
 unfolding asked_besides
 after_deep rules known zero used name asked c = absurd (none_in_empty asked c)

@@ -14,10 +14,10 @@ use Rattle.kt_rules.specs.Patterns.{is_terminal}
 use Rattle.kt_graph.proofs.lemmas.search.SizeOrder.{bucket, in_buckets, same_buckets}
 use Rattle.kt_graph.specs.declared.search.candidate.Candidate.{Candidate as HeldCandidate}
 use Rattle.kt_graph.specs.search.Candidates.{Candidate, are_short, by_size, candidate_by, candidate_of, candidates_for, drops_any, matching_from, shorter, shortest, size_of, unless_long, without_any}
-use Rattle.kt_graph.specs.search.Views.{AreWithin, IsWithin, candidate_at, candidate_view, candidates_view, fit_size, held_by_size, held_without_any, stays}
+use Rattle.kt_graph.specs.search.Views.{AreWithin, IsFitWithin, candidate_at, candidate_view, candidates_view, fit_size, held_by_size, held_without_any, stays}
 
 -- a stem is as long as its places say
-pub size_at : (name : Text) (rule : Rule) (candidate : HeldCandidate) → IsWithin name candidate.fit → size_of (candidate_at name rule candidate) ≡ fit_size candidate.fit
+pub size_at : (name : Text) (rule : Rule) (candidate : HeldCandidate) → IsFitWithin name candidate.fit → size_of (candidate_at name rule candidate) ≡ fit_size candidate.fit
 size_at name rule candidate within =
     let directory = within.directory in
     let stem = within.stem in
@@ -91,24 +91,24 @@ one_kept rules name p q candidate one candidates false is told same rest =
 
 -- tests that agree keep the same elements
 pub told_filter : (rules : List Rule) (name : Text) (p : HeldCandidate → Bool) (q : Candidate → Bool)
-    → ((candidate : HeldCandidate) (rule : Rule) → slice_get rules candidate.rule ≡ Some rule → IsWithin name candidate.fit → p candidate ≡ q (candidate_at name rule candidate))
+    → ((candidate : HeldCandidate) (rule : Rule) → slice_get rules candidate.rule ≡ Some rule → IsFitWithin name candidate.fit → p candidate ≡ q (candidate_at name rule candidate))
     → (candidates : List HeldCandidate) → AreWithin rules name candidates → candidates_view rules name (filter p candidates) ≡ filter q (candidates_view rules name candidates)
 told_filter rules name p q agree [] within = refl
 told_filter rules name p q agree (candidate ∷ candidates) within =
-    let first = All-head (λ (c : HeldCandidate). (c.rule < length rules) × IsWithin name c.fit) candidate candidates within in
-    let others = All-tail (λ (c : HeldCandidate). (c.rule < length rules) × IsWithin name c.fit) candidate candidates within in
+    let first = All-head (λ (c : HeldCandidate). (c.rule < length rules) × IsFitWithin name c.fit) candidate candidates within in
+    let others = All-tail (λ (c : HeldCandidate). (c.rule < length rules) × IsFitWithin name c.fit) candidate candidates within in
     let found = rule_at rules candidate.rule first.0 in
     one_kept rules name p q candidate (candidate_at name found.0 candidate) candidates (p candidate) refl
     (told_at rules name candidate found.0 found.1) (sym (agree candidate found.0 found.1 first.1)) (told_filter rules name p q agree candidates others)
 
 -- and so a test holds of some
 pub told_any : (rules : List Rule) (name : Text) (p : HeldCandidate → Bool) (q : Candidate → Bool)
-    → ((candidate : HeldCandidate) (rule : Rule) → slice_get rules candidate.rule ≡ Some rule → IsWithin name candidate.fit → p candidate ≡ q (candidate_at name rule candidate))
+    → ((candidate : HeldCandidate) (rule : Rule) → slice_get rules candidate.rule ≡ Some rule → IsFitWithin name candidate.fit → p candidate ≡ q (candidate_at name rule candidate))
     → (candidates : List HeldCandidate) → AreWithin rules name candidates → list_any p candidates ≡ list_any q (candidates_view rules name candidates)
 told_any rules name p q agree [] within = refl
 told_any rules name p q agree (candidate ∷ candidates) within =
-    let first = All-head (λ (c : HeldCandidate). (c.rule < length rules) × IsWithin name c.fit) candidate candidates within in
-    let others = All-tail (λ (c : HeldCandidate). (c.rule < length rules) × IsWithin name c.fit) candidate candidates within in
+    let first = All-head (λ (c : HeldCandidate). (c.rule < length rules) × IsFitWithin name c.fit) candidate candidates within in
+    let others = All-tail (λ (c : HeldCandidate). (c.rule < length rules) × IsFitWithin name c.fit) candidate candidates within in
     let found = rule_at rules candidate.rule first.0 in
     ap (λ b. b || list_any p candidates) (agree candidate found.0 found.1 first.1)
     ∙ ap (λ b. q (candidate_at name found.0 candidate) || b) (told_any rules name p q agree candidates others)
@@ -150,7 +150,7 @@ pub told_by_size : (rules : List Rule) (name : Text) (candidates : List HeldCand
     → candidates_view rules name (held_by_size (length name) candidates) ≡ by_size name (candidates_view rules name candidates)
 told_by_size rules name candidates within = told_buckets rules name candidates within (range_with_len 0 (length name + 1))
 
-size_within : (name : Text) (candidate : HeldCandidate) → IsWithin name candidate.fit → fit_size candidate.fit ≤ length name
+size_within : (name : Text) (candidate : HeldCandidate) → IsFitWithin name candidate.fit → fit_size candidate.fit ≤ length name
 size_within name candidate within =
     let directory = within.directory in
     let stem = within.stem in
@@ -180,7 +180,7 @@ kept_within : (rules : List Rule) (name : Text) (in_chain : Bool) (candidates : 
 kept_within rules name in_chain candidates within = by (in_chain || list_any (λ (c : HeldCandidate). not c.is_any) candidates)
   where
     by : (b : Bool) → AreWithin rules name (if b then filter (stays rules) candidates else candidates)
-    by true = All-filter (stays rules) (λ (c : HeldCandidate). (c.rule < length rules) × IsWithin name c.fit) candidates within
+    by true = All-filter (stays rules) (λ (c : HeldCandidate). (c.rule < length rules) × IsFitWithin name c.fit) candidates within
     by false = within
 
 pub candidates_tried : (rules : List Rule) (name : Text) (in_chain : Bool) (candidates kept sorted : List HeldCandidate) → AreWithin rules name candidates
@@ -192,7 +192,7 @@ candidates_tried rules name in_chain candidates kept sorted within matching is o
     let left : AreWithin rules name kept
     = subst (λ cs. AreWithin rules name cs) (sym is) (kept_within rules name in_chain candidates within) in
     let short : All (λ (c : HeldCandidate). fit_size c.fit ≤ length name) kept
-    = All-weaker (λ (c : HeldCandidate). (c.rule < length rules) × IsWithin name c.fit) (λ (c : HeldCandidate). fit_size c.fit ≤ length name)
+    = All-weaker (λ (c : HeldCandidate). (c.rule < length rules) × IsFitWithin name c.fit) (λ (c : HeldCandidate). fit_size c.fit ≤ length name)
     (λ c w. size_within name c w.1) kept left in
     ap (candidates_view rules name) (order (length name) short)
     ∙ told_by_size rules name kept left
@@ -202,5 +202,5 @@ candidates_tried rules name in_chain candidates kept sorted within matching is o
 pub candidates_within : (rules : List Rule) (name : Text) (in_chain : Bool) (candidates kept sorted : List HeldCandidate) → AreWithin rules name candidates
     → kept ≡ held_without_any rules in_chain candidates → IsPermutation kept sorted → AreWithin rules name sorted
 candidates_within rules name in_chain candidates kept sorted within is moved =
-    All-permutation (λ (c : HeldCandidate). (c.rule < length rules) × IsWithin name c.fit) kept sorted moved
+    All-permutation (λ (c : HeldCandidate). (c.rule < length rules) × IsFitWithin name c.fit) kept sorted moved
     (subst (λ cs. AreWithin rules name cs) (sym is) (kept_within rules name in_chain candidates within))

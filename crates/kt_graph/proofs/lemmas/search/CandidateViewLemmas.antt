@@ -13,7 +13,7 @@ use Rattle.kt_graph.specs.declared.search.candidate.Candidate.{Candidate as Held
 use Rattle.kt_graph.specs.search.Candidates.{Candidate}
 use Rattle.kt_graph.specs.inner.search.Chains.{IsFound}
 use Rattle.kt_graph.specs.search.Search.{is_begun}
-use Rattle.kt_graph.specs.search.Views.{AreWithin, IsWithin, candidate_at, candidate_view, candidates_view}
+use Rattle.kt_graph.specs.search.Views.{AreWithin, IsFitWithin, candidate_at, candidate_view, candidates_view}
 
 pub at_some : {X : Type 0} (o : Option X) (P : X → Type 0) (x : X) → o ≡ Some x → IfSome o P → P x
 at_some o P x e h = rw e at h
@@ -70,8 +70,8 @@ module _ (rules : List Rule) (name : Text) where
 
     module _ (candidate : HeldCandidate) (h : i < length candidates) (is : candidate ≡ get_or candidates i candidate)
         (within : AreWithin rules name candidates) (passed : Bool) (tells : IfSome (candidate_view rules name candidate) (λ told. passed ≡ p told)) where
-      own_within : (candidate.rule < length rules) × IsWithin name candidate.fit
-      own_within = subst (λ (one : HeldCandidate). (one.rule < length rules) × IsWithin name one.fit) (sym is) (within i candidate h)
+      own_within : (candidate.rule < length rules) × IsFitWithin name candidate.fit
+      own_within = subst (λ (one : HeldCandidate). (one.rule < length rules) × IsFitWithin name one.fit) (sym is) (within i candidate h)
 
       abbrev told : Candidate
       told = (told_at candidate own_within.0).0

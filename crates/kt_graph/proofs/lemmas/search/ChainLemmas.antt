@@ -11,8 +11,8 @@ use Rattle.kt_rules.specs.Entry.{Rule}
 use Rattle.kt_graph.specs.declared.search.candidate.Candidate.{Candidate as HeldCandidate}
 use Rattle.kt_graph.specs.declared.search.question.Question.{Question}
 use Rattle.kt_graph.specs.declared.search.tried.Tried.{Tried}
-use Rattle.kt_graph.specs.inner.search.Chains.{IsFound, IsPrefix, IsRight, IsRightFor, Keeps, HasAnswered, StandsLast, StoodBefore, asked_besides, expected_for, left_for}
-use Rattle.kt_graph.specs.search.Search.{Asked, asked_eq, asking, chain_limit, fitting, with_question}
+use Rattle.kt_graph.specs.inner.search.Chains.{IsFound, IsPrefix, IsRight, IsRightFor, KeepsAnswers, HasAnswered, StandsLast, StoodBefore, asked_besides, expected_for, left_for}
+use Rattle.kt_graph.specs.search.Search.{Sought, asked_eq, asking, chain_limit, fitting, with_question}
 use Rattle.kt_graph.specs.search.Views.{question_view}
 use Rattle.kt_graph.proofs.lemmas.search.AskingLemmas.{asking_is, after_deep}
 use Rattle.kt_graph.proofs.lemmas.search.QuestionLemmas.{all_put, none_new, put_after, stays_put}
@@ -51,10 +51,10 @@ module _ {X : Type 0} where
       let e : k ≡ length xs = omega (arith, length-append xs (y ∷ [])) in
       (e, sym (get_or_at xs y [] x k (sym e)) ∙ get_or_from_slice_get (xs ++ y ∷ []) k x x at)
 
-pub keeps_all : (tried : Tried) → Keeps tried tried
+pub keeps_all : (tried : Tried) → KeepsAnswers tried tried
 keeps_all tried = record { questions = front_itself tried.questions.keys; answers = front_itself tried.answers.items }
 
-pub keeps_more : (one two three : Tried) → Keeps one two → Keeps two three → Keeps one three
+pub keeps_more : (one two three : Tried) → KeepsAnswers one two → KeepsAnswers two three → KeepsAnswers one three
 keeps_more one two three h k = record {
   questions = front_more one.questions.keys two.questions.keys three.questions.keys h.questions k.questions;
   answers = front_more one.answers.items two.answers.items three.answers.items h.answers k.answers;
@@ -132,7 +132,7 @@ module _ (rules : List Rule) (known : List Text) where
         before_found k one at long (inr past) = absurd (short k one past at long)
 
         before_closed : (k : ℕ) (one : Question) → slice_get (old.questions.keys ++ question ∷ []) k ≡ Some one → length used + 1 ≤ length one.used.items
-            → (asked : Asked) → Contains (asking rules known (left_for one) one.used.items one.name) asked
+            → (asked : Sought) → Contains (asking rules known (left_for one) one.used.items one.name) asked
             → (k < length old.questions.keys) ⊎ (length old.questions.keys ≤ k)
             → list_any (asked_eq asked) (map question_view mid.questions.keys) ≡ true
         before_closed k one at long asked c (inl within) =
@@ -145,7 +145,7 @@ module _ (rules : List Rule) (known : List Text) where
     -- once it has its answer, all questions with chains as long are right
     module _ (new final : Tried) (answer : Option HeldCandidate) (left : ℕ) (name : Text)
         (n : question.name ≡ name) (whole : left + length used ≡ chain_limit)
-        (leaves : HasAnswered rules known mid new (length used + 1) (asked_besides rules known left used name)) (keeps : Keeps mid new)
+        (leaves : HasAnswered rules known mid new (length used + 1) (asked_besides rules known left used name)) (keeps : KeepsAnswers mid new)
         (found : IsFound rules name (fitting rules known left used name) answer)
         (same : final.questions.keys ≡ new.questions.keys) (noted : final.answers.items ≡ set new.answers.items place answer) where
       told_is : question_view question ≡ (name, used)
@@ -212,10 +212,10 @@ module _ (rules : List Rule) (known : List Text) where
       abbrev IsRightAt : ℕ → Question → Type 0
       IsRightAt k one =
           IsFound rules one.name (expected_for rules known one) (unwrap_or (slice_get final.answers.items k) None)
-          × ((asked : Asked) → Contains (asking rules known (left_for one) one.used.items one.name) asked
+          × ((asked : Sought) → Contains (asking rules known (left_for one) one.used.items one.name) asked
           → list_any (asked_eq asked) (map question_view final.questions.keys) ≡ true)
 
-      still_put : (asked : Asked) → list_any (asked_eq asked) (map question_view old.questions.keys) ≡ true → list_any (asked_eq asked) (map question_view final.questions.keys) ≡ true
+      still_put : (asked : Sought) → list_any (asked_eq asked) (map question_view old.questions.keys) ≡ true → list_any (asked_eq asked) (map question_view final.questions.keys) ≡ true
       still_put asked h =
           ap (λ keys. list_any (asked_eq asked) (map question_view keys)) same ∙ ap (list_any (asked_eq asked)) all_asked
           ∙ stays_put asked (map question_view old.questions.keys) (asking rules known left used name) h

@@ -23,7 +23,7 @@ use Rattle.kt_graph.specs.declared.search.ends.Ends.{Ends}
 use Rattle.kt_graph.specs.declared.search.candidate.Candidate.{Candidate as HeldCandidate}
 use Rattle.kt_graph.specs.search.Candidates.{Candidate, candidate_by, candidate_of, candidate_with, fit_of, has_slash, matched_part, matching_from, shortest, stem_of, unless_long}
 use Rattle.kt_graph.specs.inner.search.Ends.{AreAllNoted, AreNoted, HasAll, IsNoted, candidate_numbered, candidates_numbered, numbers_at}
-use Rattle.kt_graph.specs.search.Views.{AreWithin, IsWithin, candidate_at, candidate_view, candidates_view, found_view}
+use Rattle.kt_graph.specs.search.Views.{AreWithin, IsFitWithin, candidate_at, candidate_view, candidates_view, found_view}
 use Rattle.kt_graph.proofs.lemmas.search.CandidateLemmas.{matching_at, matching_none, rule_at, told_at}
 use Rattle.kt_list.proofs.general.Elements.{first_or_rest}
 use Rattle.kt_graph.proofs.lemmas.MemberLemmas.{Contains-none}
@@ -253,7 +253,7 @@ numbers_in_order ends rules name found sorted kept noted all same order once =
 
 -- the rule of a number as it makes a name
 pub told_numbered : (rules : List Rule) (name : Text) (number : ℕ) (rule : Rule) (found : Option HeldCandidate) → slice_get rules number ≡ Some rule
-    → IfSome found (λ candidate. (candidate.rule ≡ number) × IsWithin name candidate.fit) → option_map (candidate_at name rule) found ≡ candidate_of number rule name
+    → IfSome found (λ candidate. (candidate.rule ≡ number) × IsFitWithin name candidate.fit) → option_map (candidate_at name rule) found ≡ candidate_of number rule name
     → found_view rules name found ≡ candidate_numbered rules name number
 told_numbered rules name number rule None there within is = is ∙ sym (ap (option_and_then (λ (one : Rule). candidate_of number one name)) there)
 told_numbered rules name number rule (Some candidate) there within is =
@@ -263,8 +263,8 @@ pub told_none : (rules : List Rule) (name : Text) (number : ℕ) → slice_get r
 told_none rules name number none = sym (ap (option_and_then (λ (one : Rule). candidate_of number one name)) none)
 
 pub within_numbered : (rules : List Rule) (name : Text) (number : ℕ) (found : Option HeldCandidate) → number < length rules
-    → IfSome found (λ candidate. (candidate.rule ≡ number) × IsWithin name candidate.fit)
-    → IfSome found (λ candidate. (candidate.rule < length rules) × IsWithin name candidate.fit)
+    → IfSome found (λ candidate. (candidate.rule ≡ number) × IsFitWithin name candidate.fit)
+    → IfSome found (λ candidate. (candidate.rule < length rules) × IsFitWithin name candidate.fit)
 within_numbered rules name number None below within = tt
 within_numbered rules name number (Some candidate) below within = (let same = within.0 in omega arith, within.1)
 
@@ -292,10 +292,10 @@ numbered_more rules name numbers i number candidates more found within at is gro
         by_told (Some told) rest = refl
 
 pub within_with : (rules : List Rule) (name : Text) (candidates more : List HeldCandidate) (found : Option HeldCandidate)
-    → IfSome found (λ candidate. (candidate.rule < length rules) × IsWithin name candidate.fit) → more ≡ candidates ++ option_to_list found
+    → IfSome found (λ candidate. (candidate.rule < length rules) × IsFitWithin name candidate.fit) → more ≡ candidates ++ option_to_list found
     → AreWithin rules name candidates → AreWithin rules name more
 within_with rules name candidates more (Some candidate) there grown within =
     subst (λ (cs : List HeldCandidate). AreWithin rules name cs) (sym grown)
-    (All-push (λ (c : HeldCandidate). (c.rule < length rules) × IsWithin name c.fit) candidates candidate within there)
+    (All-push (λ (c : HeldCandidate). (c.rule < length rules) × IsFitWithin name c.fit) candidates candidate within there)
 within_with rules name candidates more None there grown within =
     subst (λ (cs : List HeldCandidate). AreWithin rules name cs) (sym (grown ∙ append-nil candidates)) within

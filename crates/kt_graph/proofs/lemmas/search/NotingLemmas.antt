@@ -14,7 +14,7 @@ use Rattle.kt_text.specs.Match.{pattern_back}
 use Rattle.kt_rules.specs.declared.entry.Target.{Target}
 use Rattle.kt_rules.specs.Entry.{Rule}
 use Rattle.kt_graph.specs.declared.search.ends.Ends.{Ends}
-use Rattle.kt_graph.specs.inner.search.Ends.{AreAllNoted, AreNoted, HasAll, IsNoted, KeepsNoted, Notes, NotesAll, numbers_at}
+use Rattle.kt_graph.specs.inner.search.Ends.{AreAllNoted, AreNoted, HasAll, IsNoted, KeepsNoted, NotesEnd, NotesAll, numbers_at}
 use Rattle.kt_list.proofs.general.Elements.{first_or_rest, in_first}
 use Rattle.kt_graph.proofs.lemmas.MemberLemmas.{Contains-none}
 
@@ -30,7 +30,7 @@ kept_key old new size other grown there = subst (λ (xs : List ℕ). Contains xs
 -- a number was noted at an end
 pub notes : (old new : Ends) (end : Text) (number : ℕ) → new.lengths.keys ≡ insert_key nat_eq old.lengths.keys (length end)
     → ((other : Text) → numbers_at new other ≡ numbers_at old other ++ (if bytes_eq other end then number ∷ [] else []))
-    → Notes old new end number
+    → NotesEnd old new end number
 notes old new end number lengths numbers = record {
   noted = (
     subst (λ (xs : List ℕ). Contains xs number) (sym (numbers end ∙ ap (λ b. numbers_at old end ++ (if b then number ∷ [] else [])) (nat_list_eq_equiv.refl end)))
@@ -49,7 +49,7 @@ pub none_noted : (ends : Ends) (number : ℕ) → NotesAll ends ends [] number
 none_noted ends number = record { noted = λ k d within. absurd (omega (arith, within)); kept = λ end one there. there }
 
 pub target_noted : (old now new : Ends) (targets : List Target) (number i : ℕ) (target : Target) → i < length targets → target ≡ get_or targets i target
-    → NotesAll old now (take i targets) number → Notes now new (pattern_back target.name) number → NotesAll old new (take (i + 1) targets) number
+    → NotesAll old now (take i targets) number → NotesEnd now new (pattern_back target.name) number → NotesAll old new (take (i + 1) targets) number
 target_noted old now new targets number i target within is before here = record {
   noted = subst (λ (ts : List Target). AreNoted new ts number) (sym (take_more targets i target within ∙ ap (λ (t : Target). take i targets ++ t ∷ []) (sym is)))
       (All-push (λ (t : Target). IsNoted new (pattern_back t.name) number) (take i targets) target

@@ -8,24 +8,24 @@ use Rattle.std.proofs.lemmas.List.{get_or-append_right, length-append}
 use Rattle.std.proofs.lemmas.List.Folds.{list_any-append}
 use Rattle.std.proofs.lemmas.Option.{get_or_from_slice_get, slice_get_within}
 use Rattle.kt_graph.specs.declared.search.question.Question.{Question}
-use Rattle.kt_graph.specs.search.Search.{Asked, asked_eq, with_question}
+use Rattle.kt_graph.specs.search.Search.{Sought, asked_eq, with_question}
 use Rattle.kt_graph.specs.search.Views.{question_view}
 use Rattle.kt_list.proofs.general.Elements.{first_or_rest, in_first, in_rest, none_in_empty}
 
-pub asked_itself : (question : Asked) → asked_eq question question ≡ true
+pub asked_itself : (question : Sought) → asked_eq question question ≡ true
 asked_itself question = and_from _ _ (nat_list_eq_equiv.refl question.0) (nat_list_eq_equiv.refl question.1)
 
-any_in_more : (question : Asked) (asked more : List Asked) → list_any (asked_eq question) asked ≡ true → list_any (asked_eq question) (asked ++ more) ≡ true
+any_in_more : (question : Sought) (asked more : List Sought) → list_any (asked_eq question) asked ≡ true → list_any (asked_eq question) (asked ++ more) ≡ true
 any_in_more question asked more h = list_any-append (asked_eq question) asked more ∙ or_left _ _ h
 
-stays_with_one : (question one : Asked) (asked : List Asked) → list_any (asked_eq question) asked ≡ true → list_any (asked_eq question) (with_question asked one) ≡ true
+stays_with_one : (question one : Sought) (asked : List Sought) → list_any (asked_eq question) asked ≡ true → list_any (asked_eq question) (with_question asked one) ≡ true
 stays_with_one question one asked h = by (list_any (asked_eq one) asked)
   where
     by : (b : Bool) → list_any (asked_eq question) (if b then asked else asked ++ one ∷ []) ≡ true
     by true = h
     by false = any_in_more question asked (one ∷ []) h
 
-is_put : (one : Asked) (asked : List Asked) → list_any (asked_eq one) (with_question asked one) ≡ true
+is_put : (one : Sought) (asked : List Sought) → list_any (asked_eq one) (with_question asked one) ≡ true
 is_put one asked = by (list_any (asked_eq one) asked) refl
   where
     by : (b : Bool) → list_any (asked_eq one) asked ≡ b → list_any (asked_eq one) (if b then asked else asked ++ one ∷ []) ≡ true
@@ -33,31 +33,31 @@ is_put one asked = by (list_any (asked_eq one) asked) refl
     by false e = list_any-append (asked_eq one) asked (one ∷ []) ∙ or_right (list_any (asked_eq one) asked) _ (or_left _ _ (asked_itself one))
 
 -- a question that is there stays there
-pub stays_put : (question : Asked) (asked more : List Asked) → list_any (asked_eq question) asked ≡ true → list_any (asked_eq question) (fold with_question asked more) ≡ true
+pub stays_put : (question : Sought) (asked more : List Sought) → list_any (asked_eq question) asked ≡ true → list_any (asked_eq question) (fold with_question asked more) ≡ true
 stays_put question asked [] h = h
 stays_put question asked (one ∷ more) h = stays_put question (with_question asked one) more (stays_with_one question one asked h)
 
 -- a question that is added is there
-pub all_put : (asked more : List Asked) (question : Asked) → Contains more question → list_any (asked_eq question) (fold with_question asked more) ≡ true
+pub all_put : (asked more : List Sought) (question : Sought) → Contains more question → list_any (asked_eq question) (fold with_question asked more) ≡ true
 all_put asked [] question c = absurd (none_in_empty question c)
 all_put asked (one ∷ more) question c =
     ⊎_elim (λ e. stays_put question (with_question asked one) more (subst (λ q. list_any (asked_eq q) (with_question asked one) ≡ true) e (is_put one asked)))
     (λ rest. all_put (with_question asked one) more question rest) (first_or_rest one question more c)
 
 -- a question that is there adds nothing
-pub none_new : (asked more : List Asked) → ((question : Asked) → Contains more question → list_any (asked_eq question) asked ≡ true) → fold with_question asked more ≡ asked
+pub none_new : (asked more : List Sought) → ((question : Sought) → Contains more question → list_any (asked_eq question) asked ≡ true) → fold with_question asked more ≡ asked
 none_new asked [] h = refl
 none_new asked (one ∷ more) h =
     ap (λ b. fold with_question (if b then asked else asked ++ one ∷ []) more) (h one (in_first one more))
     ∙ none_new asked more (λ question c. h question (in_rest one question more c))
 
 -- a question that is added is after those that are there
-record IsBehind (asked more all : List Asked) : Type 0 where
-  added : List Asked
+record IsBehind (asked more all : List Sought) : Type 0 where
+  added : List Sought
   whole : all ≡ asked ++ added
-  from : (question : Asked) → Contains added question → Contains more question
+  from : (question : Sought) → Contains added question → Contains more question
 
-after : (asked more : List Asked) → IsBehind asked more (fold with_question asked more)
+after : (asked more : List Sought) → IsBehind asked more (fold with_question asked more)
 after asked [] = record { added = []; whole = sym (append-nil asked); from = λ question c. c }
 after asked (one ∷ more) = by (list_any (asked_eq one) asked) (after asked more) (after (asked ++ one ∷ []) more)
   where
@@ -73,7 +73,7 @@ after asked (one ∷ more) = by (list_any (asked_eq one) asked) (after asked mor
               (λ later. in_rest one question more (rest.from question later)) (first_or_rest one question rest.added c);
         }
 
-pub put_after : (asked more : List Asked) (place : ℕ) (question : Asked) → length asked ≤ place
+pub put_after : (asked more : List Sought) (place : ℕ) (question : Sought) → length asked ≤ place
     → slice_get (fold with_question asked more) place ≡ Some question → Contains more question
 put_after asked more place question past at =
     let all = after asked more in

@@ -10,8 +10,8 @@ use Rattle.kt_rules.specs.Patterns.{is_terminal}
 use Rattle.kt_graph.specs.declared.search.candidate.Candidate.{Candidate as HeldCandidate}
 use Rattle.kt_graph.specs.declared.search.tried.Tried.{Tried}
 use Rattle.kt_graph.specs.search.Candidates.{Candidate}
-use Rattle.kt_graph.specs.inner.search.Chains.{IsFound, IsRightFor, Keeps, HasAnswered, asked_besides}
-use Rattle.kt_graph.specs.search.Search.{Asked, Asking, Choosing, asked_among, asked_by, asked_for, asked_inside, asking, chosen_of, fitting, is_inferred, is_met, open_candidates, unknown_needs, with_question, with_rule}
+use Rattle.kt_graph.specs.inner.search.Chains.{IsFound, IsRightFor, KeepsAnswers, HasAnswered, asked_besides}
+use Rattle.kt_graph.specs.search.Search.{Sought, Asking, Choosing, asked_among, asked_by, asked_for, asked_inside, asking, chosen_of, fitting, is_inferred, is_met, open_candidates, unknown_needs, with_question, with_rule}
 use Rattle.kt_graph.specs.search.Views.{AreWithin, question_view, candidate_view, candidates_view}
 use Rattle.kt_graph.proofs.lemmas.search.AskingLemmas.{length-with_rule}
 use Rattle.kt_graph.proofs.lemmas.search.ChainLemmas.{keeps_all, keeps_more}
@@ -19,25 +19,25 @@ use Rattle.kt_graph.proofs.lemmas.Membership.{found_any}
 use Rattle.kt_graph.proofs.lemmas.search.CandidateViewLemmas.{at_some, found_some, if_some, told_at, told_from, told_last, told_rule}
 
 -- all this is to be asked, and this much of it remains
-pub record IsAsking (rules : List Rule) (known : List Text) (old now : Tried) (least : ℕ) (all left : List Asked) : Type 0 where
+pub record IsAsking (rules : List Rule) (known : List Text) (old now : Tried) (least : ℕ) (all left : List Sought) : Type 0 where
   pub right : IsRightFor rules known now least
-  pub kept : Keeps old now
+  pub kept : KeepsAnswers old now
   pub rest : fold with_question (map question_view now.questions.keys) left ≡ fold with_question (map question_view old.questions.keys) all
 
 module _ (rules : List Rule) (known : List Text) (least : ℕ) where
-  pub asking_starts : (tried : Tried) (all left : List Asked) → IsRightFor rules known tried least → all ≡ left → IsAsking rules known tried tried least all left
+  pub asking_starts : (tried : Tried) (all left : List Sought) → IsRightFor rules known tried least → all ≡ left → IsAsking rules known tried tried least all left
   asking_starts tried all left right e = record {
     right = right;
     kept = keeps_all tried;
     rest = sym (ap (fold with_question (map question_view tried.questions.keys)) e);
   }
 
-  part_put : (now new : Tried) (part later : List Asked) → HasAnswered rules known now new least part
+  part_put : (now new : Tried) (part later : List Sought) → HasAnswered rules known now new least part
       → fold with_question (map question_view new.questions.keys) later ≡ fold with_question (map question_view now.questions.keys) (part ++ later)
   part_put now new part later leaves =
       ap (λ asked. fold with_question asked later) leaves.put ∙ sym (fold-append with_question (map question_view now.questions.keys) part later)
 
-  pub asking_more : (old now new : Tried) (all left part later : List Asked) → IsAsking rules known old now least all left → HasAnswered rules known now new least part → Keeps now new
+  pub asking_more : (old now new : Tried) (all left part later : List Sought) → IsAsking rules known old now least all left → HasAnswered rules known now new least part → KeepsAnswers now new
       → left ≡ part ++ later → IsAsking rules known old new least all later
   asking_more old now new all left part later asking leaves keeps e = record {
     right = leaves.right;
@@ -45,7 +45,7 @@ module _ (rules : List Rule) (known : List Text) (least : ℕ) where
     rest = part_put now new part later leaves ∙ sym (ap (fold with_question (map question_view now.questions.keys)) e) ∙ asking.rest;
   }
 
-  pub asking_ends : (old now : Tried) (all left : List Asked) → IsAsking rules known old now least all left → left ≡ [] → HasAnswered rules known old now least all
+  pub asking_ends : (old now : Tried) (all left : List Sought) → IsAsking rules known old now least all left → left ≡ [] → HasAnswered rules known old now least all
   asking_ends old now all left asking e = record {
     put = ap (fold with_question (map question_view now.questions.keys)) (sym e) ∙ asking.rest;
     right = asking.right;
@@ -126,16 +126,16 @@ module _ (rules : List Rule) (known : List Text) (left : ℕ) (used : List ℕ) 
       asked_from deeper ask used names i name h is b (some_is b a)
       ∙ ap (λ n. ask used n ++ (if b then asked_for deeper ask used (drop (i + 1) names) else [])) (sym e)
 
-  pub asks_later : (old now new : Tried) (all : List Asked) → is_some answer ≡ true
+  pub asks_later : (old now new : Tried) (all : List Sought) → is_some answer ≡ true
       → IsAsking rules known old now (length used) all (asked_for deeper ask used (drop i names))
-      → HasAnswered rules known now new (length used) (ask used text) → Keeps now new
+      → HasAnswered rules known now new (length used) (ask used text) → KeepsAnswers now new
       → IsAsking rules known old new (length used) all (asked_for deeper ask used (drop (i + 1) names))
   asks_later old now new all a asks leaves keeps =
       asking_more rules known (length used) old now new all _ (ask used text) _ asks leaves keeps (asked_here true a)
 
-  pub asks_no_more : (old now new : Tried) (all : List Asked) → is_some answer ≡ false
+  pub asks_no_more : (old now new : Tried) (all : List Sought) → is_some answer ≡ false
       → IsAsking rules known old now (length used) all (asked_for deeper ask used (drop i names))
-      → HasAnswered rules known now new (length used) (ask used text) → Keeps now new → HasAnswered rules known old new (length used) all
+      → HasAnswered rules known now new (length used) (ask used text) → KeepsAnswers now new → HasAnswered rules known old new (length used) all
   asks_no_more old now new all a asks leaves keeps =
       asking_ends rules known (length used) old new all [] (asking_more rules known (length used) old now new all _ (ask used text) [] asks leaves keeps (asked_here false a)) refl
 
@@ -172,17 +172,17 @@ module _ (rules : List Rule) (known : List Text) (left : ℕ) (name : Text) (use
       among_from rules name known choosing putting used candidates i candidate one h is one_told b
       (sym (at_some (candidate_view rules name candidate) (λ told. passed ≡ is_inferred known choosing used told) one one_told tells) ∙ a)
 
-  pub infers_later : (old now new : Tried) (least : ℕ) (all : List Asked) → passed ≡ false
+  pub infers_later : (old now new : Tried) (least : ℕ) (all : List Sought) → passed ≡ false
       → IsAsking rules known old now least all (asked_among known choosing putting used (candidates_view rules name (drop i candidates)))
-      → IfSome (candidate_view rules name candidate) (λ told. HasAnswered rules known now new least (asked_by known choosing putting used told)) → Keeps now new
+      → IfSome (candidate_view rules name candidate) (λ told. HasAnswered rules known now new least (asked_by known choosing putting used told)) → KeepsAnswers now new
       → IsAsking rules known old new least all (asked_among known choosing putting used (candidates_view rules name (drop (i + 1) candidates)))
   infers_later old now new least all a asks leaves keeps =
       asking_more rules known least old now new all _ (asked_by known choosing putting used one) _ asks
       (at_some (candidate_view rules name candidate) (λ told. HasAnswered rules known now new least (asked_by known choosing putting used told)) one one_told leaves) keeps (among_here false a)
 
-  pub infers_no_more : (old now new : Tried) (least : ℕ) (all : List Asked) → passed ≡ true
+  pub infers_no_more : (old now new : Tried) (least : ℕ) (all : List Sought) → passed ≡ true
       → IsAsking rules known old now least all (asked_among known choosing putting used (candidates_view rules name (drop i candidates)))
-      → IfSome (candidate_view rules name candidate) (λ told. HasAnswered rules known now new least (asked_by known choosing putting used told)) → Keeps now new
+      → IfSome (candidate_view rules name candidate) (λ told. HasAnswered rules known now new least (asked_by known choosing putting used told)) → KeepsAnswers now new
       → HasAnswered rules known old new least all
   infers_no_more old now new least all a asks leaves keeps =
       asking_ends rules known least old new all []

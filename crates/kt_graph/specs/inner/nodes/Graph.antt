@@ -10,27 +10,27 @@ use Rattle.kt_graph.specs.inner.nodes.Numbering.{HasNumbers}
 use Rattle.kt_graph.specs.nodes.Views.{instance_at}
 
 -- no two makings are equal
-abbrev pub AreApart : List Held → Type 0
-AreApart instances =
+abbrev pub AreDifferent : List Held → Type 0
+AreDifferent instances =
     (one other : ℕ) → one < length instances → other < length instances → instance_at instances (Some one)
     ≡ instance_at instances (Some other) → one ≡ other
 
 -- a node's numbers are numbers of names and makings, and no two makings are equal
 pub record IsHeld (names : List Text) (instances : List Held) (node : StoredNode) : Type 0 where
   pub distinct : AreDistinct names
-  pub apart : AreApart instances
+  pub apart : AreDifferent instances
   pub numbers : HasNumbers (length names) (length instances) node
 
 -- the same for several nodes
-pub record AreHeld (names : List Text) (instances : List Held) (nodes : List StoredNode) : Type 0 where
+pub record AreNodesHeld (names : List Text) (instances : List Held) (nodes : List StoredNode) : Type 0 where
   pub distinct : AreDistinct names
-  pub apart : AreApart instances
+  pub apart : AreDifferent instances
   pub numbers : All (HasNumbers (length names) (length instances)) nodes
 
 -- each name has its node, and the order is the byte order of the names
 pub record IsWhole (names : List Text) (instances : List Held) (nodes : List StoredNode)
     (order : List ℕ) : Type 0 where
-  pub held : AreHeld names instances nodes
+  pub held : AreNodesHeld names instances nodes
   pub as_many : length nodes ≡ length names
   pub rises : IsByteOrder names order
 

@@ -13,7 +13,7 @@ use Rattle.kt_graph.specs.inner.nodes.Stored.{StoredNode, StoredPart, input_numb
 use Rattle.kt_graph.specs.declared.nodes.graph_builder.GraphBuilder.{GraphBuilder}
 use Rattle.kt_graph.specs.inner.nodes.Needed.{needed_by}
 use Rattle.kt_graph.specs.nodes.Node.{Node, group_of, node_of, own_part}
-use Rattle.kt_graph.specs.inner.nodes.Numbering.{Says, SaysNeeds, SaysNode}
+use Rattle.kt_graph.specs.inner.nodes.Numbering.{IsStoredAs, SaysNeeds, SaysNode}
 use Rattle.kt_graph.specs.Reach.{IsReached}
 use Rattle.kt_graph.specs.nodes.Views.{name_at}
 
@@ -102,7 +102,7 @@ pub record IsDone (rules : List Rule) (known goals : List Text) (names : List Te
   pub reached : All (IsReached rules known goals) names
   pub named : All (Contains names) goals
   pub stored : (number : ℕ) (node : StoredNode) → slice_get nodes number ≡ Some node
-      → Says names instances (name_at names number) (node_of rules known (name_at names number)) node
+      → IsStoredAs names instances (name_at names number) (node_of rules known (name_at names number)) node
   pub all : length nodes ≡ length names
 
 -- no node remains to be built

@@ -25,7 +25,7 @@ pub record HasNumbers (names makings : ℕ) (node : StoredNode) : Type 0 where
   pub made_with : IfSome node.made_with (λ making. making < makings)
 
 -- the stored node of a name is the expected one
-pub record Says (names : List Text) (instances : List Held) (name : Text) (expected : Node)
+pub record IsStoredAs (names : List Text) (instances : List Held) (name : Text) (expected : Node)
     (node : StoredNode) : Type 0 where
   pub numbers : HasNumbers (length names) (length instances) node
   pub told : (number : ℕ) → name_at names number ≡ name → node_view names instances number node ≡ expected

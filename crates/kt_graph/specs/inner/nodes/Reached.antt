@@ -51,8 +51,8 @@ pub record IsReachedAt (names : List Text) (numbers : List ℕ) (name : Text) (r
   pub at : slice_get (names_at names reached.numbers.items) place ≡ Some name
 
 -- whatever name has the number is reached
-abbrev pub Reaches : Reached → ℕ → Reached → ℕ → Type 0
-Reaches old number new place =
+abbrev pub ReachesNumber : Reached → ℕ → Reached → ℕ → Type 0
+ReachesNumber old number new place =
     (names : List Text) (name : Text) → IsPlaced names old.numbers.items old.marks.items
     → place_of names name ≡ Some number → IsReachedAt names old.numbers.items name new place
 

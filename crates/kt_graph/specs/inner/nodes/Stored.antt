@@ -51,8 +51,8 @@ order_only_numbers parts =
     fold with_number [] (numbers_without (input_numbers parts) (flat_map (λ part. part.order_only) parts))
 
 -- a node with these parts
-abbrev pub node_with : NodeKind → Option ℕ → List StoredPart → StoredNode
-node_with kind made_with parts = record {
+abbrev pub stored_with : NodeKind → Option ℕ → List StoredPart → StoredNode
+stored_with kind made_with parts = record {
   kind = kind;
   parts = parts;
   made_with = made_with;
@@ -135,7 +135,7 @@ part_seen part = record {
 }
 
 -- places in a list of this length
-pub record IsWithin (count : ℕ) (span : Span) : Type 0 where
+pub record IsSpanWithin (count : ℕ) (span : Span) : Type 0 where
   pub rises : span.start ≤ span.end
   pub ends : span.end ≤ count
 
@@ -144,7 +144,7 @@ abbrev pub IsPartWithin : ℕ → HeldPart → Type 0
 IsPartWithin count part = part.needs + 1 < count
 
 pub record IsHeadWithin (many_parts many_rows : ℕ) (head : Head) : Type 0 where
-  pub parts : IsWithin many_parts head.parts
+  pub parts : IsSpanWithin many_parts head.parts
   pub inputs : head.inputs + 1 < many_rows
 
 -- all places are in the lists of parts and rows

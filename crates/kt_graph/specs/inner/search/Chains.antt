@@ -10,15 +10,15 @@ use Rattle.kt_graph.specs.declared.search.tried.Tried.{Tried}
 use Rattle.kt_graph.specs.declared.search.tried.Placed.{Placed}
 use Rattle.kt_graph.specs.declared.search.tried.Placed.TheVariants.{Before, Last}
 use Rattle.kt_graph.specs.search.Candidates.{Candidate}
-use Rattle.kt_graph.specs.search.Search.{Asked, asked_eq, asked_inside, asking, chain_limit, fitting, open_candidates}
+use Rattle.kt_graph.specs.search.Search.{Sought, asked_eq, asked_inside, asking, chain_limit, fitting, open_candidates}
 use Rattle.kt_graph.specs.search.Search.{with_question}
-use Rattle.kt_graph.specs.search.Views.{IsWithin, question_view, found_view}
+use Rattle.kt_graph.specs.search.Views.{IsFitWithin, question_view, found_view}
 
 -- the candidate that was found for a name is the expected one; it has a rule, and its places are in the name
 pub record IsFound (rules : List Rule) (name : Text) (expected : Option Candidate)
     (found : Option HeldCandidate) : Type 0 where
   pub told : found_view rules name found ≡ expected
-  pub within : IfSome found (λ candidate. (candidate.rule < length rules) × IsWithin name candidate.fit)
+  pub within : IfSome found (λ candidate. (candidate.rule < length rules) × IsFitWithin name candidate.fit)
 
 -- how many rules may be added to a question's chain
 abbrev pub left_for : Question → ℕ
@@ -29,7 +29,7 @@ abbrev pub expected_for : List Rule → List Text → Question → Option Candid
 expected_for rules known question = fitting rules known (left_for question) question.used.items question.name
 
 -- what a question asks, without itself
-unfoldable pub asked_besides : List Rule → List Text → ℕ → List ℕ → Text → List Asked
+unfoldable pub asked_besides : List Rule → List Text → ℕ → List ℕ → Text → List Sought
 asked_besides rules known zero used name = []
 asked_besides rules known (suc left) used name =
     asked_inside known (fitting rules known left) (asking rules known left) used (open_candidates rules used name)
@@ -44,7 +44,7 @@ pub record IsRight (rules : List Rule) (known : List Text) (tried : List Questio
       → IsFound rules question.name (expected_for rules known question) (unwrap_or (slice_get answers place) None)
   pub closed : (place : ℕ) (question : Question) → slice_get tried place ≡ Some question
       → least ≤ length question.used.items
-      → (asked : Asked) → Contains (asking rules known (left_for question) question.used.items question.name)
+      → (asked : Sought) → Contains (asking rules known (left_for question) question.used.items question.name)
       asked
       → list_any (asked_eq asked) (map question_view tried) ≡ true
 
@@ -52,14 +52,14 @@ abbrev pub IsRightFor : List Rule → List Text → Tried → ℕ → Type 0
 IsRightFor rules known tried least = IsRight rules known tried.questions.keys tried.answers.items least
 
 -- these questions were added, each unless it was there
-abbrev pub Asks : Tried → Tried → List Asked → Type 0
+abbrev pub Asks : Tried → Tried → List Sought → Type 0
 Asks old new asked =
     map question_view new.questions.keys ≡ fold with_question (map question_view old.questions.keys) asked
 
 -- after a step of the search whose questions have a given number of rules in their chains: it has asked all of them,
 -- and each has its answer
 pub record HasAnswered (rules : List Rule) (known : List Text) (old new : Tried) (least : ℕ)
-    (asked : List Asked) : Type 0 where
+    (asked : List Sought) : Type 0 where
   pub put : Asks old new asked
   pub right : IsRightFor rules known new least
 
@@ -74,7 +74,7 @@ pub record Finding : Type 0 where
   pub known : List Text
 
 -- no question is removed, and none gets another answer
-pub record Keeps (old new : Tried) : Type 0 where
+pub record KeepsAnswers (old new : Tried) : Type 0 where
   pub questions : IsPrefix old.questions.keys new.questions.keys
   pub answers : IsPrefix old.answers.items new.answers.items
 
@@ -97,6 +97,6 @@ pub record StandsLast (old new : Tried) (question : Question) (place : ℕ) : Ty
   pub questions : new.questions.keys ≡ old.questions.keys ++ question ∷ []
   pub answers : new.answers.items ≡ old.answers.items ++ None ∷ []
 
-abbrev pub IsPlaced : Tried → Tried → Question → Placed → Type 0
-IsPlaced old new question (Before answer) = StoodBefore old new question answer
-IsPlaced old new question (Last place) = StandsLast old new question place
+abbrev pub IsAnswerPlaced : Tried → Tried → Question → Placed → Type 0
+IsAnswerPlaced old new question (Before answer) = StoodBefore old new question answer
+IsAnswerPlaced old new question (Last place) = StandsLast old new question place

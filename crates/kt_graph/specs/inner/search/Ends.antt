@@ -23,7 +23,7 @@ IsNoted ends end number = Contains (numbers_at ends end) number × Contains ends
 abbrev pub KeepsNoted : Ends → Ends → Type 0
 KeepsNoted old new = (end : Text) (number : ℕ) → IsNoted old end number → IsNoted new end number
 
-pub record Notes (old new : Ends) (end : Text) (number : ℕ) : Type 0 where
+pub record NotesEnd (old new : Ends) (end : Text) (number : ℕ) : Type 0 where
   pub noted : IsNoted new end number
   pub kept : KeepsNoted old new
 

@@ -3,7 +3,7 @@ use Rattle.std.proofs.lemmas.Result.{on_ok_weaker}
 use Rattle.kt_rules.specs.Slots.{rule_view}
 use Rattle.kt_rules.specs.Suffixes.{suffixes_of}
 use Rattle.kt_graph.specs.declared.nodes.node.NodeKind.TheVariants.{DoubleColon}
-use Rattle.kt_graph.specs.inner.nodes.Stored.{node_with, parts_held}
+use Rattle.kt_graph.specs.inner.nodes.Stored.{stored_with, parts_held}
 use Rattle.kt_graph.proofs.lemmas.nodes.StepLemmas.{holds_double}
 use Rattle.kt_graph.proofs.nodes.graph_builder.GraphBuilder.double_node.Goals as goal
 
@@ -11,6 +11,6 @@ pub returns : goal.returns
 returns c =
     let old = c.args.self.now in
     let parts = parts_held c.in_ok-parts.parts.items in
-    on_ok_weaker c.push_double.result (λ (h : c.push_double.new.self ≡ old.nodes ++ node_with DoubleColon None parts ∷ []) name.
+    on_ok_weaker c.push_double.result (λ (h : c.push_double.new.self ≡ old.nodes ++ stored_with DoubleColon None parts ∷ []) name.
     holds_double old c.double_parts.new.names c.push_double.new.self (suffixes_of old.book.now) name (map rule_view c.args.rules.now) parts
     c.in_ok-parts.ensures.reached c.in_ok-parts.ensures.say h) c.push_double.ensures

@@ -1,5 +1,5 @@
 use Rattle.std.proofs.lemmas.Result.{IfOk-weaker}
-use Rattle.kt_graph.specs.inner.nodes.Reached.{IsPushed, Reaches}
+use Rattle.kt_graph.specs.inner.nodes.Reached.{IsPushed, ReachesNumber}
 use Rattle.kt_graph.proofs.lemmas.nodes.ReachedNames.{reached_before, reached_now}
 use Rattle.kt_graph.proofs.nodes.reached.Reached.reach.Goals as goal
 
@@ -13,5 +13,5 @@ returns-in-None-clause-reached c =
     let new = c.push.new.self in
     let number = c.args.number in
     IfOk-weaker c.push.result (IsPushed old number new)
-    (Reaches old number new)
+    (ReachesNumber old number new)
     (λ place pushed names name is at. reached_now names old new name number place c.in-None.ensures pushed is at) c.push.ensures.pushed

@@ -1,6 +1,6 @@
 use Rattle.std.proofs.Common.{◌++◌, ◌∷◌, ◌∙◌, [], None, ap, subst, sym}
 use Rattle.kt_graph.specs.declared.nodes.node.NodeKind.TheVariants.{DoubleColon}
-use Rattle.kt_graph.specs.inner.nodes.Stored.{AreStored, node_with, nodes_stored, parts_held}
+use Rattle.kt_graph.specs.inner.nodes.Stored.{AreStored, stored_with, nodes_stored, parts_held}
 use Rattle.kt_graph.proofs.lemmas.nodes.StoredLemmas.{nodes_push, stored_more, stored_push}
 use Rattle.kt_graph.proofs.nodes.stored.StoredNodes.push_double.Goals as goal
 
@@ -18,6 +18,6 @@ returns c =
     let parts = c.put_double.new.held.items in
     let rows = c.put_double.new.rows in
     ap (nodes_stored parts rows) c.in_ok-push.ensures.items
-    ∙ nodes_push c.self.inside.parts.items parts c.self.inside.rows rows c.self.inside.heads.items c.in_ok-head.head (node_with DoubleColon None (parts_held c.args.parts.items))
+    ∙ nodes_push c.self.inside.parts.items parts c.self.inside.rows rows c.self.inside.heads.items c.in_ok-head.head (stored_with DoubleColon None (parts_held c.args.parts.items))
     c.in_ok-head.ensures.grew c.self.invariant c.in_ok-head.ensures.head.is
-    ∙ ap (λ nodes. nodes ++ node_with DoubleColon None (parts_held c.args.parts.items) ∷ []) c.self.view_is
+    ∙ ap (λ nodes. nodes ++ stored_with DoubleColon None (parts_held c.args.parts.items) ∷ []) c.self.view_is

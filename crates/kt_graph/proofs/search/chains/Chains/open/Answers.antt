@@ -5,7 +5,7 @@ use Rattle.std.proofs.lemmas.List.Elements.{All-filter}
 use Rattle.kt_graph.specs.declared.search.candidate.Candidate.{Candidate as HeldCandidate}
 use Rattle.kt_graph.specs.search.Candidates.{Candidate, candidates_for}
 use Rattle.kt_graph.specs.search.Search.{is_used}
-use Rattle.kt_graph.specs.search.Views.{IsWithin, candidates_view}
+use Rattle.kt_graph.specs.search.Views.{IsFitWithin, candidates_view}
 use Rattle.kt_graph.proofs.lemmas.search.CandidateViewLemmas.{begun_is, filter_told}
 use Rattle.kt_graph.proofs.search.chains.Chains.open.Goals as goal
 
@@ -26,6 +26,6 @@ returns-clause-within c =
     let used = c.args.used.now in
     let kept : c.retain.new.self.items ≡ filter (λ (one : HeldCandidate). not (is_used used one.rule)) c.in_ok-open.open.items
     = filter_same _ (λ (one : HeldCandidate). not (is_used used one.rule)) _ (λ x b f k. search rules) _ _ c.retain.ensures.filtered in
-    subst (λ ones. All (λ (one : HeldCandidate). (one.rule < length patterns) × IsWithin c.args.name.now one.fit) ones) (sym kept)
-    (All-filter (λ (one : HeldCandidate). not (is_used used one.rule)) (λ (one : HeldCandidate). (one.rule < length patterns) × IsWithin c.args.name.now one.fit) c.in_ok-open.open.items
+    subst (λ ones. All (λ (one : HeldCandidate). (one.rule < length patterns) × IsFitWithin c.args.name.now one.fit) ones) (sym kept)
+    (All-filter (λ (one : HeldCandidate). not (is_used used one.rule)) (λ (one : HeldCandidate). (one.rule < length patterns) × IsFitWithin c.args.name.now one.fit) c.in_ok-open.open.items
     c.in_ok-open.ensures.within)

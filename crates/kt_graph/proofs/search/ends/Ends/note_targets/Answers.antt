@@ -3,7 +3,7 @@ use Rattle.std.proofs.lemmas.List.{take_all}
 use Rattle.kt_text.specs.Words.{Text}
 use Rattle.kt_text.specs.Match.{pattern_back}
 use Rattle.kt_rules.specs.declared.entry.Target.{Target}
-use Rattle.kt_graph.specs.inner.search.Ends.{Notes, NotesAll}
+use Rattle.kt_graph.specs.inner.search.Ends.{NotesEnd, NotesAll}
 use Rattle.kt_graph.proofs.lemmas.search.NotingLemmas.{none_noted, target_noted}
 use Rattle.kt_graph.proofs.search.ends.Ends.note_targets.Goals as goal
 
@@ -16,7 +16,7 @@ loop-target-preserved c =
     let within : i < length c.args.targets.now = omega arith in
     target_noted c.args.self.now c.loop-target.self c.note.new.self c.args.targets.now c.args.number i c.target-item.result within
     c.target-item.is c.loop-target.invariant
-    (subst (λ (end : Text). Notes c.loop-target.self c.note.new.self end c.args.number) (c.end_of.ensures ∙ ap pattern_back c.as_slice.ensures) c.in_ok-note.ensures)
+    (subst (λ (end : Text). NotesEnd c.loop-target.self c.note.new.self end c.args.number) (c.end_of.ensures ∙ ap pattern_back c.as_slice.ensures) c.in_ok-note.ensures)
 
 pub returns : goal.returns
 returns c =
