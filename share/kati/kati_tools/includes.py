@@ -21,7 +21,7 @@ MAKEFILES = re.compile(r"(^|/)(GNUmakefile|[Mm]akefile[^/]*|[Mm]ake\.[^/]*|[^/]*
 
 def without_continuations(text):
     """A makefile's text with continued lines joined."""
-    return re.sub(r"\\\r?\n[ \t]*", " ", text)
+    return text if "\\" not in text else re.sub(r"\\\r?\n[ \t]*", " ", text)
 
 
 def joined(text):
@@ -74,11 +74,16 @@ def fitting(pattern, listed):
     return [name for name in listed if form.match(name)]
 
 
+def has_line(data):
+    """Whether a text, given as bytes, has a line that may be read as an include."""
+    return b"include" in data and BEGIN.search(data) is not None
+
+
 def includes_nothing(makefiles, contents):
     """Whether no makefile can ask for another file, since no line of it begins with a word for that, and it has no
     `eval`, by which another text becomes one. What stands in them is kept in `contents`."""
     contents.update((name, files.content(name)) for name in makefiles)
-    return not any(data and (b"eval" in data or BEGIN.search(data)) for data in contents.values())
+    return not any(data and (b"eval" in data or has_line(data)) for data in contents.values())
 
 
 def asked(makefiles, listed):

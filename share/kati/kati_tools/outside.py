@@ -52,9 +52,10 @@ class Text:
         if "=" not in text and "$" not in text:
             self.plain.append(text)
             return
-        lines = text.split("\n")
-        self.plain += [line for line in lines if "=" not in line and "$" not in line]
-        for line in (line for line in lines if "=" in line or "$" in line):
+        others = []
+        # All others are put aside.
+        self.plain += [line for line in text.split("\n") if "=" not in line and "$" not in line or others.append(line)]
+        for line in others:
             found = ASSIGNMENT.match(line)
             if found and found.group(1) not in self.given:
                 self.values.setdefault(found.group(1), []).append(found.group(2))
@@ -117,7 +118,7 @@ def folders_in(data):
     """The folders outside this one that stand in an even text, up to their last slash."""
     found = set()
     for begin, rest in KINDS:
-        at, known = 0, set()
+        at, known = data.find(b" " + begin), set()
         while at >= 0 and len(known) < MOST_PASSED:
             one = form(begin, rest, known).search(data, at)
             at = one.start() if one else -1

@@ -3,7 +3,7 @@ import os
 import re
 
 from . import files, includes, outside, own_files
-from .programs import Stop, bytes_of, need, run
+from .programs import Stop, bytes_of, need, run, text_of
 
 # Folders of version control hold no sources.
 CONTROL = {".git", ".hg", ".svn"}
@@ -23,6 +23,15 @@ class Listing:
     def __init__(self, names, certain=(), folders=(), watched=()):
         self.names, self.certain = sorted(without_newlines(names)), certain
         self.folders, self.watched = without_newlines(folders), without_newlines(watched)
+
+    def data(self, dropped=()):
+        """The list as kati reads it, as bytes, without these names."""
+        return bytes_of("\n".join([*self.without(dropped), ""]))
+
+    def before(self, data):
+        """The names of the list of before, given as bytes: mostly the same, and those of this one where there was
+        none."""
+        return self.names if data is None or data == self.data() else text_of(data).split("\n")[:-1]
 
     def unsure(self, before):
         """The names that may be there only because the build made them: not those listed before, nor the certain."""
