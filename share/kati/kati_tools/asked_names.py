@@ -1,15 +1,15 @@
 """The names of the files that kati asks for, kept from one run of kati-build to the next.
 
-The program kati-asked tells them, which takes as long as a translation. They hang on its words and on what stands in
-the files that it names, not on the list of sources; so while these are as they were, it isn't run again. A file is as
-it was where its size, its number and its times are. For that its times have to be earlier than the run of kati-asked
-by more than what they are exact to: else a change after that run might give the file the same ones again, and nothing
-is kept."""
+Where the makefiles' text alone says them they are told by that, else by the program kati-asked, which takes as long as
+a translation. They hang on its words and on what stands in the files that are named, not on the list of sources; so
+while these are as they were, so are the names. A file is as it was where its size, its number and its times are. For
+that its times have to be earlier than it was looked at by more than what they are exact to: else a change after that
+might give the file the same ones again, and nothing is kept."""
 import os
 from itertools import chain
 from operator import attrgetter
 
-from . import files
+from . import asked_by_text, files
 from .outside import has_marks
 from .programs import run_into, text_of
 
@@ -19,19 +19,9 @@ NUMBERS = attrgetter("st_size", "st_mtime_ns", "st_ctime_ns", "st_ino")
 # another device, which may have another clock, it isn't known.
 TICK, UNKNOWN_TICK = 20_000_000, 2_500_000_000
 WHOLE = 1_000_000
-# What stands before a name: the file isn't there; it is, and may name folders outside this one; it is, and names none.
-ABSENT, MARKED, PLAIN = "-", "/", " "
-
-
-def key_of(command):
-    """What tells this program with these words from others, in a line."""
-    program = os.stat(command[0])
-    return repr([program.st_mtime_ns, program.st_size, *command])
-
-
-def paths_of(names, folder):
-    """The paths of names in a folder, this one where it is None."""
-    return names if folder is None else [os.path.join(folder, name) for name in names]
+# What stands before a name: the file isn't there; it is, and has to be read; it names neither other makefiles nor
+# folders outside this one.
+ABSENT, READ, PLAIN = "-", "/", " "
 
 
 def stat_of(path):
@@ -47,6 +37,14 @@ def line_of(found):
     return " ".join(map(str, chain.from_iterable(map(NUMBERS, found))))
 
 
+def now_in(room):
+    """What is told of a file that is written now, in the folder `room`."""
+    path = os.path.join(room, TOLD)
+    files.write(path, b"")
+    os.utime(path)
+    return os.stat(path)
+
+
 def is_young(found, begun):
     """Whether a file may have been written after another one, or may be written after that and have the same times;
     both by what is told of them."""
@@ -55,59 +53,95 @@ def is_young(found, begun):
 
 
 class Record:
-    """The names as they are kept in a file: `key` and `numbers` tell what they are of."""
+    """The names as they are kept in a file: `key` says what told them, `numbers` what the files were, in the folder
+    `folder`, which is None for this one."""
 
-    def __init__(self, text):
-        self.key, self.numbers, *self.lines = text.split("\n")[:-1] or ["", ""]
-        self.names = [line[1:] for line in self.lines]
+    def __init__(self, path, folder):
+        self.key, self.numbers, *lines = (files.read(path) or "").split("\n")[:-1] or ["", ""]
+        self.names, self.marks = [line[1:] for line in lines], [line[0] for line in lines]
+        self.now = [stat_of(name if folder is None else os.path.join(folder, name)) for name in self.names]
 
-    def with_mark(self, mark):
-        """The names that have this mark."""
-        return [name for line, name in zip(self.lines, self.names) if line[0] == mark]
-
-    def is_true(self, folder):
+    def is_true(self):
         """Whether all files are as they were."""
-        there = [name for line, name in zip(self.lines, self.names) if line[0] != ABSENT]
-        try:
-            if line_of(map(os.stat, paths_of(there, folder))) != self.numbers:
-                return False
-        except (OSError, ValueError):
-            return False
-        return not any(map(stat_of, paths_of(self.with_mark(ABSENT), folder)))
+        is_there = [mark != ABSENT for mark in self.marks]
+        return [one is not None for one in self.now] == is_there and line_of(filter(None, self.now)) == self.numbers
+
+    def plain(self):
+        """What is told of each plain file that is as it was, by its name."""
+        values = self.numbers.split()
+        there = [(name, mark, one) for name, mark, one in zip(self.names, self.marks, self.now) if mark != ABSENT]
+        return {name: one for (name, mark, one), before in zip(there, zip(*[iter(values)] * 4))
+                if mark == PLAIN and one is not None and before == tuple(map(str, NUMBERS(one)))}
 
 
-def record_of(key, names, folder, begun, contents):
-    """The text of the record of these names, told by a run before which the file was written of which `begun` is told;
-    None where nothing can be kept. What stands in the files is kept in `contents`."""
-    paths = paths_of(names, folder)
-    found = list(map(stat_of, paths))
-    contents.update((name, files.content(path)) for name, path in zip(names, paths))
-    there = [one for one in found if one]
-    if any(is_young(one, begun) for one in there):
-        return None
-    marks = [ABSENT if one is None else MARKED if has_marks(contents[name] or b"") else PLAIN
-             for name, one in zip(names, found)]
-    return "\n".join([key, line_of(there), *map("".join, zip(marks, names)), ""])
+class Look:
+    """The files that a run looks at: what is told of each before it is read, and what stands in it, by its name; that
+    of a plain one is taken as empty, since nothing in it counts."""
+
+    def __init__(self, room, folder, plain):
+        self.begun, self.folder, self.known = now_in(room), folder, plain
+        self.found, self.contents = {}, {}
+
+    def read(self, name):
+        """What stands in a file; None where it isn't there."""
+        if name in self.known:
+            self.found[name], self.contents[name] = self.known[name], b""
+        else:
+            path = name if self.folder is None else os.path.join(self.folder, name)
+            self.found[name], self.contents[name] = files.looked_at(path)
+        return self.contents[name]
+
+    def mark(self, name):
+        """What stands before a name in the record."""
+        if self.found[name] is None:
+            return ABSENT
+        data = self.contents[name] or b""
+        return READ if asked_by_text.may_name(data) or has_marks(data) else PLAIN
+
+    def keep(self, path, key, names):
+        """Keeps these names, or none where a file is too young."""
+        there = [self.found[name] for name in names if self.found[name]]
+        if any(is_young(one, self.begun) for one in there):
+            files.remove(path)
+        else:
+            lines = [self.mark(name) + name for name in names]
+            files.replace(path, "\n".join([key, line_of(there), *lines, ""]), os.path.dirname(path))
 
 
-def told(path, command, folder, before, contents):
-    """The names that the program tells, kept in the file `path`; None where it fails. `before` is called before it is
-    run, to write the list that it has by --files, which isn't one of them. What stands in the files is kept in
-    `contents`, as far as it may matter to others."""
-    listed, key = command[command.index("--files") + 1], key_of(command)
-    kept = Record(files.read(path) or "")
-    if kept.key == key and kept.is_true(folder):
-        contents.update(dict.fromkeys(kept.with_mark(PLAIN), b""))
-        return kept.names
+def told_by_program(look, command, before, place):
+    """The names that the program tells, which are looked at; None where it fails. The list that it has by --files, which
+    `before` writes, isn't one of them."""
     before()
-    begun, place = os.stat(listed), os.path.join(os.path.dirname(path), TOLD)
-    if run_into(command, place, folder)[0]:
+    if run_into(command, place, look.folder)[0]:
         return None
-    contents.clear()
-    names = [name for name in text_of(files.content(place)).split("\n") if name and name != listed]
-    text = record_of(key, names, folder, begun, contents)
-    if text is None:
+    listed = command[command.index("--files") + 1]
+    told = dict.fromkeys(text_of(files.content(place)).split("\n"))
+    names = [name for name in told if name and name != listed]
+    for name in names:
+        look.read(name)
+    return names
+
+
+def told(path, makefiles, command, folder, before, contents):
+    """The names, kept in the file `path`: those that the makefiles' text says, which begins with `makefiles`, where
+    these are given, else those that a command tells in a folder; None where that can't be, or fails. What stands in the
+    files is put into `contents`, as far as it may matter to others."""
+    kept, program = Record(path, folder), command and os.stat(command[0])
+    by_text, by_program = repr(makefiles), command and repr([program.st_mtime_ns, program.st_size, *command])
+    if kept.key in (by_text, by_program) and kept.is_true():
+        contents.update((name, b"") for name, mark in zip(kept.names, kept.marks) if mark == PLAIN)
+        return kept.names
+    room = os.path.dirname(path)
+    look = Look(room, folder, kept.plain())
+    names, key = asked_by_text.names(makefiles, look.read) if makefiles else None, by_text
+    if names is None and command:
+        look.known = {}
+        names, key = told_by_program(look, command, before, os.path.join(room, TOLD)), by_program
+    if names is not None:
+        contents.update((name, look.contents[name]) for name in names)
+    if key == by_text and names == makefiles:
+        # That is found sooner than kept.
         files.remove(path)
-    else:
-        files.replace(path, text, os.path.dirname(path))
+    elif names is not None:
+        look.keep(path, key, names)
     return names

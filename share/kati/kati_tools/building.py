@@ -2,7 +2,7 @@
 import os
 import sys
 
-from . import files, includes, insertions, ninja_text, one_at_a_time, own_files, top_file, translating, words
+from . import files, insertions, ninja_text, one_at_a_time, own_files, top_file, translating, words
 from .programs import UNFORESEEN, Stop, bytes_of, ending, need, say
 
 TOOL = "kati-build"
@@ -158,9 +158,7 @@ class Build:
         source."""
         if self.asked.port:
             return self.translator.asked(self.program)
-        if includes.includes_nothing(self.makefiles(), self.translator.contents):
-            return self.makefiles()
-        found = self.translator.asked(self.program)
+        found = self.translator.asked(self.program, self.makefiles())
         own = {self.translator.makefile if self.asked.builtin else None}
         own.update(os.path.join(self.room, one) for one in (translating.MACROS, translating.RULES))
         return None if found is None else [*(name for name in found if name not in own), *self.values_from]
@@ -218,6 +216,7 @@ class Build:
         if is_new and not self.is_right(content):
             return UNFORESEEN
         if asked is None:
+            from . import includes
             asked = includes.asked(self.makefiles(), listing.names)
         names = top_file.watched(asked, self.translator.absent(asked), listing, self.output)
         top = top_file.text(self, names, found, is_new)

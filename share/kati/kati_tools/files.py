@@ -53,23 +53,28 @@ def entries(folder):
         os.close(handle)
 
 
-def content(path):
-    """The bytes of a file; None where none can be read."""
+def looked_at(path):
+    """What the system tells of a file, and then its bytes; None twice where none can be read."""
     try:
         handle = os.open(path, os.O_RDONLY | os.O_CLOEXEC)
     except (OSError, ValueError):
-        return None
+        return None, None
     # Without the objects of `open`, which take twice the time.
     try:
-        size = os.fstat(handle).st_size
-        parts = [os.read(handle, size + 1)]
-        while parts[-1] and len(parts[0]) != size:
+        found = os.fstat(handle)
+        parts = [os.read(handle, found.st_size + 1)]
+        while parts[-1] and len(parts[0]) != found.st_size:
             parts.append(os.read(handle, PIECE))
-        return parts[0] if len(parts) == 1 else b"".join(parts)
+        return found, parts[0] if len(parts) == 1 else b"".join(parts)
     except OSError:
-        return None
+        return None, None
     finally:
         os.close(handle)
+
+
+def content(path):
+    """The bytes of a file; None where none can be read."""
+    return looked_at(path)[1]
 
 
 def read(path):

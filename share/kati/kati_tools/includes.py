@@ -8,8 +8,6 @@ import re
 
 from . import files
 
-# A line that may be read as an include; one that begins so and isn't does no harm.
-BEGIN = re.compile(rb"^[ \t\r\f\v]*(?:-|s)?include[\s\\]", re.MULTILINE)
 LINE = re.compile(r"^[ \t]*(?:-include|sinclude|include)[ \t]+(.*)$")
 IN_EVAL = re.compile(r"\$[({]eval[ \t]+(?:-include|sinclude|include)[ \t]+(.*)[)}]")
 REFERENCE = re.compile(r"\$(?:\([^()]*\)|\{[^{}]*\}|[^({])")
@@ -72,18 +70,6 @@ def fitting(pattern, listed):
     # `?` and `[` stand for themselves, since kati refuses them in an include's name.
     form = re.compile(fnmatch.translate(re.sub(r"([?\[])", r"[\1]", pattern)))
     return [name for name in listed if form.match(name)]
-
-
-def has_line(data):
-    """Whether a text, given as bytes, has a line that may be read as an include."""
-    return b"include" in data and BEGIN.search(data) is not None
-
-
-def includes_nothing(makefiles, contents):
-    """Whether no makefile can ask for another file, since no line of it begins with a word for that, and it has no
-    `eval`, by which another text becomes one. What stands in them is kept in `contents`."""
-    contents.update((name, files.content(name)) for name in makefiles)
-    return not any(data and (b"eval" in data or has_line(data)) for data in contents.values())
 
 
 def asked(makefiles, listed):

@@ -160,12 +160,11 @@ class Translator:
         """Those of the names that were asked for by which no file is there; what was read is known to be."""
         return {name for name in asked if self.contents.get(name) is None and not os.path.lexists(name)}
 
-    def asked(self, program):
-        """The names that the translation asks for, in order, by kati-asked; None where that is absent or fails. They
-        are the same by any list."""
-        if program is None:
-            return None
-        return asked_names.told(self.record, self.command(program), self.folder,
+    def asked(self, program, makefiles=()):
+        """The names that the translation asks for, in order: by the text of the makefiles, which begins with these, or
+        by kati-asked; None where that is absent or fails. They are the same by any list."""
+        command = self.command(program) if program else None
+        return asked_names.told(self.record, makefiles, command, self.folder,
                                 lambda: sources.write_list([], self.list), self.contents)
 
 
