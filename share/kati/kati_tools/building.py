@@ -23,7 +23,7 @@ files:
   build.kati/translated.ninja  what kati wrote; with --deps, where header dependencies are too
   build.kati/ported/           the makefiles that --port ported, and their values
   build.kati/files.txt         the list of the files that exist, as kati got it
-  build.kati/asked.txt         the files that kati asked for, as kati-asked told them
+  build.kati/asked.txt         the files that kati asked for, and by what it is seen that they have changed
   build.kati/lock              what a run holds while it translates: one at a time, the next one waits
   build.kati/                  has ninja's own log too. It is named after FILE: .kati for .ninja
 
@@ -35,8 +35,10 @@ what is added:
   status isn't 0, the build of before is kept. kati's own text isn't asked of.
 
 which files are watched:
-  The program kati-asked, where it is found, tells each file that the translation asked for. It is
-  run again only where one of these or a word has changed.
+  The makefiles' text says it where it has no `eval`, and lines that begin with `include`, `-include`
+  or `sinclude` hold no reference and stand in no conditional. Elsewhere the program kati-asked, where
+  it is found, tells each file that the translation asked for. It is run again only where one of these
+  or a word has changed.
   Without it, lines that begin with `include`, `-include` or `sinclude` are looked for. Of a name
   that holds a reference, each listed file that it could name is watched.
   The list of sources is made again when a folder that it is made from has changed. What the build

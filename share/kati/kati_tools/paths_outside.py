@@ -22,7 +22,7 @@ UP, BELOW = rb"(?:/(?:[^ \t]*/)?|(?=[ \t]))", rb"(?:[^ \t]*/)?"
 KINDS = ((b"..", UP), (b"/", BELOW), (b"./", rb"/*(?:\./+)*\.\." + UP))
 # So many folders that are known already are passed over in the form itself, which takes a third of the time.
 MOST_PASSED = 8
-RECIPE, RECIPES = re.compile(";.*"), re.compile(r"\n\t[^\n]*")
+RECIPE = re.compile(";.*")
 # These hold no sources, and change all the time.
 NEVER = ("/dev/", "/proc/", "/sys/")
 MOST_LEVELS = 10
@@ -39,13 +39,10 @@ class Text:
 
     def add(self, text):
         """Takes in a makefile."""
-        text = RECIPES.sub("", "\n" + includes.without_continuations(text))
-        if "=" not in text and "$" not in text:
-            self.plain.append(text)
-            return
-        others = []
-        # All others are put aside.
-        self.plain += [line for line in text.split("\n") if "=" not in line and "$" not in line or others.append(line)]
+        lines, others = includes.without_continuations(text).split("\n"), []
+        # All others but recipes are put aside.
+        self.plain += [line for line in lines if line[:1] != "\t"
+                       and ("=" not in line and "$" not in line or others.append(line))]
         for line in others:
             found = ASSIGNMENT.match(line)
             if found and found.group(1) not in self.given:
