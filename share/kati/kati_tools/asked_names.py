@@ -109,8 +109,8 @@ class Look:
 
 
 def told_by_program(look, command, before, place):
-    """The names that the program tells, which are looked at; None where it fails. The list that it has by --files, which
-    `before` writes, isn't one of them."""
+    """The names that the program tells, which are looked at; None where it fails. The list that it has by --files, and
+    that `before` writes, isn't one of them."""
     before()
     if run_into(command, place, look.folder)[0]:
         return None
