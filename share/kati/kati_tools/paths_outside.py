@@ -83,7 +83,8 @@ class Text:
         """The text in which the paths of rules stand."""
         lines = self.of_rules()
         expanded = self.expansions([line for line in lines if "$" in line])
-        return RECIPE.sub("", "\n".join([*self.plain, *(line for line in lines if "$" not in line), *expanded]))
+        text = "\n".join([*self.plain, *(line for line in lines if "$" not in line), *expanded])
+        return RECIPE.sub("", text) if ";" in text else text
 
     def included(self):
         """The names of includes that macros give."""
@@ -93,7 +94,8 @@ class Text:
 
 def even(text):
     """A text as bytes in which a path outside stands behind a blank, and a blank or a tab behind it."""
-    return EQUALS.sub(b"= ", bytes_of(f" {text} ")).translate(EVEN)
+    data = bytes_of(f" {text} ")
+    return (EQUALS.sub(b"= ", data) if "=" in text else data).translate(EVEN)
 
 
 def form(begin, rest, known):
