@@ -131,8 +131,8 @@ def as_debian_has_it(tree):
     compress(changes)
     for tool in sorted((tree / "usr/bin").iterdir()):
         text = tool.read_bytes()
-        if text.startswith(b"#!/usr/bin/env python3\n"):
-            tool.write_bytes(text.replace(b"#!/usr/bin/env python3", b"#!/usr/bin/python3", 1))
+        if text.startswith(b"#!/usr/bin/env -S python3 -S\n"):
+            tool.write_bytes(text.replace(b"#!/usr/bin/env -S python3 -S", b"#!/usr/bin/python3 -S", 1))
 
 
 def files_of(tree):

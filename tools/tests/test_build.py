@@ -1,4 +1,5 @@
 """kati-build: building, translating again, what is kept and what is replaced."""
+import os
 import stat
 
 from support import TOOLS, Tree, kati, needs
@@ -271,6 +272,22 @@ class Regenerating(Tree):
         self.put("from.txt", "two\n")
         self.ninja()
         self.assertEqual(self.read("out"), "two\n")
+
+    def test_a_run_that_ended_before_it_wrote_the_file_of_ninja(self):
+        self.write(Makefile="include a.mk\nout: ; echo '$(A)' > out\n", a_mk="A = 1\n")
+        self.start()
+        before = self.read("build.ninja")
+        self.assertIn("build a.mk: phony\n", before)
+        self.put("Makefile", self.read("Makefile") + "out: a.mk\na.mk: from ; cp from a.mk\n")
+        self.put("from", "A = 2\n")
+        self.ninja()
+        self.assertNotIn("build a.mk: phony\n", self.read("build.ninja"))
+        self.put("build.ninja", before)
+        os.utime(self.top / "build.ninja", (1, 1))
+        self.start()
+        self.assertNotIn("build a.mk: phony\n", self.read("build.ninja"))
+        self.ninja()
+        self.assertEqual(self.read("out"), "2\n")
 
     def watched(self):
         """What the translation depends on, as build.ninja says it."""

@@ -10,7 +10,7 @@ import re
 from . import ninja_text
 
 LINE = " restat = 1"
-WITHOUT_INPUTS = ": phony\n"
+WITHOUT_INPUTS = b": phony\n"
 PHONY_WITHOUT_INPUTS = re.compile(r"\nbuild ((?:\$.|[^:$\n])*): phony(?=\n)")
 # kati's own mark of a phony target with a recipe.
 ALWAYS = "_kati_always_build_"
@@ -52,10 +52,12 @@ def gets_restat(line):
                                                      for one in ninja_text.names(outputs))
 
 
-def lines(text):
+def lines(translation):
     """The lines for kati's text, by the number of the line behind which they stand."""
-    if WITHOUT_INPUTS not in text:
+    # Backwards is twice as fast.
+    if translation.data.rfind(WITHOUT_INPUTS) < 0:
         return {}
+    text = translation.text
     starts = [name for outputs in PHONY_WITHOUT_INPUTS.findall(text) for name in ninja_text.names(outputs)]
     all_lines = text.split("\n")
     found = Graph(all_lines).hanging(starts)

@@ -1,10 +1,8 @@
 """The command kati-build: translates a makefile, keeps the translation up to date, and runs ninja."""
 import os
-import signal
-import subprocess
 import sys
 
-from . import files, includes, insertions, ninja_text, one_at_a_time, own_files, top_file, translating, words
+from . import files, insertions, ninja_text, one_at_a_time, own_files, top_file, translating, words
 from .programs import UNFORESEEN, Stop, bytes_of, ending, need, say
 
 TOOL = "kati-build"
@@ -25,7 +23,7 @@ files:
   build.kati/translated.ninja  what kati wrote; with --deps, where header dependencies are too
   build.kati/ported/           the makefiles that --port ported, and their values
   build.kati/files.txt         the list of the files that exist, as kati got it
-  build.kati/asked.txt         the files that kati asked for, as kati-asked told them
+  build.kati/asked.txt         the files that kati asked for, and by what it is seen that they have changed
   build.kati/lock              what a run holds while it translates: one at a time, the next one waits
   build.kati/                  has ninja's own log too. It is named after FILE: .kati for .ninja
 
@@ -37,8 +35,10 @@ what is added:
   status isn't 0, the build of before is kept. kati's own text isn't asked of.
 
 which files are watched:
-  The program kati-asked, where it is found, tells each file that the translation asked for. It is
-  run again only where one of these or a word has changed.
+  The makefiles' text says it where it has no `eval`, and lines that begin with `include`, `-include`
+  or `sinclude` hold no reference and stand in no conditional. Elsewhere the program kati-asked, where
+  it is found, tells each file that the translation asked for. It is run again only where one of these
+  or a word has changed.
   Without it, lines that begin with `include`, `-include` or `sinclude` are looked for. Of a name
   that holds a reference, each listed file that it could name is watched.
   The list of sources is made again when a folder that it is made from has changed. What the build
@@ -160,9 +160,7 @@ class Build:
         source."""
         if self.asked.port:
             return self.translator.asked(self.program)
-        if includes.includes_nothing(self.makefiles(), self.translator.contents):
-            return self.makefiles()
-        found = self.translator.asked(self.program)
+        found = self.translator.asked(self.program, self.makefiles())
         own = {self.translator.makefile if self.asked.builtin else None}
         own.update(os.path.join(self.room, one) for one in (translating.MACROS, translating.RULES))
         return None if found is None else [*(name for name in found if name not in own), *self.values_from]
@@ -207,23 +205,23 @@ class Build:
 
     def translate_alone(self):
         """The same, where no other run is in the folder."""
-        before, old = files.read(self.list), files.read(self.translated) or ""
+        before, old = files.content(self.list), files.content(self.translated) or b""
         asked = self.names_asked()
         listing = translating.listing(self.asked, self.output, self.room, self.translator.makefiles(asked))
-        kept = listing.names if before is None else before.split("\n")[:-1]
-        found = self.translator.translate(listing, lambda: ninja_text.outputs(old), kept)
+        found = self.translator.translate(listing, lambda: ninja_text.Heads(old).outputs(), listing.before(before))
         sys.stderr.buffer.write(bytes_of(found.said))
         if found.status:
             self.say_kept(f"kati ended with status {found.status}")
             return found.status
         content = insertions.Content(found, self.asked.deps)
-        is_new = content.text != old
+        is_new = content.data != old
         if is_new and not self.is_right(content):
             return UNFORESEEN
         if asked is None:
+            from . import includes
             asked = includes.asked(self.makefiles(), listing.names)
-        names = top_file.watched(asked, listing, self.output)
-        top = top_file.text(self, names, found, content.text, is_new)
+        names = top_file.watched(asked, self.translator.absent(asked), listing, self.output)
+        top = top_file.text(self, names, found, is_new)
         self.write(found, content, is_new, top)
         return 0
 
@@ -235,12 +233,16 @@ class Build:
         """Whether kati says that a text still says what the makefile says. kati's own text needs no asking."""
         if content.is_katis and not self.asked.builtin:
             return True
-        status, said = self.translator.check(files.staged(self.translated, content.text, self.room))
+        status, said = self.translator.check(self.staged(content))
         if status:
             sys.stderr.buffer.write(bytes_of(said))
             self.say_kept("what it added to kati's text would change the build, as kati --check says by status "
                           f"{status}")
         return status == 0
+
+    def staged(self, content):
+        """The new file that has the translation's text: kati's own stands there already."""
+        return self.translator.written if content.is_katis else files.staged(self.translated, content.data, self.room)
 
     def write(self, found, content, is_new, top):
         """Replaces the files of which the bytes differ; the one that ninja reads, with the text `top`, is the last."""
@@ -249,7 +251,7 @@ class Build:
             from . import compile_commands
             files.replace(compile_commands.NAME, compile_commands.text(found.statements), self.room)
         if is_new:
-            files.put(files.staged(self.translated, content.text, self.room), self.translated)
+            files.put(self.staged(content), self.translated)
         # ninja, which asks for no other run of it, needn't hear it each time.
         for doubt in content.doubts if is_new or not self.asked.no_ninja else []:
             say(TOOL, doubt)
@@ -257,6 +259,9 @@ class Build:
 
     def run_ninja(self, more):
         """Runs ninja on the file; answers its status. An interrupt is ninja's: it ends its commands, and tells so."""
+        # Loaded here alone, since it takes time, and ninja runs this tool without ninja.
+        import signal
+        import subprocess
         sys.stdout.flush()
         sys.stderr.flush()
         # Not SIG_IGN, which ninja would inherit; but where it was that, as in the background, it stays.

@@ -22,41 +22,59 @@ def is_folder(entry):
         return False
 
 
+def leads_nowhere(entry):
+    """Whether an entry of a folder is a link to what isn't there."""
+    try:
+        entry.stat()
+        return False
+    except OSError:
+        return True
+
+
 def entries(folder):
     """The entries of a folder that are folders or lead to one, and the names of all others but links that lead
     nowhere; none where it can't be read, or can have no such name."""
+    others = []
     try:
-        with os.scandir(folder) as found:
-            all_entries = list(found)
+        # By its number the folder isn't put before each name, which takes a third of the time.
+        handle = os.open(folder, os.O_RDONLY | os.O_CLOEXEC | os.O_DIRECTORY)
     except (OSError, ValueError):
         return [], []
-    # Nearly all are files, which the folder itself tells.
-    others = [one for one in all_entries if not one.is_file(follow_symlinks=False)]
-    if not others:
-        return [], [one.name for one in all_entries]
-    folders = [one for one in others if is_folder(one)]
-    left = {one.name for one in folders}
-    left.update(one.name for one in others if one.name not in left and not os.path.exists(one.path))
-    return folders, [one.name for one in all_entries if one.name not in left]
+    try:
+        with os.scandir(handle) as found:
+            # Nearly all are files, which the folder itself tells; all others are put aside.
+            names = [one.name for one in found if one.is_file(follow_symlinks=False) or others.append(one)]
+        folders = [one for one in others if is_folder(one)]
+        kept = set(folders)
+        return folders, names + [one.name for one in others if one not in kept and not leads_nowhere(one)]
+    except OSError:
+        return [], []
+    finally:
+        os.close(handle)
+
+
+def looked_at(path):
+    """What the system tells of a file, and then its bytes; None twice where none can be read."""
+    try:
+        handle = os.open(path, os.O_RDONLY | os.O_CLOEXEC)
+    except (OSError, ValueError):
+        return None, None
+    # Without the objects of `open`, which take twice the time.
+    try:
+        found = os.fstat(handle)
+        parts = [os.read(handle, found.st_size + 1)]
+        while parts[-1] and len(parts[0]) != found.st_size:
+            parts.append(os.read(handle, PIECE))
+        return found, parts[0] if len(parts) == 1 else b"".join(parts)
+    except OSError:
+        return None, None
+    finally:
+        os.close(handle)
 
 
 def content(path):
     """The bytes of a file; None where none can be read."""
-    try:
-        handle = os.open(path, os.O_RDONLY | os.O_CLOEXEC)
-    except (OSError, ValueError):
-        return None
-    # Without the objects of `open`, which take twice the time.
-    try:
-        size = os.fstat(handle).st_size
-        parts = [os.read(handle, size + 1)]
-        while parts[-1] and len(parts[0]) != size:
-            parts.append(os.read(handle, PIECE))
-        return b"".join(parts)
-    except OSError:
-        return None
-    finally:
-        os.close(handle)
+    return looked_at(path)[1]
 
 
 def read(path):
@@ -86,10 +104,15 @@ def write(path, data):
         raise OSError(error.errno, error.strerror, path) from error
 
 
-def staged(path, text, room):
-    """A new file in the folder `room` with a text for another one, whose name `put` gives it."""
-    new = os.path.join(room, os.path.basename(path) + ".new")
-    write(new, bytes_of(text))
+def new_name(path, room):
+    """The name of a new file in the folder `room` for another one."""
+    return os.path.join(room, os.path.basename(path) + ".new")
+
+
+def staged(path, data, room):
+    """A new file in the folder `room` with these bytes for another one, whose name `put` gives it."""
+    new = new_name(path, room)
+    write(new, data)
     return new
 
 
@@ -101,15 +124,16 @@ def put(new, path):
 
 def replace(path, text, room):
     """Gives a file this text, by way of a new file in the folder `room`; answers whether it had another one."""
-    if read(path) == text:
+    data = bytes_of(text)
+    if content(path) == data:
         return False
-    put(staged(path, text, room), path)
+    put(staged(path, data, room), path)
     return True
 
 
 def settle(new, path):
     """Gives a new file its name where that file has other bytes; else takes the new one away."""
-    if read(new) == read(path):
+    if content(new) == content(path):
         remove(new)
     else:
         put(new, path)

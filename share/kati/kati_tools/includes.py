@@ -8,8 +8,6 @@ import re
 
 from . import files
 
-# A line that may be read as an include; one that begins so and isn't does no harm.
-BEGIN = re.compile(rb"^[ \t\r\f\v]*(?:-|s)?include[\s\\]", re.MULTILINE)
 LINE = re.compile(r"^[ \t]*(?:-include|sinclude|include)[ \t]+(.*)$")
 IN_EVAL = re.compile(r"\$[({]eval[ \t]+(?:-include|sinclude|include)[ \t]+(.*)[)}]")
 REFERENCE = re.compile(r"\$(?:\([^()]*\)|\{[^{}]*\}|[^({])")
@@ -21,7 +19,7 @@ MAKEFILES = re.compile(r"(^|/)(GNUmakefile|[Mm]akefile[^/]*|[Mm]ake\.[^/]*|[^/]*
 
 def without_continuations(text):
     """A makefile's text with continued lines joined."""
-    return re.sub(r"\\\r?\n[ \t]*", " ", text)
+    return text if "\\" not in text else re.sub(r"\\\r?\n[ \t]*", " ", text)
 
 
 def joined(text):
@@ -72,13 +70,6 @@ def fitting(pattern, listed):
     # `?` and `[` stand for themselves, since kati refuses them in an include's name.
     form = re.compile(fnmatch.translate(re.sub(r"([?\[])", r"[\1]", pattern)))
     return [name for name in listed if form.match(name)]
-
-
-def includes_nothing(makefiles, contents):
-    """Whether no makefile can ask for another file, since no line of it begins with a word for that, and it has no
-    `eval`, by which another text becomes one. What stands in them is kept in `contents`."""
-    contents.update((name, files.content(name)) for name in makefiles)
-    return not any(data and (b"eval" in data or BEGIN.search(data)) for data in contents.values())
 
 
 def asked(makefiles, listed):

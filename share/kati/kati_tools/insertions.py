@@ -1,13 +1,15 @@
 """kati's text with the lines that kati-build adds to the blocks of statements: where header dependencies are, and
 that a file counts only where it changed."""
 from . import always_run, ninja_text
+from .programs import bytes_of
 
 
 class Content:
-    """A translation's text with these lines; `is_katis` says that there are none, so that it is kati's own."""
+    """A translation's text with these lines, as bytes; `is_katis` says that there are none, so that it is kati's
+    own."""
 
     def __init__(self, translation, has_headers):
-        added, self.doubts = always_run.lines(translation.text), []
+        added, self.doubts = always_run.lines(translation), []
         if has_headers:
             # What it takes time to load is loaded only where it is needed.
             from . import header_dependencies
@@ -16,4 +18,4 @@ class Content:
                 added[number] = [*added.get(number, []), *lines]
             self.doubts = headers.doubts
         self.is_katis = not added
-        self.text = ninja_text.with_lines(translation.text, added)
+        self.data = bytes_of(ninja_text.with_lines(translation.text, added)) if added else translation.data

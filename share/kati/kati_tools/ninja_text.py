@@ -1,18 +1,24 @@
 """What kati writes, read line by line: its layout is fixed, and no line is continued."""
-import functools
 import re
+
+from .programs import text_of
 
 NAME = re.compile(r"(?:\$.|[^ $])+")
 COLON = re.compile(r"(?:\$.|[^:$])*")
-# What stands before the colon of a `build` line: without a dollar, as most, and with one. None is the first line.
-BUILD = "\nbuild "
-PLAIN_OUTPUTS = re.compile(BUILD + r"([^:$\n]*):")
-OTHER_OUTPUTS = re.compile(BUILD + r"((?=[^:\n]*\$)(?:\$.|[^:$\n])*):")
+# What stands before the first colon of a `build` line, of which none is the first line; and before the first one
+# that isn't escaped.
+PLAIN_HEAD, HEAD = re.compile(rb"\nbuild ([^:\n]*):"), re.compile(rb"\nbuild ((?:\$.|[^:$\n])*):")
 
 
 def escaped(text):
     """A name as Ninja reads it in a `build` line."""
     return text.replace("$", "$$").replace(" ", "$ ").replace(":", "$:")
+
+
+def all_escaped(named):
+    """Names as Ninja reads them in a `build` line: mostly as they are, which one look at all of them tells."""
+    joined = "".join(named)
+    return list(map(escaped, named)) if "$" in joined or " " in joined or ":" in joined else named
 
 
 def escaped_value(text):
@@ -61,17 +67,22 @@ def statements(text):
     return found
 
 
-@functools.lru_cache(maxsize=2)
-def outputs(text):
-    """All names that the statements of a file that kati wrote make; found without building them, which takes ten
-    times as long."""
-    found = PLAIN_OUTPUTS.findall(text)
-    several = [one for one in found if " " in one]
-    made = set(found).difference(several)
-    made.update(name for one in several for name in one.split())
-    if len(found) < text.count(BUILD):
-        made.update(plain(name) for one in OTHER_OUTPUTS.findall(text) for name in names(one))
-    return made
+class Heads:
+    """What stands before the colon of each statement of a file that kati wrote, which is given as bytes; found without
+    building the statements, which takes ten times as long. `are_names` says that each is a name as it is."""
+
+    def __init__(self, data):
+        self.all = PLAIN_HEAD.findall(data)
+        self.joined = b"\n".join(self.all)
+        if b"$" in self.joined:
+            self.all = HEAD.findall(data)
+        self.are_names = b" " not in self.joined and b"$" not in self.joined
+
+    def outputs(self):
+        """All names that the statements make."""
+        if self.are_names:
+            return set(map(text_of, self.all))
+        return {plain(name) for one in self.all for name in names(text_of(one))}
 
 
 def with_lines(text, added):

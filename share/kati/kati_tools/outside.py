@@ -1,35 +1,13 @@
 """The folders outside this one that rules name: `../inc/h.h`, `$(TOP)/src/%.c`, `/usr/include/x.h`.
 
 kati chooses a pattern rule by the files that exist, so what stands in these folders is in its list too, spelled as
-the makefile spells it. They are found without expanding more than macros of one word; a folder more does no harm."""
-import functools
+the makefile spells it. How they are found is a module of its own, which takes time to load."""
 import os
-import re
-from collections import Counter
 
-from . import files, includes
-from .programs import bytes_of, text_of
+from . import files
 
-ASSIGNMENT = re.compile(r"[ \t]*(?:override[ \t]+|export[ \t]+)*([^\s:#=?+!$]+)[ \t]*(?::{0,3}|[?+!])=[ \t]*(.*)")
-REFERENCE = re.compile(r"\$[({]([^\s:,$(){}]+)[^(){}]*[)}]")
-PLAIN = re.compile(r"\$[({]([^\s:,$(){}]+)[)}]")
-# A path outside stands behind a blank or another of these marks, and ends at one or before one of the ends. Each of the
-# first is a blank in an even text, each other a tab.
-MARKS_AND_ENDS = b"\t\n\r\v\f:,(|", b";)#$%"
-EVEN = bytes.maketrans(b"".join(MARKS_AND_ENDS), b" " * len(MARKS_AND_ENDS[0]) + b"\t" * len(MARKS_AND_ENDS[1]))
-# `=` is such a mark too, but also a letter of a name.
-EQUALS = re.compile(rb"=(?=[./])")
-# By how a path outside begins, what follows, up to the last slash: names are many, and folders few.
-UP, BELOW = rb"(?:/(?:[^ \t]*/)?|(?=[ \t]))", rb"(?:[^ \t]*/)?"
-KINDS = ((b"..", UP), (b"/", BELOW), (b"./", rb"/*(?:\./+)*\.\." + UP))
-# So many folders that are known already are passed over in the form itself, which takes a third of the time.
-MOST_PASSED = 8
-RECIPE, RECIPES = re.compile(";.*"), re.compile(r"\n\t[^\n]*")
 # A text without any of these names no such folder.
 MARKS = (b"..", b" /", b"\t/", b"=/", b":/", b",/", b"(/")
-# These hold no sources, and change all the time.
-NEVER = ("/dev/", "/proc/", "/sys/")
-MOST_LEVELS = 10
 
 
 def has_marks(data):
@@ -37,154 +15,19 @@ def has_marks(data):
     return (b"/" in data or b".." in data) and any(mark in data for mark in MARKS)
 
 
-class Text:
-    """The lines of makefiles that are no recipe: the values of macros, each with the others it was assigned, the lines
-    that have neither `=` nor a reference, which are most, and all others."""
-
-    def __init__(self, macros):
-        self.given = dict(word.split("=", 1) for word in macros)
-        self.values = {name: [value] for name, value in self.given.items()}
-        self.plain, self.others = [], []
-
-    def add(self, text):
-        """Takes in a makefile."""
-        text = RECIPES.sub("", "\n" + includes.without_continuations(text))
-        if "=" not in text and "$" not in text:
-            self.plain.append(text)
-            return
-        lines = text.split("\n")
-        self.plain += [line for line in lines if "=" not in line and "$" not in line]
-        for line in (line for line in lines if "=" in line or "$" in line):
-            found = ASSIGNMENT.match(line)
-            if found and found.group(1) not in self.given:
-                self.values.setdefault(found.group(1), []).append(found.group(2))
-            else:
-                self.others.append(line)
-
-    def of_rules(self):
-        """The lines that aren't assignments and hold a reference or `=`, and the values of the macros that these
-        need."""
-        found, seen, left = list(self.others), set(), [line for line in self.others if "$" in line]
-        while left:
-            names = set(REFERENCE.findall(left.pop())) - seen
-            seen |= names
-            values = [value for name in names for value in self.values.get(name, [])]
-            found += values
-            left += values
-        return found
-
-    def expanded(self, line, number):
-        """A line in which a macro of one word is its value; where it has several, that of this number or the last."""
-        def value(match):
-            values = self.values.get(match.group(1), [match.group()])
-            one = values[min(number, len(values) - 1)].split("#")[0].strip()
-            return match.group() if len(one.split()) != 1 else one
-        for _ in range(MOST_LEVELS):
-            line, before = PLAIN.sub(value, line), line
-            if line == before:
-                break
-        return line
-
-    def expansions(self, lines):
-        """What lines may say, by each value of their macros."""
-        count = min(max(map(len, self.values.values()), default=1), MOST_LEVELS)
-        return {self.expanded(line, number) for line in lines for number in range(count)}
-
-    def with_paths(self):
-        """The text in which the paths of rules stand."""
-        lines = self.of_rules()
-        expanded = self.expansions([line for line in lines if "$" in line])
-        return RECIPE.sub("", "\n".join([*self.plain, *(line for line in lines if "$" not in line), *expanded]))
-
-    def included(self):
-        """The names of includes that macros give."""
-        lines = [line for line in self.others if "$" in line and includes.LINE.match(line)]
-        return includes.named_in("\n".join(self.expansions(lines)))
-
-
-def even(text):
-    """A text as bytes in which a path outside stands behind a blank, and a blank or a tab behind it."""
-    return EQUALS.sub(b"= ", bytes_of(f" {text} ")).translate(EVEN)
-
-
-def form(begin, rest, known):
-    """The form of a path that begins and goes on so, and isn't in one of the known folders itself."""
-    passed = b"|".join(re.escape(one[len(begin):]) + rb"[^/ \t]*[ \t]" for one in known if one.startswith(begin))
-    return re.compile(b" " + re.escape(begin) + (b"(?!" + passed + b")" if passed else b"") + rest)
-
-
-def folders_in(data):
-    """The folders outside this one that stand in an even text, up to their last slash."""
-    found = set()
-    for begin, rest in KINDS:
-        at, known = 0, set()
-        while at >= 0 and len(known) < MOST_PASSED:
-            one = form(begin, rest, known).search(data, at)
-            at = one.start() if one else -1
-            known.update([one.group()[1:]] if one else [])
-        found |= known
-        if at >= 0:
-            found.update(one[1:] for one in set(form(begin, rest, ()).findall(data, at)))
-    return set(map(text_of, found))
-
-
-class Folders:
-    """The folders that the paths of a text mean, or in which their files stand, but for those that hold no sources;
-    each is looked at once."""
-
-    def __init__(self, text):
-        self.text, self.looked, found = even(text), {}, set()
-        for folder in folders_in(self.text):
-            if not folder.startswith(NEVER):
-                found.update(self.named(folder) if folder.endswith("/") else [folder])
-        plain = {folder.rstrip("/") for folder in found}
-        self.all = sorted(folder for folder in plain if folder and not f"{folder}/".startswith(NEVER))
-
-    def named(self, folder):
-        """Of a folder those below it that are named themselves, and itself where something else in it is."""
-        below = [one.name for one in self.look(folder)[0]]
-        if not below and bytes_of(f"{folder}..") not in self.text:
-            return [folder]
-        named = [folder + name for name in ("..", *below) if folder + name in self.paths]
-        return named if self.counts[folder] == len(named) else [folder, *named]
-
-    @functools.cached_property
-    def paths(self):
-        """The words that may be paths, which takes as long to find as the folders, and mostly isn't needed."""
-        words = {word.partition(b"\t")[0] for word in set(self.text.split(b" "))}
-        return {text_of(word) for word in words if b"/" in word or b".." in word}
-
-    @functools.cached_property
-    def counts(self):
-        """How many of them are in each folder."""
-        return Counter(path[:path.rfind("/") + 1] for path in self.paths)
-
-    def look(self, folder):
-        """The entries of a folder that are folders, and the names of its files."""
-        folder = folder.rstrip("/") or "/"
-        if folder not in self.looked:
-            self.looked[folder] = files.entries(folder)
-        return self.looked[folder]
-
-    def files(self, folder):
-        """The files in a folder."""
-        return [f"{folder}/{name}" for name in self.look(folder)[1]]
-
-
-def makefiles_text(makefiles, macros):
-    """The text of makefiles, where they name such a folder, and of what they include by the value of a macro."""
-    text, seen, left = Text(macros), set(), makefiles
-    while left:
-        for name, known in left.items():
-            data = files.content(name) if known is None and os.path.isfile(name) else known
-            if data and has_marks(data):
-                text.add(text_of(data))
-        seen.update(left)
-        left = dict.fromkeys(name for name in text.included() if name not in seen and os.path.isfile(name))
-    return text
+def marked(makefiles):
+    """Those of the makefiles that may name such a folder, with their bytes by their names; `makefiles` has them too, or
+    None where they are to be read."""
+    read = {name: files.content(name) if known is None and os.path.isfile(name) else known
+            for name, known in makefiles.items()}
+    return {name: data for name, data in read.items() if data and has_marks(data)}
 
 
 def folders(makefiles, macros=()):
-    """The folders outside this one that makefiles name, as they spell them; `makefiles` has their bytes by their
-    names, None where they are to be read."""
-    return Folders(makefiles_text(makefiles, macros).with_paths())
+    """The folders outside this one that makefiles name, as they spell them; None where there are none. `makefiles` are
+    as above."""
+    found = marked(makefiles)
+    if not found:
+        return None
+    from .paths_outside import Folders, text_of_makefiles
+    return Folders(text_of_makefiles(found, set(makefiles), macros))

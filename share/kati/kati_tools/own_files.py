@@ -16,7 +16,7 @@ def rooms_in(folder):
     """The names of kati-build's own folders in a folder, without their ending."""
     found = [one for one in files.entries(folder)[0] if one.name.endswith(ENDING)]
     return {one.name[:-len(ENDING)] for one in found
-            if any(os.path.exists(os.path.join(one.path, name)) for name in (LOCK, TRANSLATED))}
+            if any(os.path.exists(os.path.join(folder, one.name, name)) for name in (LOCK, TRANSLATED))}
 
 
 def begins_as_output(path):

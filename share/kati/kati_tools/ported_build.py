@@ -4,7 +4,6 @@ kati runs in a folder in which the ported makefiles have the names that they hav
 ported, and what it writes is of this folder. A record says what the port came from: while all of that is as it was,
 so is the port."""
 import argparse
-import contextlib
 import hashlib
 import json
 import os
@@ -14,7 +13,7 @@ import tempfile
 
 from . import (above, asked_names, files, frozen_values, includes, ninja_text, port, port_report, scratch_copy,
                sources, translating, words)
-from .programs import SHARE, Stop, bytes_of, find_kati, need, say
+from .programs import SHARE, Stop, bytes_of, find_kati, inside, need, say
 
 TOOL = "kati-build"
 FOLDER, RECORD = "ported", "ported.json"
@@ -34,17 +33,6 @@ def sum_of_tools(kati):
             found.update(bytes_of(f"{name}\0{files.read(os.path.join(folder, name))}\0"))
     program = os.stat(find_kati(kati))
     return f"{found.hexdigest()} {program.st_size} {program.st_mtime_ns}"
-
-
-@contextlib.contextmanager
-def inside(folder):
-    """Makes a folder this process's own for a while."""
-    here = os.getcwd()
-    os.chdir(folder)
-    try:
-        yield
-    finally:
-        os.chdir(here)
 
 
 class Record:
@@ -230,7 +218,7 @@ class PortedTranslator(translating.Translator):
         if found is not None and found.status == 2 and self.ports_again():
             found = super().translate(listing, made, before)
         if self.ported.stuck is not None:
-            return translating.Translation(2, "", self.ported.stuck, [])
+            return translating.Translation(2, b"", self.ported.stuck, [])
         return self.with_includes(found, listing, before) if found.status == 0 else found
 
     def with_includes(self, found, listing, before):
@@ -251,6 +239,10 @@ class PortedTranslator(translating.Translator):
         """The ported makefiles, by whose values a path outside is known."""
         found = os.walk(os.path.join(self.place, FOLDER))
         return dict.fromkeys(os.path.join(at, name) for at, _, names in found for name in names)
+
+    def absent(self, asked):
+        """The same; what was read is of the other folder."""
+        return {name for name in asked if not os.path.lexists(name)}
 
     def asked(self, program, *more):
         """What the translation, the port and the values depend on."""

@@ -1,6 +1,6 @@
 """Where the programs are that the tools run, and how they are run."""
+import contextlib
 import os
-import subprocess
 import sys
 
 # The folder of this package's parent: share/kati, in a checkout as where it is installed.
@@ -11,6 +11,8 @@ TOP = os.path.dirname(os.path.dirname(SHARE))
 NO_FILE = 3
 # A fault of the tool itself, and an interrupt.
 UNFORESEEN, INTERRUPTED = 70, 130
+# Two signals by their numbers, since the module that names them takes time to load.
+KILL_SIGNAL, PIPE_SIGNAL = 9, 13
 
 
 class Stop(Exception):
@@ -83,9 +85,54 @@ def bytes_of(text):
 
 def run(words, **rest):
     """Runs a command; answers its status, standard output and standard error as texts."""
+    # Loaded here alone, since it takes time, and most runs of kati-build need `run_into` alone.
+    import subprocess
     how = {"stdin": subprocess.DEVNULL, "stdout": subprocess.PIPE, **rest}
     ran = subprocess.run(words, stderr=subprocess.PIPE, **how)
     return ran.returncode, text_of(ran.stdout or b""), text_of(ran.stderr)
+
+
+@contextlib.contextmanager
+def inside(folder):
+    """Makes a folder this process's own for a while."""
+    here = os.getcwd()
+    os.chdir(folder)
+    try:
+        yield
+    finally:
+        os.chdir(here)
+
+
+def run_into(words, path, folder=None):
+    """Runs a command in a folder, by its whole path, whose standard output is a file of this name; answers its status
+    and standard error as bytes."""
+    output = os.open(path, os.O_WRONLY | os.O_CREAT | os.O_TRUNC | os.O_CLOEXEC, 0o666)
+    try:
+        said, end = os.pipe()
+        with open(said, "rb", buffering=0) as said:
+            try:
+                with inside(folder) if folder else contextlib.nullcontext():
+                    pid = os.posix_spawn(words[0], words, os.environ, file_actions=[
+                        (os.POSIX_SPAWN_OPEN, 0, os.devnull, os.O_RDONLY, 0), (os.POSIX_SPAWN_DUP2, output, 1),
+                        (os.POSIX_SPAWN_DUP2, end, 2)], setsigdef=[PIPE_SIGNAL])
+            finally:
+                os.close(end)
+            return ended(pid, said.readall)
+    finally:
+        os.close(output)
+
+
+def ended(pid, call):
+    """The status with which a process ends, and what a call answers that reads what it says. It is killed where that
+    is interrupted."""
+    try:
+        told = call()
+        status = os.waitpid(pid, 0)[1]
+    except BaseException:
+        os.kill(pid, KILL_SIGNAL)
+        os.waitpid(pid, 0)
+        raise
+    return -os.WTERMSIG(status) if os.WIFSIGNALED(status) else os.WEXITSTATUS(status), told
 
 
 def say(tool, words):

@@ -2,8 +2,8 @@
 import os
 import re
 
-from . import files, includes, outside, own_files
-from .programs import Stop, bytes_of, need, run
+from . import files, outside, own_files
+from .programs import Stop, bytes_of, need, run, text_of
 
 # Folders of version control hold no sources.
 CONTROL = {".git", ".hg", ".svn"}
@@ -23,6 +23,15 @@ class Listing:
     def __init__(self, names, certain=(), folders=(), watched=()):
         self.names, self.certain = sorted(without_newlines(names)), certain
         self.folders, self.watched = without_newlines(folders), without_newlines(watched)
+
+    def data(self, dropped=()):
+        """The list as kati reads it, as bytes, without these names."""
+        return bytes_of("\n".join([*self.without(dropped), ""]))
+
+    def before(self, data):
+        """The names of the list of before, given as bytes: mostly the same, and those of this one where there was
+        none."""
+        return self.names if data is None or data == self.data() else text_of(data).split("\n")[:-1]
 
     def unsure(self, before):
         """The names that may be there only because the build made them: not those listed before, nor the certain."""
@@ -96,10 +105,10 @@ def add_outside(found, makefiles, macros):
     """Adds what stands in the folders outside this one that makefiles name. One that isn't there would come into being
     in another."""
     folders = outside.folders(makefiles, macros)
-    for folder in folders.all:
+    for folder in folders.all if folders else ():
         found.names += without_newlines(folders.files(folder))
         found.folders.append(folder if os.path.isdir(folder) else files.nearest_folder(folder))
-    if folders.all:
+    if folders and folders.all:
         found.names.sort()
 
 
@@ -116,8 +125,12 @@ def listing(source, output=None, room=None, makefile=None, macros=(), asked=None
         return from_file(source)
     if output in found.names:
         found.names.remove(output)
+    if makefile and asked is None:
+        # Loaded here alone, since it takes time and is seldom needed.
+        from . import includes
+        asked = dict.fromkeys(includes.asked([makefile], found.names))
     if makefile:
-        add_outside(found, dict.fromkeys(includes.asked([makefile], found.names)) if asked is None else asked, macros)
+        add_outside(found, asked, macros)
     return found
 
 

@@ -3,8 +3,8 @@
 Ninja first makes the file that it reads, if that is an output. So a statement makes this file from all that the
 translation depends on, by kati-build itself, and ninja reads the file again where that changed it:
 
-- `restat`: where nothing changed, ninja goes on as it was. This file holds a sum of what kati wrote, so it changes
-  with that.
+- `restat`: where nothing changed, ninja goes on as it was. This file says when what kati wrote has changed, so it
+  changes with that.
 - `generator`: `ninja -t clean` leaves the file alone, and another spelling of the command alone makes nothing
   anew.
 - A file that is gone would stop ninja, so each stands as a `phony` output, which may be absent. One that isn't
@@ -12,18 +12,20 @@ translation depends on, by kati-build itself, and ninja reads the file again whe
   of sources.
 - Ninja's own log stands in a folder that nothing depends on, or each run of ninja would change what this file
   depends on."""
-import hashlib
 import os
 import re
 import shlex
+import time
 
 from . import files, ninja_text, own_files
-from .programs import bytes_of
+from .programs import bytes_of, text_of
 
 UNUSUAL = re.compile(r"^\./|/\.|//|/$", re.MULTILINE)
-SUMS = re.compile(r"# What kati wrote has the sum (\w+); with what it depends on (\w+)\.\n")
+# One of these stands in names of which one is unusual, with a line's end behind each.
+MARKS = (b"./", b"/.", b"//", b"/\n")
+CHANGED = re.compile(r"# What kati wrote changed at (\d+)\.\n")
 TEMPLATE = own_files.FIRST_LINE + """\
-# What kati wrote has the sum {sum}; with what it depends on {whole}.
+# What kati wrote changed at {changed}.
 builddir = {room}
 rule kati_build
  command = {command}
@@ -35,50 +37,80 @@ build {output}: kati_build{inputs}
 """
 
 
+def has_unusual(joined):
+    """Whether one of these names, each with a line's end, may be another one for Ninja."""
+    return any(mark in joined for mark in MARKS)
+
+
 def normal(names):
-    """Names also as Ninja has them: only few differ, mostly none, which one look at all of them tells."""
-    if not UNUSUAL.search("\n".join(names)):
-        return names
+    """Names also as Ninja has them."""
     return names | {os.path.normpath(name) for name in names if "/" in name and UNUSUAL.search(name)}
 
 
 def plain(names):
-    """Names as Ninja has them, each once."""
-    joined = "\n".join(names)
-    if not UNUSUAL.search(joined) and "\n/" not in f"\n{joined}":
+    """Names as Ninja has them, each once; mostly they are that already, which one look at all of them tells."""
+    joined = bytes_of("\n".join(["", *names, ""]))
+    if not has_unusual(joined) and b"\n/" not in joined:
         return list(dict.fromkeys(names))
     # Two slashes at the beginning, which Python keeps, are one for Ninja.
     return list(dict.fromkeys(re.sub("^//+", "/", os.path.normpath(name)) for name in names))
 
 
-def watched(asked, listing, output):
+def watched(asked, absent, listing, output):
     """The names that the translation depends on, each once: files that are there, and folders; but for the highest
-    folder, which Ninja takes for a name of no letters, and so for one that isn't there."""
-    names = [name if os.path.lexists(name) else files.nearest_folder(name) for name in asked]
+    folder, which Ninja takes for a name of no letters, and so for one that isn't there. `absent` are those of `asked`
+    that aren't there."""
+    names = [files.nearest_folder(name) if name in absent else name for name in asked]
     found = plain([*names, *listing.watched, *listing.folders])
-    return [name for name in found if name not in (os.path.normpath(output), "/")]
+    return [name for name in found if name not in (output, "/")]
 
 
-def text(build, names, translation, content, is_new):
+def made_of(names, heads):
+    """Those of these names that the statements make."""
+    if heads.are_names and not has_unusual(heads.joined + b"\n"):
+        return set(map(text_of, set(map(bytes_of, names)).intersection(heads.all)))
+    return normal(heads.outputs()).intersection(names)
+
+
+def made_before(names, before, output):
+    """The same as an earlier file says it for the same statements; None where it doesn't say it of all."""
+    inputs = before.partition(f"\nbuild {ninja_text.escaped(output)}: kati_build")[2].split(" $\n    ")
+    last, *rest = inputs[-1].split("\n")
+    named = {*inputs[1:-1], last}
+    absent = {line[len("build "):-len(": phony")] for line in rest if line.endswith(": phony")}
+    escaped = ninja_text.all_escaped(names)
+    if not named.issuperset(escaped):
+        return None
+    made = set(escaped) - absent
+    return {name for name, one in zip(names, escaped) if one in made} if made else made
+
+
+def is_later(name, other):
+    """Whether the first of two files is later than the other, or one isn't there."""
+    try:
+        return os.stat(name).st_mtime_ns > os.stat(other).st_mtime_ns
+    except OSError:
+        return True
+
+
+def text(build, names, translation, is_new):
     """The text of the file for a `Build`; `names` are those that it depends on, but for folders that the build makes.
 
-    `content` is what kati wrote, by `translation`, with what was added to it. Where that isn't new, and the file that
-    is there was made from all the same, it stays: for this not even a sum of what kati wrote is needed."""
-    command, before = build.command(), files.read(build.output) or ""
-    sums = None if is_new else SUMS.search(before)
-    of_content = sums.group(1) if sums else hashlib.sha256(bytes_of(content)).hexdigest()
-    whole = hashlib.sha256(bytes_of("\0".join([of_content, TEMPLATE, build.makefile(), *command, "", *names])))
-    if sums and sums.group(2) == whole.hexdigest():
-        return before
-    made = normal(translation.outputs)
+    What kati wrote, by `translation`, is new or isn't: then what the file says of it that is there is still so, if
+    the run that wrote it came to its end."""
+    before = files.read(build.output) or ""
+    changed = None if is_new or is_later(build.translated, build.output) else CHANGED.search(before)
+    made = made_before(names, before, build.output) if changed else None
+    if made is None:
+        made = made_of(names, translation.heads)
     names = [name for name in names if not (name in made and os.path.isdir(name))]
-    present = [ninja_text.escaped(name) for name in names if name not in made]
+    present = ninja_text.all_escaped([name for name in names if name not in made])
     return TEMPLATE.format(
-        sum=of_content, whole=whole.hexdigest(),
+        changed=changed.group(1) if changed else time.time_ns(),
         room=ninja_text.escaped_value(build.room),
-        command=ninja_text.escaped_value(" ".join(shlex.quote(word) for word in command)),
+        command=ninja_text.escaped_value(" ".join(map(shlex.quote, build.command()))),
         makefile=ninja_text.escaped_value(build.makefile()),
         output=ninja_text.escaped(build.output),
-        inputs="".join(f" $\n    {ninja_text.escaped(name)}" for name in names),
+        inputs="".join(f" $\n    {name}" for name in ninja_text.all_escaped(names)),
         present="".join(f"build {name}: phony\n" for name in present),
         translated=ninja_text.escaped(build.translated))

@@ -3,7 +3,8 @@ import functools
 import os
 
 from . import asked_names, files, ninja_text, sources
-from .programs import SHARE, Stop, find, find_kati, run, say
+from .own_files import TRANSLATED
+from .programs import NO_FILE, SHARE, Stop, bytes_of, find, find_kati, run, run_into, say, text_of
 from .words import WRONG_USAGE, goals_of, macros_of
 
 MACROS, RULES = "builtin-macros.mk", "builtin-rules.mk"
@@ -66,10 +67,15 @@ def word_of_goals(given):
 
 
 class Translation:
-    """What kati said: its status, its Ninja text and its messages; with the names of the list it had."""
+    """What kati said: its status, its Ninja text as bytes and its messages; with the names of the list it had."""
 
-    def __init__(self, status, text, said, names):
-        self.status, self.text, self.said, self.names = status, text if status == 0 else "", said, names
+    def __init__(self, status, data, said, names):
+        self.status, self.data, self.said, self.names = status, data if status == 0 else b"", said, names
+
+    @functools.cached_property
+    def text(self):
+        """Its Ninja text."""
+        return text_of(self.data)
 
     @functools.cached_property
     def statements(self):
@@ -77,9 +83,14 @@ class Translation:
         return ninja_text.statements(self.text)
 
     @functools.cached_property
+    def heads(self):
+        """What stands before the colons of its statements."""
+        return ninja_text.Heads(self.data)
+
+    @functools.cached_property
     def outputs(self):
         """The names that it makes."""
-        return ninja_text.outputs(self.text)
+        return self.heads.outputs()
 
 
 class Translator:
@@ -103,7 +114,18 @@ class Translator:
     def with_list(self, names):
         """The translation by this list."""
         sources.write_list(names, self.list)
-        return Translation(*run(self.command(self.kati), cwd=self.folder), names)
+        status, said = run_into(self.command(self.kati), self.written, self.folder)
+        if status == NO_FILE:
+            # What can't be written is told as of any other file: it is written here.
+            status, text, said = run(self.command(self.kati), cwd=self.folder)
+            files.write(self.written, bytes_of(text))
+            return Translation(status, bytes_of(text), said, names)
+        return Translation(status, files.content(self.written), text_of(said), names)
+
+    @property
+    def written(self):
+        """The file that kati writes by its standard output."""
+        return files.new_name(TRANSLATED, os.path.dirname(self.list))
 
     def translate(self, listing, made=set, before=()):
         """The translation by the files of a listing, but for what the build makes and `before` doesn't name.
@@ -134,12 +156,15 @@ class Translator:
         their bytes, where these are known."""
         return asked and {name: self.contents.get(name) for name in asked}
 
-    def asked(self, program):
-        """The names that the translation asks for, in order, by kati-asked; None where that is absent or fails. They
-        are the same by any list."""
-        if program is None:
-            return None
-        return asked_names.told(self.record, self.command(program), self.folder,
+    def absent(self, asked):
+        """Those of the names that were asked for by which no file is there; what was read is known to be."""
+        return {name for name in asked if self.contents.get(name) is None and not os.path.lexists(name)}
+
+    def asked(self, program, makefiles=()):
+        """The names that the translation asks for, in order: by the text of the makefiles, which begins with these, or
+        by kati-asked; None where that is absent or fails. They are the same by any list."""
+        command = self.command(program) if program else None
+        return asked_names.told(self.record, makefiles, command, self.folder,
                                 lambda: sources.write_list([], self.list), self.contents)
 
 

@@ -1,0 +1,116 @@
+#!/usr/bin/env python3
+"""Times kati-build beside kati, and prints a table: processor time, of the user and of the system.
+
+kati is run alone by the list that kati-build made, with its output into a file. kati-build is run without ninja in a
+folder in which it hasn't run, again where nothing has changed, and again where the makefile has. The runs follow each
+other in turns, and the median of each counts. Every makefile is made by scripts/large_makefiles.py, and its sources are
+empty files. kati-build is the one of the checkout, or that of --tools, which starts sooner where it is installed with
+its bytecode.
+
+examples:
+  scripts/build_times.py                             all cases
+  scripts/build_times.py --runs 9 rules              one of them
+  scripts/build_times.py --tools /usr/local/bin      those that are installed
+
+exit status:
+  0   the table is printed
+  1   a run failed
+  2   wrong usage"""
+import argparse
+import os
+import resource
+import shutil
+import statistics
+import subprocess
+import sys
+import tempfile
+from pathlib import Path
+
+sys.dont_write_bytecode = True
+import large_makefiles as large
+
+ROOT = Path(__file__).resolve().parent.parent
+LIST = "build.kati/files.txt"
+
+
+def with_names_above(count):
+    """Rules whose headers stand in a folder beside this one."""
+    files, sources = large.rules(count)
+    names = [f"../inc/{name}" if name.startswith("h") else name for name in sources]
+    return {"Makefile": files["Makefile"].replace(" h", " ../inc/h")}, names
+
+
+CASES = {
+    "rules": (large.rules, 100_000), "above": (with_names_above, 100_000), "pattern": (large.pattern, 100_000),
+    "headers": (large.headers, 10_000), "modules": (large.modules, 50_000), "chain": (large.chain, 100_000),
+    "included": (large.included, 10_000),
+}
+
+
+def write(folder, files, sources):
+    """Writes the makefiles, and an empty file for each source."""
+    for name, text in {**files, **dict.fromkeys(sources, "")}.items():
+        path = folder / name
+        path.parent.mkdir(parents=True, exist_ok=True)
+        path.write_text(text)
+
+
+def processor_time(words, folder):
+    """The milliseconds that a command takes and all that it runs."""
+    before = resource.getrusage(resource.RUSAGE_CHILDREN)
+    with open(folder.parent / "out", "wb") as out:
+        subprocess.run(words, cwd=folder, stdin=subprocess.DEVNULL, stdout=out, check=True)
+    after = resource.getrusage(resource.RUSAGE_CHILDREN)
+    return 1000 * (after.ru_utime + after.ru_stime - before.ru_utime - before.ru_stime)
+
+
+def forget(folder):
+    """Takes away what kati-build made."""
+    shutil.rmtree(folder / "build.kati", ignore_errors=True)
+    (folder / "build.ninja").unlink(missing_ok=True)
+
+
+def measure(folder, asked):
+    """The times of a case, by what was run."""
+    makefile, times = folder / "Makefile", {name: [] for name in ("kati", "first", "again", "changed")}
+    text = makefile.read_text()
+    build = [sys.executable, "-S", os.path.join(asked.tools, "kati-build"), "--no-ninja", "--kati", asked.kati]
+    for number in range(asked.runs):
+        forget(folder)
+        times["first"].append(processor_time(build, folder))
+        times["again"].append(processor_time(build, folder))
+        times["kati"].append(processor_time([asked.kati, "--files", LIST], folder))
+        makefile.write_text(f"{text}all: more\nmore: ; echo {number}\n")
+        times["changed"].append(processor_time(build, folder))
+        makefile.write_text(text)
+    return {name: statistics.median(found) for name, found in times.items()}
+
+
+def main():
+    parser = argparse.ArgumentParser(description=__doc__, formatter_class=argparse.RawDescriptionHelpFormatter)
+    parser.add_argument("cases", nargs="*", metavar="CASE", choices=[[], *CASES], help=", ".join(CASES))
+    parser.add_argument("--kati", default=str(ROOT / "crates/kati_program/out/kati_program"), metavar="PROGRAM",
+                        help="the built program")
+    parser.add_argument("--tools", default=str(ROOT / "tools"), metavar="FOLDER", help="where kati-build is")
+    parser.add_argument("--runs", type=int, default=5, metavar="N", help="runs of each, 5 without it")
+    parser.add_argument("--small", action="store_true", help="a hundredth of each size")
+    asked = parser.parse_args()
+    asked.kati = os.path.abspath(asked.kati)
+    print("| Case | N | kati | kati-build first | again | changed | first to kati | again | changed |")
+    print("|---|---|---|---|---|---|---|---|---|")
+    for name in asked.cases or CASES:
+        make_files, size = CASES[name]
+        size = size // 100 if asked.small else size
+        with tempfile.TemporaryDirectory(prefix="build_times_") as room:
+            write(Path(room) / "tree", *make_files(size))
+            found = measure(Path(room) / "tree", asked)
+        kati, *others = found.values()
+        cells = [f"{one:,.0f}" for one in found.values()] + [f"{one / kati:.2f}" for one in others]
+        print(f"| {name} | {size:,} | {' | '.join(cells)} |", flush=True)
+
+
+if __name__ == "__main__":
+    try:
+        main()
+    except (OSError, subprocess.CalledProcessError) as error:
+        sys.exit(f"build_times.py: {error}")
