@@ -2,7 +2,6 @@ pub mod DrawnLemmas
 pub mod RangeLemmas
 pub mod SketchLemmas
 pub mod GraphPlanLemmas
-pub mod TellingLemmas
 pub mod PlanLemmas
 pub mod TextLemmas
 pub mod BlameLemmas

@@ -1,69 +1,67 @@
--- What the output has after a run, whatever the files hold.
-use Rattle.std.proofs.Common.{◌≡◌, ℕ, List, Option, Some, None, Result, Ok, Err, refl, sym, subst}
+-- What the output has after a run, whatever the files hold, and what caused a fault.
+use Rattle.std.proofs.Common.{◌≡◌, Option, Some, None, Result, Ok, Err, refl, sym, subst}
+use Rattle.std.specs.Prelude.{MatchResult}
+use Rattle.kt_list.specs.Counters.{Rises}
 use Rattle.kt_text.specs.Words.{Text}
-use Rattle.kt_eval.specs.declared.fault.Fault.{Fault}
-use Rattle.kt_eval.specs.declared.stop.Stop.{Stop}
-use Rattle.kt_eval.specs.declared.stop.Stop.TheVariants as stops
-use Rattle.kt_eval.specs.reading.Machine.{Trace}
+use Rattle.kt_eval.specs.files.Files.{FilesSeen}
 use Rattle.kt_ninja.specs.declared.plan.Plan.{Plan}
-use Rattle.kt_ninja.specs.Text.{plan_text}
-use Rattle.kt_ninja.specs.Written.{GrowsByFront, SinkSeen, Takes}
+use Rattle.kt_ninja.specs.Writable.{IsWritable}
+use Rattle.kt_ninja.specs.Written.{SinkSeen}
 use Rattle.kati.specs.declared.faults.RunFault.{RunFault}
 use Rattle.kati.specs.declared.faults.RunFault.TheVariants as faults
 use Rattle.kati.specs.declared.status.Status.{Status}
 use Rattle.kati.specs.declared.status.Status.TheVariants as statuses
-use Rattle.kati.specs.AfterRun.{HasPlanText, LeavesOut}
-use Rattle.kati.specs.Meaning.{Meaning, MeansGoals, Wanted, meaning_of}
-use Rattle.kati.specs.inner.Delivered.{HasWritten, TellsAndWrites, TellsStop}
-use Rattle.kati.specs.inner.Views.{GoalsEnd}
-use Rattle.kati.proofs.ReadBackLemmas.{goals_fine}
-use Rattle.kati.proofs.SoundLemmas.{goals_sound}
+use Rattle.kati.specs.AfterRun.{BlamesDevice, LeavesOut}
+use Rattle.kati.specs.Devices.{devices}
+use Rattle.kati.specs.Sound.{IsSoundPlan}
+use Rattle.kati.specs.inner.Delivered.{TellsText, TextBlames, Writes}
 
--- the output by the status alone
-by_status : (status other : Status) (old new : SinkSeen) → status ≡ other → LeavesOut None (Ok other) old new → LeavesOut None (Ok status) old new
-by_status status other old new is h = subst (λ (s : Status). LeavesOut None (Ok s) old new) (sym is) h
+-- an output that is left as it is
+pub same_output : (checked : Option Text) (result : Result Status RunFault) (out : SinkSeen) → LeavesOut None result out out → LeavesOut checked result out out
+same_output None result out same = same
+same_output (Some name) result out same = refl
 
-by_result : (result other : Result Status RunFault) (old new : SinkSeen) → result ≡ other → LeavesOut None other old new → LeavesOut None result old new
-by_result result other old new is h = subst (λ (r : Result Status RunFault). LeavesOut None r old new) (sym is) h
-
--- a run that checks a file leaves the output as it is
+-- so it is under `--check`
 pub checked_output : (checked : Option Text) (name : Text) (result : Result Status RunFault) (out : SinkSeen) → checked ≡ Some name
     → LeavesOut checked result out out
-checked_output None name result out is = absurd (cc is)
-checked_output (Some checked) name result out is = refl
+checked_output checked name result out is = subst (λ (c : Option Text). LeavesOut c result out out) (sym is) refl
 
-pub unchecked_output : (checked : Option Text) (result : Result Status RunFault) (out out' : SinkSeen) → checked ≡ None
-    → LeavesOut None result out out' → LeavesOut checked result out out'
-unchecked_output checked result out out' is h = subst (λ (c : Option Text). LeavesOut c result out out') (sym is) h
+-- the error output hasn't taken its text
+module _ (text : Text) (err err' : SinkSeen) where
+  pub untold_output : (checked : Option Text) (fault : RunFault) (out : SinkSeen) → TellsText (Err fault) text err err'
+      → LeavesOut checked (Err fault) out out
+  untold_output checked faults.WriteErr out told = same_output checked (Err faults.WriteErr) out refl
+  untold_output checked faults.Memory out told = same_output checked (Err faults.Memory) out refl
+  untold_output checked faults.WriteOut out told = absurd told
+  untold_output checked (faults.Read name) out told = absurd told
 
--- a run that stops before it writes leaves the output as it is
-pub stopped_output : (stop : Stop) (said : List Text) (result : Result Status RunFault) (out err err' : SinkSeen)
-    → TellsStop stop said result err err' → LeavesOut None result out out
-stopped_output (stops.Fault fault) said (Ok status) out err err' h = by_status status statuses.Fault out out h.0 refl
-stopped_output (stops.Fault fault) said (Err faults.WriteErr) out err err' h = refl
-stopped_output (stops.Fault fault) said (Err faults.Memory) out err err' h = refl
-stopped_output (stops.Fault fault) said (Err faults.WriteOut) out err err' h = absurd h
-stopped_output (stops.Fault fault) said (Err (faults.Read name)) out err err' h = absurd h
-stopped_output (stops.Device name) said result out err err' h = by_result result (Err (faults.Read name)) out out h.0 refl
-stopped_output stops.Memory said result out err err' h = by_result result (Err faults.Memory) out out h.0 refl
+  pub untold_blames : (fault : RunFault) (files files' : FilesSeen) (out : SinkSeen) → files'.failed ≡ files.failed
+      → TellsText (Err fault) text err err' → TextBlames (Err fault) err err'
+      → BlamesDevice (Err fault) (devices files out err) (devices files' out err')
+  untold_blames faults.WriteErr files files' out same told blames = (blames, same)
+  untold_blames faults.Memory files files' out same told blames = same
+  untold_blames faults.WriteOut files files' out same told blames = absurd told
+  untold_blames (faults.Read name) files files' out same told blames = absurd told
 
-module _ (limit : ℕ) (want : Wanted) (trace : Trace) where
-  -- the text of a plan that the goals mean
-  plan_output : (Has : SinkSeen → SinkSeen → Text → Type 0) (m : Meaning) (plan : Plan) (out out' : SinkSeen) → m.result ≡ Ok plan
-      → MeansGoals limit want trace m → Has out out' (plan_text plan) → HasPlanText Has out out'
-  plan_output Has m plan out out' ok means has =
-      let fine = goals_fine limit want trace m plan ok means in
-      record { plan = plan; writable = fine; sound = goals_sound limit want trace m plan ok fine means; has = has }
+-- a plan is written
+module _ (plan : Plan) (out out' : SinkSeen) where
+  written : IsWritable plan → IsSoundPlan plan → (result : Result Status RunFault) → Writes plan result out out' → LeavesOut None result out out'
+  written fine sound (Ok status) w =
+      subst (λ (s : Status). LeavesOut None (Ok s) out out') (sym w.0) (record { plan = plan; writable = fine; sound = sound; has = w.1 })
+  written fine sound (Err faults.WriteOut) w = record { plan = plan; writable = fine; sound = sound; has = w }
+  written fine sound (Err faults.WriteErr) w = absurd w
+  written fine sound (Err (faults.Read name)) w = absurd w
+  written fine sound (Err faults.Memory) w = absurd w
 
-  ended_output : (m : Meaning) (result : Result Plan Fault) (status : Status) (out out' : SinkSeen) → m.result ≡ result
-      → MeansGoals limit want trace m → HasWritten result status out out' → LeavesOut None (Ok status) out out'
-  ended_output m (Ok plan) status out out' is means w = by_status status statuses.Done out out' w.0 (plan_output Takes m plan out out' is means w.1)
-  ended_output m (Err fault) status out out' is means w = by_status status statuses.Fault out out' w.0 w.1
+  pub written_output : (checked : Option Text) (result : Result Status RunFault) → checked ≡ None → IsWritable plan → IsSoundPlan plan
+      → Writes plan result out out' → LeavesOut checked result out out'
+  written_output checked result is fine sound w = subst (λ (c : Option Text). LeavesOut c result out out') (sym is) (written fine sound result w)
 
-  pub goals_output : (asked : List Text) (result : Result Status RunFault) (out out' err err' : SinkSeen)
-      → TellsAndWrites (GoalsEnd limit want) trace asked result out out' err err' → LeavesOut None result out out'
-  goals_output asked (Ok status) out out' err err' t = ended_output (meaning_of t.end) (meaning_of t.end).result status out out' refl t.means t.written
-  goals_output asked (Err faults.WriteOut) out out' err err' t = plan_output GrowsByFront (meaning_of t.end) t.plan out out' t.planned t.means t.written
-  goals_output asked (Err faults.WriteErr) out out' err err' t = t.written
-  goals_output asked (Err (faults.Read name)) out out' err err' t = t.0
-  goals_output asked (Err faults.Memory) out out' err err' t = t.0
+  pub written_blames : (result : Result Status RunFault) (files files' : FilesSeen) (err err' : SinkSeen) → files'.failed ≡ files.failed
+      → err'.failed ≡ err.failed → Writes plan result out out' → MatchResult result (λ _. out'.failed ≡ out.failed) (λ _. Rises out.failed out'.failed)
+      → BlamesDevice result (devices files out err) (devices files' out' err')
+  written_blames (Ok status) files files' err err' same told w blames = (same, blames, told)
+  written_blames (Err faults.WriteOut) files files' err err' same told w blames = (blames, same)
+  written_blames (Err faults.WriteErr) files files' err err' same told w blames = absurd w
+  written_blames (Err (faults.Read name)) files files' err err' same told w blames = absurd w
+  written_blames (Err faults.Memory) files files' err err' same told w blames = absurd w
