@@ -11,7 +11,6 @@ pub mod RunLemmas
 pub mod LimitLemmas
 pub mod ReadBackLemmas
 pub mod TellLemmas
-pub mod OutputLemmas
 pub mod ExpectingLemmas
 pub mod AskedLemmas
 pub mod ExactLemmas
