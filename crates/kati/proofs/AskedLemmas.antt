@@ -1,10 +1,9 @@
 -- The names that are asked for up to the end of a step, or until it was stopped.
-use Rattle.std.proofs.Common.{◌≡◌, ℕ, List, [], ◌∷◌, ◌++◌, Option, Some, None, Result, Ok, Err, Bool, true, false, refl, sym, ap, ◌∙◌, subst, inl, inr}
+use Rattle.std.proofs.Common.{◌≡◌, ℕ, List, [], Result, Ok, Err, refl, sym, ap, ◌∙◌, subst, inl, inr}
 use Rattle.kt_text.specs.Words.{Text}
-use Rattle.kt_text.specs.Lines.{nul_line}
 use Rattle.kt_eval.specs.declared.stop.Stop.{Stop}
 use Rattle.kt_eval.specs.declared.stop.Stop.TheVariants as stops
-use Rattle.kt_eval.specs.files.Files.{Store, look}
+use Rattle.kt_eval.specs.files.Files.{Store}
 use Rattle.kt_eval.specs.Prefixes.{IsPrefix}
 use Rattle.kt_eval.specs.reading.Machine.{ComesBefore, Read, Trace, predefined, read_of, traced}
 use Rattle.kt_eval.specs.Outcome.{Gives, IfCut, Outcome, Gave, Stopped, left_of, then_do}
@@ -13,30 +12,12 @@ use Rattle.kt_eval.proofs.lemmas.GrowingLemmas.{front_same}
 use Rattle.kt_eval.proofs.lemmas.reading.MachineLemmas.{before_reading}
 use Rattle.kati_args.specs.declared.args.Args.{Args}
 use Rattle.kati.specs.Asked.{NamesAreAsked, names_asked}
-use Rattle.kati.specs.Listing.{if_small, if_without_nul, list_in, listed}
+use Rattle.kati.specs.Listing.{listed}
 use Rattle.kati.specs.Makefile.{command_line_table, makefile_names, makefile_read}
 use Rattle.kati.specs.Meaning.{Meaning, MeansAfter, MeansGoals, Wanted, meaning_of, prepared, wanted_by}
 use Rattle.kati.specs.Planning.{planned}
 use Rattle.kati.specs.Steps.{telling}
 use Rattle.kati.proofs.OutcomeLemmas.{asked_then, telling_asks}
-
--- ---- the list
-
-without_nul_asks : (name text : Text) (trace : Trace) (line : Option ℕ) → (left_of (if_without_nul name text line trace)).asked ≡ trace.asked
-without_nul_asks name text trace None = refl
-without_nul_asks name text trace (Some line) = refl
-
-small_asks : (name text : Text) (trace : Trace) (large : Bool) → (left_of (if_small name text large trace)).asked ≡ trace.asked
-small_asks name text trace true = refl
-small_asks name text trace false = without_nul_asks name text trace (nul_line text)
-
-pub list_asks : (name : Text) (trace : Trace) (found : Option Text) → (left_of (list_in name found trace)).asked ≡ trace.asked
-list_asks name trace None = refl
-list_asks name trace (Some text) = small_asks name text trace _
-
--- before the list and after it
-pub list_after : (store : Store) (asked : List Text) (name : Text) → (left_of (listed store (Some name) (traced [] asked))).asked ≡ asked ++ name ∷ []
-list_after store asked name = list_asks name (traced [] (asked ++ name ∷ [])) (look store name)
 
 -- ---- the makefile
 

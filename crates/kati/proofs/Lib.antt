@@ -2,7 +2,6 @@ pub mod DrawnLemmas
 pub mod RangeLemmas
 pub mod SketchLemmas
 pub mod GraphPlanLemmas
-pub mod TellingLemmas
 pub mod PlanLemmas
 pub mod TextLemmas
 pub mod BlameLemmas
@@ -12,7 +11,6 @@ pub mod RunLemmas
 pub mod LimitLemmas
 pub mod ReadBackLemmas
 pub mod TellLemmas
-pub mod OutputLemmas
 pub mod ExpectingLemmas
 pub mod AskedLemmas
 pub mod ExactLemmas

@@ -7,7 +7,7 @@ use Rattle.kt_eval.specs.declared.stop.Stop.{Stop}
 use Rattle.kt_eval.specs.declared.stop.Stop.TheVariants as stops
 use Rattle.kt_eval.specs.reading.Machine.{Trace, traced}
 use Rattle.kt_eval.specs.files.Files.{Store}
-use Rattle.kt_eval.specs.Outcome.{Ends, Fails, IsOfNoDevice, Gives, Outcome, Gave, Stopped}
+use Rattle.kt_eval.specs.Outcome.{Ends, IsOfNoDevice, Gives, Outcome, Gave, Stopped}
 use Rattle.kt_eval.specs.Step.{fault_at}
 use Rattle.kt_graph.specs.declared.faults.fault.GraphFault.{GraphFault}
 use Rattle.kt_graph.specs.declared.faults.fault.GraphFault.TheVariants as graphs
@@ -33,12 +33,6 @@ seen_means see limit want trace nodes heard (Err (stops.Fault fault)) sound is =
 seen_means see limit want trace nodes heard (Err (stops.Device name)) sound is = tt
 seen_means see limit want trace nodes heard (Err stops.Memory) sound is = tt
 
-pub plan_means : (limit : ℕ) (want : Wanted) (trace : Trace) (nodes : List Node) (heard : List Text) (result : Result Plan Stop)
-    → IsSoundGraph want.read.book want.known want.goals nodes
-    → Gives (λ (plan : Plan). plan) result heard (planned want.read.book want.read.table limit want.goals nodes trace.said)
-    → Ends (GoalsEnd limit want) trace (λ (plan : Plan). plan) result (traced heard trace.asked)
-plan_means limit want trace nodes heard result sound is = seen_means (λ (plan : Plan). plan) limit want trace nodes heard result sound is
-
 -- the first thing that is wrong with a graph
 pub first_stop : (rules : List Rule) (known goals : List Text) (fault : GraphFault) (stop : Stop) → ReportsFirst rules known goals fault → IsStopOf fault stop
     → IsFirstStop rules known goals stop
@@ -47,12 +41,12 @@ first_stop rules known goals (graphs.Refused number words) stop tells is =
     subst (λ (s : Stop). IsFirstStop rules known goals s) (sym is)
     (tells.0, tells.1, ap (λ (n : ℕ). fault_at None n words) tells.2.0 ∙ ap (λ (w : Text). fault_at None (fault_number tells.0) w) tells.2.1)
 
-pub trouble_means : (limit : ℕ) (want : Wanted) (trace : Trace) (stop : Stop) → IsFirstStop want.read.book want.known want.goals stop
-    → Ends {A = Plan} (GoalsEnd limit want) trace (λ plan. plan) (Err stop) trace
-trouble_means limit want trace (stops.Fault fault) first =
+pub trouble_means : {A : Type 0} (see : A → Plan) (limit : ℕ) (want : Wanted) (trace : Trace) (stop : Stop) → IsFirstStop want.read.book want.known want.goals stop
+    → Ends (GoalsEnd limit want) trace see (Err stop) trace
+trouble_means see limit want trace (stops.Fault fault) first =
     inr (record { trouble = first.0; first = first.1; means = ap (λ (f : Fault). meant trace.said trace.asked (Err f)) first.2 })
-trouble_means limit want trace (stops.Device name) first = tt
-trouble_means limit want trace stops.Memory first = tt
+trouble_means see limit want trace (stops.Device name) first = tt
+trouble_means see limit want trace stops.Memory first = tt
 
 -- nothing that is wrong with a graph is a failure of a device
 pub first_asks : (rules : List Rule) (known goals : List Text) (stop : Stop) → IsFirstStop rules known goals stop → IsOfNoDevice stop
@@ -60,18 +54,12 @@ first_asks rules known goals (stops.Fault fault) first = tt
 first_asks rules known goals (stops.Device name) first = first
 first_asks rules known goals stops.Memory first = tt
 
-module _ (args : Args) (store : Store) (asked : List Text) (left : Trace) where
-  -- what is prepared, and then planned
-  pub then_means : (trace : Trace) (want : Wanted) (result : Result Plan Stop) → prepared args store (traced [] asked) ≡ Gave trace want
-      → Ends (GoalsEnd args.limit want) trace (λ (plan : Plan). plan) result left → Ends (EndMeans args store) asked (λ (plan : Plan). plan) result left
-  then_means trace want (Ok plan) is h = subst (λ (o : Outcome Trace Wanted). MeansAfter args.limit o (meaning_of (Gave left plan))) (sym is) h
-  then_means trace want (Err (stops.Fault fault)) is h =
-      subst (λ (o : Outcome Trace Wanted). MeansAfter args.limit o (meaning_of (Stopped left fault))) (sym is) h
-  then_means trace want (Err (stops.Device name)) is h = tt
-  then_means trace want (Err stops.Memory) is h = tt
-
-  -- what was stopped before that
-  pub stop_means : (stop : Stop) → Fails stop left (prepared args store (traced [] asked)) → Ends {A = Plan} (EndMeans args store) asked (λ plan. plan) (Err stop) left
-  stop_means (stops.Fault fault) is = subst (λ (o : Outcome Trace Wanted). MeansAfter args.limit o (meaning_of (Stopped left fault))) (sym is) refl
-  stop_means (stops.Device name) is = tt
-  stop_means stops.Memory is = tt
+-- what is prepared, and then planned
+pub then_means : {A : Type 0} (see : A → Plan) (args : Args) (store : Store) (asked : List Text) (left trace : Trace) (want : Wanted) (result : Result A Stop)
+    → prepared args store (traced [] asked) ≡ Gave trace want → Ends (GoalsEnd args.limit want) trace see result left → Ends (EndMeans args store) asked see result left
+then_means see args store asked left trace want (Ok plan) is h =
+    subst (λ (o : Outcome Trace Wanted). MeansAfter args.limit o (meaning_of (Gave left (see plan)))) (sym is) h
+then_means see args store asked left trace want (Err (stops.Fault fault)) is h =
+    subst (λ (o : Outcome Trace Wanted). MeansAfter args.limit o (meaning_of (Stopped left fault))) (sym is) h
+then_means see args store asked left trace want (Err (stops.Device name)) is h = tt
+then_means see args store asked left trace want (Err stops.Memory) is h = tt

@@ -1,11 +1,13 @@
--- What holds for a plan that is meant, and how a run ends that checks a file.
-use Rattle.std.proofs.Common.{◌≡◌, ◌∙◌, List, [], ◌∷◌, ◌++◌, Option, Some, Result, Ok, Err, refl, sym, ap, subst, inr}
+-- How a run ends.
+use Rattle.std.proofs.Common.{◌≡◌, ◌∙◌, List, [], ◌∷◌, ◌++◌, Option, Some, None, Result, Ok, Err, refl, sym, ap, subst, inr}
 use Rattle.std.specs.Prelude.{IfErr, IfOk, OnOk}
 use Rattle.kt_text.specs.Words.{Text}
 use Rattle.kt_eval.specs.declared.fault.Fault.{Fault}
 use Rattle.kt_eval.specs.files.Files.{Store, look}
 use Rattle.kt_ninja.specs.declared.plan.Plan.{Plan}
+use Rattle.kt_ninja.specs.Writable.{IsWritable}
 use Rattle.kt_ninja.specs.Written.{Takes}
+use Rattle.kt_ninja_reader.proofs.PrintThenRead.{printed_is_read}
 use Rattle.kati_args.specs.declared.args.Args.{Args}
 use Rattle.kati.specs.declared.faults.RunFault.{RunFault}
 use Rattle.kati.specs.declared.faults.RunFault.TheVariants as faults
@@ -17,11 +19,10 @@ use Rattle.kati.specs.AfterRun.{HasOutput, IsKept, Leaves}
 use Rattle.kati.specs.Meaning.{Meaning, Means}
 use Rattle.kati.specs.Messages.{err_text}
 use Rattle.kati.specs.Sound.{IsSoundPlan}
+use Rattle.kati.specs.inner.Delivered.{Writes}
 use Rattle.kati.proofs.ExactLemmas.{are_graphs}
 use Rattle.kati.proofs.MeaningLemmas.{meant}
 use Rattle.kati.proofs.SoundLemmas.{are_sound}
-
--- ---- what holds for a plan that is meant
 
 if_plan : (P : Plan → Type 0) (result : Result Plan Fault) → ((plan : Plan) → result ≡ Ok plan → P plan) → IfOk result P
 if_plan P (Ok plan) each = each plan refl
@@ -30,46 +31,77 @@ if_plan P (Err fault) each = tt
 pub graph_if_plan : (args : Args) (store : Store) (asked : List Text) (m : Meaning) → Means args store asked m → IfOk m.result (IsGraphOf args store asked)
 graph_if_plan args store asked m means = if_plan (IsGraphOf args store asked) m.result (λ plan ok. are_graphs args store asked m plan means ok)
 
-pub sound_if_plan : (args : Args) (store : Store) (asked : List Text) (m : Meaning) → Means args store asked m → IfOk m.result IsSoundPlan
-sound_if_plan args store asked m means = if_plan IsSoundPlan m.result (λ plan ok. are_sound args store asked m plan means ok)
+-- ---- with a plan
 
--- ---- a file that is checked
+module _ (args : Args) (store : Store) (said asked : List Text) (plan : Plan) (old new : Devices)
+    (means : Means args store old.files.names (meant said asked (Ok plan)))
+    (told : Takes old.err new.err (err_text (meant said asked (Ok plan)))) where
+  graph : IsGraphOf args store old.files.names plan
+  graph = are_graphs args store old.files.names (meant said asked (Ok plan)) plan means refl
 
-kept_at_check : (args : Args) (store : Store) (plan : Plan) (messages : List Text) (name : Text) (fault : RunFault) (middle : List Text) (old new : Devices)
-    → args.check ≡ Some name → Means args store old.files.names (meant messages middle (Ok plan)) → AskedAtCheck fault name middle new.files.names → new.out ≡ old.out
-    → Takes old.err new.err (err_text (meant messages middle (Ok plan))) → IsKept args store fault old new
-kept_at_check args store plan messages name fault middle old new is means names same told =
-    inr (record {
-      meaning = meant messages middle (Ok plan);
-      means = means;
-      planned = refl;
-      name = name;
-      checks = is;
-      names = names;
-      written = same;
-      told = told;
-    })
+  sound : IsSoundPlan plan
+  sound = are_sound args store old.files.names (meant said asked (Ok plan)) plan means refl
 
-pub checked_leaves : (args : Args) (store : Store) (plan : Plan) (messages : List Text) (name : Text) (result : Result Status RunFault) (middle : List Text) (old new : Devices)
-    → args.check ≡ Some name → Means args store old.files.names (meant messages middle (Ok plan))
-    → IfOk result (IsChecked plan (look store name)) → OnOk result (new.files.names ≡ middle ++ name ∷ [])
-    → IfErr result (λ fault. AskedAtCheck fault name middle new.files.names) → new.out ≡ old.out
-    → Takes old.err new.err (err_text (meant messages middle (Ok plan))) → Leaves args store result old new
-checked_leaves args store plan messages name (Ok status) middle old new is means checks names stopped same told =
-    let m = meant messages middle (Ok plan) in
-    record {
-      meaning = m;
-      means = means;
-      graph = graph_if_plan args store old.files.names m means;
-      sound = sound_if_plan args store old.files.names m means;
-      ends = subst (λ (checked : Option Text). HasStatus store checked (Ok plan) status) (sym is) checks;
-      names = names ∙ ap (λ (checked : Option Text). names_with_check checked (Ok plan) middle) (sym is);
-      written = subst (λ (checked : Option Text). HasOutput checked (Ok plan) old.out new.out) (sym is) same;
-      told = told;
-    }
-checked_leaves args store plan messages name (Err faults.WriteOut) middle old new is means checks names stopped same told = absurd stopped
-checked_leaves args store plan messages name (Err faults.WriteErr) middle old new is means checks names stopped same told = absurd stopped
-checked_leaves args store plan messages name (Err (faults.Read copy)) middle old new is means checks names stopped same told =
-    kept_at_check args store plan messages name (faults.Read copy) middle old new is means stopped same told
-checked_leaves args store plan messages name (Err faults.Memory) middle old new is means checks names stopped same told =
-    kept_at_check args store plan messages name faults.Memory middle old new is means stopped same told
+  ended : (status : Status) → HasStatus store args.check (Ok plan) status → new.files.names ≡ names_with_check args.check (Ok plan) asked
+      → HasOutput args.check (Ok plan) old.out new.out → Leaves args store (Ok status) old new
+  ended status is names written = record {
+    meaning = meant said asked (Ok plan);
+    means = means;
+    graph = graph;
+    sound = sound;
+    ends = is;
+    names = names;
+    written = written;
+    told = told;
+  }
+
+  -- which is written
+  pub written_leaves : (result : Result Status RunFault) → args.check ≡ None → IsWritable plan → new.files.names ≡ asked → Writes plan result old.out new.out
+      → Leaves args store result old new
+  written_leaves (Ok status) is fine names w =
+      ended status
+      (subst (λ (checked : Option Text). HasStatus store checked (Ok plan) status) (sym is) w.0)
+      (names ∙ ap (λ (checked : Option Text). names_with_check checked (Ok plan) asked) (sym is))
+      (subst (λ (checked : Option Text). HasOutput checked (Ok plan) old.out new.out) (sym is) (record { taken = w.1; read = printed_is_read plan fine }))
+  written_leaves (Err faults.WriteOut) is fine names w = record {
+    meaning = meant said asked (Ok plan);
+    means = means;
+    names = names;
+    plan = plan;
+    planned = refl;
+    graph = graph;
+    sound = sound;
+    unchecked = is;
+    written = w;
+    told = told;
+  }
+  written_leaves (Err faults.WriteErr) is fine names w = absurd w
+  written_leaves (Err (faults.Read name)) is fine names w = absurd w
+  written_leaves (Err faults.Memory) is fine names w = absurd w
+
+  kept_at_check : (name : Text) (fault : RunFault) → args.check ≡ Some name → AskedAtCheck fault name asked new.files.names → new.out ≡ old.out
+      → IsKept args store fault old new
+  kept_at_check name fault is names same = inr (record {
+    meaning = meant said asked (Ok plan);
+    means = means;
+    planned = refl;
+    name = name;
+    checks = is;
+    names = names;
+    written = same;
+    told = told;
+  })
+
+  -- with which a file is compared
+  pub checked_leaves : (name : Text) (result : Result Status RunFault) → args.check ≡ Some name → IfOk result (IsChecked plan (look store name))
+      → OnOk result (new.files.names ≡ asked ++ name ∷ []) → IfErr result (λ fault. AskedAtCheck fault name asked new.files.names) → new.out ≡ old.out
+      → Leaves args store result old new
+  checked_leaves name (Ok status) is checks names stopped same =
+      ended status
+      (subst (λ (checked : Option Text). HasStatus store checked (Ok plan) status) (sym is) checks)
+      (names ∙ ap (λ (checked : Option Text). names_with_check checked (Ok plan) asked) (sym is))
+      (subst (λ (checked : Option Text). HasOutput checked (Ok plan) old.out new.out) (sym is) same)
+  checked_leaves name (Err (faults.Read copy)) is checks names stopped same = kept_at_check name (faults.Read copy) is stopped same
+  checked_leaves name (Err faults.Memory) is checks names stopped same = kept_at_check name faults.Memory is stopped same
+  checked_leaves name (Err faults.WriteOut) is checks names stopped same = absurd stopped
+  checked_leaves name (Err faults.WriteErr) is checks names stopped same = absurd stopped

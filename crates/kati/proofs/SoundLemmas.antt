@@ -255,9 +255,8 @@ are_sound args store asked m plan means ok =
 
 -- ---- the plan that a call returns
 
-pub sound_if_ok : (limit : ℕ) (want : Wanted) (trace : Trace) (result : Result Plan Stop) (left : Trace)
-    → Ends (GoalsEnd limit want) trace (λ (plan : Plan). plan) result left
-    → IfOk result IsWritable → IfOk result IsSoundPlan
-sound_if_ok limit want trace (Ok plan) left means fine =
-    goals_sound limit want trace (meant left.said left.asked (Ok plan)) plan refl fine means
-sound_if_ok limit want trace (Err stop) left means fine = tt
+pub sound_if_ok : {A : Type 0} (see : A → Plan) (limit : ℕ) (want : Wanted) (trace left : Trace) (result : Result A Stop)
+    → Ends (GoalsEnd limit want) trace see result left → IfOk result (λ plan. IsWritable (see plan)) → IfOk result (λ plan. IsSoundPlan (see plan))
+sound_if_ok see limit want trace left (Ok plan) means fine =
+    goals_sound limit want trace (meant left.said left.asked (Ok (see plan))) (see plan) refl fine means
+sound_if_ok see limit want trace left (Err stop) means fine = tt

@@ -12,7 +12,7 @@ use Rattle.kt_eval.specs.Prefixes.{IsPrefix, last}
 use Rattle.kt_eval.specs.files.Files.{AgreeWith, FilesSeen, Store}
 use Rattle.kati_args.specs.declared.args.Args.{Args}
 use Rattle.kati_args.specs.declared.fault.ArgFault.{ArgFault}
-use Rattle.kati_args.specs.Args.{Answers}
+use Rattle.kati_args.specs.Args.{AnswersWords}
 use Rattle.kati.specs.declared.faults.RunFault.{RunFault}
 use Rattle.kati.specs.declared.faults.RunFault.TheVariants as faults
 use Rattle.kati.specs.declared.outcome.Outcome.{Outcome}
@@ -41,7 +41,7 @@ HasOutput (Some checked) result old new = new ≡ old
 
 -- the run came to its end: messages, plan or fault, and names asked for are those of the meaning; a plan is exactly the
 -- graph of its goals, and its text is on the output
-pub record Ends (args : Args) (store : Store) (status : Status) (old new : Devices) : Type 0 where
+pub record EndsInFull (args : Args) (store : Store) (status : Status) (old new : Devices) : Type 0 where
   pub meaning : Meaning
   pub means : Means args store old.files.names meaning
   pub graph : IfOk meaning.result (IsGraphOf args store old.files.names)
@@ -97,7 +97,7 @@ IsKept args store fault old new = EndsEarly args store old new ⊎ EndsAtCheck a
 
 -- the devices after a run over these files, by how it ended
 abbrev pub Leaves : Args → Store → Result Status RunFault → Devices → Devices → Type 0
-Leaves args store (Ok status) old new = Ends args store status old new
+Leaves args store (Ok status) old new = EndsInFull args store status old new
 Leaves args store (Err faults.WriteOut) old new = EndsAtOut args store old new
 Leaves args store (Err faults.WriteErr) old new = EndsAtErr args store old new
 Leaves args store (Err (faults.Read name)) old new = IsKept args store (faults.Read name) old new
@@ -112,8 +112,8 @@ pub record HasPlanText (Has : SinkSeen → SinkSeen → Text → Type 0) (old ne
   pub sound : IsSoundPlan plan
   pub has : Has old new (plan_text plan)
 
--- it has a plan's text only after a run that wrote one, and a prefix only where it failed; otherwise nothing is written,
--- and nothing is if a file is to be checked
+-- it has a plan's text only after a run that wrote one, and a prefix only where it failed; otherwise nothing is
+-- written, and nothing is if a file is to be checked
 abbrev pub LeavesOut : Option Text → Result Status RunFault → SinkSeen → SinkSeen → Type 0
 LeavesOut (Some checked) result old new = new ≡ old
 LeavesOut None (Ok statuses.Done) old new = HasPlanText Takes old new
@@ -126,14 +126,14 @@ LeavesOut None (Err faults.Memory) old new = new ≡ old
 
 -- what caused a fault of a run: the failures of that device rose, and a file is reported with the name asked for last;
 -- where an output failed or memory ran out, no file failed; a run that comes to its end has met no failure
-abbrev pub Blames : Result Status RunFault → Devices → Devices → Type 0
-Blames (Ok status) old new = (new.files.failed ≡ old.files.failed) × (new.out.failed ≡ old.out.failed)
+abbrev pub BlamesDevice : Result Status RunFault → Devices → Devices → Type 0
+BlamesDevice (Ok status) old new = (new.files.failed ≡ old.files.failed) × (new.out.failed ≡ old.out.failed)
     × (new.err.failed ≡ old.err.failed)
-Blames (Err (faults.Read name)) old new = Rises old.files.failed new.files.failed
+BlamesDevice (Err (faults.Read name)) old new = Rises old.files.failed new.files.failed
     × (last new.files.names ≡ Some (string_bytes name))
-Blames (Err faults.Memory) old new = new.files.failed ≡ old.files.failed
-Blames (Err faults.WriteOut) old new = Rises old.out.failed new.out.failed × (new.files.failed ≡ old.files.failed)
-Blames (Err faults.WriteErr) old new = Rises old.err.failed new.err.failed × (new.files.failed ≡ old.files.failed)
+BlamesDevice (Err faults.Memory) old new = new.files.failed ≡ old.files.failed
+BlamesDevice (Err faults.WriteOut) old new = Rises old.out.failed new.out.failed × (new.files.failed ≡ old.files.failed)
+BlamesDevice (Err faults.WriteErr) old new = Rises old.err.failed new.err.failed × (new.files.failed ≡ old.files.failed)
 
 -- the same for a step that only reads
 abbrev pub ReadBlames : {A : Type 0} → Result A RunFault → FilesSeen → FilesSeen → Type 0
@@ -155,7 +155,7 @@ pub record RunExits (args : Args) (code : ℕ) (old new : Devices) : Type 0 wher
   pub ended : Devices
   pub leaves : (store : Store) → AgreeWith store new.files.answers → Leaves args store run old ended
   pub output : LeavesOut args.check run old.out ended.out
-  pub blames : Blames run old ended
+  pub blames : BlamesDevice run old ended
   pub exit : code ≡ exit_code run
   pub told : ReportsEnd run ended new
 
@@ -170,7 +170,7 @@ ExitsBy Runs lead (Err fault) code old new = (new.files ≡ old.files)
 pub record Exits (Runs : Args → ℕ → Devices → Devices → Type 0) (lead : Text) (words : List Text) (code : ℕ)
     (old new : Devices) : Type 0 where
   pub answered : Result Args ArgFault
-  pub answers : Answers words answered
+  pub answers : AnswersWords words answered
   pub exits : ExitsBy Runs lead answered code old new
 
 -- kati

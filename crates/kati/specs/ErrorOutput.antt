@@ -36,16 +36,16 @@ GivesHelp text code out out' err err' =
     × WritesOrFails (fault_words faults.WriteOut) err err')
 
 -- all other results of words that ask for no run go to the error output
-abbrev pub Refuses : ℕ → Text → ℕ → SinkSeen → SinkSeen → SinkSeen → SinkSeen → Type 0
-Refuses expected text code out out' err err' = (code ≡ expected) × (out' ≡ out) × WritesOrFails text err err'
+abbrev pub RefusesWith : ℕ → Text → ℕ → SinkSeen → SinkSeen → SinkSeen → SinkSeen → Type 0
+RefusesWith expected text code out out' err err' = (code ≡ expected) × (out' ≡ out) × WritesOrFails text err err'
 
 -- how a program ends if its words ask for no run; its help comes after the lead
 abbrev pub RefusesBy : Text → ArgFault → ℕ → SinkSeen → SinkSeen → SinkSeen → SinkSeen → Type 0
 RefusesBy lead (refusals.Help text) code out out' err err' =
     GivesHelp (lead ++ string_bytes text) code out out' err err'
 RefusesBy lead (refusals.Usage text) code out out' err err' =
-    Refuses usage_code (string_bytes text) code out out' err err'
+    RefusesWith usage_code (string_bytes text) code out out' err err'
 RefusesBy lead (refusals.BadMacro word) code out out' err err' =
-    Refuses usage_code (codes "kati: bad macro " ++ (string_bytes word ++ codes "\n")) code out out' err err'
+    RefusesWith usage_code (codes "kati: bad macro " ++ (string_bytes word ++ codes "\n")) code out out' err err'
 RefusesBy lead refusals.Memory code out out' err err' =
-    Refuses (fault_code faults.Memory) (fault_words faults.Memory) code out out' err err'
+    RefusesWith (fault_code faults.Memory) (fault_words faults.Memory) code out out' err err'

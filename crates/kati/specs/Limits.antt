@@ -7,7 +7,7 @@ use Rattle.kt_ninja.specs.declared.plan.Plan.{Plan}
 use Rattle.kati_args.specs.declared.args.Args.{Args}
 use Rattle.kati.specs.declared.status.Status.{Status}
 use Rattle.kati.specs.Devices.{Devices}
-use Rattle.kati.specs.AfterRun.{Ends}
+use Rattle.kati.specs.AfterRun.{EndsInFull}
 use Rattle.kati.specs.Meaning.{Meaning, Means}
 
 -- the same arguments with this limit
@@ -29,5 +29,5 @@ OnlyCuts = (args : Args) (store : Store) (asked : List Text) (limit larger : ℕ
 -- outputs, and the same names asked for, that of the file to be checked among them
 abbrev pub OnlyCutsRuns : Type 0
 OnlyCutsRuns = (args : Args) (store : Store) (limit larger : ℕ) (status : Status) (old new : Devices) → limit ≤ larger
-    → (ends : Ends (with_limit limit args) store status old new) → (IsTooDeep ends.meaning.result → ⊥)
-    → (after : Ends (with_limit larger args) store status old new) × (after.meaning ≡ ends.meaning)
+    → (ends : EndsInFull (with_limit limit args) store status old new) → (IsTooDeep ends.meaning.result → ⊥)
+    → (after : EndsInFull (with_limit larger args) store status old new) × (after.meaning ≡ ends.meaning)

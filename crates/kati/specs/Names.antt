@@ -11,7 +11,7 @@ use Rattle.kati.specs.declared.faults.RunFault.TheVariants as faults
 use Rattle.kati.specs.declared.status.Status.{Status}
 use Rattle.kati.specs.Devices.{Devices, devices}
 use Rattle.kati.specs.Exits.{exit_code}
-use Rattle.kati.specs.AfterRun.{Blames, Exits, Leaves}
+use Rattle.kati.specs.AfterRun.{BlamesDevice, Exits, Leaves}
 use Rattle.kati.specs.ErrorOutput.{ReportsEnd}
 
 -- each name on a line of its own
@@ -50,7 +50,7 @@ pub record NamingExits (args : Args) (code : ℕ) (old new : Devices) : Type 0 w
   pub named : Devices
   pub names : NamesAfter run ended ran.files.names old.out named.out
   pub rest : (named.files ≡ ran.files) × (named.err ≡ ran.err)
-  pub blames : Blames ended old named
+  pub blames : BlamesDevice ended old named
   pub exit : code ≡ exit_code ended
   pub told : ReportsEnd ended named new
 

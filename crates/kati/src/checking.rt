@@ -5,13 +5,15 @@ ghost use Rattle.kt_ninja.specs.Text.{plan_text};
 ghost use Rattle.kt_ninja.specs.Writable.{IsWritable};
 ghost use Rattle.kati.specs.Checking.{AskedAtCheck, IsChecked, IsSame};
 ghost use Rattle.kati.specs.AfterRun.{ReadBlames};
+ghost use Rattle.kati.specs.inner.Shown.{plan_view};
 ghost use Rattle.kati.specs.declared.faults.RunFault.TheVariants.{Memory};
 
 use crate::expecting::Expecting;
 use crate::faults::RunFault;
+use crate::graph_plan::GraphPlan;
 use crate::status::Status;
 use kt_eval::{FileFault, Files};
-use kt_ninja::{Plan, write_plan};
+use kt_ninja::{Plan, copied_plan, write_view};
 use kt_ninja_reader::{ReadFault, read_plan};
 use std::alloc::Global;
 
@@ -19,13 +21,13 @@ use std::alloc::Global;
 #[tactic(auto, using(crate::proofs::BlameLemmas::one_read))]
 pub(crate) fn check<F: Files>(
     alloc: Global,
-    plan: &Plan,
+    plan: &GraphPlan,
     name: &str,
     files: &mut F,
 ) -> Result<Status, RunFault>
-    requires { IsWritable plan.now }
+    requires { IsWritable (plan_view plan.now) }
     ensures checks { (store : Store) → AgreeWith store (F.seen files.new).answers
-        → IfOk result (IsChecked plan.now (look store name.now)) }
+        → IfOk result (IsChecked (plan_view plan.now) (look store name.now)) }
     ensures grows { AnswersGrow (F.seen files.old).answers (F.seen files.new).answers }
     ensures counts { (F.seen files.old).failed ≤ (F.seen files.new).failed }
     ensures asked { OnOk result ((F.seen files.new).names ≡ (F.seen files.old).names ++ name.now ∷ []) }
@@ -43,9 +45,9 @@ pub(crate) fn check<F: Files>(
 }
 
 // Whether a file that was looked for exists and is the plan.
-fn compare(alloc: Global, plan: &Plan, found: Option<Vec<u8>>) -> Result<Status, RunFault>
-    requires { IsWritable plan.now }
-    ensures checks { IfOk result (IsChecked plan.now (option_map (λ text. text.items) found)) }
+fn compare(alloc: Global, plan: &GraphPlan, found: Option<Vec<u8>>) -> Result<Status, RunFault>
+    requires { IsWritable (plan_view plan.now) }
+    ensures checks { IfOk result (IsChecked (plan_view plan.now) (option_map (λ text. text.items) found)) }
     ensures blames { IfErr result (λ fault. fault ≡ Memory) }
 {
     match found {
@@ -55,28 +57,28 @@ fn compare(alloc: Global, plan: &Plan, found: Option<Vec<u8>>) -> Result<Status,
 }
 
 // Most files are the text that a run before wrote for the plan, which is told without reading it.
-fn compare_text(alloc: Global, plan: &Plan, text: &[u8]) -> Result<Status, RunFault>
-    requires { IsWritable plan.now }
-    ensures checks { IfOk result (IsChecked plan.now (Some text.now)) }
+fn compare_text(alloc: Global, plan: &GraphPlan, text: &[u8]) -> Result<Status, RunFault>
+    requires { IsWritable (plan_view plan.now) }
+    ensures checks { IfOk result (IsChecked (plan_view plan.now) (Some text.now)) }
     ensures blames { IfErr result (λ fault. fault ≡ Memory) }
 {
     if is_text_of(plan, text) {
         return Ok(Status::Done);
     }
     match read_plan(alloc, text) {
-        Ok(other) => Ok(same_or_not(&other, plan)),
+        Ok(other) => Ok(same_or_not(&other, &copied_plan(alloc, plan)?)),
         Err(ReadFault::NotNinja(_)) => Ok(Status::Differs),
         Err(ReadFault::Memory) => Err(RunFault::Memory),
     }
 }
 
 // Whether this is the text that is written for the plan.
-fn is_text_of(plan: &Plan, text: &[u8]) -> bool
-    requires { IsWritable plan.now }
-    ensures { result ≡ true → plan_text plan.now ≡ text.now }
+fn is_text_of(plan: &GraphPlan, text: &[u8]) -> bool
+    requires { IsWritable (plan_view plan.now) }
+    ensures { result ≡ true → plan_text (plan_view plan.now) ≡ text.now }
 {
     let mut expecting = Expecting::new(text);
-    write_plan(plan, &mut expecting).is_ok() && expecting.has_taken(text)
+    write_view(plan, &mut expecting).is_ok() && expecting.has_taken(text)
 }
 
 fn same_or_not(read: &Plan, plan: &Plan) -> Status

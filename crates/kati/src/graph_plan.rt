@@ -26,7 +26,7 @@ pub(crate) struct GraphPlan<'g> {
 
 // A statement.
 #[derive(Drop)]
-enum Part<'a, 'g> {
+enum PlanPart<'a, 'g> {
     Missing,
     // That of `ALWAYS_BUILD`.
     Always,
@@ -36,22 +36,22 @@ enum Part<'a, 'g> {
 impl<'g> GraphPlan<'g> {
     // The statement of a group.
     #[inline(always)]
-    fn group(&self, place: usize) -> Part<'_, 'g>
+    fn group(&self, place: usize) -> PlanPart<'_, 'g>
         ensures { part_view result
             ≡ slice_get (statements_drawn self.now.groups self.now.sketch) place }
     {
         match self.groups.row(place) {
             Some(nodes) => match self.sketch.get(place) {
-                Some(drawing) => Part::Group(nodes, drawing),
-                None => Part::Missing,
+                Some(drawing) => PlanPart::Group(nodes, drawing),
+                None => PlanPart::Missing,
             },
-            None => Part::Missing,
+            None => PlanPart::Missing,
         }
     }
 
     // The statement at a place.
     #[inline(always)]
-    fn part(&self, statement: usize) -> Part<'_, 'g>
+    fn part(&self, statement: usize) -> PlanPart<'_, 'g>
         ensures { part_view result ≡ slice_get (plan_view self.now).statements statement }
     {
         if !self.always {
@@ -59,20 +59,20 @@ impl<'g> GraphPlan<'g> {
         }
         match statement.checked_sub(1) {
             Some(place) => self.group(place),
-            None => Part::Always,
+            None => PlanPart::Always,
         }
     }
 }
 
-impl<'a, 'g> Part<'a, 'g> {
+impl<'a, 'g> PlanPart<'a, 'g> {
     #[inline(always)]
     fn outputs(&self) -> NameList<'a, 'g>
         ensures { names_view result ≡ names_at (λ s. s.outs) (part_view self.now) }
     {
         match self {
-            Part::Missing => NameList::Empty,
-            Part::Always => NameList::AlwaysBuild,
-            Part::Group(nodes, _) => NameList::Members(*nodes),
+            PlanPart::Missing => NameList::Empty,
+            PlanPart::Always => NameList::AlwaysBuild,
+            PlanPart::Group(nodes, _) => NameList::Members(*nodes),
         }
     }
 
@@ -81,8 +81,8 @@ impl<'a, 'g> Part<'a, 'g> {
         ensures { names_view result ≡ names_at (λ s. s.inputs) (part_view self.now) }
     {
         match self {
-            Part::Missing | Part::Always => NameList::Empty,
-            Part::Group(nodes, drawing) => match drawing.joined {
+            PlanPart::Missing | PlanPart::Always => NameList::Empty,
+            PlanPart::Group(nodes, drawing) => match drawing.joined {
                 Some(joined) => NameList::Names(joined.inputs.as_slice()),
                 None => first_inputs(*nodes),
             },
@@ -94,8 +94,8 @@ impl<'a, 'g> Part<'a, 'g> {
         ensures { names_view result ≡ names_at (λ s. s.implicit) (part_view self.now) }
     {
         match self {
-            Part::Missing | Part::Always => NameList::Empty,
-            Part::Group(_, drawing) => {
+            PlanPart::Missing | PlanPart::Always => NameList::Empty,
+            PlanPart::Group(_, drawing) => {
                 if drawing.always {
                     NameList::AlwaysBuild
                 } else {
@@ -110,8 +110,8 @@ impl<'a, 'g> Part<'a, 'g> {
         ensures { names_view result ≡ names_at (λ s. s.order_only) (part_view self.now) }
     {
         match self {
-            Part::Missing | Part::Always => NameList::Empty,
-            Part::Group(nodes, drawing) => match drawing.joined {
+            PlanPart::Missing | PlanPart::Always => NameList::Empty,
+            PlanPart::Group(nodes, drawing) => match drawing.joined {
                 Some(joined) => NameList::Names(joined.order_only.as_slice()),
                 None => first_order_only(*nodes),
             },
@@ -122,8 +122,8 @@ impl<'a, 'g> Part<'a, 'g> {
         ensures { made_seen (option_map (λ text. text.now) result) ≡ made_at (part_view self.now) }
     {
         match self {
-            Part::Missing | Part::Always => None,
-            Part::Group(_, drawing) => {
+            PlanPart::Missing | PlanPart::Always => None,
+            PlanPart::Group(_, drawing) => {
                 if drawing.command.is_empty() {
                     None
                 } else {

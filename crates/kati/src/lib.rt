@@ -21,7 +21,6 @@ mod status;
 mod telling;
 mod translating;
 mod words;
-mod writing;
 
 pub use faults::RunFault;
 pub use kati_args::{ArgFault, Args, args_of};

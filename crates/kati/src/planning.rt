@@ -23,9 +23,7 @@ use crate::words::stop_on;
 use kt_eval::{Makefile, Stop};
 use kt_graph::{Graph, Node};
 use kt_list::{Rows, Sequence};
-use kt_ninja::{
-    Listed, Plan, PlanView, Unwritable, copied_plan, name_can_be_written, texts_can_be_written,
-};
+use kt_ninja::{Listed, PlanView, Unwritable, name_can_be_written, texts_can_be_written};
 use kt_recipe::Commands;
 use kt_rules::{Book, FaultKind, Name};
 use std::alloc::{AllocError, Global};
@@ -50,25 +48,6 @@ pub(crate) fn graph_plan<'g>(
     let sketch = sketched(alloc, makefile, limit, &groups, messages)?;
     let can_be_written = has_writable_texts(graph, &sketch);
     written(alloc, plan_of(groups, sketch, goals), can_be_written)
-}
-
-/// The same, copied into a `Plan`.
-pub(crate) fn plan(
-    alloc: Global,
-    makefile: &Makefile,
-    limit: u64,
-    graph: &Graph,
-    goals: Vec<Name>,
-    messages: &mut Vec<Sequence<u8>>,
-) -> Result<Plan, Stop>
-    requires { (known : List Text) × IsSoundGraph makefile.now.book known goals.items graph.now }
-    ensures gives { Gives (λ plan. plan) result messages.new.items
-        (planned makefile.now.book makefile.now.macros limit goals.items graph.now messages.old.items) }
-    ensures asks_nothing { AsksNothing result }
-    ensures writable { IfOk result IsWritable }
-{
-    let plan = graph_plan(alloc, makefile, limit, graph, goals, messages)?;
-    Ok(copied_plan(alloc, &plan)?)
 }
 
 // The groups, one after another.

@@ -2,7 +2,8 @@
 ghost use Rattle.std.specs.Prelude.{◌≡◌, ◌≤◌, List, [], IfErr, IfOk};
 ghost use Rattle.kt_eval.specs.files.Files.{AgreeWith, AnswersGrow, Store};
 ghost use Rattle.kt_text.specs.Words.{Text};
-ghost use Rattle.kt_graph.specs.faults.Faults.{IsSoundGraph, ReportsFirst};
+ghost use Rattle.kt_graph.specs.Known.{known_names};
+ghost use Rattle.kt_graph.specs.faults.Faults.{IsSoundGraph};
 ghost use Rattle.kt_ninja.specs.Writable.{IsWritable};
 ghost use Rattle.kt_eval.specs.Prefixes.{IsPrefix};
 ghost use Rattle.kt_eval.specs.reading.Machine.{traced};
@@ -12,28 +13,30 @@ ghost use Rattle.kati.specs.Asked.{names_asked};
 ghost use Rattle.kati.specs.AfterRun.{ReadBlames, Translates};
 ghost use Rattle.kati.specs.Meaning.{prepared, wanted_by};
 ghost use Rattle.kati.specs.Sound.{IsSoundPlan};
+ghost use Rattle.kati.specs.inner.Shown.{plan_view};
 ghost use Rattle.kati.specs.inner.Stops.{IsFirstStop, IsStopOf};
-ghost use Rattle.kati.specs.inner.Views.{EndMeans, GoalsEnd, found_view, outcome_of, read_view, wanted_view};
+ghost use Rattle.kati.specs.inner.Views.{EndMeans, GoalsEnd, found_view, read_view};
 
 use crate::faults::RunFault;
 use crate::goals::chosen_goals;
+use crate::graph_plan::GraphPlan;
 use crate::listing::listed;
 use crate::makefile::makefile_read;
 use crate::outcome::Outcome;
-use crate::planning::plan;
+use crate::planning::graph_plan;
 use kati_args::Args;
 use kt_eval::{Fault, Files, Makefile, Stop};
 use kt_graph::{Graph, GraphFault, Known, graph};
 use kt_list::Sequence;
-use kt_ninja::Plan;
+use kt_ninja::copied_plan;
 use kt_rules::Name;
 use std::alloc::{AllocError, Global};
-use std::mem;
+use std::boxed::Box;
 
 /// Translates the makefile that the arguments name, or else the first of `makefile` and `Makefile` that exists.
 ///
-/// The memory of its rules, known names and graph is freed only if a check is asked for, which needs it: otherwise a
-/// run translates once and ends, and would spend much of its time on freeing a million texts one by one.
+/// The memory of its rules, known names and graph is never freed: a run translates once and ends, and would spend much
+/// of its time on freeing a million texts one by one.
 pub fn translate<F: Files>(alloc: Global, args: &Args, files: &mut F) -> Result<Outcome, RunFault>
     ensures means { (store : Store) → AgreeWith store (F.seen files.new).answers → IfOk result
         (λ outcome. Translates args.now store outcome (F.seen files.old).names (F.seen files.new).names) }
@@ -46,50 +49,39 @@ pub fn translate<F: Files>(alloc: Global, args: &Args, files: &mut F) -> Result<
     ensures blames { ReadBlames result (F.seen files.old) (F.seen files.new) }
 {
     let mut messages = Vec::new(alloc);
-    let ended = planned(alloc, args, files, &mut messages);
-    outcome_of(messages, ended)
+    let result = match planned(alloc, args, files, &mut messages) {
+        Ok(plan) => Ok(copied_plan(alloc, &plan)?),
+        Err(Stop::Fault(fault)) => Err(fault),
+        Err(Stop::Device(name)) => return Err(RunFault::Read(name)),
+        Err(Stop::Memory) => return Err(RunFault::Memory),
+    };
+    Ok(Outcome {
+        messages: Sequence::from(messages),
+        result,
+    })
 }
 
-// The outcome of a run that came to a plan or was stopped.
-fn outcome_of(messages: Vec<Sequence<u8>>, ended: Result<Plan, Stop>) -> Result<Outcome, RunFault>
-    ensures { result ≡ outcome_of messages.items ended }
-{
-    match ended {
-        Ok(plan) => Ok(Outcome {
-            messages: Sequence::from(messages),
-            result: Ok(plan),
-        }),
-        Err(Stop::Fault(fault)) => Ok(Outcome {
-            messages: Sequence::from(messages),
-            result: Err(fault),
-        }),
-        Err(Stop::Device(name)) => Err(RunFault::Read(name)),
-        Err(Stop::Memory) => Err(RunFault::Memory),
-    }
-}
-
-// The plan of the makefile: first the files are read and the goals chosen, and then the goals are planned.
-fn planned<F: Files>(
+/// The plan of the makefile: the files are listed, the makefile is read, the goals are chosen, their graph is made, and
+/// then the plan.
+pub(crate) fn planned<'p, F: Files>(
     alloc: Global,
     args: &Args,
     files: &mut F,
     messages: &mut Vec<Sequence<u8>>,
-) -> Result<Plan, Stop>
+) -> Result<GraphPlan<'p>, Stop>
     requires { messages.old.items ≡ [] }
     ensures means { (store : Store) → AgreeWith store (F.seen files.new).answers → Ends (EndMeans args.now store)
-        (F.seen files.old).names (λ plan. plan) result (traced messages.new.items (F.seen files.new).names) }
+        (F.seen files.old).names plan_view result (traced messages.new.items (F.seen files.new).names) }
     ensures asked { (store : Store) → AgreeWith store (F.seen files.new).answers
         → IsPrefix (F.seen files.new).names (names_asked args.now store (F.seen files.old).names) }
     ensures grows { AnswersGrow (F.seen files.old).answers (F.seen files.new).answers }
     ensures counts { (F.seen files.old).failed ≤ (F.seen files.new).failed }
     ensures blames { Blames result (F.seen files.old) (F.seen files.new) }
-    ensures writable { IfOk result IsWritable }
-    ensures sound { IfOk result IsSoundPlan }
+    ensures writable { IfOk result (λ plan. IsWritable (plan_view plan)) }
+    ensures sound { IfOk result (λ plan. IsSoundPlan (plan_view plan)) }
 {
     let (found, goals) = prepared(alloc, args, files, messages)?;
-    let plan = planned_of(alloc, args, &found, goals, messages);
-    leave(found, args);
-    plan
+    planned_goals(alloc, args, found, goals, messages)
 }
 
 /// What was read: the makefile, and the list of files.
@@ -99,23 +91,16 @@ pub(crate) struct Found {
     pub list: Vec<u8>,
 }
 
-/// What the goals are made from.
-#[derive(Drop)]
-pub(crate) struct Sources<'a> {
-    pub makefile: &'a Makefile,
-    pub known: Known<'a>,
-}
-
-/// The list of files, the makefile, and the goals.
-pub(crate) fn prepared<F: Files>(
+// The list of files, the makefile, and the goals.
+fn prepared<'p, F: Files>(
     alloc: Global,
     args: &Args,
     files: &mut F,
     messages: &mut Vec<Sequence<u8>>,
-) -> Result<(Found, Vec<Name>), Stop>
+) -> Result<(&'p Found, Vec<Name>), Stop>
     requires { messages.old.items ≡ [] }
     ensures gives { (store : Store) → AgreeWith store (F.seen files.new).answers → Gives
-        (λ found. found_view found.0 found.1.items) result (traced messages.new.items (F.seen files.new).names)
+        (λ found. found_view found.0.now found.1.items) result (traced messages.new.items (F.seen files.new).names)
         (prepared args.now store (traced [] (F.seen files.old).names)) }
     ensures asked { (store : Store) → AgreeWith store (F.seen files.new).answers
         → IsPrefix (F.seen files.new).names (names_asked args.now store (F.seen files.old).names) }
@@ -127,101 +112,63 @@ pub(crate) fn prepared<F: Files>(
     let (told, read) = makefile_read(alloc, args, files);
     *messages = told;
     let makefile = read?;
-    chosen(alloc, args, list, makefile, messages)
+    chosen(alloc, args, Found { makefile, list }, messages)
 }
 
 // The goals, with what they are made from.
-fn chosen(
+fn chosen<'p>(
     alloc: Global,
     args: &Args,
-    list: Vec<u8>,
-    makefile: Makefile,
+    found: Found,
     messages: &mut Vec<Sequence<u8>>,
-) -> Result<(Found, Vec<Name>), Stop>
-    ensures gives { Gives (λ found. found_view found.0 found.1.items) result messages.new.items
-        (wanted_by args.now list.items (read_view makefile) messages.old.items) }
+) -> Result<(&'p Found, Vec<Name>), Stop>
+    ensures gives { Gives (λ found. found_view found.0.now found.1.items) result messages.new.items
+        (wanted_by args.now found.list.items (read_view found.makefile) messages.old.items) }
     ensures asks_nothing { AsksNothing result }
 {
-    let goals = chosen_goals(
-        alloc,
-        args.goals.as_slice(),
-        args.limit,
-        &makefile,
-        messages,
-    )?;
-    Ok((Found { makefile, list }, goals))
+    let found = lasting(alloc, found)?;
+    let goals = args.goals.as_slice();
+    let goals = chosen_goals(alloc, goals, args.limit, &found.makefile, messages)?;
+    Ok((found, goals))
+}
+
+// The value, in a place that is never freed, so that what is made of it can be handed on.
+fn lasting<'p, T: Drop + 'p>(alloc: Global, value: T) -> Result<&'p T, AllocError>
+    ensures { IfOk result (λ place. place.now ≡ value) }
+{
+    Ok(Box::leak(Box::new(alloc, value)?))
 }
 
 // The plan of these goals, from what was read.
-fn planned_of(
+fn planned_goals<'p>(
     alloc: Global,
     args: &Args,
-    found: &Found,
+    found: &'p Found,
     goals: Vec<Name>,
     messages: &mut Vec<Sequence<u8>>,
-) -> Result<Plan, Stop>
+) -> Result<GraphPlan<'p>, Stop>
     ensures means { (asked : List Text) → Ends (GoalsEnd args.now.limit (found_view found.now goals.items))
-        (traced messages.old.items asked) (λ plan. plan) result (traced messages.new.items asked) }
+        (traced messages.old.items asked) plan_view result (traced messages.new.items asked) }
     ensures asks_nothing { AsksNothing result }
-    ensures writable { IfOk result IsWritable }
-    ensures sound { IfOk result IsSoundPlan }
+    ensures writable { IfOk result (λ plan. IsWritable (plan_view plan)) }
+    ensures sound { IfOk result (λ plan. IsSoundPlan (plan_view plan)) }
 {
-    let sources = sources_of(alloc, found)?;
-    let plan = planned_goals(alloc, args, &sources, goals, messages);
-    leave(sources, args);
-    plan
+    let graph = sound_graph(alloc, found, goals.as_slice())?;
+    graph_plan(alloc, &found.makefile, args.limit, graph, goals, messages)
 }
 
-/// The makefile, with the known names.
-pub(crate) fn sources_of(alloc: Global, found: &Found) -> Result<Sources<'_>, AllocError>
-    ensures { IfOk result (λ sources. (goals : List Text) → wanted_view sources goals ≡ found_view found.now goals) }
+// The graph of these goals, unless something is wrong with it.
+fn sound_graph<'p>(alloc: Global, found: &'p Found, goals: &[Name]) -> Result<&'p Graph<'p>, Stop>
+    ensures graph { IfOk result (λ graph. IsSoundGraph found.now.makefile.book
+        (known_names found.now.makefile.book found.now.list.items) goals.now graph.now) }
+    ensures first { IfErr result (IsFirstStop found.now.makefile.book
+        (known_names found.now.makefile.book found.now.list.items) goals.now) }
 {
-    Ok(Sources {
-        makefile: &found.makefile,
-        known: Known::of(alloc, &found.makefile.book, found.list.as_slice())?,
-    })
-}
-
-// The plan of these goals.
-fn planned_goals(
-    alloc: Global,
-    args: &Args,
-    sources: &Sources<'_>,
-    goals: Vec<Name>,
-    messages: &mut Vec<Sequence<u8>>,
-) -> Result<Plan, Stop>
-    ensures means { (asked : List Text) → Ends (GoalsEnd args.now.limit (wanted_view sources.now goals.items))
-        (traced messages.old.items asked) (λ plan. plan) result (traced messages.new.items asked) }
-    ensures asks_nothing { AsksNothing result }
-    ensures writable { IfOk result IsWritable }
-    ensures sound { IfOk result IsSoundPlan }
-{
-    let graph = sound_graph(alloc, sources, goals.as_slice())?;
-    let plan = plan(alloc, sources.makefile, args.limit, &graph, goals, messages);
-    leave(graph, args);
-    plan
-}
-
-/// The graph of these goals, unless something is wrong with it.
-pub(crate) fn sound_graph<'a>(
-    alloc: Global,
-    sources: &'a Sources<'a>,
-    goals: &[Name],
-) -> Result<Graph<'a>, Stop>
-    ensures graph { IfOk result (IsSoundGraph sources.now.makefile.now.book sources.now.known goals.now) }
-    ensures first { IfErr result (IsFirstStop sources.now.makefile.now.book sources.now.known goals.now) }
-{
-    match graph(alloc, &sources.makefile.book, &sources.known, goals) {
-        Ok(graph) => Ok(graph),
+    let book = &found.makefile.book;
+    let known = lasting(alloc, Known::of(alloc, book, found.list.as_slice())?)?;
+    match graph(alloc, book, known, goals) {
+        Ok(graph) => Ok(lasting(alloc, graph)?),
         Err(fault) => Err(stop_of(fault)),
-    }
-}
-
-// Leaks a value until the process ends, or drops it if a check will need its memory.
-fn leave<T: Drop>(value: T, args: &Args) {
-    match &args.check {
-        None => mem::forget(value),
-        Some(_name) => drop(value),
     }
 }
 

@@ -1,5 +1,5 @@
 -- What is asked for, put together; and what is answered for an error.
-use Rattle.std.proofs.Common.{◌≡◌, ◌∙◌, List, Some, None, false, Ok, Err, inl, inr, ap, subst, sym, ⊎_elim, [], ◌∷◌, true≢false}
+use Rattle.std.proofs.Common.{◌≡◌, ◌∙◌, List, None, false, Ok, Err, inl, inr, ap, subst, sym, ⊎_elim, [], ◌∷◌, true≢false}
 use Rattle.std.proofs.lemmas.Bool.{cases_Bool}
 use Rattle.std.specs.Prelude.{find, option_map, unwrap_or, codes, Result, string_bytes, ◌≢◌}
 use Rattle.kt_text.specs.Words.{Text}
@@ -11,7 +11,7 @@ use Rattle.kati_args.specs.declared.args.Args.{Args}
 use Rattle.kati_args.specs.declared.fault.ArgFault.{ArgFault}
 use Rattle.kati_args.specs.declared.fault.ArgFault.TheVariants.{BadMacro, Help, Memory, Usage}
 use Rattle.kati_args.specs.Rows.{IsUsage}
-use Rattle.kati_args.specs.Args.{Answers, AnswersFound, IsTaken, ReportsError, answer_to, args_in, goals_in, is_bad_macro, kati_app, macros_in, number_in, unless_bad, words_in}
+use Rattle.kati_args.specs.Args.{AnswersWords, AnswersFound, IsTaken, ReportsError, answer_to, args_in, goals_in, is_bad_macro, kati_app, macros_in, number_in, unless_bad, words_in}
 
 pub args_are : (rows : List Row) (made : Args) → made.makefile ≡ first_of (codes "makefile") rows → made.files ≡ first_of (codes "files") rows
     → made.check ≡ first_of (codes "check") rows → made.limit ≡ unwrap_or (option_map number_in (first_of (codes "depth") rows)) 100
@@ -28,11 +28,8 @@ args_are rows made makefile files check limit goals macros = λ i. record {
 pub answers_args : (rows : List Row) (made : Args) → find is_bad_macro (words_in rows) ≡ None → made ≡ args_in rows → answer_to rows ≡ Ok made
 answers_args rows made none is = ap (unless_bad (args_in rows)) none ∙ ap Ok (sym is)
 
-pub answers_bad : (rows : List Row) (word : Text) → find is_bad_macro (words_in rows) ≡ Some word → answer_to rows ≡ Err word
-answers_bad rows word some = ap (unless_bad (args_in rows)) some
-
 pub answers_found : (words : List Text) (rows : List Row) (result : Result Args ArgFault) → rows ≡ matches_of kati_app words → IsTaken words
-    → AnswersFound rows result → Answers words result
+    → AnswersFound rows result → AnswersWords words result
 answers_found words rows (Ok args) found taken answered = (taken, subst (λ (r : List Row). answer_to r ≡ Ok args) found answered)
 answers_found words rows (Err (BadMacro word)) found taken answered =
     (taken, subst (λ (r : List Row). answer_to r ≡ Err (string_bytes word)) found answered)
@@ -48,7 +45,7 @@ among words e (inl memory) other = absurd (other memory)
 among words e (inr one) other = one
 
 pub answers_fault : (words : List Text) (e : Error) (fault : ArgFault) → (IsTaken words → kind_of e ≡ OutOfMemory)
-    → HasKind (fault_of kati_app words) e → ReportsError e fault → Answers words (Err fault)
+    → HasKind (fault_of kati_app words) e → ReportsError e fault → AnswersWords words (Err fault)
 answers_fault words e (Help text) taken kinds told =
     let other : kind_of e ≢ OutOfMemory = λ memory. absurd (cc (told, memory)) in
     (not_taken words e taken other, subst (λ (k : ErrorKind). IsAmong k (fault_of kati_app words)) told (among words e kinds other))
@@ -59,7 +56,7 @@ answers_fault words e Memory taken kinds told = tt
 
 -- where clap doesn't take the words, for one reason that isn't its help, only usage may be answered
 pub usage_alone : (words : List Text) (kind : ErrorKind) → takes kati_app words ≡ false → fault_of kati_app words ≡ kind ∷ [] → (DisplayHelp ≡ kind → ⊥)
-    → (result : Result Args ArgFault) → Answers words result → IsUsage result
+    → (result : Result Args ArgFault) → AnswersWords words result → IsUsage result
 usage_alone words kind untaken fault other (Ok args) answered = absurd (true≢false (sym answered.0 ∙ untaken))
 usage_alone words kind untaken fault other (Err (BadMacro word)) answered = absurd (true≢false (sym answered.0 ∙ untaken))
 usage_alone words kind untaken fault other (Err (Help text)) answered =

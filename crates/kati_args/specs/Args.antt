@@ -128,13 +128,13 @@ IsTaken words = takes kati_app words ≡ true
 
 -- what may be returned for the words: arguments and a bad macro only where clap takes them, help and usage only where
 -- it doesn't, help only where clap shows it, and usage only where clap finds another fault
-abbrev pub Answers : List Text → Result Args ArgFault → Type 0
-Answers words (Err (Help text)) = (takes kati_app words ≡ false) × IsAmong DisplayHelp (fault_of kati_app words)
-Answers words (Err (Usage text)) =
+abbrev pub AnswersWords : List Text → Result Args ArgFault → Type 0
+AnswersWords words (Err (Help text)) = (takes kati_app words ≡ false) × IsAmong DisplayHelp (fault_of kati_app words)
+AnswersWords words (Err (Usage text)) =
     (takes kati_app words ≡ false) × ((kind : ErrorKind) × (kind ≢ DisplayHelp)
     × IsAmong kind (fault_of kati_app words))
-Answers words (Err Memory) = ⊤
-Answers words result = IsTaken words × AnswersFound (matches_of kati_app words) result
+AnswersWords words (Err Memory) = ⊤
+AnswersWords words result = IsTaken words × AnswersFound (matches_of kati_app words) result
 
 -- what is returned for an error of clap's
 abbrev pub ReportsError : Error → ArgFault → Type 0

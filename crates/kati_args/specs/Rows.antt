@@ -8,7 +8,7 @@ use Rattle.kati_args.specs.declared.args.Args.{Args}
 use Rattle.kati_args.specs.declared.args.Macro.{Macro}
 use Rattle.kati_args.specs.declared.fault.ArgFault.{ArgFault}
 use Rattle.kati_args.specs.declared.fault.ArgFault.TheVariants.{Memory, Usage}
-use Rattle.kati_args.specs.Args.{Answers, answer_to, kati_app}
+use Rattle.kati_args.specs.Args.{AnswersWords, answer_to, kati_app}
 
 -- the words of a command line, after the program's name
 abbrev pub line : List Text → List Text
@@ -60,7 +60,7 @@ IsUsage result = ⊥
 
 -- nothing else may be returned for the words
 abbrev pub AsksUsage : List Text → Type 0
-AsksUsage words = (result : Result Args ArgFault) → Answers (line words) result → IsUsage result
+AsksUsage words = (result : Result Args ArgFault) → AnswersWords (line words) result → IsUsage result
 
 pub record RowsOfUsage : Type 0 where
   pub unknown : AsksUsage (codes "--nothing" ∷ [])

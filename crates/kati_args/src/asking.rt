@@ -1,7 +1,7 @@
 //! From the words to what they ask for.
 ghost use Rattle.std.specs.Prelude.{◌≡◌, ◌≤◌, IfOk, IfSome, codes, map, option_map, string_bytes, unwrap_or};
 ghost use Rattle.clap.specs.Words.{HasKind, IsUnsignedIn, fault_of, first_value, found_of, rows_of};
-ghost use Rattle.kati_args.specs.Args.{Answers, AnswersFound, ReportsError, number_in, words_in};
+ghost use Rattle.kati_args.specs.Args.{AnswersWords, AnswersFound, ReportsError, number_in, words_in};
 
 use crate::args::Args;
 use crate::fault::ArgFault;
@@ -83,7 +83,7 @@ fn fault_of(alloc: Global, error: &Error) -> ArgFault
 
 /// Reads the command line, of which the first word is the program's name.
 pub fn args_of(alloc: Global, words: &[String]) -> Result<Args, ArgFault>
-    ensures answers { Answers (map string_bytes words.now) result }
+    ensures answers { AnswersWords (map string_bytes words.now) result }
     ensures limit { IfOk result (λ args. (1 ≤ args.limit) × (args.limit ≤ 400)) }
 {
     match matched(alloc, words) {

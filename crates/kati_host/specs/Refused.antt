@@ -8,8 +8,8 @@ use Rattle.kati_host.specs.declared.words.Wordless.{Wordless}
 use Rattle.kati_host.specs.declared.words.Wordless.TheVariants as reasons
 
 -- the line and the exit status for each reason
-abbrev pub Refuses : Wordless → ℕ → SinkSeen → SinkSeen → Type 0
-Refuses reasons.NotText code err err' =
+abbrev pub RefusesWordless : Wordless → ℕ → SinkSeen → SinkSeen → Type 0
+RefusesWordless reasons.NotText code err err' =
     (code ≡ usage_code) × WritesOrFails (codes "kati: a word is not UTF-8\n") err err'
-Refuses reasons.Memory code err err' =
+RefusesWordless reasons.Memory code err err' =
     (code ≡ fault_code faults.Memory) × WritesOrFails (fault_words faults.Memory) err err'

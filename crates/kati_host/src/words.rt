@@ -1,6 +1,6 @@
 //! The command line that the host gives a program.
 ghost use Rattle.std.specs.Prelude.{◌≤◌};
-ghost use Rattle.kati_host.specs.Refused.{Refuses};
+ghost use Rattle.kati_host.specs.Refused.{RefusesWordless};
 ghost use Rattle.kati_host.specs.declared.words.Wordless.TheVariants.{NotText};
 
 use kati::{RunFault, USAGE, finish};
@@ -27,11 +27,11 @@ pub fn words_of(rt: &HostRuntime) -> Result<Vec<String>, Wordless> {
 
 impl Wordless {
     ghost use Rattle.std.specs.Prelude.{◌≤◌};
-    ghost use Rattle.kati_host.specs.Refused.{Refuses};
+    ghost use Rattle.kati_host.specs.Refused.{RefusesWordless};
 
     /// The exit status of a program that got no words, after reporting why, as far as the error output takes it.
     pub fn refuse<E: Sink>(self, err: &mut E) -> u8
-        ensures told { Refuses self result (E.seen err.old) (E.seen err.new) }
+        ensures told { RefusesWordless self result (E.seen err.old) (E.seen err.new) }
         ensures counts { (E.seen err.old).failed ≤ (E.seen err.new).failed }
     {
         match self {
@@ -42,7 +42,7 @@ impl Wordless {
 }
 
 fn refuse_bytes<E: Sink>(err: &mut E) -> u8
-    ensures told { Refuses NotText result (E.seen err.old) (E.seen err.new) }
+    ensures told { RefusesWordless NotText result (E.seen err.old) (E.seen err.new) }
     ensures counts { (E.seen err.old).failed ≤ (E.seen err.new).failed }
 {
     let _ = put(err, b"kati: a word is not UTF-8\n");

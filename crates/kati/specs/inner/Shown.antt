@@ -6,8 +6,8 @@ use Rattle.kt_ninja.specs.declared.plan.Plan.{Plan}
 use Rattle.kati.specs.declared.name_list.NameList.{NameList}
 use Rattle.kati.specs.declared.name_list.NameList.TheVariants as lists
 use Rattle.kati.specs.declared.graph_plan.GraphPlan.{GraphPlan}
-use Rattle.kati.specs.declared.graph_plan.Part.{Part}
-use Rattle.kati.specs.declared.graph_plan.Part.TheVariants as parts
+use Rattle.kati.specs.declared.graph_plan.PlanPart.{PlanPart}
+use Rattle.kati.specs.declared.graph_plan.PlanPart.TheVariants as parts
 use Rattle.kati.specs.Planning.{always_build, always_built, outs_of}
 use Rattle.kati.specs.inner.Drawn.{always_drawn, drawing_view, statement_drawn, statements_drawn}
 
@@ -28,7 +28,7 @@ names_view (lists.Needs inputs) = inputs
 names_view (lists.Names names) = names.now
 
 -- the statement of a part of the plan, if it has one
-abbrev pub part_view : Part → Option Statement
+abbrev pub part_view : PlanPart → Option Statement
 part_view parts.Missing = None
 part_view parts.Always = Some always_built
 part_view (parts.Group nodes drawing) = Some (statement_drawn nodes.now (drawing_view drawing))

@@ -1,13 +1,8 @@
 -- The code's own types as those of the definitions (kati's own).
-use Rattle.std.specs.Prelude.{ℕ, Bool, true, false, List, Result, Ok, Err}
+use Rattle.std.specs.Prelude.{ℕ, Bool, true, false, List}
 use Rattle.kt_ninja.specs.Writable.{Obstacle, no_output, bad_name, bad_command, repeated, not_an_output}
 use Rattle.kt_text.specs.Words.{Text}
-use Rattle.kt_eval.specs.declared.stop.Stop.{Stop}
-use Rattle.kt_eval.specs.declared.stop.Stop.TheVariants as stops
 use Rattle.kt_ninja.specs.declared.plan.Plan.{Plan}
-use Rattle.kati.specs.declared.faults.RunFault.{RunFault}
-use Rattle.kati.specs.declared.faults.RunFault.TheVariants as faults
-use Rattle.kati.specs.declared.outcome.Outcome.{Outcome as Ended}
 use Rattle.kt_eval.specs.files.Files.{Store}
 use Rattle.kt_eval.specs.reading.Machine.{Read, Trace, read_of}
 use Rattle.kt_eval.specs.Outcome.{Outcome}
@@ -15,14 +10,10 @@ use Rattle.kati_args.specs.declared.args.Args.{Args}
 use Rattle.kati.specs.Meaning.{Means, MeansGoals, Wanted, meaning_of}
 use Rattle.kt_eval.specs.declared.macros.scope.Makefile.{Makefile}
 use Rattle.kati.specs.declared.translating.Found.{Found}
-use Rattle.kati.specs.declared.translating.Sources.{Sources}
 use Rattle.kt_graph.specs.Known.{known_names}
 
 abbrev pub read_view : Makefile → Read
 read_view makefile = read_of makefile.macros makefile.book
-
-abbrev pub wanted_view : Sources → List Text → Wanted
-wanted_view sources goals = record { read = read_view sources.makefile.now; known = sources.known; goals = goals }
 
 -- the goals with the makefile that was read, given the list of files that exist
 abbrev pub found_view : Found → List Text → Wanted
@@ -39,13 +30,6 @@ GoalsEnd limit want trace end = MeansGoals limit want trace (meaning_of end)
 -- an end that is a meaning of the whole, after these names were asked for
 abbrev pub EndMeans : Args → Store → List Text → Outcome Trace Plan → Type 0
 EndMeans args store asked end = Means args store asked (meaning_of end)
-
--- the outcome of a run that came to a plan, with these messages, or was stopped
-abbrev pub outcome_of : List Text → Result Plan Stop → Result Ended RunFault
-outcome_of said (Ok plan) = Ok (record { messages = said; result = Ok plan })
-outcome_of said (Err (stops.Fault fault)) = Ok (record { messages = said; result = Err fault })
-outcome_of said (Err (stops.Device name)) = Err (faults.Read name)
-outcome_of said (Err stops.Memory) = Err faults.Memory
 
 -- whether a name or a command can't be written
 abbrev pub is_text_trouble : Obstacle → Bool

@@ -1,21 +1,23 @@
-use Rattle.std.proofs.Common.{rules}
-use Rattle.kati.proofs.OutputLemmas.{checked_output, unchecked_output}
+use Rattle.std.proofs.Common.{arith, refl, rules}
+use Rattle.kati.specs.Devices.{devices}
+use Rattle.kati.specs.inner.Shown.{plan_view}
+use Rattle.kati.proofs.RunLemmas.{checked_leaves, written_leaves}
 use Rattle.kati.proofs.running.run.Goals as goal
 
 pub returns-in-Some-clause-leaves : goal.returns-in-Some-clause-leaves
-returns-in-Some-clause-leaves g c = c.run_check.ensures.leaves (g.O.Sink.seen c.args.out.now) (search rules)
+returns-in-Some-clause-leaves g c = λ store agrees.
+    let out = g.O.Sink.seen c.args.out.now in
+    (checked_leaves c.args.args.now store c.planned.new.messages.items (g.F.Files.seen c.planned.new.files).names (plan_view c.in-Ok.plan)
+    (devices (g.F.Files.seen c.args.files.now) out (g.E.Sink.seen c.args.err.now))
+    (devices (g.F.Files.seen c.check.new.files) out (g.E.Sink.seen c.tell.new.err))
+    (c.in-Ok.ensures.means store (omega (arith, c.check.ensures.grows store)))
+    (rw c.as_slice.ensures.value at c.in_ok-tell-in-Ok.ensures.tells) c.as_str.result.now c.check.result (search rules)
+    (c.check.ensures.checks store agrees) c.check.ensures.asked c.check.ensures.stopped refl)
 
-pub returns-in-Some-clause-output : goal.returns-in-Some-clause-output
-returns-in-Some-clause-output g c =
-    checked_output c.args.args.now.check c.as_str.result.now c.run_check.result (g.O.Sink.seen c.args.out.now) (search rules)
-
-pub returns-in-Some-clause-blames : goal.returns-in-Some-clause-blames
-returns-in-Some-clause-blames g c = c.run_check.ensures.blames (g.O.Sink.seen c.args.out.now)
-
-pub returns-in-None-clause-leaves : goal.returns-in-None-clause-leaves
-returns-in-None-clause-leaves g c = c.write_plan_of.ensures.leaves (search rules)
-
-pub returns-in-None-clause-output : goal.returns-in-None-clause-output
-returns-in-None-clause-output g c =
-    unchecked_output c.args.args.now.check c.write_plan_of.result (g.O.Sink.seen c.args.out.now) (g.O.Sink.seen c.write_plan_of.new.out)
-    (search rules) c.write_plan_of.ensures.output
+pub returns-in-Ok-clause-leaves : goal.returns-in-Ok-clause-leaves
+returns-in-Ok-clause-leaves g c = λ store agrees.
+    (written_leaves c.args.args.now store c.planned.new.messages.items (g.F.Files.seen c.planned.new.files).names (plan_view c.in-Ok.plan)
+    (devices (g.F.Files.seen c.args.files.now) (g.O.Sink.seen c.args.out.now) (g.E.Sink.seen c.args.err.now))
+    (devices (g.F.Files.seen c.planned.new.files) (g.O.Sink.seen c.write.new.out) (g.E.Sink.seen c.tell.new.err))
+    (c.in-Ok.ensures.means store agrees) (rw c.as_slice.ensures.value at c.in_ok-tell-in-Ok.ensures.tells) c.write.result (search rules)
+    c.in-Ok.ensures.writable refl c.write.ensures.writes)

@@ -1,9 +1,11 @@
 use Rattle.std.proofs.Common.{[], rules}
 use Rattle.std.proofs.lemmas.Result.{err_from_is_err_and}
 use Rattle.kt_eval.specs.reading.Machine.{traced}
+use Rattle.kt_graph.specs.Known.{known_names}
 use Rattle.kt_graph.specs.faults.Faults.{IsSoundGraph}
-use Rattle.kati.specs.inner.Views.{wanted_view}
-use Rattle.kati.proofs.MeaningLemmas.{first_asks, plan_means, trouble_means}
+use Rattle.kati.specs.inner.Shown.{plan_view}
+use Rattle.kati.specs.inner.Views.{found_view}
+use Rattle.kati.proofs.MeaningLemmas.{first_asks, seen_means, trouble_means}
 use Rattle.kati.proofs.SoundLemmas.{sound_if_ok}
 use Rattle.kati.proofs.translating.planned_goals.Goals as goal
 
@@ -11,7 +13,7 @@ pub returns-in_err-graph-clause-means : goal.returns-in_err-graph-clause-means
 returns-in_err-graph-clause-means c = λ asked.
     let p = err_from_is_err_and c.from_residual.result c.from_residual.ensures.1 in
     rw (p.1, p.2)
-    (trouble_means c.args.args.now.limit (wanted_view c.args.sources.now c.args.goals.items) (traced c.args.messages.now.items asked)
+    (trouble_means plan_view c.args.args.now.limit (found_view c.args.found.now c.args.goals.items) (traced c.args.messages.now.items asked)
     c.in_err-graph.field-0.0 (rw c.as_slice.ensures.value at c.in_err-graph.ensures.first))
 
 pub returns-in_err-graph-clause-asks_nothing : goal.returns-in_err-graph-clause-asks_nothing
@@ -21,19 +23,19 @@ returns-in_err-graph-clause-asks_nothing c =
 
 pub returns-clause-means : goal.returns-clause-means
 returns-clause-means c = λ asked.
-    plan_means c.args.args.now.limit (wanted_view c.args.sources.now c.args.goals.items) (traced c.args.messages.now.items asked) _
-    c.plan-plan.new.messages.items c.plan-plan.result (search rules) c.plan-plan.ensures.gives
+    seen_means plan_view c.args.args.now.limit (found_view c.args.found.now c.args.goals.items) (traced c.args.messages.now.items asked) _
+    c.graph_plan.new.messages.items c.graph_plan.result (search rules) c.graph_plan.ensures.gives
 
-pub plan-plan-requires : goal.plan-plan-requires
-plan-plan-requires c = (c.args.sources.now.known, search rules)
+pub graph_plan-requires : goal.graph_plan-requires
+graph_plan-requires c = (known_names c.args.found.now.makefile.book c.args.found.now.list.items, search rules)
 
 pub returns-clause-writable : goal.returns-clause-writable
-returns-clause-writable c = c.plan-plan.ensures.writable
+returns-clause-writable c = c.graph_plan.ensures.writable
 
 pub returns-clause-sound : goal.returns-clause-sound
 returns-clause-sound c =
-    let want = wanted_view c.args.sources.now c.args.goals.items in
-    let sound : IsSoundGraph want.read.book want.known want.goals c.in_ok-graph.graph = search rules in
-    sound_if_ok c.args.args.now.limit want (traced c.args.messages.now.items []) c.plan-plan.result (traced c.plan-plan.new.messages.items [])
-    (plan_means c.args.args.now.limit want (traced c.args.messages.now.items []) _ c.plan-plan.new.messages.items c.plan-plan.result sound c.plan-plan.ensures.gives)
-    c.plan-plan.ensures.writable
+    let want = found_view c.args.found.now c.args.goals.items in
+    let sound : IsSoundGraph want.read.book want.known want.goals c.in_ok-graph.graph.now = search rules in
+    sound_if_ok plan_view c.args.args.now.limit want (traced c.args.messages.now.items []) (traced c.graph_plan.new.messages.items []) c.graph_plan.result
+    (seen_means plan_view c.args.args.now.limit want (traced c.args.messages.now.items []) _ c.graph_plan.new.messages.items c.graph_plan.result sound c.graph_plan.ensures.gives)
+    c.graph_plan.ensures.writable
