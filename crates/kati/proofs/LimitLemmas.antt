@@ -20,7 +20,7 @@ use Rattle.kt_ninja.specs.declared.plan.Statement.{Statement}
 use Rattle.kt_recipe.proofs.DeeperLemmas.{Stays, command_stays, leaving_stays, then_stays}
 use Rattle.kati_args.specs.declared.args.Args.{Args}
 use Rattle.kati.specs.Goals.{chosen_goals, default_goal_text}
-use Rattle.kati.specs.Limits.{IsTooDeep, OnlyCuts, OnlyCutsRuns, with_limit}
+use Rattle.kati.specs.Limits.{IsRunTooDeep, OnlyCuts, OnlyCutsRuns, with_limit}
 use Rattle.kati.specs.Listing.{listed}
 use Rattle.kati.specs.Makefile.{command_line_table, makefile_names, makefile_read}
 use Rattle.kati.specs.Meaning.{Meaning, Means, MeansAfter, MeansGoals, Wanted, meaning_of, prepared, wanted_by}
@@ -88,11 +88,11 @@ plan_deeper rules table limit goals nodes said =
 -- ---- the whole
 
 -- an outcome that is too deep means a fault that is
-deep_means : (o : Outcome Trace Plan) → growing.IsTooDeep o → IsTooDeep (meaning_of o).result
+deep_means : (o : Outcome Trace Plan) → growing.IsTooDeep o → IsRunTooDeep (meaning_of o).result
 deep_means (Gave trace plan) deep = deep
 deep_means (Stopped trace fault) deep = deep
 
-goals_mean : (limit : ℕ) (want : Wanted) (trace : Trace) (m : Meaning) → (IsTooDeep m.result → ⊥) → MeansGoals limit want trace m
+goals_mean : (limit : ℕ) (want : Wanted) (trace : Trace) (m : Meaning) → (IsRunTooDeep m.result → ⊥) → MeansGoals limit want trace m
     → MeansGoals (suc limit) want trace m
 goals_mean limit want trace m fine (inl plan) =
     let before = planned want.read.book want.read.table limit want.goals plan.nodes in
@@ -102,27 +102,27 @@ goals_mean limit want trace m fine (inl plan) =
       graph = plan.graph;
       means = plan.means ∙ sym (ap meaning_of (telling_stays trace (before trace.said) (after trace.said)
           (plan_deeper want.read.book want.read.table limit want.goals plan.nodes trace.said)
-          (λ deep. fine (subst (λ (n : Meaning). IsTooDeep n.result) (sym plan.means) (deep_means (telling before trace) deep)))));
+          (λ deep. fine (subst (λ (n : Meaning). IsRunTooDeep n.result) (sym plan.means) (deep_means (telling before trace) deep)))));
     })
 goals_mean limit want trace m fine (inr trouble) = inr trouble
 
-after_mean : (limit : ℕ) (before after : Outcome Trace Wanted) (m : Meaning) → (IsTooDeep m.result → ⊥) → Stays before after
+after_mean : (limit : ℕ) (before after : Outcome Trace Wanted) (m : Meaning) → (IsRunTooDeep m.result → ⊥) → Stays before after
     → MeansAfter limit before m → MeansAfter (suc limit) after m
 after_mean limit (Gave trace want) after m fine is h =
     subst (λ (o : Outcome Trace Wanted). MeansAfter (suc limit) o m) (sym (is (λ never. never))) (goals_mean limit want trace m fine h)
 after_mean limit (Stopped trace fault) after m fine is h =
     subst (λ (o : Outcome Trace Wanted). MeansAfter (suc limit) o m)
-    (sym (is (λ deep. fine (subst (λ (n : Meaning). IsTooDeep n.result) (sym h) deep)))) h
+    (sym (is (λ deep. fine (subst (λ (n : Meaning). IsRunTooDeep n.result) (sym h) deep)))) h
 
 one_more : (args : Args) (store : Store) (asked : List Text) (limit : ℕ) (m : Meaning) → Means (with_limit limit args) store asked m
-    → (IsTooDeep m.result → ⊥) → Means (with_limit (suc limit) args) store asked m
+    → (IsRunTooDeep m.result → ⊥) → Means (with_limit (suc limit) args) store asked m
 one_more args store asked limit m means fine =
     after_mean limit (prepared (with_limit limit args) store (traced [] asked)) (prepared (with_limit (suc limit) args) store (traced [] asked)) m fine
     (prepared_deeper args store limit (traced [] asked)) means
 
 -- this many more
 some_more : (args : Args) (store : Store) (asked : List Text) (limit more : ℕ) (m : Meaning) → Means (with_limit limit args) store asked m
-    → (IsTooDeep m.result → ⊥) → Means (with_limit (more + limit) args) store asked m
+    → (IsRunTooDeep m.result → ⊥) → Means (with_limit (more + limit) args) store asked m
 some_more args store asked limit zero m means fine = subst (λ (n : ℕ). Means (with_limit n args) store asked m) (omega arith) means
 some_more args store asked limit (suc more) m means fine = subst (λ (n : ℕ). Means (with_limit n args) store asked m) (omega arith)
     (one_more args store asked (more + limit) m (some_more args store asked limit more m means fine) fine)

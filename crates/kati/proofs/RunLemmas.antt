@@ -15,7 +15,7 @@ use Rattle.kati.specs.declared.status.Status.{Status}
 use Rattle.kati.specs.Checking.{AskedAtCheck, HasStatus, IsChecked, names_with_check}
 use Rattle.kati.specs.Devices.{Devices}
 use Rattle.kati.specs.Exact.{IsGraphOf}
-use Rattle.kati.specs.AfterRun.{HasOutput, IsKept, Leaves}
+use Rattle.kati.specs.AfterRun.{HasOutput, IsUntouched, Leaves}
 use Rattle.kati.specs.Meaning.{Meaning, Means}
 use Rattle.kati.specs.Messages.{err_text}
 use Rattle.kati.specs.Sound.{IsSoundPlan}
@@ -80,7 +80,7 @@ module _ (args : Args) (store : Store) (said asked : List Text) (plan : Plan) (o
   written_leaves (Err faults.Memory) is fine names w = absurd w
 
   kept_at_check : (name : Text) (fault : RunFault) → args.check ≡ Some name → AskedAtCheck fault name asked new.files.names → new.out ≡ old.out
-      → IsKept args store fault old new
+      → IsUntouched args store fault old new
   kept_at_check name fault is names same = inr (record {
     meaning = meant said asked (Ok plan);
     means = means;

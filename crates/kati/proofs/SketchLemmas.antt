@@ -9,7 +9,7 @@ use Rattle.kt_recipe.specs.Views.{command_in}
 use Rattle.kati.specs.declared.sketch.Mark.{Mark}
 use Rattle.kt_ninja.specs.Writable.{is_command_byte, is_made}
 use Rattle.kati.specs.Planning.{made_by}
-use Rattle.kati.specs.inner.Drawn.{AreWithin, Drawn, drawn_view, joined_view}
+use Rattle.kati.specs.inner.Drawn.{AreMarksWithin, Drawn, drawn_view, joined_view}
 use Rattle.kt_list.proofs.general.Ranges.{last_range, same_range}
 
 abbrev drawn_by : Mark → Text → Drawn
@@ -18,14 +18,14 @@ drawn_by mark part = record { always = mark.always; joined = option_map (λ b. j
 same_drawn : (text more : Text) (mark : Mark) → mark.start ≤ mark.end → mark.end ≤ length text → drawn_view (text ++ more) mark ≡ drawn_view text mark
 same_drawn text more mark rises within = ap (drawn_by mark) (same_range text more mark.start mark.end rises within)
 
-pub all_same : (text more : Text) (marks : List Mark) → AreWithin (length text) marks → map (drawn_view (text ++ more)) marks ≡ map (drawn_view text) marks
+pub all_same : (text more : Text) (marks : List Mark) → AreMarksWithin (length text) marks → map (drawn_view (text ++ more)) marks ≡ map (drawn_view text) marks
 all_same text more [] within = refl
 all_same text more (mark ∷ marks) within =
     ap (λ (d : Drawn). d ∷ map (drawn_view (text ++ more)) marks) (same_drawn text more mark within.0 within.1)
     ∙ ap (λ (l : List Drawn). drawn_view text mark ∷ l) (all_same text more marks within.2)
 
 -- one more mark
-pub one_drawn : (text more : Text) (marks : List Mark) (mark : Mark) → AreWithin (length text) marks → mark.start ≡ length text → mark.end ≡ length (text ++ more)
+pub one_drawn : (text more : Text) (marks : List Mark) (mark : Mark) → AreMarksWithin (length text) marks → mark.start ≡ length text → mark.end ≡ length (text ++ more)
     → map (drawn_view (text ++ more)) (marks ++ mark ∷ [])
     ≡ map (drawn_view text) marks ++ record { always = mark.always; joined = option_map (λ b. joined_view b.value) mark.joined; command = command_in more } ∷ []
 one_drawn text more [] mark within from upto = ap (λ (part : Text). drawn_by mark part ∷ []) (last_range text more mark.start mark.end from upto)
@@ -39,7 +39,7 @@ any_drawn text (mark ∷ marks) = ap (λ b. mark.always || b) (any_drawn text ma
 
 -- ---- what a push leaves
 
-module _ (text more text' : Text) (marks marks' : List Mark) (mark : Mark) (within : AreWithin (length text) marks) (joins : text' ≡ text ++ more)
+module _ (text more text' : Text) (marks marks' : List Mark) (mark : Mark) (within : AreMarksWithin (length text) marks) (joins : text' ≡ text ++ more)
     (adds : marks' ≡ marks ++ mark ∷ []) (from : mark.start ≡ length text) (upto : mark.end ≡ length text') where
   pub drawn_more : (before : List Drawn) → map (drawn_view text) marks ≡ before
       → map (drawn_view text') marks' ≡ before ++ record { always = mark.always; joined = option_map (λ b. joined_view b.value) mark.joined; command = command_in more } ∷ []

@@ -92,16 +92,16 @@ pub record EndsAtCheck (args : Args) (store : Store) (fault : RunFault) (old new
   pub told : Takes old.err new.err (err_text meaning)
 
 -- the run didn't come to its end: nothing was written, or the file to be checked wasn't read
-abbrev pub IsKept : Args → Store → RunFault → Devices → Devices → Type 0
-IsKept args store fault old new = EndsEarly args store old new ⊎ EndsAtCheck args store fault old new
+abbrev pub IsUntouched : Args → Store → RunFault → Devices → Devices → Type 0
+IsUntouched args store fault old new = EndsEarly args store old new ⊎ EndsAtCheck args store fault old new
 
 -- the devices after a run over these files, by how it ended
 abbrev pub Leaves : Args → Store → Result Status RunFault → Devices → Devices → Type 0
 Leaves args store (Ok status) old new = EndsInFull args store status old new
 Leaves args store (Err faults.WriteOut) old new = EndsAtOut args store old new
 Leaves args store (Err faults.WriteErr) old new = EndsAtErr args store old new
-Leaves args store (Err (faults.Read name)) old new = IsKept args store (faults.Read name) old new
-Leaves args store (Err faults.Memory) old new = IsKept args store faults.Memory old new
+Leaves args store (Err (faults.Read name)) old new = IsUntouched args store (faults.Read name) old new
+Leaves args store (Err faults.Memory) old new = IsUntouched args store faults.Memory old new
 
 -- ---- the output after a run, whatever the files hold
 

@@ -23,7 +23,7 @@ use Rattle.kati.specs.Planning.{always_build, always_built, command_for, first_o
 use Rattle.kati.specs.Planning.{with_always_built}
 
 -- the command of a group's least member, whatever messages come before it
-pub record IsCommandOf (table : Table) (limit : ℕ) (group : List Node) (command : Option Text) : Type 0 where
+pub record IsGroupCommand (table : Table) (limit : ℕ) (group : List Node) (command : Option Text) : Type 0 where
   pub said : List Text
   pub heard : List Text
   pub expanded : command_for table limit group said ≡ Gave heard command
@@ -33,7 +33,7 @@ pub record IsOfGroup (read : Read) (limit : ℕ) (groups : List (List Node)) (st
   pub group : List Node
   pub among : Contains groups group
   pub command : Option Text
-  pub is_command : IsCommandOf read.table limit group command
+  pub is_command : IsGroupCommand read.table limit group command
   pub is : statement ≡ statement_of read.book group command
 
 -- a name is an output of exactly one of the statements

@@ -50,13 +50,13 @@ pub(crate) struct Sketch {
 
 impl Model for Sketch {
     ghost use Rattle.std.specs.Prelude.{List, length, map};
-    ghost use Rattle.kati.specs.inner.Drawn.{AreWithin, Drawn, drawn_view};
+    ghost use Rattle.kati.specs.inner.Drawn.{AreMarksWithin, Drawn, drawn_view};
 
     ghost Value = { List Drawn };
 
     ghost view = { λ sketch. map (drawn_view sketch.text.items) sketch.marks.items };
 
-    ghost invariant = { λ sketch. AreWithin (length sketch.text.items) sketch.marks.items };
+    ghost invariant = { λ sketch. AreMarksWithin (length sketch.text.items) sketch.marks.items };
 }
 
 impl Sketch {

@@ -99,8 +99,8 @@ drawn_view text mark = record {
 }
 
 -- the places of marks are in a text of this length
-abbrev pub AreWithin : ℕ → List Mark → Type 0
-AreWithin size marks = AreRanges (λ (mark : Mark). mark.start) (λ (mark : Mark). mark.end) size marks
+abbrev pub AreMarksWithin : ℕ → List Mark → Type 0
+AreMarksWithin size marks = AreRanges (λ (mark : Mark). mark.start) (λ (mark : Mark). mark.end) size marks
 
 abbrev pub drawing_view : Drawing → Drawn
 drawing_view drawing = record {
