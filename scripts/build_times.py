@@ -1,11 +1,11 @@
 #!/usr/bin/env python3
 """Times kati-build beside kati, and prints a table: processor time, of the user and of the system.
 
-kati is run alone by the list that kati-build made, with its output into a file. kati-build is run without ninja in a
-folder in which it hasn't run, again where nothing has changed, and again where the makefile has. The runs follow each
-other in turns, and the median of each counts. Every makefile is made by scripts/large_makefiles.py, and its sources are
-empty files. kati-build is the one of the checkout, or that of --tools, which starts sooner where it is installed with
-its bytecode.
+kati is run alone by the list that kati-build made, with its output into a file. kati-build, which runs kati-asked in
+its place, is run without ninja in a folder in which it hasn't run, again where nothing has changed, and again where the
+makefile has. The runs follow each other in turns, and the least of each counts: what else runs on the machine only adds
+to it. Every makefile is made by scripts/large_makefiles.py, and its sources are empty files. kati-build is the one of
+the checkout, or that of --tools, which starts sooner where it is installed with its bytecode.
 
 examples:
   scripts/build_times.py                             all cases
@@ -20,7 +20,6 @@ import argparse
 import os
 import resource
 import shutil
-import statistics
 import subprocess
 import sys
 import tempfile
@@ -74,7 +73,8 @@ def measure(folder, asked):
     """The times of a case, by what was run."""
     makefile, times = folder / "Makefile", {name: [] for name in ("kati", "first", "again", "changed")}
     text = makefile.read_text()
-    build = [sys.executable, "-S", os.path.join(asked.tools, "kati-build"), "--no-ninja", "--kati", asked.kati]
+    build = [sys.executable, "-S", os.path.join(asked.tools, "kati-build"), "--no-ninja", "--kati", asked.kati,
+             "--kati-asked", asked.kati_asked]
     for number in range(asked.runs):
         forget(folder)
         times["first"].append(processor_time(build, folder))
@@ -83,7 +83,7 @@ def measure(folder, asked):
         makefile.write_text(f"{text}all: more\nmore: ; echo {number}\n")
         times["changed"].append(processor_time(build, folder))
         makefile.write_text(text)
-    return {name: statistics.median(found) for name, found in times.items()}
+    return {name: min(found) for name, found in times.items()}
 
 
 def main():
@@ -91,11 +91,13 @@ def main():
     parser.add_argument("cases", nargs="*", metavar="CASE", choices=[[], *CASES], help=", ".join(CASES))
     parser.add_argument("--kati", default=str(ROOT / "crates/kati_program/out/kati_program"), metavar="PROGRAM",
                         help="the built program")
+    parser.add_argument("--kati-asked", default=str(ROOT / "crates/kati_asked/out/kati_asked"), metavar="PROGRAM",
+                        help="the built kati-asked")
     parser.add_argument("--tools", default=str(ROOT / "tools"), metavar="FOLDER", help="where kati-build is")
     parser.add_argument("--runs", type=int, default=5, metavar="N", help="runs of each, 5 without it")
     parser.add_argument("--small", action="store_true", help="a hundredth of each size")
     asked = parser.parse_args()
-    asked.kati = os.path.abspath(asked.kati)
+    asked.kati, asked.kati_asked = os.path.abspath(asked.kati), os.path.abspath(asked.kati_asked)
     print("| Case | N | kati | kati-build first | again | changed | first to kati | again | changed |")
     print("|---|---|---|---|---|---|---|---|---|")
     for name in asked.cases or CASES:

@@ -38,9 +38,9 @@ translates makefiles to Ninja files
  writes a Ninja file, so that each later build starts from a file that Ninja
  loads quickly. It is proved that the file says what the makefile says.
  .
- The program kati-asked writes the names of the files that kati asks for. The
- tools kati-build, kati-port and kati-compare translate and build, tell what in
- a makefile stands in the way, and compare with make.
+ The program kati-asked runs kati, and writes the names of the files that it
+ asks for. The tools kati-build, kati-port and kati-compare translate and
+ build, tell what in a makefile stands in the way, and compare with make.
 """
 
 # Bytecode hangs on the Python of the machine.

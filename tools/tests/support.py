@@ -7,6 +7,7 @@ import tempfile
 import time
 import unittest
 from pathlib import Path
+from unittest import mock
 
 TOP = Path(__file__).resolve().parent.parent.parent
 TOOLS = TOP / "tools"
@@ -20,11 +21,16 @@ def kati():
     return programs.find("kati")
 
 
+def kati_asked():
+    """The program kati-asked that is run in its place, or None."""
+    return kati() and programs.find_asked(None, kati())
+
+
 def needs(*names):
     """Skips a test where one of these programs isn't there; `kati` and `kati-asked` are those of the checkout, or of
     the environment."""
-    own = ("kati", "kati-asked")
-    lacking = [name for name in names if not (programs.find(name) if name in own else shutil.which(name))]
+    own = {"kati": kati, "kati-asked": kati_asked}
+    lacking = [name for name in names if not (own[name]() if name in own else shutil.which(name))]
     return unittest.skipIf(lacking, f"without {', '.join(lacking)}")
 
 
@@ -59,6 +65,28 @@ class Tree(unittest.TestCase):
         path = self.top / name
         path.parent.mkdir(parents=True, exist_ok=True)
         path.write_text(text)
+
+    def program(self, name, text):
+        """The path of a program beside the folder, a shell's with this text."""
+        path = self.top.parent / name
+        path.write_text(f"#!/bin/sh\n{text}\n")
+        path.chmod(0o755)
+        return str(path)
+
+    def around(self, do):
+        """The environment in which programs stand for kati and kati-asked that do something first, by the words of a
+        shell; there `$PROGRAM` is what they then are."""
+        found = {"KATI": ("kati-around", kati()), "KATI_ASKED": ("asked-around", kati_asked())}
+        return {key: self.program(name, f"PROGRAM={path}\n{do}\nexec {path} \"$@\"") if path else ""
+                for key, (name, path) in found.items()}
+
+    def without_asked(self):
+        """Has kati stand without kati-asked, in a context."""
+        path = self.top.parent / "alone/kati"
+        path.parent.mkdir(exist_ok=True)
+        if not path.exists():
+            path.symlink_to(kati())
+        return mock.patch.dict(os.environ, KATI=str(path), KATI_ASKED="")
 
     def copy_example(self):
         """Copies example/ of the repository."""

@@ -1,11 +1,11 @@
 """kati-build: building, translating again, what is kept and what is replaced."""
+import contextlib
 import os
-import stat
 
 from support import TOOLS, Tree, kati, needs
 
-# A shell's list of names stands for kati-asked, which tells what a translation asked for.
-ASKED = "#!/bin/sh\necho makefile\necho Makefile\necho conf/x86.mk\n"
+# A shell's program stands for kati-asked: kati's text, a NUL, and the names that a translation asked for.
+ASKED = f"""{kati()} "$@"; printf '\\000files.txt\\nmakefile\\nMakefile\\nconf/x86.mk\\n'"""
 OWN = ["build.ninja", "build.kati/files.txt", "build.kati/translated.ninja"]
 
 
@@ -32,7 +32,7 @@ class Building(Tree):
         self.assertEqual(self.made_anew(lambda: self.build("--no-ninja")), [])
         self.put("config.mk", "CC = cc\nCFLAGS = -O2\n")
         self.assertEqual(self.made_anew(lambda: self.build("--no-ninja")),
-                         ["asked.txt", "build.ninja", "translated.ninja"])
+                         ["build.ninja", "translated.ninja"])
 
     def test_a_fault_keeps_the_build_of_before_and_has_katis_status(self):
         self.copy_example()
@@ -100,6 +100,18 @@ class Building(Tree):
                 self.assertEqual(self.tool(name).said, f"{name}: make reads GNUmakefile here, and kati doesn't: name "
                                                        "it by -f GNUmakefile\n")
                 self.assertEqual(self.tool(name, "-f", "GNUmakefile").said, "")
+
+    def test_a_folder_without_a_makefile_in_which_another_tool_makes_one(self):
+        for name, hint in (("configure.ac", "run autoreconf -i and ./configure first"),
+                           ("configure", "run ./configure first")):
+            self.put(name, "")
+            for words in (["kati-build"], ["kati-build", "--port"], ["kati-build", "--builtin"], ["kati-compare"]):
+                with self.subTest(words):
+                    ran = self.tool(*words)
+                    self.assertEqual(ran.status, 2)
+                    self.assertEqual(ran.said.splitlines()[0], f"{words[0]}: no makefile, but {name}: {hint}")
+        self.put("Makefile", "all: ; true\n")
+        self.assertNotIn("no makefile", self.tool("kati-build").said)
 
     def test_a_makefile_that_can_be_read_but_once(self):
         self.write(Makefile="all: ; echo all\n")
@@ -207,7 +219,9 @@ class Regenerating(Tree):
         self.start()
         (self.top / "config.mk").unlink()
         self.put("Makefile", self.read("Makefile").replace("include config.mk", "CC = cc\nCFLAGS = -O1 -Wall"))
-        self.assertEqual(self.made_anew(self.ninja), ["build.ninja", "files.txt"])
+        found = self.made_anew(self.ninja)
+        # kati-asked, where it is there, tells other names.
+        self.assertEqual([name for name in found if name != "asked.txt"], ["build.ninja", "files.txt"])
         self.assertEqual(self.made_anew(self.ninja), [])
 
     def test_a_fault_stops_ninja_and_keeps_the_build(self):
@@ -296,11 +310,11 @@ class Regenerating(Tree):
 
     def test_an_include_with_a_computed_name(self):
         # With kati-asked, where it is there, and without it.
-        for environment in ({}, {"KATI_ASKED": "false"}):
-            with self.subTest(environment):
+        for context in (contextlib.nullcontext(), self.without_asked()):
+            with self.subTest(context), context:
                 self.write(Makefile="ARCH = x86\ninclude conf/$(ARCH).mk\nout: ; echo $(A) > out\n",
                            conf__x86_mk="A = one\n")
-                self.start(**environment)
+                self.start()
                 self.put("conf/x86.mk", "A = two\n")
                 self.ninja()
                 self.assertEqual(self.read("out"), "two\n")
@@ -324,10 +338,7 @@ class Regenerating(Tree):
     def test_kati_asked_tells_what_is_watched(self):
         self.write(Makefile="ARCH = x86\ninclude conf/$(ARCH).mk\nout: ; echo $(A) > out\n", conf__x86_mk="A = one\n",
                    conf__arm_mk="A = three\n")
-        asked = self.top.parent / "asked"
-        asked.write_text(ASKED)
-        asked.chmod(asked.stat().st_mode | stat.S_IXUSR)
-        self.start("--kati-asked", asked)
+        self.start("--kati-asked", self.program("asked", ASKED))
         self.assertIn("conf/x86.mk", self.watched())
         self.assertNotIn("conf/arm.mk", self.watched())
         self.put("conf/x86.mk", "A = two\n")

@@ -1,13 +1,8 @@
 """What kati-build adds to kati's text: where a file counts only if it changed, and header dependencies."""
-import os
 import shutil
 import sys
-import time
-import types
 
 from support import TOP, Tree, kati, needs
-
-from kati_tools import asked_names, programs
 
 sys.path.insert(0, str(TOP / "scripts"))
 import large_makefiles  # noqa: E402
@@ -123,122 +118,6 @@ class NamedFiles(Built):
 
 
 @needs("kati", "kati-asked")
-class AskedNames(Tree):
-    """kati-asked is run only where the text alone doesn't tell what kati asks for, and again only where what it tells
-    may be something else."""
-
-    def setUp(self):
-        super().setUp()
-        self.count = self.top.parent / "count"
-        self.count.write_text("")
-        self.program = self.top.parent / "kati-asked"
-        self.program.write_text(f"#!/bin/sh\necho >> {self.count}\nexec {programs.find('kati-asked')} \"$@\"\n")
-        self.program.chmod(0o755)
-        self.write(Makefile="N = a\ninclude $(N).mk\n-include b.mk\nall: $(X) ; echo > all\n", a_mk="A = 1\n", x_c="")
-
-    def runs(self, *words):
-        """How often kati-asked runs in a run of kati-build, which begins when all files are older than the clock."""
-        time.sleep(0.1)
-        before = len(self.count.read_text())
-        ran = self.tool("kati-build", "--no-ninja", *words, KATI_ASKED=str(self.program))
-        self.assertEqual(ran.status, 0, ran.all)
-        return len(self.count.read_text()) - before
-
-    def is_watched(self, name):
-        return f"    {name}\n" in self.read("build.ninja").replace(" $\n", "\n")
-
-    def test_it_runs_where_a_makefile_or_a_word_has_changed(self):
-        self.assertEqual((self.runs(), self.runs()), (1, 0))
-        self.put("y.c", "")
-        self.assertEqual(self.runs(), 0)
-        self.assertIn("y.c\n", self.read("build.kati/files.txt"))
-        self.put("a.mk", "include c.mk\n")
-        self.put("c.mk", "")
-        self.assertEqual((self.runs(), self.runs()), (1, 0))
-        self.assertTrue(self.is_watched("c.mk"))
-        self.put("b.mk", "-include d.mk\n")
-        self.put("d.mk", "")
-        self.assertEqual((self.runs(), self.runs()), (1, 0))
-        self.assertTrue(self.is_watched("b.mk") and self.is_watched("d.mk"))
-        self.assertEqual((self.runs("X=x.c"), self.runs("X=x.c")), (1, 0))
-
-    # Texts, whether make reads d.mk by them, and whether kati-asked has to tell so.
-    TEXTS = (("F = -I include\n# to include d.mk\n", False, False), ("-include\\\n d.mk\n", True, False),
-             ("\\\n  sinclude d.mk\n", True, False), ("include\td.mk # no.mk\n", True, False),
-             ("$(eval -inc$()lude d.mk)\n", True, True), ("include $(N)d.mk\n", True, True),
-             ("# no \\\ninclude d.mk\n", False, False), ("X = \\\ninclude d.mk\n", False, False),
-             ("ifdef F\ninclude no.mk\nelse\n \t include d.mk\nendif\n", True, True),
-             ("ifdef F\nF = 1\nendif\ninclude d.mk\n", True, False),
-             ("define F\ninclude d.mk\nendef\n", False, True))
-
-    @needs("make")
-    def test_it_runs_where_the_text_alone_does_not_tell(self):
-        for text, is_read, runs in self.TEXTS:
-            with self.subTest(text):
-                self.write(Makefile=text + "all: ; true\n", d_mk="$(info d is read)\n")
-                self.assertEqual("d is read" in self.run_in("make", "-n").out, is_read)
-                self.assertEqual(self.runs(), int(runs))
-                self.assertEqual(self.is_watched("d.mk"), is_read)
-
-    def test_what_the_text_tells_is_what_kati_asked_tells(self):
-        self.write(Makefile="all: ; echo\ninclude a.mk b.mk\n-include no.mk a.mk\ninclude c.mk\n",
-                   a_mk="ifdef A\nB = 1\nendif\ninclude sub/d.mk\n", b_mk="", c_mk="sinclude b.mk none.mk\n",
-                   sub__d_mk="include c.mk\n")
-        self.assertEqual(self.runs(), 0)
-        told = self.run_in(programs.find("kati-asked"), "--files", "build.kati/files.txt").out.splitlines()
-        kept = [line[1:] for line in self.read("build.kati/asked.txt").splitlines()[2:]]
-        self.assertEqual(kept, list(dict.fromkeys(told[1:])))
-
-    def test_a_file_that_may_be_written_again_with_the_same_times_is_not_kept(self):
-        begun = types.SimpleNamespace(st_mtime_ns=9_000_000_000_001, st_dev=1)
-        for before, changed, device, is_young in ((10**10, 10**10, 1, False), (30_000_000, 30_000_000, 1, False),
-                                                  (10_000_000, 30_000_000, 1, True), (30_000_000, 10_000_000, 1, True),
-                                                  (-10**10, -10**10, 1, True), (10**9, 10**9, 2, True),
-                                                  (10**9 + 1, 10**9 + 1, 1, True), (10**10 + 1, 10**10, 2, False)):
-            with self.subTest((before, changed, device)):
-                found = types.SimpleNamespace(st_mtime_ns=begun.st_mtime_ns - before, st_dev=device,
-                                              st_ctime_ns=begun.st_mtime_ns - changed)
-                self.assertEqual(bool(asked_names.is_young(found, begun)), is_young)
-
-    def test_names_are_not_kept_where_a_file_is_of_the_future(self):
-        later = time.time() + 999
-        os.utime(self.top / "a.mk", (later, later))
-        self.assertEqual((self.runs(), self.runs()), (1, 1))
-        self.assertFalse((self.top / "build.kati/asked.txt").exists())
-
-    def test_a_changed_include_among_others_is_read_again(self):
-        names = [f"m{one}.mk" for one in range(9)]
-        self.write(Makefile=f"include {' '.join(names)}\nall: ; echo > all\n")
-        for name in names:
-            self.put(name, "A = 1\n")
-        self.assertEqual((self.runs(), self.runs()), (0, 0))
-        self.put("m5.mk", "include d.mk\n")
-        self.put("d.mk", "include e.mk\n")
-        self.put("e.mk", "")
-        self.assertEqual(self.runs(), 0)
-        self.assertTrue(self.is_watched("d.mk") and self.is_watched("e.mk"))
-        self.put("m5.mk", "all: ../up/x.c\n")
-        (self.top.parent / "up").mkdir()
-        (self.top.parent / "up/x.c").touch()
-        self.assertEqual((self.runs(), self.runs()), (0, 0))
-        self.assertFalse(self.is_watched("d.mk") or self.is_watched("e.mk"))
-        self.assertIn("../up/x.c\n", self.read("build.kati/files.txt"))
-
-    def test_it_runs_where_the_program_is_another(self):
-        self.assertEqual((self.runs(), self.runs()), (1, 0))
-        self.program.write_text(self.program.read_text() + "\n")
-        self.assertEqual((self.runs(), self.runs()), (1, 0))
-
-    def test_it_runs_again_where_a_makefile_was_written_meanwhile(self):
-        self.program.write_text(self.program.read_text().replace("exec", "echo E = 1 >> a.mk\nexec"))
-        self.assertEqual((self.runs(), self.runs()), (1, 1))
-
-    def test_it_runs_again_where_it_failed(self):
-        self.program.write_text(self.program.read_text().replace("exec", "exit 1\nexec"))
-        self.assertEqual((self.runs(), self.runs()), (1, 1))
-
-
-@needs("kati", "kati-asked")
 class Time(Tree):
     """What kati-build takes beside kati: processor time, as ninja has it translate again, with the same Python.
 
@@ -278,20 +157,19 @@ class Time(Tree):
         self.assert_takes(2, self.listed(large_makefiles.rules(100_000)), "--files-from", "list.txt")
 
     def test_it_is_at_most_twice_in_the_first_run_too(self):
-        # With an include that the text alone tells, so that kati-asked doesn't read all of it once more.
         files = self.listed(large_makefiles.rules(100_000))
-        files["Makefile"] = files["Makefile"].replace("CC = cc\n", "include config.mk\n")
+        files["Makefile"] = files["Makefile"].replace("CC = cc\n", "include $(X)config.mk\n")
         self.assert_takes(2, {**files, "config.mk": "CC = cc\n"}, "--files-from", "list.txt", is_first=True)
 
-    def test_it_is_at_most_twice_where_kati_asked_tells_the_names(self):
-        # kati-asked takes as long as kati; it isn't run again where no makefile has changed.
-        self.assert_takes(2, self.listed(large_makefiles.modules(50_000)), "--files-from", "list.txt")
+    def test_it_is_at_most_twice_in_the_first_run_with_eval(self):
+        files = self.listed(large_makefiles.modules(50_000))
+        self.assert_takes(2, files, "--files-from", "list.txt", is_first=True)
 
-    def test_it_is_little_more_for_names_above(self):
-        # Each name of a rule is looked at here, to find the folders: about twice, a little more by a fast kati.
+    def test_it_is_at_most_twice_for_names_above(self):
+        # Each name of a rule is looked at here, to find the folders.
         count = 50_000
         rules = "".join(f"t{one}: ../src/s{one}.c ../src/h{one % 100}.h\n\tcc -o $@ $<\n" for one in range(count))
         (self.top.parent / "src").mkdir()
         for one in range(count):
             (self.top.parent / f"src/s{one}.c").touch()
-        self.assert_takes(2.5, {"Makefile": f"all: {' '.join(f't{one}' for one in range(count))}\n{rules}"})
+        self.assert_takes(2, {"Makefile": f"all: {' '.join(f't{one}' for one in range(count))}\n{rules}"})

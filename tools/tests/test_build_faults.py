@@ -7,9 +7,6 @@ import time
 
 from support import TOOLS, TOP, Tree, kati, needs
 
-# A shell's program stands for kati: {do} is what it does first.
-AROUND = "#!/bin/sh\n{do}\nexec {kati} \"$@\"\n"
-
 
 def planted(room, name, old, new):
     """The path of a tool in the folder `room`, with a fault in its code."""
@@ -27,13 +24,6 @@ def planted(room, name, old, new):
 @needs("kati", "ninja")
 class Faults(Tree):
     """What is said, and what is left."""
-
-    def around(self, do):
-        """The name of a program that does something and then is kati."""
-        path = self.top.parent / "around"
-        path.write_text(AROUND.format(do=do, kati=kati()))
-        path.chmod(0o755)
-        return str(path)
 
     def one_line(self, ran, status):
         """A tool ended with this status, and without a traceback."""
@@ -77,7 +67,7 @@ class Faults(Tree):
 
     def test_a_run_that_waits_says_so(self):
         self.write(Makefile="out: ; echo > out\n")
-        first = self.start("--no-ninja", KATI=self.around("sleep 2"))
+        first = self.start("--no-ninja", **self.around("sleep 2"))
         time.sleep(0.5)
         second = self.tool("kati-build", "--no-ninja")
         self.assertEqual(self.one_line(second, 0),
@@ -87,11 +77,26 @@ class Faults(Tree):
     def test_a_killed_run(self):
         self.write(Makefile="out: ; echo > out\n")
         for number in (signal.SIGKILL, signal.SIGTERM):
-            ran = self.tool("kati-build", KATI=self.around(f"kill -{int(number)} $PPID"))
+            ran = self.tool("kati-build", **self.around(f"kill -{int(number)} $PPID"))
             self.assertEqual(ran.status, -number)
             self.one_line(self.tool("kati-build"), 0)
             self.assertEqual(self.left(), [])
             shutil.rmtree(self.top / "build.kati")
+
+    @needs("kati-asked")
+    def test_a_run_that_is_killed_before_it_cuts_off_the_names(self):
+        self.write(Makefile="out: ; echo > out\n")
+        self.one_line(self.tool("kati-build"), 0)
+        before = self.read("build.kati/translated.ninja")
+        self.put("Makefile", "out: ; echo 2 > out\n")
+        ran = self.tool("kati-build", **self.around('"$PROGRAM" "$@"; kill -9 $PPID; exit'))
+        self.assertEqual(ran.status, -signal.SIGKILL)
+        self.assertIn("echo 2 > out", self.read("build.kati/translated.ninja.new"))
+        self.assertIn("\0", self.read("build.kati/translated.ninja.new"))
+        self.assertEqual(self.read("build.kati/translated.ninja"), before)
+        self.ninja()
+        self.assertEqual((self.read("out"), self.left()), ("2\n", []))
+        self.assertNotIn("\0", self.read("build.kati/translated.ninja"))
 
     def interrupted(self, *words, **environment):
         """A command's status and what it said, that minds interrupts as one does that a terminal began."""
@@ -102,7 +107,7 @@ class Faults(Tree):
 
     def test_an_interrupt(self):
         self.write(Makefile="out: ; echo > out\n")
-        told = self.interrupted(TOOLS / "kati-build", KATI=self.around("kill -2 $PPID; sleep 1"))
+        told = self.interrupted(TOOLS / "kati-build", **self.around("kill -2 $PPID; sleep 1"))
         self.assertEqual(told, (130, "kati-build: interrupted\n"))
         self.assertEqual([path.name for path in self.top.iterdir()], ["Makefile"])
 
@@ -147,11 +152,11 @@ class Faults(Tree):
 
     def test_a_file_that_is_gone_meanwhile(self):
         self.write(Makefile="out: ; echo > out\n")
-        ran = self.tool("kati-build", "--no-ninja", KATI=self.around("rm -r build.kati"))
+        ran = self.tool("kati-build", "--no-ninja", **self.around("rm -r build.kati"))
         self.assertIn("no file build.kati/files.txt.new", self.one_line(ran, 2))
-        ran = self.tool("kati-build", "--no-ninja", KATI=self.around("touch gone; rm build.kati/lock"))
+        ran = self.tool("kati-build", "--no-ninja", **self.around("touch gone; rm build.kati/lock"))
         self.one_line(ran, 0)
-        ran = self.tool("kati-build", "--no-ninja", KATI=self.around("rm -f Makefile"))
+        ran = self.tool("kati-build", "--no-ninja", **self.around("rm -f Makefile"))
         self.assertIn("no makefile", self.one_line(ran, 2))
 
     def test_names_that_are_not_utf_8(self):
@@ -252,11 +257,9 @@ class Asking(Tree):
 
     def asked(self, *words):
         """How often kati is run, and how often of them with --check."""
-        path, log = self.top.parent / "counting", self.top.parent / "log"
-        path.write_text(f"#!/bin/sh\necho \"$*\" >> {log}\nexec {kati()} \"$@\"\n")
-        path.chmod(0o755)
+        log = self.top.parent / "log"
         log.write_text("")
-        ran = self.tool("kati-build", "--no-ninja", *words, KATI=str(path))
+        ran = self.tool("kati-build", "--no-ninja", *words, **self.around(f"echo \"$*\" >> {log}"))
         self.assertEqual(ran.status, 0, ran.all)
         lines = log.read_text().splitlines()
         return len(lines), len([line for line in lines if "--check" in line])

@@ -69,6 +69,14 @@ class Comparing(Tree):
         self.assertEqual(self.run_in("make", "-n").out, "echo a b /bin/bash\n")
         self.assertEqual(self.compared(0), "same: 1 command\n")
 
+    def test_make_knows_the_makefile_by_its_name(self):
+        self.write(version_sh="echo 1.2\n", b_mk="ifdef MAKE_VERSION\nB := $(lastword $(MAKEFILE_LIST))\nelse\n"
+                   "B := b.mk\nendif\n", Makefile="ifdef MAKE_VERSION\nDIR := $(dir $(lastword $(MAKEFILE_LIST)))\n"
+                   "V := $(shell sh $(DIR)version.sh)$(words $(MAKEFILE_LIST))\nelse\nV := 1.21\nendif\n"
+                   "include b.mk\nall: ; echo $(V) $(B)\n")
+        self.assertEqual(self.run_in("make", "-n").out, "echo 1.21 b.mk\n")
+        self.assertEqual(self.compared(0), "same: 1 command\n")
+
     def test_a_recipe_line_that_make_runs_even_so_is_not_run(self):
         self.same("ifdef MAKE_VERSION\nX := $(shell echo x)\nelse\nX = x\nendif\nall: ; +touch run $(X)\n", 1)
         self.assertFalse((self.top / "run").exists())
@@ -99,6 +107,14 @@ class Comparing(Tree):
         self.assertEqual(self.compared(0), "same: 2 commands\n")
         self.differ(makefile.replace("main.c config.mk", "main.c $(N)") + "ifdef MAKE_VERSION\nelse\nall: more\n"
                     "more: ; echo more\nendif\nall: prog\n", [], ["echo more"], "all")
+
+    def test_an_include_that_the_goals_need_too_is_made_silently(self):
+        makefile = "-include a.d\nprog: a.c a.d ; cc -o $@ $<\n%.d: %.c\n\t@true $< \\\n\t  > $@\n"
+        self.write(Makefile=makefile, a_c="", a_d="")
+        self.assertEqual(self.run_in("make", "-n", "-B", "-r").out, "cc -o prog a.c\n")
+        self.assertEqual(self.compared(0), "same: 2 commands\n")
+        self.differ("ifndef MAKE_VERSION\nB = b.d\nendif\n" + makefile.replace("a.d ;", "a.d $(B) ;")
+                    + "b.d: ; @echo b\n", [], ["echo b"])
 
     def test_words_of_which_make_knows_nothing(self):
         self.write(Makefile="ifdef MAKE_VERSION\nA := $(shell echo one)\nendif\nall: ; echo $(A)\n")

@@ -110,9 +110,10 @@ class Installing(Scratch):
     def test_an_installed_kati_asked_is_the_program(self):
         usr = self.install()
         self.assertEqual((usr / "bin/kati-asked").read_bytes(), KATI_ASKED.read_bytes())
-        # As the example's makefile has it: the list, the makefile by its two names, and its include.
+        # kati's text, and then as the example's makefile has it: the list, the makefile by its two names, its include.
         self.assertEqual(run(usr / "bin/kati-asked", "--files", "files.txt", cwd=ROOT / "example"),
-                         "files.txt\nmakefile\nMakefile\nconfig.mk\n")
+                         run(KATI, "--files", "files.txt", cwd=ROOT / "example")
+                         + "\0files.txt\nmakefile\nMakefile\nconfig.mk\n")
 
     @needs("make")
     def test_an_installed_kati_is_the_program(self):

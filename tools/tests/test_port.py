@@ -134,6 +134,15 @@ class Porting(Tree):
                 self.assertIn(f"1 {number}", found[-2])
                 self.assertEqual(found[-1], f"kati's first fault: {kati_says.strip()}")
 
+    def test_a_makefile_that_is_not_there(self):
+        for there, told in (("", ""), ("makefile", "; makefile is there")):
+            if there:
+                self.put(there, "all: ; true\n")
+            for words in ((), ("--write",), ("--macros",)):
+                with self.subTest((there, words)):
+                    ran = self.tool("kati-port", *words, "Makefile")
+                    self.assertEqual((ran.status, ran.all), (3, f"kati-port: no file Makefile{told}\n"))
+
     def test_what_means_something_else(self):
         for makefile, line, words in OTHERWISE:
             with self.subTest(makefile):

@@ -379,6 +379,14 @@ class Values(Tree):
         self.assertEqual(ran.status, 0, ran.all)
         self.assertIn("kati-values.mk is as before: no program no/such/make", ran.all)
 
+    def test_so_it_does_without_kati_asked(self):
+        with self.without_asked():
+            self.assertEqual(self.tool("kati-build").status, 0)
+            self.ninja()
+            self.put("n.txt", "3\n")
+            self.ninja()
+        self.assertEqual(self.out(), "3 u1 a.c without\n")
+
     def test_values_by_targets_are_asked_for_again(self):
         self.put("Makefile", "all: a b\na b: ; echo $(if $(wildcard $@.x),with,without) > $@\n")
         self.put("a.x", "")

@@ -40,7 +40,7 @@ gen.c: gen.txt
 """
 COMPILE = "sh ./cc.sh $< $@ '$(FLAGS) {kind}' # -MMD -c -o $@"
 RULES = {kind: f"%.o: {source}\n\t{COMPILE.format(kind=kind)}\n"
-         for kind, source in (("plain", "%.c"), ("sub", "sub/%.c"), ("other", "%.s"))}
+         for kind, source in (("plain", "%.c"), ("sub", "sub/%.c"), ("other", "%.s"), ("above", "../up/%.c"))}
 
 
 class Edits:
@@ -49,7 +49,7 @@ class Edits:
     def __init__(self, chance, has_list):
         self.chance, self.has_list, self.counter = chance, has_list, 0
         self.flags, self.objects, self.extra, self.fault = "one", list(NAMES), None, False
-        self.order = chance.sample(list(RULES), 3)
+        self.order = self.some_order()
         self.headers = {name: "0" for name in HEADERS}
         self.sources = {name: self.source() for name in [*(f"{one}.c" for one in NAMES), "sub/other.c"]}
         self.generated = "gen"
@@ -57,6 +57,11 @@ class Edits:
     def number(self):
         self.counter += 1
         return str(self.counter)
+
+    def some_order(self):
+        """The rules in some order, mostly with the one for sources of a folder beside this one."""
+        order = self.chance.sample(list(RULES), len(RULES))
+        return order if self.chance.random() < 0.7 else [kind for kind in order if kind != "above"]
 
     def source(self):
         """A source's text: a number, and the headers that it includes."""
@@ -98,14 +103,14 @@ class Edits:
         self.objects = self.chance.sample(NAMES, self.chance.randint(1, len(NAMES)))
 
     def edit_order(self):
-        self.order = self.chance.sample(list(RULES), 3)
+        self.order = self.some_order()
 
     def edit_include(self):
         self.extra = self.chance.choice([one for one in (None, "0", "1") if one != self.extra])
 
     def edit_rival(self):
         """A source of another rule for the same object comes or goes."""
-        name = self.chance.choice([f"sub/{self.chance.choice(NAMES)}.c", f"{self.chance.choice(NAMES)}.s"])
+        name = self.chance.choice(["sub/{}.c", "{}.s", "../up/{}.c"]).format(self.chance.choice(NAMES))
         if self.sources.pop(name, None) is None:
             self.sources[name] = self.source()
 
@@ -164,11 +169,11 @@ class RandomEdits(Tree):
         self.assertEqual([name for name in again if not name.startswith(("build.ninja", "files.txt"))], [])
         self.assertEqual(self.ninja(), "ninja: no work to do.\n")
 
-    def one_tree(self, seed, *words, **environment):
+    def one_tree(self, seed, *words):
         """Edits a tree, and compares after each edit."""
         state, self.laid, done = Edits(random.Random(seed), "--files-from" in words), set(), []
         self.lay(state, self.top)
-        self.assertEqual(self.tool("kati-build", *self.WORDS, *words, **environment).status, 0)
+        self.assertEqual(self.tool("kati-build", *self.WORDS, *words).status, 0)
         with self.subTest(seed=seed, edits=done):
             self.after_edit(state, False)
             for _ in range(EDITS):
@@ -184,8 +189,10 @@ class RandomEdits(Tree):
                 self.one_tree(seed)
             elif number % 3 == 1:
                 # Without kati-asked the includes are a guess.
-                self.one_tree(seed, KATI_ASKED="false")
+                with self.without_asked():
+                    self.one_tree(seed)
             else:
                 self.one_tree(seed, "--files-from", "list.txt")
             shutil.rmtree(self.top)
+            shutil.rmtree(self.top.parent / "up", ignore_errors=True)
             self.top.mkdir()

@@ -7,6 +7,7 @@ pub mod TextLemmas
 pub mod BlameLemmas
 pub mod MeaningLemmas
 pub mod PlanningLemmas
+pub mod SharedLemmas
 pub mod RunLemmas
 pub mod LimitLemmas
 pub mod ReadBackLemmas

@@ -1,5 +1,6 @@
 -- How the program ends after a run.
-use Rattle.std.proofs.Common.{Result, Ok, Err, subst, arith, sym}
+use Rattle.std.proofs.Common.{Result, Ok, Err, subst, sym, ◌∙◌}
+use Rattle.kt_list.specs.Counters.{Rises}
 use Rattle.kt_ninja.specs.Written.{SinkSeen}
 use Rattle.kati.specs.declared.faults.RunFault.{RunFault}
 use Rattle.kati.specs.declared.faults.RunFault.TheVariants as faults
@@ -7,25 +8,18 @@ use Rattle.kati.specs.declared.status.Status.{Status}
 use Rattle.kati.specs.Devices.{devices}
 use Rattle.kt_eval.specs.files.Files.{FilesSeen}
 use Rattle.kati.specs.AfterRun.{BlamesDevice}
-use Rattle.kati.specs.Names.{NamesAfter, nothing_seen}
+use Rattle.kati.specs.Names.{NamesAfter}
 
--- what caused a fault of the run causes that of the end, too; its own output doesn't fail
-blames_kept : (fault : RunFault) (files files' : FilesSeen) (out out' err err' : SinkSeen)
-    → BlamesDevice (Err fault) (devices files nothing_seen err) (devices files' nothing_seen err')
-    → BlamesDevice (Err fault) (devices files out err) (devices files' out' err')
-blames_kept (faults.Read name) files files' out out' err err' blames = blames
-blames_kept faults.WriteOut files files' out out' err err' blames = absurd (omega (arith, blames.0))
-blames_kept faults.WriteErr files files' out out' err err' blames = blames
-blames_kept faults.Memory files files' out out' err err' blames = blames
-
-pub blames_after : (run ended : Result Status RunFault) (files files' : FilesSeen) (out out' err err' : SinkSeen)
-    → NamesAfter run ended files'.names out out' → BlamesDevice run (devices files nothing_seen err) (devices files' nothing_seen err')
+-- what caused a fault of the run or of the output behind it is what caused that of the end
+pub blames_after : (run ended : Result Status RunFault) (files files' : FilesSeen) (out ran out' err err' : SinkSeen)
+    → NamesAfter run ended files'.names ran out' → BlamesDevice run (devices files out err) (devices files' ran err')
     → BlamesDevice ended (devices files out err) (devices files' out' err')
-blames_after (Ok status) (Ok status') files files' out out' err err' after blames = (blames.0, after.1, blames.2)
-blames_after (Ok status) (Err faults.WriteOut) files files' out out' err err' after blames = (after.0, blames.0)
-blames_after (Ok status) (Err faults.Memory) files files' out out' err err' after blames = blames.0
-blames_after (Ok status) (Err faults.WriteErr) files files' out out' err err' after blames = absurd after
-blames_after (Ok status) (Err (faults.Read name)) files files' out out' err err' after blames = absurd after
-blames_after (Err fault) ended files files' out out' err err' after blames =
+blames_after (Ok status) (Ok status') files files' out ran out' err err' after blames = (blames.0, after.1 ∙ blames.1, blames.2)
+blames_after (Ok status) (Err faults.WriteOut) files files' out ran out' err err' after blames =
+    (subst (λ count. Rises count out'.failed) blames.1 after.0, blames.0)
+blames_after (Ok status) (Err faults.Memory) files files' out ran out' err err' after blames = blames.0
+blames_after (Ok status) (Err faults.WriteErr) files files' out ran out' err err' after blames = absurd after
+blames_after (Ok status) (Err (faults.Read name)) files files' out ran out' err err' after blames = absurd after
+blames_after (Err fault) ended files files' out ran out' err err' after blames =
     subst (λ (e : Result Status RunFault). BlamesDevice e (devices files out err) (devices files' out' err')) (sym after.0)
-    (blames_kept fault files files' out out' err err' blames)
+    (subst (λ o. BlamesDevice (Err fault) (devices files out err) (devices files' o err')) (sym after.1) blames)

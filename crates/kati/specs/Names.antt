@@ -1,5 +1,5 @@
 -- What kati-asked writes, and how it ends (kati's own).
-use Rattle.std.specs.Prelude.{◌≡◌, ℕ, List, ◌++◌, None, Result, Ok, Err, codes}
+use Rattle.std.specs.Prelude.{◌≡◌, ℕ, List, ◌∷◌, ◌++◌, Result, Ok, Err, codes}
 use Rattle.std.specs.List.{flat_map}
 use Rattle.kt_list.specs.Counters.{Rises}
 use Rattle.kt_text.specs.Words.{Text}
@@ -9,7 +9,7 @@ use Rattle.kati_args.specs.declared.args.Args.{Args}
 use Rattle.kati.specs.declared.faults.RunFault.{RunFault}
 use Rattle.kati.specs.declared.faults.RunFault.TheVariants as faults
 use Rattle.kati.specs.declared.status.Status.{Status}
-use Rattle.kati.specs.Devices.{Devices, devices}
+use Rattle.kati.specs.Devices.{Devices}
 use Rattle.kati.specs.Exits.{exit_code}
 use Rattle.kati.specs.AfterRun.{BlamesDevice, Exits, Leaves}
 use Rattle.kati.specs.ErrorOutput.{ReportsEnd}
@@ -18,37 +18,35 @@ use Rattle.kati.specs.ErrorOutput.{ReportsEnd}
 abbrev pub names_text : List Text → Text
 names_text names = flat_map (λ name. name ++ codes "\n") names
 
--- the names after a run with this status: the output has all of them, or it failed and has a prefix of them, or memory
--- ran out and it has nothing
+-- what stands behind the output of a run: a NUL, which no makefile and so no Ninja text has, and the names
+abbrev pub behind_output : List Text → Text
+behind_output names = 0 ∷ names_text names
+
+-- the names after a run with this status: the output has all of them, or it failed and has a prefix of that text, or
+-- memory ran out and it has nothing more
 abbrev pub PutsNames : Status → Result Status RunFault → List Text → SinkSeen → SinkSeen → Type 0
 PutsNames status (Ok status') names old new = (status' ≡ status) × (new.failed ≡ old.failed)
-    × Takes old new (names_text names)
+    × Takes old new (behind_output names)
 PutsNames status (Err faults.WriteOut) names old new = Rises old.failed new.failed
-    × GrowsByFront old new (names_text names)
+    × GrowsByFront old new (behind_output names)
 PutsNames status (Err faults.Memory) names old new = new ≡ old
 PutsNames status (Err faults.WriteErr) names old new = ⊥
 PutsNames status (Err (faults.Read name)) names old new = ⊥
 
--- how the program ends after a run: the names are written if the run came to its end, and otherwise nothing is; the
--- run's own output, which nobody reads, doesn't fail
+-- how the program ends after a run: the names are written if the run came to its end, and otherwise nothing more is
 abbrev pub NamesAfter : Result Status RunFault → Result Status RunFault → List Text → SinkSeen → SinkSeen → Type 0
 NamesAfter (Ok status) ended names old new = PutsNames status ended names old new
 NamesAfter (Err fault) ended names old new = (ended ≡ Err fault) × (new ≡ old)
 
--- what is seen of an output that nobody reads
-abbrev pub nothing_seen : SinkSeen
-nothing_seen = record { written = None; failed = 0 }
-
--- a run of kati with these arguments, whose output nobody reads; then the names that were asked for; then the exit
--- status, and the line on the error output if the program didn't come to its end
+-- a run of kati with these arguments; then the names that were asked for; then the exit status, and the line on the
+-- error output if the program didn't come to its end
 pub record NamingExits (args : Args) (code : ℕ) (old new : Devices) : Type 0 where
   pub run : Result Status RunFault
   pub ran : Devices
-  pub leaves : (store : Store) → AgreeWith store new.files.answers
-      → Leaves args store run (devices old.files nothing_seen old.err) ran
+  pub leaves : (store : Store) → AgreeWith store new.files.answers → Leaves args store run old ran
   pub ended : Result Status RunFault
   pub named : Devices
-  pub names : NamesAfter run ended ran.files.names old.out named.out
+  pub names : NamesAfter run ended ran.files.names ran.out named.out
   pub rest : (named.files ≡ ran.files) × (named.err ≡ ran.err)
   pub blames : BlamesDevice ended old named
   pub exit : code ≡ exit_code ended
@@ -56,7 +54,7 @@ pub record NamingExits (args : Args) (code : ℕ) (old new : Devices) : Type 0 w
 
 -- the line before kati's help
 abbrev pub help_lead : Text
-help_lead = codes "kati-asked writes the names that kati asks for:\n\n"
+help_lead = codes "kati-asked runs kati, and writes the names that it asks for behind a NUL:\n\n"
 
 -- the whole program: like kati, but for its run and the line before the help
 abbrev pub AskedExits : List Text → ℕ → Devices → Devices → Type 0

@@ -3,5 +3,6 @@ pub mod Stops
 pub mod Views
 pub mod Ranges
 pub mod Drawn
+pub mod Shared
 pub mod Shown
 pub mod Delivered

@@ -1,7 +1,6 @@
 //! The names that a run asks for: the program kati-asked over any files and outputs.
 
 mod naming;
-mod nowhere;
 mod program;
 
 pub use program::asked_names;

@@ -1,6 +1,6 @@
 //! The plan of a graph.
 ghost use Rattle.std.specs.Prelude.{◌≡◌, ◌<◌, ◌++◌, ◌∷◌, [], List, get_or, length, IfOk, MatchOption, None, Some};
-ghost use Rattle.std.specs.Prelude.{false, true};
+ghost use Rattle.std.specs.Prelude.{false, if◌then◌else◌, true};
 ghost use Rattle.std.specs.List.{list_all};
 ghost use Rattle.kt_text.specs.Words.{Text};
 ghost use Rattle.kt_eval.specs.declared.fault.Fault.{Fault as FaultType};
@@ -12,6 +12,7 @@ ghost use Rattle.kt_eval.specs.Outcome.{AsksNothing, Gives, done, then_do};
 ghost use Rattle.kati.specs.Planning.{command_for, least_output, made_by, plan_groups, plan_of, planned, text_fault};
 ghost use Rattle.kati.specs.Planning.{unwritable_in, written};
 ghost use Rattle.kati.specs.inner.Drawn.{AlwaysFirst, draw_groups, drawn_of, statements_drawn};
+ghost use Rattle.kati.specs.inner.Shared.{AreShared, MayShare};
 ghost use Rattle.kati.specs.inner.Shown.{plan_view};
 ghost use Rattle.kati.specs.inner.Stops.{IsFaultOf};
 ghost use Rattle.kati.specs.inner.Views.{is_text_trouble};
@@ -21,7 +22,7 @@ use crate::sketch::Sketch;
 use crate::statements::sketch_group;
 use crate::words::stop_on;
 use kt_eval::{Makefile, Stop};
-use kt_graph::{Graph, Node};
+use kt_graph::{Graph, Groups, Node};
 use kt_list::{Rows, Sequence};
 use kt_ninja::{Listed, PlanView, Unwritable, name_can_be_written, texts_can_be_written};
 use kt_recipe::Commands;
@@ -44,23 +45,42 @@ pub(crate) fn graph_plan<'g>(
     ensures asks_nothing { AsksNothing result }
     ensures writable { IfOk result (λ plan. IsWritable (plan_view plan)) }
 {
-    let groups = all_groups(alloc, graph)?;
-    let sketch = sketched(alloc, makefile, limit, &groups, messages)?;
+    let (groups, shared) = all_groups(alloc, graph)?;
+    let sketch = sketched(alloc, makefile, limit, &groups, shared.as_slice(), messages)?;
     let can_be_written = has_writable_texts(graph, &sketch);
     written(alloc, plan_of(groups, sketch, goals), can_be_written)
 }
 
-// The groups, one after another.
-fn all_groups<'g>(alloc: Global, graph: &'g Graph<'_>) -> Result<Rows<Node<'g>>, AllocError>
-    ensures { IfOk result (λ groups. groups ≡ groups_of graph.now) }
+// The groups, one after another, and of each whether its members are told to share their inputs.
+fn all_groups<'g>(
+    alloc: Global,
+    graph: &'g Graph<'_>,
+) -> Result<(Rows<Node<'g>>, Vec<bool>), AllocError>
+    ensures { IfOk result (λ found. (found.0 ≡ groups_of graph.now) × AreShared found.0 found.1.items) }
 {
     let mut left = graph.groups()?;
     let mut groups = Rows::new(alloc);
+    let mut shared = Vec::new(alloc);
     let mut group = Vec::new(alloc);
-    while left.next_into(&mut group)? {
+    let mut shares = false;
+    while next_group(&mut left, &mut group, &mut shares)? {
         groups.append_row(&mut group)?;
+        shared.push(shares)?;
     }
-    Ok(groups)
+    Ok((groups, shared))
+}
+
+// The next group, if one remains, and whether its members are told to share their inputs.
+fn next_group<'g>(
+    left: &mut Groups<'g>,
+    group: &mut Vec<Node<'g>>,
+    shares: &mut bool,
+) -> Result<bool, AllocError>
+    ensures next { IfOk result (λ some. left.old ≡ (if some then group.new.items ∷ left.new else [])) }
+    ensures shares { IfOk result (λ some. some ≡ true → MayShare group.new.items shares.new) }
+{
+    *shares = left.next_shares_inputs();
+    left.next_into(group)
 }
 
 // What is stored for each group besides its nodes.
@@ -69,30 +89,42 @@ fn sketched(
     makefile: &Makefile,
     limit: u64,
     groups: &Rows<Node<'_>>,
+    shared: &[bool],
     messages: &mut Vec<Sequence<u8>>,
 ) -> Result<Sketch, Stop>
+    requires { AreShared groups.now shared.now }
     ensures gives { Gives (λ sketch. statements_drawn groups.now sketch) result
         messages.new.items (plan_groups makefile.now.book makefile.now.macros limit
         groups.now [] messages.old.items) }
     ensures always { IfOk result (λ sketch. AlwaysFirst groups.now sketch) }
     ensures asks_nothing { AsksNothing result }
 {
-    let commands = Commands::new(alloc, &makefile.macros, limit)?;
-    sketch_groups(alloc, &makefile.book, &commands, groups, messages)
+    let mut commands = Commands::new(alloc, &makefile.macros, limit)?;
+    sketch_groups(
+        alloc,
+        &makefile.book,
+        &mut commands,
+        groups,
+        shared,
+        messages,
+    )
 }
 
 #[tactic(auto, unfolding(crate::specs::inner::Drawn::draw_groups))]
 fn sketch_groups(
     alloc: Global,
     book: &Book,
-    commands: &Commands<'_>,
+    commands: &mut Commands<'_>,
     groups: &Rows<Node<'_>>,
+    shared: &[bool],
     messages: &mut Vec<Sequence<u8>>,
 ) -> Result<Sketch, Stop>
+    requires { AreShared groups.now shared.now }
     ensures gives { Gives (λ sketch. sketch) result messages.new.items
-        (draw_groups book.now commands.now.table commands.now.limit groups.now []
+        (draw_groups book.now commands.old.table commands.old.limit groups.now []
         messages.old.items) }
     ensures asks_nothing { AsksNothing result }
+    ensures same { commands.new ≡ commands.old }
 {
     let mut sketch = Sketch::new(alloc);
     let mut command = Vec::new(alloc);
@@ -102,6 +134,7 @@ fn sketch_groups(
             book,
             commands,
             groups,
+            shared,
             place,
             &mut command,
             &mut sketch,
@@ -115,55 +148,73 @@ fn sketch_groups(
 fn add_at(
     alloc: Global,
     book: &Book,
-    commands: &Commands<'_>,
+    commands: &mut Commands<'_>,
     groups: &Rows<Node<'_>>,
+    shared: &[bool],
     place: usize,
     command: &mut Vec<u8>,
     sketch: &mut Sketch,
     messages: &mut Vec<Sequence<u8>>,
 ) -> Result<(), Stop>
-    requires { place < length groups.now }
+    requires within { place < length groups.now }
+    requires shared { AreShared groups.now shared.now }
     ensures gives { Gives (λ _. sketch.new) result messages.new.items
-        (then_do (command_for commands.now.table commands.now.limit (get_or groups.now place []) messages.old.items)
+        (then_do (command_for commands.old.table commands.old.limit (get_or groups.now place []) messages.old.items)
         (λ command. done (sketch.old ++ drawn_of book.now (get_or groups.now place []) command ∷ []))) }
     ensures asks_nothing { AsksNothing result }
+    ensures same { commands.new ≡ commands.old }
 {
     match groups.row(place) {
-        Some(group) => add(alloc, book, commands, group, command, sketch, messages),
+        Some(group) => {
+            let shares = is_shared(shared, place);
+            add(
+                alloc, book, commands, group, shares, command, sketch, messages,
+            )
+        }
         None => Ok(()),
     }
+}
+
+fn is_shared(shared: &[bool], place: usize) -> bool
+    ensures { result ≡ get_or shared.now place false }
+{
+    shared.get(place).copied().unwrap_or(false)
 }
 
 // Adds a group. The text for the command is reused for one group after another.
 fn add(
     alloc: Global,
     book: &Book,
-    commands: &Commands<'_>,
+    commands: &mut Commands<'_>,
     group: &[Node],
+    shares: bool,
     command: &mut Vec<u8>,
     sketch: &mut Sketch,
     messages: &mut Vec<Sequence<u8>>,
 ) -> Result<(), Stop>
+    requires { MayShare group.now shares }
     ensures gives { Gives (λ _. sketch.new) result messages.new.items
-        (then_do (command_for commands.now.table commands.now.limit group.now messages.old.items)
+        (then_do (command_for commands.old.table commands.old.limit group.now messages.old.items)
         (λ command. done (sketch.old ++ drawn_of book.now group.now command ∷ []))) }
     ensures asks_nothing { AsksNothing result }
+    ensures same { commands.new ≡ commands.old }
 {
     put_command(commands, group, command, messages)?;
-    sketch_group(alloc, book, group, command.as_slice(), sketch)?;
+    sketch_group(alloc, book, group, shares, command.as_slice(), sketch)?;
     Ok(())
 }
 
 // Sets the text to the command of the least member, which comes first.
 fn put_command(
-    commands: &Commands<'_>,
+    commands: &mut Commands<'_>,
     group: &[Node],
     command: &mut Vec<u8>,
     messages: &mut Vec<Sequence<u8>>,
 ) -> Result<(), Stop>
     ensures gives { Gives (λ _. command_in command.new.items) result messages.new.items
-        (command_for commands.now.table commands.now.limit group.now messages.old.items) }
+        (command_for commands.old.table commands.old.limit group.now messages.old.items) }
     ensures asks_nothing { AsksNothing result }
+    ensures same { commands.new ≡ commands.old }
 {
     match group {
         [least, ..] => commands.write(least, command, messages),

@@ -6,6 +6,7 @@ ghost use Rattle.kt_graph.specs.nodes.Node.{inputs_of, order_only_of};
 ghost use Rattle.kt_recipe.specs.Views.{command_in};
 ghost use Rattle.kati.specs.Planning.{has_phony, joined_inputs, joined_order_only};
 ghost use Rattle.kati.specs.inner.Drawn.{drawn_of, joined_of, joined_view};
+ghost use Rattle.kati.specs.inner.Shared.{MayShare};
 
 use crate::sketch::{Joined, Sketch};
 use kt_graph::{Inputs, Node};
@@ -14,17 +15,20 @@ use kt_rules::{Book, Name};
 use std::alloc::{AllocError, Global};
 use std::boxed::Box;
 
-/// Adds what is stored for a group at the end. Its command is empty if it has none.
+/// Adds what is stored for a group at the end. Its command is empty if it has none. Members that share their inputs are
+/// told, so that these are joined by looking at one member.
 pub(crate) fn sketch_group(
     alloc: Global,
     book: &Book,
     group: &[Node],
+    shares: bool,
     command: &[u8],
     sketch: &mut Sketch,
 ) -> Result<(), AllocError>
+    requires { MayShare group.now shares }
     ensures { OnOk result (sketch.new ≡ sketch.old ++ drawn_of book.now group.now (command_in command.now) ∷ []) }
 {
-    let joined = joined_if_several(alloc, group)?;
+    let joined = joined_if_several(alloc, group, shares)?;
     sketch.push(is_always_made(book, group, command), joined, command)
 }
 
@@ -39,14 +43,31 @@ fn is_always_made(book: &Book, group: &[Node], command: &[u8]) -> bool
 }
 
 // The joined prerequisites of the members. A single member's own are used as they are.
-fn joined_if_several(alloc: Global, group: &[Node]) -> Result<Option<Box<Joined>>, AllocError>
+fn joined_if_several(
+    alloc: Global,
+    group: &[Node],
+    shares: bool,
+) -> Result<Option<Box<Joined>>, AllocError>
+    requires { MayShare group.now shares }
     ensures { IfOk result (λ joined. option_map (λ b. joined_view b.value) joined ≡ joined_of group.now) }
 {
     match group {
         [] => Ok(None),
         [_] => Ok(None),
-        [_, _, ..] => Ok(Some(joined(alloc, group)?)),
+        [_, _, ..] => Ok(Some(joined(alloc, telling(group, shares))?)),
     }
+}
+
+// The first member where all share its inputs, and else all.
+fn telling<'a, 'g>(group: &'a [Node<'g>], shares: bool) -> &'a [Node<'g>]
+    requires { MayShare group.now shares }
+    ensures inputs { joined_inputs result.now ≡ joined_inputs group.now }
+    ensures order_only { joined_order_only result.now ≡ joined_order_only group.now }
+{
+    if shares && !group.is_empty() {
+        return &group[..1];
+    }
+    group
 }
 
 fn joined(alloc: Global, group: &[Node]) -> Result<Box<Joined>, AllocError>

@@ -7,12 +7,13 @@ use kt_testing::put;
 use std::alloc::Global;
 use std::process::Abort;
 
-/// A run whose devices don't fail: its label, the words after the program's name, the files, the names that are
-/// written, the exit status, and the error output.
+/// A run whose devices don't fail: its label, the words after the program's name, the files, the plan and the names that
+/// are written, the exit status, and the error output.
 type Row = (
     &'static str,
     &'static [&'static str],
     &'static [(&'static str, &'static [u8])],
+    &'static [u8],
     &'static [&'static str],
     u8,
     &'static [u8],
@@ -20,11 +21,17 @@ type Row = (
 
 const RULE: &[u8] = b"a.o: a.c\n\tcc -c a.c -o a.o\n";
 
+const RULE_TEXT: &[u8] =
+    b"# kati\nrule r0\n command = /bin/sh -c 'cc -c a.c -o a.o'\nbuild a.o: r0 a.c\ndefault a.o\n";
+
+const X_TEXT: &[u8] = b"# kati\nrule r0\n command = /bin/sh -c 'x'\nbuild t: r0\ndefault t\n";
+
 const ROWS: [Row; 9] = [
     (
         "Makefile",
         &[],
         &[("Makefile", RULE)],
+        RULE_TEXT,
         &["makefile", "Makefile"],
         0,
         b"",
@@ -33,6 +40,7 @@ const ROWS: [Row; 9] = [
         "makefile",
         &[],
         &[("makefile", RULE)],
+        RULE_TEXT,
         &["makefile"],
         0,
         b"",
@@ -45,6 +53,7 @@ const ROWS: [Row; 9] = [
             ("m", b"include a.mk\n-include b.mk\ninclude a.mk\nt: ; x\n"),
             ("a.mk", b"-include c.mk\n"),
         ],
+        X_TEXT,
         &["m", "a.mk", "c.mk", "b.mk", "a.mk", "c.mk"],
         0,
         b"",
@@ -56,6 +65,8 @@ const ROWS: [Row; 9] = [
             ("Makefile", b"%.o: %.c ; cc $<\nall: x.o\n"),
             ("l", b"x.c\n"),
         ],
+        b"# kati\nbuild all: phony x.o\nrule r0\n command = /bin/sh -c 'cc x.c'\n\
+          build x.o: r0 x.c\ndefault all\n",
         &["l", "makefile", "Makefile"],
         0,
         b"",
@@ -65,6 +76,7 @@ const ROWS: [Row; 9] = [
         "checked file",
         &["--check", "o"],
         &[("Makefile", RULE)],
+        b"",
         &["makefile", "Makefile", "o"],
         1,
         b"",
@@ -73,6 +85,7 @@ const ROWS: [Row; 9] = [
         "message",
         &[],
         &[("Makefile", b"$(info hi)\nt: ; x\n")],
+        X_TEXT,
         &["makefile", "Makefile"],
         0,
         b"hi\n",
@@ -85,6 +98,7 @@ const ROWS: [Row; 9] = [
             ("Makefile", b"include a.mk\ninclude no.mk\ninclude b.mk\n"),
             ("a.mk", b""),
         ],
+        b"",
         &["makefile", "Makefile", "a.mk", "no.mk"],
         2,
         b"Makefile:2: *** no file no.mk [E04]\n",
@@ -93,6 +107,7 @@ const ROWS: [Row; 9] = [
         "goal without a rule",
         &["z"],
         &[("Makefile", RULE)],
+        b"",
         &["makefile", "Makefile"],
         2,
         b"kati: *** no rule for z [E27]\n",
@@ -101,6 +116,7 @@ const ROWS: [Row; 9] = [
         "bad macro word",
         &["CC:=x"],
         &[("Makefile", RULE)],
+        b"",
         &[],
         64,
         b"kati: bad macro CC:=x\n",
@@ -109,17 +125,23 @@ const ROWS: [Row; 9] = [
 
 const CANNOT_WRITE: &[u8] = b"kati: cannot write\n";
 
-const HELP_LEAD: &[u8] = b"kati-asked writes the names that kati asks for:\n\n";
+const HELP_LEAD: &[u8] =
+    b"kati-asked runs kati, and writes the names that it asks for behind a NUL:\n\n";
 
 /// Which read fails, or 0, and the room of each output and how much it takes in a call.
 type Devices = (u64, (usize, usize), (usize, usize));
 
 const AMPLE: (usize, usize) = (4096, 4096);
 
-/// The names, each on a line.
-fn lines(alloc: Global, names: &[&str]) -> Vec<u8> {
+/// What the output gets: the plan, a NUL, and the names, each on a line; nothing where no run is asked for.
+fn written(alloc: Global, row: &Row) -> Vec<u8> {
     let mut text = Vec::new(alloc);
-    for name in names {
+    if row.5 == 64 {
+        return text;
+    }
+    put(&mut text, row.3);
+    put(&mut text, b"\0");
+    for name in row.4 {
         put(&mut text, name.as_bytes());
         put(&mut text, b"\n");
     }
@@ -175,23 +197,23 @@ fn check(
 }
 
 #[test]
-fn writes_names_with_ample_room_and_by_a_byte_a_call(rt: HostRuntime) {
+fn writes_plan_and_names_with_ample_room_and_by_a_byte_a_call(rt: HostRuntime) {
     for row in ROWS {
-        let names = lines(rt.alloc(), row.3);
-        let told = [row.5];
-        let held = (names.as_slice(), told.as_slice());
-        check(&rt, rt.alloc(), &row, (0, AMPLE, AMPLE), row.4, held);
+        let all = written(rt.alloc(), &row);
+        let told = [row.6];
+        let held = (all.as_slice(), told.as_slice());
+        check(&rt, rt.alloc(), &row, (0, AMPLE, AMPLE), row.5, held);
         let slow = (4096, 1);
-        check(&rt, rt.alloc(), &row, (0, slow, slow), row.4, held);
+        check(&rt, rt.alloc(), &row, (0, slow, slow), row.5, held);
     }
 }
 
-/// After a read that fails no name is written: its own is reported.
+/// After a read that fails nothing is written: its name is reported.
 #[test]
 fn stops_at_each_read_that_fails(rt: HostRuntime) {
     for row in ROWS {
-        for before in 0..row.3.len() {
-            let name = row.3[before];
+        for before in 0..row.4.len() {
+            let name = row.4[before];
             let devices = (before as u64 + 1, AMPLE, AMPLE);
             let told: [&[u8]; 3] = [b"kati: cannot read ", name.as_bytes(), b"\n"];
             check(&rt, rt.alloc(), &row, devices, 3, (b"", &told));
@@ -203,22 +225,22 @@ fn stops_at_each_read_that_fails(rt: HostRuntime) {
 #[test]
 fn stops_at_each_byte_of_the_output(rt: HostRuntime) {
     for row in ROWS {
-        let names = lines(rt.alloc(), row.3);
-        for room in 0..names.len() {
-            let told = [row.5, CANNOT_WRITE];
-            let held = (&names[..room], told.as_slice());
+        let all = written(rt.alloc(), &row);
+        for room in 0..all.len() {
+            let told = [row.6, CANNOT_WRITE];
+            let held = (&all[..room], told.as_slice());
             check(&rt, rt.alloc(), &row, (0, (room, 4096), AMPLE), 3, held);
         }
     }
 }
 
-/// Of an error output that fails nothing more is written, and no name is written.
+/// Of an error output that fails nothing more is written, nor anything of the output.
 #[test]
 fn stops_at_each_byte_of_the_error_output(rt: HostRuntime) {
     for row in ROWS {
-        if row.4 < 64 {
-            for room in 0..row.5.len() {
-                let told = [&row.5[..room]];
+        if row.5 < 64 {
+            for room in 0..row.6.len() {
+                let told = [&row.6[..room]];
                 let held = (b"".as_slice(), told.as_slice());
                 check(&rt, rt.alloc(), &row, (0, AMPLE, (room, 4096)), 3, held);
             }
@@ -229,7 +251,7 @@ fn stops_at_each_byte_of_the_error_output(rt: HostRuntime) {
 /// The help is kati's, under a line that says whose program it is.
 #[test]
 fn helps_as_kati_does(rt: HostRuntime) {
-    let row: Row = ("help", &["--help"], &[], &[], 0, b"");
+    let row: Row = ("help", &["--help"], &[], b"", &[], 0, b"");
     let told = ended(&rt, rt.alloc(), &row, (0, AMPLE, AMPLE));
     let wanted = outcome(rt.alloc(), 0, HELP_LEAD, &[]);
     let lead = wanted.as_slice().strip_suffix(b"\nerr: ");

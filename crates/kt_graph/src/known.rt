@@ -8,8 +8,10 @@ ghost use Rattle.kt_graph.specs.inner.EndMarks.{AreMarked, KeepsEnds, with_end};
 mod end_marks;
 
 use crate::nodes::numbering::NameNumbers;
+use crate::nodes::tables::Tables;
 use bstr::ByteSlice;
 use end_marks::EndMarks;
+use kt_list::Names;
 use kt_rules::{Book, BookNames, without_dots};
 use std::alloc::{AllocError, Global};
 use std::marker::Model;
@@ -47,7 +49,7 @@ impl<'a> Known<'a> {
         let table = book.name_table();
         // Without a list, no name of the book is one of its names.
         let room = if files.is_empty() { 0 } else { table.len() };
-        let mut list = NameNumbers::with_room(alloc, table, room)?;
+        let mut list = NameNumbers::with_room(alloc, Tables::of_book(table), room)?;
         let mut ends = EndMarks::none(alloc)?;
         add_listed(&mut list, &mut ends, files)?;
         let book = book.names()?;
@@ -68,6 +70,11 @@ impl<'a> Known<'a> {
         ensures { result ≡ is_among self.now name.now }
     {
         self.list.contains(name) || self.book.contains(name)
+    }
+
+    /// The names of the list that don't stand in the book. Nothing is promised of them.
+    pub(crate) fn listed(&self) -> &Names {
+        self.list.others()
     }
 
     /// Whether a known name may end with a text of at least two bytes. Takes no memory.

@@ -16,8 +16,10 @@ pub(crate) mod numbering;
 mod part;
 mod reached;
 mod reached_name;
+mod rows;
 mod stem;
 pub(crate) mod stored;
+pub(crate) mod tables;
 
 pub use graph::{Graph, Nodes};
 pub use grouping::Groups;

@@ -78,6 +78,10 @@ fn stems(rt: HostRuntime) -> Result<(), Fail> {
             b"d/x.o",
             b"implicit [d/x] d/x.c |",
         ),
+        // Each leaf has its own.
+        (b"a: x.c y.o z;e", b"", b"a", b"x.c", b"leaf [x] |"),
+        (b"a: x.c y.o z;e", b"", b"a", b"y.o", b"leaf [y] |"),
+        (b"a: x.c y.o z;e", b"", b"a", b"z", b"leaf [] |"),
         // Each rule has its own.
         (b"a.o a.z:: %.o: %.c;e", b"", b"a.o", b"a.o", b"no book"),
         (

@@ -9,5 +9,6 @@ pub mod LoopLemmas
 pub mod DeeperLemmas
 pub mod TermLemmas
 pub mod PlainLemmas
+pub mod PreparedLemmas
 pub mod CommandLemmas
 mod RowLemmas

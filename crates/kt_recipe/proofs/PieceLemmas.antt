@@ -1,13 +1,13 @@
 -- A line without a newline is one piece.
-use Rattle.std.proofs.Common.{◌≡◌, Bool, true, false, not, ◌==◌, List, [], ◌∷◌, Option, Result, refl, sym}
+use Rattle.std.proofs.Common.{◌≡◌, Bool, true, false, not, ◌==◌, List, [], ◌∷◌, Option, Result, refl, sym, ap}
 use Rattle.std.proofs.lemmas.Bool.{not-true, or_parts}
 use Rattle.std.specs.List.{list_any, slice_split}
 use Rattle.kt_text.specs.Words.{Text}
 use Rattle.kt_eval.specs.declared.stop.Stop.{Stop}
 use Rattle.kt_eval.specs.Outcome.{Outcome, Gave, Stopped, StepOver, then_do, done}
 use Rattle.kt_eval.specs.expanding.Pure.{Says}
-use Rattle.kt_recipe.specs.Lines.{pieces_of}
-use Rattle.kt_recipe.specs.Shell.{Setting, put_piece, put_pieces}
+use Rattle.kt_recipe.specs.Lines.{after_run, is_marked, pieces_of}
+use Rattle.kt_recipe.specs.Shell.{Setting, expansion, put_line, put_piece, put_pieces}
 
 uncut : (text : Text) → list_any (λ byte. byte == 10) text ≡ false → slice_split (λ byte. byte == 10) text ≡ text ∷ []
 uncut [] is = refl
@@ -38,3 +38,12 @@ pub says_one : {A : Type 0} (see : A → Option Text) (at : Setting) (marked : B
 says_one see at marked text command result old new whole h =
     says_alike see (put_piece at marked text command) (put_pieces at marked (pieces_of text) command) result old new
     (put_one at marked text command old whole) h
+
+-- a line that is expanded without a message is appended as the pieces of its expansion are
+pub says_expanded : {A : Type 0} (see : A → Option Text) (at : Setting) (line text : Text) (command : Option Text) (result : Result A Stop)
+    (old new : List Text) → expansion at (after_run line) old ≡ Gave old text
+    → Says see (put_pieces at (is_marked line) (pieces_of text) command) result old new → Says see (put_line at line command) result old new
+unfolding put_line
+says_expanded see at line text command result old new is h =
+    says_alike see (put_pieces at (is_marked line) (pieces_of text) command) (put_line at line command) result old new
+    (sym (ap (λ o. then_do o (λ text. put_pieces at (is_marked line) (pieces_of text) command)) is)) h

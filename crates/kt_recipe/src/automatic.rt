@@ -92,6 +92,21 @@ fn told<'g>(
     }
 }
 
+/// Appends the names of a subject in a part of a node, as text in a form.
+pub(crate) fn put_told(
+    alloc: Global,
+    node: &Node<'_>,
+    part: usize,
+    subject: Subject,
+    form: Form,
+    out: &mut Vec<u8>,
+) -> Result<(), AllocError>
+    ensures { OnOk result (out.new.items ≡ out.old.items ++ text_of form (names_in node.now part subject)) }
+{
+    let told = told(alloc, node, part, subject, form)?;
+    out.extend_from_slice(told.as_slice())
+}
+
 // The name of a subject that has only one name, which is then borrowed.
 #[tactic(auto, unfolding(crate::specs::Automatic::names_of))]
 fn only_name<'g>(node: &Node<'g>, part: usize, subject: Subject) -> Option<&'g [u8]>

@@ -2,6 +2,7 @@
 ghost use Rattle.std.specs.Prelude.{◌≡◌, IfOk, Some, option_map};
 ghost use Rattle.kt_eval.specs.expanding.Pure.{Says};
 
+use crate::kept::KeptLines;
 use crate::plain::plain_shell;
 use kt_eval::{Automatic, Macros, Stop};
 use kt_list::Sequence;
@@ -9,39 +10,38 @@ use kt_rules::Place;
 use std::alloc::{AllocError, Global};
 use std::marker::Model;
 
-/// Makes the commands of a makefile's nodes. If both values of its shell expand to themselves, as they mostly do, the
-/// shell is expanded here, once for all pieces.
+/// Expands texts of recipes. If both values of the shell expand to themselves, as they mostly do, the shell is expanded
+/// here, once for all pieces.
 #[derive(Drop)]
-pub struct Commands<'m> {
+pub(crate) struct Expander<'m> {
     alloc: Global,
     macros: &'m Macros,
     limit: u64,
     shell: Option<Vec<u8>>,
 }
 
-impl<'m> Model for Commands<'m> {
+impl<'m> Model for Expander<'m> {
     ghost use Rattle.std.specs.Prelude.{◌≡◌, option_map};
     ghost use Rattle.kt_recipe.specs.Shell.{CommandsOf};
     ghost use Rattle.kt_recipe.specs.inner.Plain.{plain_shell};
 
     ghost Value = { CommandsOf };
 
-    ghost view = { λ commands. record { table = commands.macros.now; limit = commands.limit } };
+    ghost view = { λ expander. record { table = expander.macros.now; limit = expander.limit } };
 
-    ghost invariant = { λ commands. option_map (λ text. text.items) commands.shell
-        ≡ plain_shell commands.macros.now commands.limit };
+    ghost invariant = { λ expander. option_map (λ text. text.items) expander.shell
+        ≡ plain_shell expander.macros.now expander.limit };
 }
 
-impl<'m> Commands<'m> {
+impl<'m> Expander<'m> {
     ghost use Rattle.kt_eval.specs.expanding.Pure.{expanded_pure};
     ghost use Rattle.kt_recipe.specs.inner.Plain.{plain_shell};
 
-    /// Commands with these macros and this limit of levels.
-    pub fn new(alloc: Global, macros: &'m Macros, limit: u64) -> Result<Commands<'m>, AllocError>
-        ensures { IfOk result (λ commands. commands ≡ record { table = macros.now; limit = limit }) }
+    fn new(alloc: Global, macros: &'m Macros, limit: u64) -> Result<Expander<'m>, AllocError>
+        ensures { IfOk result (λ expander. expander ≡ record { table = macros.now; limit = limit }) }
     {
         let shell = plain_shell(alloc, macros, limit)?;
-        Ok(Commands {
+        Ok(Expander {
             alloc,
             macros,
             limit,
@@ -77,5 +77,39 @@ impl<'m> Commands<'m> {
     {
         self.macros
             .expand_pure(text, automatic, Some(place), messages, self.limit)
+    }
+}
+
+/// Makes the commands of a makefile's nodes.
+#[derive(Drop)]
+pub struct Commands<'m> {
+    pub(crate) expander: Expander<'m>,
+    pub(crate) lines: KeptLines<'m>,
+    // The text of a line, which serves for one after another.
+    pub(crate) text: Vec<u8>,
+}
+
+impl<'m> Model for Commands<'m> {
+    ghost use Rattle.std.specs.Prelude.{◌≡◌};
+    ghost use Rattle.kt_recipe.specs.Shell.{CommandsOf};
+
+    ghost Value = { CommandsOf };
+
+    ghost view = { λ commands. commands.expander };
+
+    ghost invariant = { λ commands. commands.lines ≡ commands.expander };
+}
+
+impl<'m> Commands<'m> {
+    /// Commands with these macros and this limit of levels.
+    pub fn new(alloc: Global, macros: &'m Macros, limit: u64) -> Result<Commands<'m>, AllocError>
+        ensures { IfOk result (λ commands. commands ≡ record { table = macros.now; limit = limit }) }
+    {
+        let expander = Expander::new(alloc, macros, limit)?;
+        Ok(Commands {
+            expander,
+            lines: KeptLines::new(alloc, macros, limit),
+            text: Vec::new(alloc),
+        })
     }
 }

@@ -12,7 +12,8 @@ ghost use Rattle.kt_recipe.specs.Views.{command_in, setting_at};
 
 use crate::automatic::auto_of;
 use crate::calls::put_call;
-use crate::commands::Commands;
+use crate::commands::{Commands, Expander};
+use crate::kept::KeptLines;
 use crate::lines::{after_run, is_marked, is_one_piece, pieces};
 use kt_eval::{Macros, Stop};
 use kt_graph::Node;
@@ -27,15 +28,16 @@ impl<'m> Commands<'m> {
     ///
     /// Messages are appended in order; if memory runs out, a prefix of them is.
     pub fn command(
-        &self,
+        &mut self,
         node: &Node,
         messages: &mut Vec<Sequence<u8>>,
     ) -> Result<Option<Vec<u8>>, Stop>
-        ensures { Says (option_map (λ text. text.items))
-            (shell_of self.now.table self.now.limit node.now)
+        ensures says { Says (option_map (λ text. text.items))
+            (shell_of self.old.table self.old.limit node.now)
             result messages.old.items messages.new.items }
+        ensures same { self.new ≡ self.old }
     {
-        let mut command = Vec::new(self.alloc());
+        let mut command = Vec::new(self.expander.alloc());
         self.write(node, &mut command, messages)?;
         Ok(some_text(command))
     }
@@ -44,17 +46,25 @@ impl<'m> Commands<'m> {
     /// text can serve for the commands of many nodes, one after another.
     #[tactic(auto, unfolding(crate::specs::Shell::shell_of))]
     pub fn write(
-        &self,
+        &mut self,
         node: &Node,
         command: &mut Vec<u8>,
         messages: &mut Vec<Sequence<u8>>,
     ) -> Result<(), Stop>
-        ensures { Says (λ _. command_in command.new.items)
-            (shell_of self.now.table self.now.limit node.now)
+        ensures says { Says (λ _. command_in command.new.items)
+            (shell_of self.old.table self.old.limit node.now)
             result messages.old.items messages.new.items }
+        ensures same { self.new ≡ self.old }
     {
         command.clear();
-        put_parts(self, node, command, messages)
+        put_parts(
+            &self.expander,
+            &mut self.lines,
+            &mut self.text,
+            node,
+            command,
+            messages,
+        )
     }
 }
 
@@ -70,7 +80,8 @@ pub fn command(
         (shell_of macros.now limit node.now)
         result messages.old.items messages.new.items }
 {
-    Commands::new(alloc, macros, limit)?.command(node, messages)
+    let mut commands = Commands::new(alloc, macros, limit)?;
+    commands.command(node, messages)
 }
 
 fn some_text(command: Vec<u8>) -> Option<Vec<u8>>
@@ -86,23 +97,27 @@ fn some_text(command: Vec<u8>) -> Option<Vec<u8>>
 // Appends the commands of a node's parts.
 #[tactic(auto, unfolding(crate::specs::Shell::put_parts))]
 fn put_parts(
-    commands: &Commands<'_>,
+    expander: &Expander<'_>,
+    kept: &mut KeptLines<'_>,
+    text: &mut Vec<u8>,
     node: &Node,
     command: &mut Vec<u8>,
     messages: &mut Vec<Sequence<u8>>,
 ) -> Result<(), Stop>
-    ensures { Says (λ _. command_in command.new.items)
-        (put_parts commands.now.table commands.now.limit node.now (range_with_len 0 (length node.now.parts))
+    requires { kept.old ≡ expander.now }
+    ensures says { Says (λ _. command_in command.new.items)
+        (put_parts expander.now.table expander.now.limit node.now (range_with_len 0 (length node.now.parts))
         (command_in command.old.items))
         result messages.old.items messages.new.items }
+    ensures same { kept.new ≡ kept.old }
 {
     for part in 0..node.parts() {
         let shell = Shell {
-            commands,
+            expander,
             node,
             part,
         };
-        shell.put_part(command, messages)?;
+        shell.put_part(kept, text, command, messages)?;
     }
     Ok(())
 }
@@ -110,7 +125,7 @@ fn put_parts(
 // What the lines of a part's recipe are expanded with.
 #[derive(Clone, Copy)]
 struct Shell<'a, 'm, 'g> {
-    commands: &'a Commands<'m>,
+    expander: &'a Expander<'m>,
     node: &'a Node<'g>,
     part: usize,
 }
@@ -118,14 +133,22 @@ struct Shell<'a, 'm, 'g> {
 impl<'a, 'm, 'g> Shell<'a, 'm, 'g> {
     // Appends the command of the part.
     #[tactic(auto, unfolding(crate::specs::Shell::put_part))]
-    fn put_part(&self, command: &mut Vec<u8>, messages: &mut Vec<Sequence<u8>>) -> Result<(), Stop>
-        ensures { Says (λ _. command_in command.new.items)
-            (put_part self.now.commands.now.table self.now.commands.now.limit self.now.node.now self.now.part
+    fn put_part(
+        &self,
+        kept: &mut KeptLines<'_>,
+        text: &mut Vec<u8>,
+        command: &mut Vec<u8>,
+        messages: &mut Vec<Sequence<u8>>,
+    ) -> Result<(), Stop>
+        requires { kept.old ≡ self.now.expander.now }
+        ensures says { Says (λ _. command_in command.new.items)
+            (put_part self.now.expander.now.table self.now.expander.now.limit self.now.node.now self.now.part
             (command_in command.old.items))
             result messages.old.items messages.new.items }
+        ensures same { kept.new ≡ kept.old }
     {
         match self.node.recipe(self.part) {
-            Some(lines) => self.put_lines(lines, command, messages),
+            Some(lines) => self.put_lines(lines, kept, text, command, messages),
             None => Ok(()),
         }
     }
@@ -134,23 +157,52 @@ impl<'a, 'm, 'g> Shell<'a, 'm, 'g> {
     fn put_lines(
         &self,
         lines: &[RecipeLine],
+        kept: &mut KeptLines<'_>,
+        text: &mut Vec<u8>,
         command: &mut Vec<u8>,
         messages: &mut Vec<Sequence<u8>>,
     ) -> Result<(), Stop>
-        ensures { Says (λ _. command_in command.new.items)
-            (put_lines self.now.commands.now.table (automatic_in self.now.node.now self.now.part)
-            self.now.commands.now.limit lines.now (command_in command.old.items))
+        requires { kept.old ≡ self.now.expander.now }
+        ensures says { Says (λ _. command_in command.new.items)
+            (put_lines self.now.expander.now.table (automatic_in self.now.node.now self.now.part)
+            self.now.expander.now.limit lines.now (command_in command.old.items))
             result messages.old.items messages.new.items }
+        ensures same { kept.new ≡ kept.old }
     {
-        for line in lines {
-            self.put_line(line, command, messages)?;
+        for (number, line) in lines.iter().enumerate() {
+            self.put_line(number, line, kept, text, command, messages)?;
         }
         Ok(())
     }
 
-    // Appends the commands of a line.
-    #[tactic(auto, unfolding(crate::specs::Shell::put_line))]
+    // Appends the commands of the line with a number. It is expanded only if its expansion isn't known but for automatic
+    // macros.
     fn put_line(
+        &self,
+        number: usize,
+        line: &RecipeLine,
+        kept: &mut KeptLines<'_>,
+        text: &mut Vec<u8>,
+        command: &mut Vec<u8>,
+        messages: &mut Vec<Sequence<u8>>,
+    ) -> Result<(), Stop>
+        requires { kept.old ≡ self.now.expander.now }
+        ensures says { Says (λ _. command_in command.new.items)
+            (put_line (setting_at self.now line.now.place) line.now.text (command_in command.old.items))
+            result messages.old.items messages.new.items }
+        ensures same { kept.new ≡ kept.old }
+    {
+        let bare = after_run(line.text.as_slice());
+        if kept.fill(number, bare, self.node, self.part, text)? {
+            let marked = is_marked(line.text.as_slice());
+            return self.put_text(&line.place, marked, text.as_slice(), command, messages);
+        }
+        self.put_expanded(line, command, messages)
+    }
+
+    // Appends the commands of a line, which is expanded.
+    #[tactic(auto, unfolding(crate::specs::Shell::put_line))]
+    fn put_expanded(
         &self,
         line: &RecipeLine,
         command: &mut Vec<u8>,
@@ -182,7 +234,7 @@ impl<'a, 'm, 'g> Shell<'a, 'm, 'g> {
         if is_one_piece(text) {
             return self.put_piece(place, marked, text, command, messages);
         }
-        let pieces = pieces(self.commands.alloc(), text)?;
+        let pieces = pieces(self.expander.alloc(), text)?;
         self.put_pieces(place, marked, pieces.as_slice(), command, messages)
     }
 
@@ -240,7 +292,7 @@ impl<'a, 'm, 'g> Shell<'a, 'm, 'g> {
             (expansion (setting_at self.now place.now) shell_text)
             result messages.old.items messages.new.items }
     {
-        match self.commands.plain_shell() {
+        match self.expander.plain_shell() {
             Some(shell) => Ok(CowSlice::Borrowed(shell)),
             None => {
                 let shell = self.expand(place, b"$(SHELL) $(.SHELLFLAGS)", messages)?;
@@ -260,8 +312,8 @@ impl<'a, 'm, 'g> Shell<'a, 'm, 'g> {
             (expansion (setting_at self.now place.now) text.now)
             result messages.old.items messages.new.items }
     {
-        let automatic = auto_of(self.commands.alloc(), self.node, self.part);
+        let automatic = auto_of(self.expander.alloc(), self.node, self.part);
         let place = place.share()?;
-        self.commands.expand(text, &automatic, place, messages)
+        self.expander.expand(text, &automatic, place, messages)
     }
 }

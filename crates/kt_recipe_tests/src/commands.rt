@@ -1,5 +1,6 @@
 //! Commands: pieces, prefixes, the shell, order, faults.
-use crate::told::{Row, tells};
+use crate::told::{Asked, Question, Row, tells, told};
+use kt_testing::put;
 
 #[test]
 fn quotes_and_joins(rt: HostRuntime) {
@@ -143,4 +144,59 @@ fn counts_levels(rt: HostRuntime) {
         ),
     ];
     tells(&rt, rt.alloc(), 1, ROWS);
+}
+
+#[test]
+fn lines_of_other_nodes(rt: HostRuntime) {
+    const ROWS: &[Row] = &[
+        (
+            "CC = cc\nF = -O $(W)\nW := -w\n%.o: %.c ; $(CC) ${F} -c $< -o $@ $(@F)$$ $(U)\n",
+            "a.c\nd/b.c",
+            "a.o\nd/b.o",
+            "/bin/sh -c 'cc -O -w -c a.c -o a.o a.o$ '\n/bin/sh -c 'cc -O -w -c d/b.c -o d/b.o b.o$ '\n",
+        ),
+        (
+            "a: ; one $@\nb: ; two $@\nc: ; one $@\n",
+            "",
+            "a\nb\nc",
+            "/bin/sh -c 'one a'\n/bin/sh -c 'two b'\n/bin/sh -c 'one c'\n",
+        ),
+        (
+            "a b: ; x $(if $@,$@) $^\n",
+            "",
+            "a\nb",
+            "/bin/sh -c 'x a '\n/bin/sh -c 'x b '\n",
+        ),
+        (
+            "@ = no\nV = $@\na b: ; $(V) $(@)\n",
+            "",
+            "a\nb",
+            "/bin/sh -c 'a a'\n/bin/sh -c 'b b'\n",
+        ),
+    ];
+    tells(&rt, rt.alloc(), 100, ROWS);
+}
+
+// More lines than are kept.
+#[test]
+fn long_recipes(rt: HostRuntime) {
+    let alloc = rt.alloc();
+    let mut makefile = Vec::new(alloc);
+    let mut expected = Vec::new(alloc);
+    put(&mut makefile, b"t:\n");
+    for number in 0..70 {
+        put(&mut makefile, b"\t: $@\n");
+        if number != 0 {
+            put(&mut expected, b" && ");
+        }
+        put(&mut expected, b"/bin/sh -c ': t'");
+    }
+    put(&mut expected, b"\n");
+    let asked = Asked {
+        list: b"",
+        goals: b"t",
+        question: Question::Commands(100),
+    };
+    let told = told(&rt, alloc, makefile.as_slice(), asked);
+    assert_eq!(&rt; told.as_slice(), expected.as_slice());
 }

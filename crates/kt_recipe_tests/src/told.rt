@@ -117,13 +117,13 @@ fn put_commands(
     graph: &Graph,
     limit: u64,
 ) {
-    let commands = Commands::new(alloc, macros, limit).expect(rt, "memory");
+    let mut commands = Commands::new(alloc, macros, limit).expect(rt, "memory");
     let mut messages = Vec::new(alloc);
     let mut text = Vec::new(alloc);
     for node in graph.nodes() {
         if node.is_made() {
-            let answer = made(&commands, &node, &mut messages);
-            if !is_same(&answer, &written(alloc, &commands, &node, &mut text)) {
+            let answer = made(&mut commands, &node, &mut messages);
+            if !is_same(&answer, &written(alloc, &mut commands, &node, &mut text)) {
                 put(told, b"written otherwise: ");
             }
             if !is_same(&answer, &made_alone(alloc, macros, &node, limit)) {
@@ -146,7 +146,7 @@ fn put_command(told: &mut Vec<u8>, answer: &Result<Option<Vec<u8>>, Stop>) {
 
 /// Calls. It stands apart so that what the contract says burdens no other proof.
 fn made(
-    commands: &Commands<'_>,
+    commands: &mut Commands<'_>,
     node: &Node,
     messages: &mut Vec<Sequence<u8>>,
 ) -> Result<Option<Vec<u8>>, Stop> {
@@ -156,7 +156,7 @@ fn made(
 /// The same in a text that serves for all nodes.
 fn written(
     alloc: Global,
-    commands: &Commands<'_>,
+    commands: &mut Commands<'_>,
     node: &Node,
     text: &mut Vec<u8>,
 ) -> Result<Option<Vec<u8>>, Stop> {

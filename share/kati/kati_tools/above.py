@@ -3,7 +3,6 @@ import os
 import re
 
 from . import files, includes, sources
-from .programs import Stop
 
 # `..` as a part of a path, with those that follow it, and what stands before: a folder that a value gives, a path's
 # beginning, or some other folder, which `..` leaves again. And a line in which such a value is this folder's own path.
@@ -16,7 +15,7 @@ OF_THIS_FOLDER = re.compile(r"CURDIR|MAKEFILE_LIST|\bPWD\b|\bpwd\b")
 def texts_of(makefile):
     """The makefile's name, and the texts of it and of what it may include, as far as that has a makefile's name."""
     if not os.path.isfile(makefile):
-        raise Stop(f"no file {makefile}")
+        raise includes.absent(makefile)
     listed = [name for name in sources.walk(set())[0] if includes.MAKEFILES.search(name)]
     named = includes.asked([makefile], listed)
     return [makefile, *(files.read(name) for name in named if os.path.isfile(name))]

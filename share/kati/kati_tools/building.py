@@ -3,7 +3,7 @@ import os
 import sys
 
 from . import files, insertions, ninja_text, one_at_a_time, own_files, top_file, translating, words
-from .programs import UNFORESEEN, Stop, bytes_of, ending, need, say
+from .programs import UNFORESEEN, Stop, bytes_of, ending, find_asked, find_kati, need, say
 
 TOOL = "kati-build"
 KATIS_FIRST_LINE = "# kati\n"
@@ -23,7 +23,7 @@ files:
   build.kati/translated.ninja  what kati wrote; with --deps, where header dependencies are too
   build.kati/ported/           the makefiles that --port ported, and their values
   build.kati/files.txt         the list of the files that exist, as kati got it
-  build.kati/asked.txt         the files that kati asked for, and by what it is seen that they have changed
+  build.kati/asked.txt         the files that kati asked for, by which the next list is made
   build.kati/lock              what a run holds while it translates: one at a time, the next one waits
   build.kati/                  has ninja's own log too. It is named after FILE: .kati for .ninja
 
@@ -35,10 +35,8 @@ what is added:
   status isn't 0, the build of before is kept. kati's own text isn't asked of.
 
 which files are watched:
-  The makefiles' text says it where it has no `eval`, and lines that begin with `include`, `-include`
-  or `sinclude` hold no reference and stand in no conditional. Elsewhere the program kati-asked, where
-  it is found, tells each file that the translation asked for. It is run again only where one of these
-  or a word has changed.
+  Each file that the translation asked for, and no other makefile. The program kati-asked is run in
+  kati's place where it is found, and tells them behind what kati writes; so one run gives both.
   Without it, lines that begin with `include`, `-include` or `sinclude` are looked for. Of a name
   that holds a reference, each listed file that it could name is watched.
   The list of sources is made again when a folder that it is made from has changed. What the build
@@ -105,7 +103,7 @@ def parser():
                       help="writes compile_commands.json too, for editors: compilations without the shell round them")
     words.add_kati(made)
     made.add_argument("--kati-asked", metavar="PROGRAM",
-                      help="the program kati-asked; without it KATI_ASKED, then as kati is found")
+                      help="the program kati-asked; without it KATI_ASKED, then the one beside kati")
     words.add_kati_words(made)
     return made
 
@@ -127,10 +125,10 @@ class Build:
         self.asked, self.output = asked, os.path.normpath(asked.output)
         self.room = os.path.splitext(self.output)[0] + own_files.ENDING
         self.translated = os.path.join(self.room, own_files.TRANSLATED)
-        self.list = os.path.join(self.room, "files.txt")
+        self.list, self.names = os.path.join(self.room, "files.txt"), os.path.join(self.room, "asked.txt")
         refuse_words(asked, self.output)
         self.values_from = []
-        self.program = translating.find_asked(asked.kati_asked)
+        self.program = find_asked(asked.kati_asked, find_kati(asked.kati))
 
     def makefile(self):
         """The makefile's name."""
@@ -155,15 +153,22 @@ class Build:
             return [self.asked.makefile]
         return ["makefile"] if os.path.isfile("makefile") else ["makefile", "Makefile"]
 
-    def names_asked(self):
-        """What the translation asks for; None where only a guess can tell. kati's makefile for --builtin is no
-        source."""
+    def names_before(self):
+        """What the translation of before asked for, or else what any one does; None where only a guess can tell. They
+        serve until this one tells its own."""
+        if self.program is None:
+            return None
+        return (files.read(self.names) or "").split("\n")[:-1] or self.makefiles()
+
+    def names_now(self, found, listing):
+        """What a translation asked for, or may have asked for where it doesn't tell; and what its values come from."""
         if self.asked.port:
-            return self.translator.asked(self.program)
-        found = self.translator.asked(self.program, self.makefiles())
-        own = {self.translator.makefile if self.asked.builtin else None}
-        own.update(os.path.join(self.room, one) for one in (translating.MACROS, translating.RULES))
-        return None if found is None else [*(name for name in found if name not in own), *self.values_from]
+            return self.translator.watched(found.asked or [])
+        told = found.asked
+        if told is None:
+            from . import includes
+            told = includes.asked(self.makefiles(), listing.names)
+        return [*self.makefiles(), *told, *self.values_from]
 
     def new_translator(self):
         """kati with its words: by ported makefiles where they are asked for, else by those that are here, with the
@@ -171,7 +176,7 @@ class Build:
         # What ports, and what knows of values, takes time to load.
         if self.asked.port:
             from .ported_build import PortedTranslator
-            return PortedTranslator(self.asked, self.room)
+            return PortedTranslator(self.asked, self.room, self.program)
         if self.asked.values and not os.path.isfile(translating.VALUES):
             raise Stop(f"--values wants --port, or a {translating.VALUES} that kati-port --write wrote",
                        words.WRONG_USAGE)
@@ -179,7 +184,7 @@ class Build:
             from . import kept_values
             kept_values.keep_true(self.asked, self.room)
             self.values_from = kept_values.watched()
-        return translating.Translator(self.asked, self.room)
+        return translating.Translator(self.asked, self.room, self.program)
 
     def translate(self):
         """Makes the translation and the file that ninja reads, alone in the folder; answers the status."""
@@ -203,12 +208,27 @@ class Build:
             for name in (name for name in os.listdir(self.room) if name.endswith(".new")):
                 files.remove(os.path.join(self.room, name))
 
+    def by_its_names(self, old):
+        """The translation, and the listing of the files that exist, for which the makefiles count that it asks for: it
+        is made by those of before, and again where its own would give another list."""
+        before, lister = files.content(self.list), translating.lister(self.asked, self.output, self.room)
+        makefiles = self.translator.makefiles(self.names_before())
+        listing = lister.listing(makefiles)
+        for _ in range(translating.ROUNDS):
+            found = self.translator.translate(listing, lambda: ninja_text.Heads(old).outputs(), listing.before(before))
+            told = self.translator.makefiles(found.asked)
+            if told in (None, makefiles):
+                break
+            makefiles, names = told, listing.names
+            listing = lister.listing(makefiles)
+            if listing.names == names:
+                break
+        return found, listing
+
     def translate_alone(self):
         """The same, where no other run is in the folder."""
-        before, old = files.content(self.list), files.content(self.translated) or b""
-        asked = self.names_asked()
-        listing = translating.listing(self.asked, self.output, self.room, self.translator.makefiles(asked))
-        found = self.translator.translate(listing, lambda: ninja_text.Heads(old).outputs(), listing.before(before))
+        old = files.content(self.translated) or b""
+        found, listing = self.by_its_names(old)
         sys.stderr.buffer.write(bytes_of(found.said))
         if found.status:
             self.say_kept(f"kati ended with status {found.status}")
@@ -217,10 +237,7 @@ class Build:
         is_new = content.data != old
         if is_new and not self.is_right(content):
             return UNFORESEEN
-        if asked is None:
-            from . import includes
-            asked = includes.asked(self.makefiles(), listing.names)
-        names = top_file.watched(asked, self.translator.absent(asked), listing, self.output)
+        names = top_file.watched(self.names_now(found, listing), listing, self.output)
         top = top_file.text(self, names, found, is_new)
         self.write(found, content, is_new, top)
         return 0
@@ -247,6 +264,8 @@ class Build:
     def write(self, found, content, is_new, top):
         """Replaces the files of which the bytes differ; the one that ninja reads, with the text `top`, is the last."""
         files.settle(self.translator.list, self.list)
+        if found.asked is not None:
+            files.replace(self.names, "".join(f"{name}\n" for name in found.asked), self.room)
         if self.asked.compile_commands:
             from . import compile_commands
             files.replace(compile_commands.NAME, compile_commands.text(found.statements), self.room)

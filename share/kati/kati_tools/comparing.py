@@ -34,12 +34,13 @@ what is said:
 how make is asked:
   make -n -B -r -R -f SUFFIXES -f - GOALS MACROS SHELL=noop < MAKEFILE
   SUFFIXES is a file with the suffixes that kati begins with. `-f -` keeps make from making its
-  makefile again. noop, a shell that does nothing for a recipe, keeps it from running lines with
-  $(MAKE), and runs what $(shell ..) says. What make includes it makes anew, for -B; those commands
-  count where kati has them too. A backslash and its newline in a recipe are joined as kati joins
-  them. The environment is PATH, HOME and TMPDIR alone, since kati takes no macros from it; so it is
-  for both builds of --build. With --builtin make is asked without -r and -R, and in both builds it
-  has its own rules in any case.
+  makefile again; a line before the makefile puts its name into MAKEFILE_LIST. noop, a shell that
+  does nothing for a recipe, keeps it from running lines with $(MAKE), and runs what $(shell ..)
+  says. What make includes it makes anew, for -B; those commands count where kati has them too, and
+  are asked for by --trace where make doesn't print them. A backslash and its newline in a recipe
+  are joined as kati joins them. The environment is PATH, HOME and TMPDIR alone, since kati takes no
+  macros from it; so it is for both builds of --build. With --builtin make is asked without `-r -R`,
+  and in both builds it has its own rules in any case.
 
 environment:
   KATI, MAKE, NINJA   the programs kati, make and ninja
@@ -141,6 +142,10 @@ def compare_commands(asking, asked, by_kati, said):
         write_text("".join([UNMADE, *(f"  {line}\n" for line in shown)]))
         return False
     found = Compared(by_make, besides(before, said), by_kati)
+    if found.katis:
+        silent = asking.before_with_silent(makes_macros)
+        by_make += alone(found.katis, alone(found.katis, silent))
+        found = Compared(by_make, besides(before, said), by_kati)
     write_text("".join([*(f"- {line}\n" for line in found.makes), *(f"+ {line}\n" for line in found.katis)]))
     write_text(verdict(found, bool(makes_macros)) + "\n")
     return found.is_same

@@ -1,5 +1,6 @@
 """Files that are replaced whole, and only where their bytes differ; the folders of those that aren't there."""
 import os
+from stat import S_ISREG
 
 from .programs import bytes_of, text_of
 
@@ -53,28 +54,25 @@ def entries(folder):
         os.close(handle)
 
 
-def looked_at(path):
-    """What the system tells of a file, and then its bytes; None twice where none can be read."""
+def content(path):
+    """The bytes of a file; None where none can be read, and of a pipe or another one that may have no end."""
     try:
-        handle = os.open(path, os.O_RDONLY | os.O_CLOEXEC)
+        handle = os.open(path, os.O_RDONLY | os.O_CLOEXEC | os.O_NONBLOCK)
     except (OSError, ValueError):
-        return None, None
+        return None
     # Without the objects of `open`, which take twice the time.
     try:
         found = os.fstat(handle)
-        parts = [os.read(handle, found.st_size + 1)]
-        while parts[-1] and len(parts[0]) != found.st_size:
+        if not S_ISREG(found.st_mode):
+            return None
+        size, parts = found.st_size, [os.read(handle, found.st_size + 1)]
+        while parts[-1] and len(parts[0]) != size:
             parts.append(os.read(handle, PIECE))
-        return found, parts[0] if len(parts) == 1 else b"".join(parts)
+        return parts[0] if len(parts) == 1 else b"".join(parts)
     except OSError:
-        return None, None
+        return None
     finally:
         os.close(handle)
-
-
-def content(path):
-    """The bytes of a file; None where none can be read."""
-    return looked_at(path)[1]
 
 
 def read(path):

@@ -7,19 +7,30 @@ import os
 import re
 
 from . import files
+from .programs import Stop
 
 LINE = re.compile(r"^[ \t]*(?:-include|sinclude|include)[ \t]+(.*)$")
 IN_EVAL = re.compile(r"\$[({]eval[ \t]+(?:-include|sinclude|include)[ \t]+(.*)[)}]")
 REFERENCE = re.compile(r"\$(?:\([^()]*\)|\{[^{}]*\}|[^({])")
 ENDING = re.compile(r"(?::[^=]*=|[ ,])%?([^ ,%(){}$:=]+)[)}]$")
+# What continues a line: a backslash that no other one quotes.
+CONTINUED = re.compile(r"(?<!\\)((?:\\\\)*)\\\r?\n[ \t]*")
 MOST = 2**20
 # What names a makefile has.
 MAKEFILES = re.compile(r"(^|/)(GNUmakefile|[Mm]akefile[^/]*|[Mm]ake\.[^/]*|[^/]*\.(mk|mak|make))$")
 
 
+def absent(makefile):
+    """What stops at a makefile that isn't there: it tells of another one beside it that make would read."""
+    folder = os.path.dirname(makefile)
+    others = [os.path.join(folder, name) for name in ("GNUmakefile", "makefile", "Makefile")]
+    found = next((f"; {name} is there" for name in others if os.path.isfile(name)), "")
+    return Stop(f"no file {makefile}{found}")
+
+
 def without_continuations(text):
     """A makefile's text with continued lines joined."""
-    return text if "\\" not in text else re.sub(r"\\\r?\n[ \t]*", " ", text)
+    return text if "\\" not in text else CONTINUED.sub(r"\1 ", text)
 
 
 def joined(text):

@@ -3,7 +3,7 @@ import os
 import re
 
 from . import files
-from .programs import Stop, need, run
+from .programs import Stop, bytes_of, need, run
 
 # The suffixes that kati begins with: `make -r` begins with none. What is made on the way stays, as with kati:
 # `.SECONDARY`.
@@ -16,7 +16,9 @@ NO_RULE = f".PHONY: {NO_GOAL}\n{NO_GOAL}: ;\n.DEFAULT_GOAL :=\n"
 # which is a file, to recipes.
 NOOP = '#!/bin/sh\ntest -p /dev/stdout && exec {shell} "$@"\nexit 0\n'
 # How make names the makefile that it reads as standard input, of which it makes a file of its own.
-OF_THIS_MAKEFILE = re.compile(r"(^|\[)(?:-|[^\s:]*/Gm\w{6})(:\d+:)", re.MULTILINE)
+OF_THIS_MAKEFILE = re.compile(r"(^|\[)(?:-|[^\s:]*/Gm\w{6}):(\d+):", re.MULTILINE)
+# A line before the makefile, by which it has its name in make too.
+NAMED = "MAKEFILE_LIST := $() {name}\n"
 CONTINUED = re.compile(r"(?<!\\)((?:\\\\)*)\\\n")
 NOTHING = re.compile(r"make: (Nothing to be done for .*|'.*' is up to date)\.")
 
@@ -43,17 +45,21 @@ class Asking:
 
     def __init__(self, makefile, has_builtin, shell, room):
         self.makefile, self.has_builtin, self.shell = makefile, has_builtin, shell
-        self.suffixes, self.noop, self.printed = (os.path.join(room, name) for name in ("suffixes", "noop", "printed"))
+        self.suffixes, self.noop, self.printed, self.given = (
+            os.path.join(room, name) for name in ("suffixes", "noop", "printed", "given"))
+        name = makefile.replace("$", "$$").replace("#", "\\#")
+        files.write(self.given, bytes_of(NAMED.format(name=name)) + (files.content(makefile) or b""))
         files.replace(self.suffixes, SUFFIXES + NO_RULE, room)
         files.replace(self.noop, NOOP.format(shell=shell), room)
         os.chmod(self.noop, 0o755)
 
-    def run(self, words, has_builtin, always):
-        """make's status for these words, with what it prints, which `noop` must find to be no pipe."""
+    def run(self, words, has_builtin, always, more=()):
+        """make's status for these words, with what it prints, which `noop` must find to be no pipe; `more` are options
+        of make."""
         # By its plain name, since $(MAKE) is the name that make has.
         call = ["make", "-n", *(["-B"] if always else []), *([] if has_builtin else ["-r", "-R"])]
-        call += ["--no-print-directory", "-f", self.suffixes, "-f", "-", *words, f"SHELL={self.noop}"]
-        with open(self.makefile, "rb") as given, open(self.printed, "wb") as printed:
+        call += [*more, "--no-print-directory", "-f", self.suffixes, "-f", "-", *words, f"SHELL={self.noop}"]
+        with open(self.given, "rb") as given, open(self.printed, "wb") as printed:
             status, _, said = run(call, executable=need("make"), stdin=given, stdout=printed, env=environment())
         return status, files.read(self.printed).replace(self.noop, self.shell), said
 
@@ -61,7 +67,8 @@ class Asking:
         """What make prints for these words, a command a line; with `always` as if nothing were made yet."""
         status, out, said = self.run(words, self.has_builtin, always)
         if status:
-            told = OF_THIS_MAKEFILE.sub(lambda match: f"{match[1]}{self.makefile}{match[2]}", said).strip()
+            # Without the line before it.
+            told = OF_THIS_MAKEFILE.sub(lambda one: f"{one[1]}{self.makefile}:{int(one[2]) - 1}:", said).strip()
             takes_it = not self.has_builtin and self.run(words, True, always)[0] == 0
             hint = "\nmake takes it with its own rules: try --builtin" if takes_it else ""
             raise Stop(f"make ends with status {status} where kati has no fault:\n{told}{hint}")
@@ -72,6 +79,12 @@ class Asking:
         kati doesn't, so those commands are the ones that a goal without any needs."""
         before = self.ask([NO_GOAL, *macros])
         return self.ask([*goals, *macros]), before
+
+    def before_with_silent(self, macros):
+        """The commands that make runs before it makes the goals, with those that a recipe's `@` has it not print, since
+        it runs them in earnest: with -n too, but by `noop`. None by a make that has no --trace."""
+        status, out, _ = self.run([NO_GOAL, *macros], self.has_builtin, True, ["--trace"])
+        return [] if status else lines_of(out)
 
     def first(self, macros):
         """The commands by which make would first make what it includes: what isn't there, or is older than that of

@@ -2,8 +2,6 @@
 
 kati chooses a pattern rule by the files that exist, so what stands in these folders is in its list too, spelled as
 the makefile spells it. How they are found is a module of its own, which takes time to load."""
-import os
-
 from . import files
 
 # A text without any of these names no such folder.
@@ -18,16 +16,12 @@ def has_marks(data):
 def marked(makefiles):
     """Those of the makefiles that may name such a folder, with their bytes by their names; `makefiles` has them too, or
     None where they are to be read."""
-    read = {name: files.content(name) if known is None and os.path.isfile(name) else known
-            for name, known in makefiles.items()}
+    read = {name: files.content(name) if known is None else known for name, known in makefiles.items()}
     return {name: data for name, data in read.items() if data and has_marks(data)}
 
 
-def folders(makefiles, macros=()):
-    """The folders outside this one that makefiles name, as they spell them; None where there are none. `makefiles` are
-    as above."""
-    found = marked(makefiles)
-    if not found:
-        return None
+def folders(found, seen, macros=()):
+    """The folders outside this one that makefiles name, as they spell them. `found` are those that are `marked`, `seen`
+    the names of all, and `macros` those of the command line."""
     from .paths_outside import Folders, text_of_makefiles
-    return Folders(text_of_makefiles(found, set(makefiles), macros))
+    return Folders(text_of_makefiles(found, seen, macros))

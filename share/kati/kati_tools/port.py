@@ -202,14 +202,14 @@ class Port:
                                    words=[*self.asked.goals, *self.asked.macros], files_from=self.asked.files_from)
         # Faults in reading don't hang on the list, so it is made anew but where kati takes the makefile.
         names = dict.fromkeys([*self.ported, frozen_values.NAME])
-        self.listing = self.listing or translating.listing(asked, names=names)
+        self.listing = self.listing or translating.listing(asked, names)
         room = os.path.join(self.room, "kati")
         os.makedirs(room, exist_ok=True)
         with self.hiding(os.path.join(room, "hidden")):
             translator = translating.Translator(asked, room)
             found = translator.translate(self.listing)
             if found.status == 0:
-                self.listing = translating.listing(asked, names=names)
+                self.listing = translating.listing(asked, names)
                 found = translator.translate(self.listing)
             return found
 

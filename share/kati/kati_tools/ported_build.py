@@ -11,8 +11,8 @@ import re
 import shutil
 import tempfile
 
-from . import (above, asked_names, files, frozen_values, includes, ninja_text, port, port_report, scratch_copy,
-               sources, translating, words)
+from . import (above, files, frozen_values, includes, ninja_text, port, port_report, scratch_copy, sources, translating,
+               words)
 from .programs import SHARE, Stop, bytes_of, find_kati, inside, need, say
 
 TOOL = "kati-build"
@@ -142,9 +142,7 @@ class Ported:
         """The names that the translation depends on, of those that it asked for in the folder of the ported
         makefiles; and what the port and its values came from."""
         text = files.read(os.path.join(self.folder, frozen_values.NAME)) or ""
-        own = {frozen_values.NAME, translating.MACROS, translating.RULES, "with-builtin.mk"}
-        own = {os.path.join(".", name) for name in own} | {frozen_values.NAME}
-        found = [name for name in names if name not in own and not name.endswith(".new")]
+        found = [name for name in names if os.path.normpath(name) != frozen_values.NAME]
         self.keep_absent(found)
         kept = self.record.kept()
         return [*found, *kept["files"], *frozen_values.read_by(text), *frozen_values.folders_of(text),
@@ -184,8 +182,8 @@ def told(made, translation):
 class PortedTranslator(translating.Translator):
     """kati with its words, in the folder of the ported makefiles."""
 
-    def __init__(self, asked, room):
-        self.ported, self.place = Ported(asked, room), os.path.abspath(room)
+    def __init__(self, asked, room, program):
+        self.ported, self.place, self.program = Ported(asked, room), os.path.abspath(room), program
         self.ported.bring_up()
         self.go_in()
 
@@ -198,10 +196,9 @@ class PortedTranslator(translating.Translator):
         given = argparse.Namespace(**vars(self.ported.asked))
         given.kati, given.makefile = find_kati(given.kati), self.ported.record.makefile
         with inside(self.ported.folder):
-            super().__init__(given, ".")
+            super().__init__(given, ".", self.program)
         self.folder = os.path.abspath(self.ported.folder)
         self.list = os.path.join(self.place, "files.txt.new")
-        self.record = os.path.join(self.place, asked_names.RECORD)
 
     def ports_again(self):
         """Ports again what this run hasn't ported, and kati refuses: a value that was found again may have it take
@@ -236,17 +233,11 @@ class PortedTranslator(translating.Translator):
         return more
 
     def makefiles(self, asked):
-        """The ported makefiles, by whose values a path outside is known."""
-        found = os.walk(os.path.join(self.place, FOLDER))
-        return dict.fromkeys(os.path.join(at, name) for at, _, names in found for name in names)
+        """The ported makefiles with their bytes, whichever were asked for: by their values a path outside is known."""
+        walked = os.walk(os.path.join(self.place, FOLDER))
+        paths = [os.path.join(at, name) for at, _, names in walked for name in names]
+        return {path: files.content(path) for path in paths}
 
-    def absent(self, asked):
-        """The same; what was read is of the other folder."""
-        return {name for name in asked if not os.path.lexists(name)}
-
-    def asked(self, program, *more):
-        """What the translation, the port and the values depend on."""
-        found = None if self.ported.stuck is not None else super().asked(program, *more)
-        if found is None and program is not None and self.ports_again():
-            found = super().asked(program, *more)
-        return [] if self.ported.stuck is not None else self.ported.watched(found or [])
+    def watched(self, asked):
+        """What the translation, which asked for these names, the port and the values depend on."""
+        return self.ported.watched(asked)

@@ -32,7 +32,7 @@ def which(name):
 
 def places(name):
     """Where a program of the project may be: beside the tool, in the checkout, and on PATH."""
-    crate = name.replace("-", "_") if "-" in name else f"{name}_program"
+    crate = f"{name}_program"
     yield os.path.join(os.path.dirname(os.path.realpath(sys.argv[0])), name)
     yield os.path.join(TOP, "bin", name)
     yield os.path.join(TOP, "crates", crate, "out", crate)
@@ -62,6 +62,16 @@ def find_kati(given):
     if not found:
         raise Stop("no program kati beside this tool or on PATH: name it by --kati or the environment variable KATI")
     return found
+
+
+def find_asked(given, kati):
+    """The program kati-asked that is run in the place of kati: the one that was given, or that the environment names,
+    else the one beside this kati, or of its checkout; or None."""
+    if given or os.environ.get("KATI_ASKED"):
+        return find("kati-asked", given)
+    folder = os.path.dirname(kati)
+    places = (os.path.join(folder, one) for one in ("kati-asked", "../../kati_asked/out/kati_asked"))
+    return next((os.path.abspath(one) for one in places if which(one)), None)
 
 
 def need(name):

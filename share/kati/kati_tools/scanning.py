@@ -3,10 +3,9 @@ expansion."""
 import os
 import re
 
-from . import branches, files, makefile_text
+from . import branches, files, includes, makefile_text
 from .advice import Finding
 from .forms import CALL, FUNCTION, MEMBER, WILD, has_continued_comment, has_wildcard, members_in, without_references
-from .programs import Stop
 
 SPECIAL = {".ONESHELL", ".SECONDEXPANSION", ".DEFAULT", ".IGNORE", ".WAIT", ".EXPORT_ALL_VARIABLES", ".NOTPARALLEL"}
 
@@ -52,7 +51,7 @@ class Scan:
         which it is included."""
         text = files.read(name)
         if text is None:
-            raise Stop(f"no file {name}")
+            raise includes.absent(name)
         self.read[name] = True
         self.file, self.open, self.depth, self.blocks, self.skipped, left = name, None, 0, [], 0, []
         for line in makefile_text.lines(text):

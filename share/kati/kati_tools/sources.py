@@ -7,6 +7,8 @@ from .programs import Stop, bytes_of, need, run, text_of
 
 # Folders of version control hold no sources.
 CONTROL = {".git", ".hg", ".svn"}
+# What --files-from names besides a file.
+WALKED = ("git", "find")
 # The tools' own files are no sources either.
 OWN = {".ninja_log", ".ninja_deps", ".ninja_lock"}
 
@@ -23,6 +25,13 @@ class Listing:
     def __init__(self, names, certain=(), folders=(), watched=()):
         self.names, self.certain = sorted(without_newlines(names)), certain
         self.folders, self.watched = without_newlines(folders), without_newlines(watched)
+
+    def with_folders(self, found):
+        """The listing with what stands in folders outside this one. One that isn't there would come into being in
+        another."""
+        names = [name for folder in found.all for name in found.files(folder)]
+        there = [folder if os.path.isdir(folder) else files.nearest_folder(folder) for folder in found.all]
+        return Listing([*self.names, *names], self.certain, [*self.folders, *there], self.watched)
 
     def data(self, dropped=()):
         """The list as kati reads it, as bytes, without these names."""
@@ -70,6 +79,12 @@ def walk(skipped):
     return names, folders
 
 
+def walked(skipped):
+    """The files below this folder, the skipped folders aside."""
+    names, folders = walk(skipped)
+    return Listing(names, (), folders)
+
+
 def git(*words):
     """The names that `git ls-files` gives for this folder."""
     status, out, said = run([need("git"), "ls-files", "-z", *words])
@@ -101,37 +116,40 @@ def from_file(path):
     return Listing(names, names, (), [path])
 
 
-def add_outside(found, makefiles, macros):
-    """Adds what stands in the folders outside this one that makefiles name. One that isn't there would come into being
-    in another."""
-    folders = outside.folders(makefiles, macros)
-    for folder in folders.all if folders else ():
-        found.names += without_newlines(folders.files(folder))
-        found.folders.append(folder if os.path.isdir(folder) else files.nearest_folder(folder))
-    if folders and folders.all:
-        found.names.sort()
-
-
-def listing(source, output=None, room=None, makefile=None, macros=(), asked=None):
-    """The files that exist, by the word of --files-from; the file `output` and those in the folder `room` aside. The
-    folders outside this one are those that `makefile` and its includes name, with these macros of the command line:
-    those that kati asks for, where they are known, with their bytes or None, else a guess."""
-    if source == "git":
-        found = from_git({room})
-    elif source == "find":
-        names, folders = walk({room})
-        found = Listing(names, (), folders)
-    else:
+def here(source, output, room):
+    """The files that exist here and below, by the word of --files-from; the file `output` and those in the folder
+    `room` aside."""
+    if source not in WALKED:
         return from_file(source)
+    found = from_git({room}) if source == "git" else walked({room})
     if output in found.names:
         found.names.remove(output)
-    if makefile and asked is None:
-        # Loaded here alone, since it takes time and is seldom needed.
-        from . import includes
-        asked = dict.fromkeys(includes.asked([makefile], found.names))
-    if makefile:
-        add_outside(found, asked, macros)
     return found
+
+
+class Lister:
+    """Lists the files that exist: those that are `here`, which are looked for once, and those in the folders outside
+    this one that makefiles name, with these macros of the command line."""
+
+    def __init__(self, source, output=None, room=None, makefile=None, macros=()):
+        self.here, self.is_walked = here(source, output, room), source in WALKED
+        self.makefile, self.macros = makefile, macros
+        self.marked, self.last = {}, self.here
+
+    def listing(self, makefiles=None):
+        """The files for these makefiles, whose names have their bytes, or None where they are to be read; without them
+        for those that are guessed."""
+        if not self.is_walked or self.makefile is None:
+            return self.here
+        if makefiles is None:
+            # Loaded here alone, since it takes time and is seldom needed.
+            from . import includes
+            makefiles = dict.fromkeys(includes.asked([self.makefile], self.here.names))
+        marked = outside.marked(makefiles)
+        if marked != self.marked:
+            folders = outside.folders(marked, set(makefiles), self.macros) if marked else None
+            self.marked, self.last = marked, self.here.with_folders(folders) if marked else self.here
+        return self.last
 
 
 def write_list(names, path):

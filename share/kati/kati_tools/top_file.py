@@ -56,11 +56,10 @@ def plain(names):
     return list(dict.fromkeys(re.sub("^//+", "/", os.path.normpath(name)) for name in names))
 
 
-def watched(asked, absent, listing, output):
+def watched(asked, listing, output):
     """The names that the translation depends on, each once: files that are there, and folders; but for the highest
-    folder, which Ninja takes for a name of no letters, and so for one that isn't there. `absent` are those of `asked`
-    that aren't there."""
-    names = [files.nearest_folder(name) if name in absent else name for name in asked]
+    folder, which Ninja takes for a name of no letters, and so for one that isn't there."""
+    names = [name if os.path.lexists(name) else files.nearest_folder(name) for name in asked]
     found = plain([*names, *listing.watched, *listing.folders])
     return [name for name in found if name not in (output, "/")]
 

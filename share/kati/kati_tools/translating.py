@@ -4,14 +4,20 @@ import os
 
 from . import asked_names, files, ninja_text, sources
 from .own_files import TRANSLATED
-from .programs import NO_FILE, SHARE, Stop, bytes_of, find, find_kati, run, run_into, say, text_of
+from .programs import NO_FILE, SHARE, Stop, bytes_of, find_kati, run, run_into, say, text_of
 from .words import WRONG_USAGE, goals_of, macros_of
 
-MACROS, RULES = "builtin-macros.mk", "builtin-rules.mk"
+MACROS, RULES, WITH_BUILTIN = "builtin-macros.mk", "builtin-rules.mk", "with-builtin.mk"
 # What kati-port writes beside a makefile.
 VALUES, GOALS = "kati-values.mk", "MAKECMDGOALS"
+# What a folder has in which another tool makes the makefile, or a Ninja file, and how.
+MAKERS = (("configure", "run ./configure first"), ("configure.ac", "run autoreconf -i and ./configure first"),
+          ("CMakeLists.txt", "cmake -G Ninja writes a Ninja file itself"),
+          ("meson.build", "meson setup writes a Ninja file itself"))
 # What is told by a list with what the build makes may change what the build makes; it doesn't go on for ever.
 ROUNDS = 4
+# kati's statuses where its run came to its end.
+ENDED = (0, 1, 2)
 
 
 def default_makefile():
@@ -19,17 +25,25 @@ def default_makefile():
     return next((name for name in ("makefile", "Makefile") if os.path.isfile(name)), None)
 
 
-def listing(asked, output=None, room=None, names=None):
-    """The files that exist, for a makefile and the words of its command line; `names` are those that kati asks for,
-    where they are known."""
-    makefile = asked.makefile or default_makefile()
-    return sources.listing(asked.files_from, output, room, makefile, macros_of(asked.words), names)
+def lister(asked, output=None, room=None):
+    """What lists the files that exist, for a makefile and the words of its command line."""
+    return sources.Lister(asked.files_from, output, room, asked.makefile or default_makefile(), macros_of(asked.words))
+
+
+def listing(asked, makefiles=None):
+    """The files that exist, for these makefiles, or for those that are guessed."""
+    return lister(asked).listing(makefiles)
 
 
 def tell_of_other(tool, makefile):
-    """Tells of a makefile that make would read and kati doesn't."""
+    """Tells of a makefile that make would read and kati doesn't; and where there is none, how it is made."""
     if makefile is None and os.path.isfile("GNUmakefile"):
         say(tool, "make reads GNUmakefile here, and kati doesn't: name it by -f GNUmakefile")
+    elif makefile is None and default_makefile() is None:
+        for name, hint in MAKERS:
+            if os.path.isfile(name):
+                say(tool, f"no makefile, but {name}: {hint}")
+                break
 
 
 def refuse_passing(makefile):
@@ -53,7 +67,7 @@ def with_builtin(makefile, room):
     os.makedirs(room, exist_ok=True)
     for copy, one in zip(copies, (MACROS, RULES)):
         files.replace(copy, files.read(os.path.join(SHARE, one)), room)
-    top = os.path.join(room, "with-builtin.mk")
+    top = os.path.join(room, WITH_BUILTIN)
     files.replace(top, "".join(f"include {one}\n" for one in three), room)
     return top
 
@@ -67,10 +81,12 @@ def word_of_goals(given):
 
 
 class Translation:
-    """What kati said: its status, its Ninja text as bytes and its messages; with the names of the list it had."""
+    """What kati said: its status, its Ninja text as bytes and its messages; with the names of the list it had, and
+    those that it asked for, None where that isn't told."""
 
-    def __init__(self, status, data, said, names):
+    def __init__(self, status, data, said, names, asked=None):
         self.status, self.data, self.said, self.names = status, data if status == 0 else b"", said, names
+        self.asked = asked
 
     @functools.cached_property
     def text(self):
@@ -94,18 +110,19 @@ class Translation:
 
 
 class Translator:
-    """kati with its words, for one makefile; its files stand in the folder `room`."""
+    """kati with its words, for one makefile; its files stand in the folder `room`. The program kati-asked is run in its
+    place where it is given, and tells what kati asks for."""
 
-    def __init__(self, asked, room):
+    def __init__(self, asked, room, program=None):
         refuse_passing(asked.makefile)
-        self.kati = find_kati(asked.kati)
+        self.kati, self.program = find_kati(asked.kati), program
         # The folder that kati runs in, where it isn't this one.
         self.room, self.folder = room, None
         self.makefile = with_builtin(asked.makefile, room) if asked.builtin else asked.makefile
-        self.list, self.record = os.path.join(room, "files.txt.new"), os.path.join(room, asked_names.RECORD)
+        self.list = os.path.join(room, "files.txt.new")
         self.options = ["--depth", str(asked.depth)] if asked.depth is not None else []
         self.options += ["-f", self.makefile] if self.makefile is not None else []
-        self.words, self.contents = [*asked.words, *word_of_goals(asked.words)], {}
+        self.words = [*asked.words, *word_of_goals(asked.words)]
 
     def command(self, program, *more):
         """The words of a run of kati, or of kati-asked."""
@@ -114,13 +131,26 @@ class Translator:
     def with_list(self, names):
         """The translation by this list."""
         sources.write_list(names, self.list)
-        status, said = run_into(self.command(self.kati), self.written, self.folder)
+        command = self.command(self.program or self.kati)
+        status, said = run_into(command, self.written, self.folder)
+        said = text_of(said)
         if status == NO_FILE:
             # What can't be written is told as of any other file: it is written here.
-            status, text, said = run(self.command(self.kati), cwd=self.folder)
+            status, text, said = run(command, cwd=self.folder)
             files.write(self.written, bytes_of(text))
-            return Translation(status, bytes_of(text), said, names)
-        return Translation(status, files.content(self.written), text_of(said), names)
+        asked = self.names_told(status) if self.program and status in ENDED else None
+        return Translation(status, files.content(self.written), said, names, asked)
+
+    def names_told(self, status):
+        """The names that kati-asked wrote behind kati's text, which are cut off there; those of the tool's own files
+        aside."""
+        found = asked_names.cut_off(self.written)
+        if found is None and status == 0:
+            raise Stop(f"{self.program} writes no names behind a NUL, as kati-asked does")
+        if found is None:
+            return None
+        own = {self.list, *(os.path.join(self.room, name) for name in (MACROS, RULES, WITH_BUILTIN))}
+        return [name for name in found if name not in own]
 
     @property
     def written(self):
@@ -152,22 +182,6 @@ class Translator:
         return status, said
 
     def makefiles(self, asked):
-        """The makefiles by which the files that exist are listed, of the names that the translation asks for: with
-        their bytes, where these are known."""
-        return asked and {name: self.contents.get(name) for name in asked}
-
-    def absent(self, asked):
-        """Those of the names that were asked for by which no file is there; what was read is known to be."""
-        return {name for name in asked if self.contents.get(name) is None and not os.path.lexists(name)}
-
-    def asked(self, program, makefiles=()):
-        """The names that the translation asks for, in order: by the text of the makefiles, which begins with these, or
-        by kati-asked; None where that is absent or fails. They are the same by any list."""
-        command = self.command(program) if program else None
-        return asked_names.told(self.record, makefiles, command, self.folder,
-                                lambda: sources.write_list([], self.list), self.contents)
-
-
-def find_asked(given):
-    """The program kati-asked, or None."""
-    return find("kati-asked", given)
+        """The makefiles by which the folders outside this one are listed, of the names that the translation asks for;
+        None where these aren't known."""
+        return None if asked is None else dict.fromkeys(asked)

@@ -1,6 +1,6 @@
 //! The names of a run as text.
 ghost use Rattle.std.specs.Prelude.{◌≡◌, IfOk, map, string_bytes};
-ghost use Rattle.kati.specs.Names.{NamesAfter, PutsNames, names_text};
+ghost use Rattle.kati.specs.Names.{NamesAfter, PutsNames, behind_output};
 
 use crate::faults::RunFault;
 use crate::status::Status;
@@ -8,11 +8,12 @@ use kt_eval::Files;
 use kt_ninja::{Sink, put};
 use std::alloc::{AllocError, Global};
 
-/// Each name on a line of its own.
-fn names_text(alloc: Global, names: &[String]) -> Result<Vec<u8>, AllocError>
-    ensures { IfOk result (λ text. text.items ≡ names_text (map string_bytes names.now)) }
+/// A NUL, and then each name on a line of its own.
+fn behind_output(alloc: Global, names: &[String]) -> Result<Vec<u8>, AllocError>
+    ensures { IfOk result (λ text. text.items ≡ behind_output (map string_bytes names.now)) }
 {
     let mut text = Vec::new(alloc);
+    text.push(b'\0')?;
     for name in names {
         text.extend_from_slice(name.as_bytes())?;
         text.push(b'\n')?;
@@ -20,7 +21,7 @@ fn names_text(alloc: Global, names: &[String]) -> Result<Vec<u8>, AllocError>
     Ok(text)
 }
 
-/// Writes the names after a run with this status, all at once. If memory runs out, nothing is written.
+/// Writes the names after a run with this status, all at once. If memory runs out, nothing more is written.
 fn put_names<O: Sink>(
     alloc: Global,
     status: Status,
@@ -29,7 +30,7 @@ fn put_names<O: Sink>(
 ) -> Result<Status, RunFault>
     ensures { PutsNames status result (map string_bytes names.now) (O.seen out.old) (O.seen out.new) }
 {
-    let text = names_text(alloc, names)?;
+    let text = behind_output(alloc, names)?;
     match put(out, text.as_slice()) {
         Ok(()) => Ok(status),
         Err(_) => Err(RunFault::WriteOut),

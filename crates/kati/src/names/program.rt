@@ -4,7 +4,6 @@ ghost use Rattle.kati.specs.Devices.{devices};
 ghost use Rattle.kati.specs.Names.{AskedExits, NamingExits};
 
 use super::naming::with_names;
-use super::nowhere::Nowhere;
 use crate::program::{finish, refuse};
 use crate::running::run;
 use kati_args::{Args, args_of};
@@ -13,9 +12,10 @@ use kt_ninja::Sink;
 use std::alloc::Global;
 
 /// The text before kati's help.
-const HELP_LEAD: &[u8] = b"kati-asked writes the names that kati asks for:\n\n";
+const HELP_LEAD: &[u8] =
+    b"kati-asked runs kati, and writes the names that it asks for behind a NUL:\n\n";
 
-/// The exit status of a run of kati with these arguments, which writes the names asked for instead of its plan.
+/// The exit status of a run of kati with these arguments, which writes the names asked for behind its plan.
 fn names_of_run<F: Files, O: Sink, E: Sink>(
     alloc: Global,
     args: &Args,
@@ -27,15 +27,14 @@ fn names_of_run<F: Files, O: Sink, E: Sink>(
         (devices (F.seen files.old) (O.seen out.old) (E.seen err.old))
         (devices (F.seen files.new) (O.seen out.new) (E.seen err.new)) }
 {
-    let mut nowhere = Nowhere;
-    let ran = run(alloc, args, files, &mut nowhere, err);
+    let ran = run(alloc, args, files, out, err);
     let ended = with_names(alloc, ran, files, out);
     finish(err, ended)
 }
 
-/// The whole program kati-asked on these words, which are kati's, and the first of which is its name: a run of kati
-/// whose output nobody reads, and then each name that the run asked for, in order, on a line of the output. Names of
-/// files that don't exist are among them.
+/// The whole program kati-asked on these words, which are kati's, and the first of which is its name: a run of kati,
+/// and then, behind a NUL, each name that the run asked for, in order, on a line of the output. Names of files that
+/// don't exist are among them. So one run gives the plan and what it hangs on.
 ///
 /// The names are written if the run came to its end, even with a fault of the makefile. Error output and exit status
 /// are kati's; the status is also 3 if the names can't be written, and 4 if memory runs out for them.

@@ -5,6 +5,7 @@ use Rattle.kt_text.specs.Words.{Text}
 use Rattle.kt_rules.specs.declared.entry.RecipeLine.{RecipeLine}
 use Rattle.kt_graph.specs.declared.nodes.node.Instance.{Instance as Held}
 use Rattle.kt_graph.specs.declared.nodes.node.Instance.TheVariants as held
+use Rattle.kt_graph.specs.inner.nodes.Stems.{stem_in}
 use Rattle.kt_graph.specs.inner.nodes.Stored.{StoredNode, StoredPart}
 use Rattle.kt_graph.specs.nodes.Node.{Instance, Node, Part, of_group, of_pattern}
 
@@ -22,10 +23,11 @@ instance_view (held.Pattern rule directory stem) = of_pattern rule directory.ite
 abbrev pub instance_at : List Held → Option ℕ → Option Instance
 instance_at instances number = option_map instance_view (option_and_then (slice_get instances) number)
 
-abbrev pub part_view : List Text → StoredPart → Part
-part_view names part = record {
+-- a part of the node of a name
+abbrev pub part_view : List Text → Text → StoredPart → Part
+part_view names name part = record {
   recipe = part.recipe;
-  stem = part.stem;
+  stem = stem_in name part.stem;
   needs = record {
     prerequisites = names_at names part.prerequisites;
     order_only = names_at names part.order_only;
@@ -50,7 +52,7 @@ abbrev pub node_view : List Text → List Held → ℕ → StoredNode → Node
 node_view names instances number node = record {
   name = name_at names number;
   kind = node.kind;
-  parts = map (part_view names) node.parts;
+  parts = map (part_view names (name_at names number)) node.parts;
   made_with = instance_at instances node.made_with;
 }
 

@@ -2,6 +2,7 @@
 ghost use Rattle.std.specs.Prelude.{◌≡◌, IsTrue, None, Some, false, true, MatchOption, fold, map, option_map};
 ghost use Rattle.std.specs.Prelude.{IfOk, OnOk};
 ghost use Rattle.std.specs.List.{list_any};
+ghost use Rattle.kt_text.specs.Words.{Text};
 ghost use Rattle.kt_rules.specs.Book.{has_recipe, is_double};
 ghost use Rattle.kt_rules.specs.Names.{with_name};
 ghost use Rattle.kt_rules.specs.Slots.{rule_view};
@@ -11,7 +12,7 @@ ghost use Rattle.kt_graph.specs.inner.nodes.Building.{IsCut};
 ghost use Rattle.kt_graph.specs.inner.nodes.Needed.{needed_by_parts};
 ghost use Rattle.kt_graph.specs.inner.nodes.Numbering.{SayParts, SaysPart};
 ghost use Rattle.kt_graph.specs.inner.nodes.Stored.{part_held, parts_held};
-ghost use Rattle.kt_graph.specs.nodes.Node.{first_name, group_of, kind_without, own_part, used_rule};
+ghost use Rattle.kt_graph.specs.nodes.Node.{first_name, group_of, is_leaf, kind_without, own_part, used_rule};
 ghost use Rattle.kt_graph.specs.nodes.Views.{instance_view};
 
 use crate::nodes::needing::Needing;
@@ -56,7 +57,7 @@ pub(crate) fn double_parts<'a>(
     names: &mut NameNumbers<'_>,
     rules: &[TargetRule<'a>],
 ) -> Result<Vec<NumberedPart<'a>>, AllocError>
-    ensures say { IfOk result (λ parts. SayParts names.new (map (own_part (suffixes_of book.now))
+    ensures say { IfOk result (λ parts. (name : Text) → SayParts names.new name (map (own_part (suffixes_of book.now))
         (map rule_view rules.now)) (parts_held parts.items)) }
     ensures reached { OnOk result (names.new ≡ fold with_name names.old (needed_by_parts
         (map (own_part (suffixes_of book.now)) (map rule_view rules.now)))) }
@@ -74,8 +75,8 @@ fn double_part<'a>(
     names: &mut NameNumbers<'_>,
     rule: TargetRule<'a>,
 ) -> Result<NumberedPart<'a>, AllocError>
-    ensures says { IfOk result (λ part. SaysPart names.new (own_part (suffixes_of book.now) (rule_view rule.entry))
-        (part_held part.part part.needs)) }
+    ensures says { IfOk result (λ part. (name : Text) → SaysPart names.new name
+        (own_part (suffixes_of book.now) (rule_view rule.entry)) (part_held part.part part.needs)) }
     ensures reached { OnOk result (names.new
         ≡ fold with_name names.old (all_needs (own_part (suffixes_of book.now) (rule_view rule.entry)).needs)) }
 {
@@ -145,4 +146,11 @@ pub(crate) fn kind_without(rules: &[TargetRule], is_phony: bool) -> NodeKind
     } else {
         NodeKind::Leaf
     }
+}
+
+/// Whether a name without recipe is a leaf.
+pub(crate) fn is_leaf(rules: &[TargetRule], is_phony: bool) -> bool
+    ensures { result ≡ is_leaf (kind_without (map rule_view rules.now) is_phony) }
+{
+    matches!(kind_without(rules, is_phony), NodeKind::Leaf)
 }

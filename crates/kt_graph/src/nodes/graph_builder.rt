@@ -1,6 +1,6 @@
 //! Builds the node of each name that goals need, using a work list.
 ghost use Rattle.std.specs.Prelude.{◌≡◌, ◌<◌, ◌^◌, [], List, None, fold, length, map, option_map, slice_get, take};
-ghost use Rattle.std.specs.Prelude.{IfOk, IsTrue, OnOk};
+ghost use Rattle.std.specs.Prelude.{false, IfOk, IsTrue, OnOk};
 ghost use Rattle.kt_text.specs.Words.{Text};
 ghost use Rattle.kt_rules.specs.Book.{explicit_rules, is_phony};
 ghost use Rattle.kt_rules.specs.Entry.{Rule, needs_for};
@@ -21,7 +21,7 @@ ghost use Rattle.kt_graph.specs.nodes.Views.{instance_view};
 
 use crate::known::Known;
 use crate::nodes::building::{
-    Used, double_parts, group_of, has_double, kind_without, makes_several, used_rule,
+    Used, double_parts, group_of, has_double, is_leaf, kind_without, makes_several, used_rule,
 };
 use crate::nodes::inferring::Inferred;
 use crate::nodes::needing::Needing;
@@ -29,8 +29,8 @@ use crate::nodes::node::{Instance, NodeKind};
 use crate::nodes::numbering::NameNumbers;
 use crate::nodes::part::{Maker, Numbered, Part};
 use crate::nodes::reached_name::ReachedName;
-use crate::nodes::stem::Stem;
 use crate::nodes::stored::StoredNodes;
+use crate::nodes::tables::Tables;
 use crate::search::choice::Chosen;
 use crate::search::finding::Finder;
 use indexmap::IndexSet;
@@ -50,6 +50,8 @@ pub(crate) struct GraphBuilder<'a> {
     pub(crate) numbers: NameNumbers<'a>,
     pub(crate) nodes: StoredNodes<'a>,
     pub(crate) instances: IndexSet<Instance>,
+    // The first leaf that needs nothing. All are stored alike.
+    leaf: Option<usize>,
     // Those of the node that is being built.
     needs: Numbered,
 }
@@ -64,14 +66,16 @@ impl<'a> GraphBuilder<'a> {
         ensures begun { IfOk result (λ builder. (builder.book ≡ book.entry) × (builder.known ≡ known.entry)
             × (builder.numbers ≡ []) × (builder.nodes ≡ []) × (builder.instances.keys ≡ [])) }
     {
+        let tables = Tables::of_both(book.name_table(), known.listed())?;
         Ok(GraphBuilder {
             alloc,
             book,
             known,
             finder: Finder::new(alloc, book, known)?,
-            numbers: NameNumbers::new(alloc, book.name_table())?,
+            numbers: NameNumbers::new(alloc, tables)?,
             nodes: StoredNodes::new(alloc),
             instances: IndexSet::new(alloc),
+            leaf: None,
             needs: Numbered::none(alloc),
         })
     }
@@ -148,7 +152,7 @@ impl<'a> GraphBuilder<'a> {
         ensures { IsTrue result → IsLikeLast self.now (reached_text name.now) (rule_view rule.entry) }
     {
         match name {
-            ReachedName::InBook(name, number) => {
+            ReachedName::InTables(name, number) => {
                 makes_several(rule) && self.needs_as_last(name, *number)
             }
             ReachedName::Other(_) => false,
@@ -252,7 +256,7 @@ impl<'a> GraphBuilder<'a> {
         ensures { result ≡ explicit_rules self.now.book.now (reached_text name.now) }
     {
         match name {
-            ReachedName::InBook(name, number) => self.book.explicit_at(name, *number),
+            ReachedName::InTables(name, number) => self.book.explicit_at(name, *number),
             ReachedName::Other(name) => self.book.explicit(name.as_slice()),
         }
     }
@@ -279,15 +283,39 @@ impl<'a> GraphBuilder<'a> {
         name: &ReachedName<'a>,
         rules: &[TargetRule<'a>],
     ) -> Result<(), AllocError>
+        requires { IsOver self.old }
         ensures { OnOk result (BuildsNode self.old (plain_node (suffixes_of self.old.book.now)
             (reached_text name.now) (map rule_view rules.now)
             (is_phony self.old.book.now (reached_text name.now))) self.new) }
     {
         let is_phony = self.book.is_phony(name.as_slice());
+        if is_leaf(rules, is_phony) {
+            return self.leaf_node();
+        }
         let needing = Needing::of_rules(rules);
-        let stem = Stem::of_name(self.alloc, self.book, name)?;
-        let part = Part { recipe: None, stem };
+        let part = Part::bare(self.book);
         self.hold(kind_without(rules, is_phony), part, needing, None)
+    }
+
+    // Adds a leaf, which has the lists of the first one.
+    fn leaf_node(&mut self) -> Result<(), AllocError>
+        requires { IsOver self.old }
+        ensures { OnOk result ((name : Text) → BuildsNode self.old (plain_node
+            (suffixes_of self.old.book.now) name [] false) self.new) }
+    {
+        if let Some(leaf) = self.leaf {
+            return self.nodes.push_again(leaf);
+        }
+        let leaf = self.nodes.len();
+        let maker = Maker {
+            kind: NodeKind::Leaf,
+            made_with: None,
+        };
+        let part = Part::bare(self.book);
+        self.nodes
+            .push(self.alloc, maker, part, &Numbered::none(self.alloc))?;
+        self.leaf = Some(leaf);
+        Ok(())
     }
 
     // The prerequisites of the chosen rule come first.

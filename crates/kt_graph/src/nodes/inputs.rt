@@ -4,7 +4,8 @@ ghost use Rattle.std.specs.List.{IsDistinct};
 ghost use Rattle.kt_graph.specs.inner.nodes.Inputs.{HasOwnInputs, differ, inputs_held, numbers_without, others_held};
 ghost use Rattle.kt_graph.specs.inner.nodes.Inputs.{rise, rise_after, with_number};
 
-use crate::nodes::stored::{HeldPart, row_at};
+use crate::nodes::rows::row_at;
+use crate::nodes::stored::HeldPart;
 use indexmap::IndexSet;
 use kt_list::Rows;
 use std::alloc::{AllocError, Global};

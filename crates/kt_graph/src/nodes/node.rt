@@ -135,7 +135,7 @@ impl<'g> Node<'g> {
         ensures { result.now ≡ part_stem (slice_get self.now.parts part) }
     {
         match self.nodes.part(self.number, part) {
-            Some(part) => part.stem.as_slice(),
+            Some(part) => part.stem.of_node(self.name()),
             None => b"",
         }
     }

@@ -17,6 +17,7 @@ use crate::nodes::needing::{Needing, Sort, needed_as};
 use crate::nodes::part::Numbered;
 use crate::nodes::reached::Reached;
 use crate::nodes::reached_name::ReachedName;
+use crate::nodes::tables::{Tables, name_at};
 use kt_list::{Names, narrow};
 use kt_rules::{Name, NeededName, NeededNames, NeedsView, TargetRule};
 use std::alloc::{AllocError, Global};
@@ -24,12 +25,12 @@ use std::marker::Model;
 
 /// The names reached so far. The number of a name is its place.
 ///
-/// A name that stands in the book is told by its number there, and takes 8 bytes.
+/// A name that stands in the tables is told by its number there, and takes 8 bytes.
 #[derive(Drop)]
 pub(crate) struct NameNumbers<'a> {
     alloc: Global,
-    // All names of a book, by numbers.
-    table: &'a Names,
+    // All names of a book, and of a list of files.
+    tables: Tables<'a>,
     // Names that don't stand there. Their numbers come after those.
     others: Names,
     reached: Reached,
@@ -43,30 +44,31 @@ impl<'a> Model for NameNumbers<'a> {
     ghost use Rattle.kt_graph.specs.inner.nodes.Reached.{IsPlaced};
     ghost use Rattle.kt_graph.specs.nodes.Views.{names_at};
 
-    ghost view = { λ s. names_at (s.table.now ++ s.others) s.reached.numbers.items };
+    ghost view = { λ s. names_at (s.tables ++ s.others) s.reached.numbers.items };
 
-    ghost invariant = { λ s. IsPlaced (s.table.now ++ s.others) s.reached.numbers.items s.reached.marks.items };
+    ghost invariant = { λ s. IsPlaced (s.tables ++ s.others) s.reached.numbers.items s.reached.marks.items };
 }
 
 impl<'a> NameNumbers<'a> {
-    /// No names. Those of a table take no memory of their own later on.
-    pub(crate) fn new(alloc: Global, table: &'a Names) -> Result<NameNumbers<'a>, AllocError>
+    /// No names. Those of the tables take no memory of their own later on.
+    pub(crate) fn new(alloc: Global, tables: Tables<'a>) -> Result<NameNumbers<'a>, AllocError>
         ensures { IfOk result (λ numbers. numbers ≡ []) }
     {
-        NameNumbers::with_room(alloc, table, table.len())
+        let room = tables.len();
+        NameNumbers::with_room(alloc, tables, room)
     }
 
-    /// No names. So many of a table take no memory of their own later on.
+    /// No names. So many of the tables take no memory of their own later on.
     pub(crate) fn with_room(
         alloc: Global,
-        table: &'a Names,
+        tables: Tables<'a>,
         room: usize,
     ) -> Result<NameNumbers<'a>, AllocError>
         ensures { IfOk result (λ numbers. numbers ≡ []) }
     {
         Ok(NameNumbers {
             alloc,
-            table,
+            tables,
             others: Names::new(alloc),
             reached: Reached::none(alloc, room)?,
         })
@@ -86,7 +88,12 @@ impl<'a> NameNumbers<'a> {
         ensures { option_map (λ name. name.now) result ≡ slice_get self.now number }
     {
         let number = self.reached.at(number)?;
-        Some(name_among(self.table, &self.others, number))
+        Some(name_among(&self.tables, &self.others, number))
+    }
+
+    /// The names that don't stand in the tables.
+    pub(crate) fn others(&self) -> &Names {
+        &self.others
     }
 
     /// The number in the book of the name with a number. Nothing is promised of it.
@@ -94,12 +101,12 @@ impl<'a> NameNumbers<'a> {
         self.reached.at(number).unwrap_or(0)
     }
 
-    /// The name with a number, for as long as there is the book.
+    /// The name with a number, for as long as there are the tables.
     pub(crate) fn name(&self, number: usize) -> Result<Option<ReachedName<'a>>, AllocError>
         ensures { IfOk result (λ name. option_map reached_text name ≡ slice_get self.now number) }
     {
         match self.reached.at(number) {
-            Some(number) => Ok(Some(reached_name(self.alloc, self.table, &self.others, number)?)),
+            Some(number) => Ok(Some(reached_name(self.alloc, &self.tables, &self.others, number)?)),
             None => Ok(None),
         }
     }
@@ -109,7 +116,7 @@ impl<'a> NameNumbers<'a> {
         ensures place { result ≡ place_of self.now name.now }
         ensures found { is_some result ≡ is_among self.now name.now }
     {
-        let number = number_among(self.table, &self.others, name)?;
+        let number = number_among(&self.tables, &self.others, name)?;
         self.reached.place(number)
     }
 
@@ -134,7 +141,7 @@ impl<'a> NameNumbers<'a> {
         ensures numbered { IfOk result (λ number. slice_get self.new number ≡ Some name.now) }
         ensures reached { OnOk result (self.new ≡ with_name self.old name.now) }
     {
-        let number = note(self.table, &mut self.others, name)?;
+        let number = note(&self.tables, &mut self.others, name)?;
         self.reached.reach(number)
     }
 
@@ -143,12 +150,8 @@ impl<'a> NameNumbers<'a> {
         ensures numbered { IfOk result (λ number. slice_get self.new number ≡ Some (needed_view name.entry)) }
         ensures reached { OnOk result (self.new ≡ with_name self.old (needed_view name.entry)) }
     {
-        match name.number_in(self.table) {
-            Some(number) => {
-                // A slice of names tells that they differ.
-                let _names = self.table.as_slice();
-                self.reached.reach(number)
-            }
+        match self.tables.needed(name) {
+            Some(number) => self.reached.reach(number),
             None => {
                 let text = name.text(self.alloc)?;
                 self.number(text.as_slice())
@@ -245,75 +248,66 @@ impl<'a> NameNumbers<'a> {
     }
 }
 
-// The name with a number among a table's and others, of which it is a copy.
+// The name with a number among those of tables and others, of which it is a copy.
 fn reached_name<'a>(
     alloc: Global,
-    table: &'a Names,
+    tables: &Tables<'a>,
     others: &Names,
     number: usize,
 ) -> Result<ReachedName<'a>, AllocError>
-    ensures { IfOk result (λ name. reached_text name ≡ name_at (table.now ++ others.now) number) }
+    ensures { IfOk result (λ name. reached_text name ≡ name_at (tables.now ++ others.now) number) }
 {
-    if number < table.len() {
-        Ok(ReachedName::InBook(name_at(table, number), number))
+    if number < tables.len() {
+        Ok(ReachedName::InTables(tables.name(number), number))
     } else {
-        let other = name_at(others, number - table.len());
+        let other = name_at(others, number - tables.len());
         Ok(ReachedName::Other(Name::copied(alloc, other)?))
     }
 }
 
-// The name with a number among a table's and others.
-fn name_among<'n>(table: &'n Names, others: &'n Names, number: usize) -> &'n [u8]
-    ensures { result.now ≡ name_at (table.now ++ others.now) number }
+// The name with a number among those of tables and others.
+fn name_among<'n>(tables: &'n Tables<'_>, others: &'n Names, number: usize) -> &'n [u8]
+    ensures { result.now ≡ name_at (tables.now ++ others.now) number }
 {
-    if number < table.len() {
-        name_at(table, number)
+    if number < tables.len() {
+        tables.name(number)
     } else {
-        name_at(others, number - table.len())
+        name_at(others, number - tables.len())
     }
 }
 
-fn name_at(names: &Names, number: usize) -> &[u8]
-    ensures { result.now ≡ name_at names.now number }
+// The number of a name among those of tables and others.
+fn number_among(tables: &Tables<'_>, others: &Names, name: &[u8]) -> Option<usize>
+    ensures { result ≡ place_of (tables.now ++ others.now) name.now }
 {
-    match names.get(number) {
-        Some(name) => name,
-        None => b"",
-    }
-}
-
-// The number of a name among a table's and others.
-fn number_among(table: &Names, others: &Names, name: &[u8]) -> Option<usize>
-    ensures { result ≡ place_of (table.now ++ others.now) name.now }
-{
-    match table.number_of(name) {
+    match tables.number_of(name) {
         Some(number) => Some(number),
-        None => number_after(table, others, name),
+        None => number_after(tables, others, name),
     }
 }
 
-// The number of a name among others, which come after a table's.
-fn number_after(table: &Names, others: &Names, name: &[u8]) -> Option<usize>
-    ensures { result ≡ option_map (λ number. length table.now + number) (place_of others.now name.now) }
+// The number of a name among others, which come after those of tables.
+fn number_after(tables: &Tables<'_>, others: &Names, name: &[u8]) -> Option<usize>
+    ensures { result ≡ option_map (λ number. length tables.now + number) (place_of others.now name.now) }
 {
     let number = others.number_of(name)?;
     let _count = others.len();
-    Some(table.len() + number)
+    Some(tables.len() + number)
 }
 
-// The number of a name among a table's and others, to which it is added if it stands nowhere.
-fn note(table: &Names, others: &mut Names, name: &[u8]) -> Result<usize, AllocError>
-    ensures noted { IfOk result (λ number. place_of (table.now ++ others.new) name.now ≡ Some number) }
+// The number of a name among those of tables and others, to which it is added if it stands nowhere.
+fn note(tables: &Tables<'_>, others: &mut Names, name: &[u8]) -> Result<usize, AllocError>
+    ensures noted { IfOk result (λ number. place_of (tables.now ++ others.new) name.now ≡ Some number) }
     ensures grown { HasMore others.old others.new }
 {
-    match table.number_of(name) {
+    match tables.number_of(name) {
         Some(number) => Ok(number),
-        None => note_after(table, others, name),
+        None => note_after(tables, others, name),
     }
 }
 
-fn note_after(table: &Names, others: &mut Names, name: &[u8]) -> Result<usize, AllocError>
-    ensures noted { IfOk result (λ number. option_map (λ place. length table.now + place)
+fn note_after(tables: &Tables<'_>, others: &mut Names, name: &[u8]) -> Result<usize, AllocError>
+    ensures noted { IfOk result (λ number. option_map (λ place. length tables.now + place)
         (place_of others.new name.now) ≡ Some number) }
     ensures grown { HasMore others.old others.new }
 {
@@ -321,5 +315,5 @@ fn note_after(table: &Names, others: &mut Names, name: &[u8]) -> Result<usize, A
     // A slice of names tells that they differ.
     let _names = others.as_slice();
     let _count = others.len();
-    Ok(table.len() + number)
+    Ok(tables.len() + number)
 }

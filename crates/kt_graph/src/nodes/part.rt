@@ -1,15 +1,19 @@
 //! What a node is made of before it is stored.
-ghost use Rattle.std.specs.Prelude.{◌≡◌};
+ghost use Rattle.std.specs.Prelude.{◌≡◌, [], IfOk, None, is_some};
+ghost use Rattle.kt_text.specs.Words.{Text};
 ghost use Rattle.kt_rules.specs.declared.entry.Needs.{Needs};
 ghost use Rattle.kt_rules.specs.Slots.{rule_view};
 ghost use Rattle.kt_rules.specs.Suffixes.{suffixes_of};
 ghost use Rattle.kt_graph.specs.inner.nodes.Needed.{part_with};
+ghost use Rattle.kt_graph.specs.inner.nodes.Stems.{own};
+ghost use Rattle.kt_graph.specs.inner.nodes.Stored.{some_if};
 ghost use Rattle.kt_graph.specs.nodes.Node.{part_of};
 
 use crate::nodes::node::NodeKind;
 use crate::nodes::stem::Stem;
+use kt_list::narrow;
 use kt_rules::{Book, RecipeLine, TargetRule};
-use std::alloc::Global;
+use std::alloc::{AllocError, Global};
 
 /// What makes a name.
 #[derive(Clone, Copy)]
@@ -17,6 +21,18 @@ pub(crate) struct Maker {
     pub(crate) kind: NodeKind,
     /// The number of the making, if it makes other names, too.
     pub(crate) made_with: Option<usize>,
+}
+
+impl Maker {
+    /// The number of the making, or 0. One beyond 4,294,967,295 is refused as if memory were.
+    pub(crate) fn making(self) -> Result<u32, AllocError>
+        ensures { IfOk result (λ number. some_if (is_some self.made_with) number ≡ self.made_with) }
+    {
+        match self.made_with {
+            Some(number) => narrow(number),
+            None => Ok(0),
+        }
+    }
 }
 
 /// A recipe with the stem for its automatic macros.
@@ -43,7 +59,7 @@ pub(crate) struct NumberedPart<'a> {
 impl<'a> Part<'a> {
     /// The part of a rule of a target.
     pub(crate) fn of_rule(book: &'a Book, rule: TargetRule<'a>) -> Part<'a>
-        ensures { (needs : Needs) → part_with result needs
+        ensures { (name : Text) (needs : Needs) → part_with name result needs
             ≡ part_of (suffixes_of book.now) (rule_view rule.entry) needs }
     {
         Part {
@@ -51,11 +67,24 @@ impl<'a> Part<'a> {
             stem: Stem::of_rule(book, rule),
         }
     }
+
+    /// The part of a node without a recipe.
+    pub(crate) fn bare(book: &'a Book) -> Part<'a>
+        ensures recipe { result.recipe ≡ None }
+        ensures stem { result.stem ≡ own (suffixes_of book.now) }
+    {
+        Part {
+            recipe: None,
+            stem: Stem::own(book),
+        }
+    }
 }
 
 impl Numbered {
     /// No prerequisites.
-    pub(crate) fn none(alloc: Global) -> Numbered {
+    pub(crate) fn none(alloc: Global) -> Numbered
+        ensures { (result.prerequisites.items ≡ []) × (result.order_only.items ≡ []) }
+    {
         Numbered {
             prerequisites: Vec::new(alloc),
             order_only: Vec::new(alloc),

@@ -4,11 +4,11 @@ ghost use Rattle.kt_graph.specs.inner.nodes.Reached.{reached_text};
 
 use kt_rules::Name;
 
-/// A name that was reached. One that stands in the book isn't copied.
+/// A name that was reached. One that stands in the book or in the list of files isn't copied.
 #[derive(Drop)]
 pub(crate) enum ReachedName<'a> {
-    /// With its number in the book.
-    InBook(&'a [u8], usize),
+    /// With its number in the tables of names.
+    InTables(&'a [u8], usize),
     Other(Name),
 }
 
@@ -17,7 +17,7 @@ impl<'a> ReachedName<'a> {
         ensures { result.now ≡ reached_text self.now }
     {
         match self {
-            ReachedName::InBook(name, _) => name,
+            ReachedName::InTables(name, _) => name,
             ReachedName::Other(name) => name.as_slice(),
         }
     }

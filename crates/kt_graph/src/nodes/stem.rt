@@ -2,10 +2,9 @@
 ghost use Rattle.std.specs.Prelude.{◌≡◌, ◌++◌, IfOk};
 ghost use Rattle.kt_rules.specs.Slots.{rule_view};
 ghost use Rattle.kt_rules.specs.Suffixes.{suffixes_of};
-ghost use Rattle.kt_graph.specs.inner.nodes.Reached.{reached_text};
+ghost use Rattle.kt_graph.specs.inner.nodes.Stems.{given, own, stem_in};
 ghost use Rattle.kt_graph.specs.nodes.Node.{stem_for, suffix_stem};
 
-use crate::nodes::reached_name::ReachedName;
 use kt_list::ShortText;
 use kt_rules::{Book, TargetRule};
 use std::alloc::{AllocError, Global};
@@ -14,7 +13,7 @@ use std::marker::Model;
 /// The stem of a part, which is the value of `$*`. Few recipes name it, so the suffixes of a book are tried only where
 /// it is asked for.
 ///
-/// A contract sees it as just its bytes.
+/// A contract sees it as just its bytes, or as the suffixes of which the name of the node loses one.
 #[derive(Drop)]
 pub(crate) struct Stem<'a> {
     form: Form<'a>,
@@ -22,6 +21,8 @@ pub(crate) struct Stem<'a> {
 
 #[derive(Drop)]
 enum Form<'a> {
+    // The name of the node without its suffix.
+    Own(&'a Book),
     // This name of the book without its suffix.
     Suffixed(&'a Book, &'a [u8]),
     InBook(&'a [u8]),
@@ -31,18 +32,17 @@ enum Form<'a> {
 }
 
 impl<'a> Model for Stem<'a> {
-    ghost use Rattle.std.specs.Prelude.{ℕ, List};
-    ghost use Rattle.kt_graph.specs.inner.nodes.Stems.{stem_text};
+    ghost use Rattle.kt_graph.specs.inner.nodes.Stems.{HeldStem, stem_held};
 
-    ghost Value = { List ℕ };
+    ghost Value = { HeldStem };
 
-    ghost view = { λ stem. stem_text stem.form };
+    ghost view = { λ stem. stem_held stem.form };
 }
 
 impl<'a> Stem<'a> {
     /// The stem in an explicit rule: that of its static pattern, if it has one. Takes no memory.
     pub(crate) fn of_rule(book: &'a Book, rule: TargetRule<'a>) -> Stem<'a>
-        ensures { result ≡ stem_for (suffixes_of book.now) (rule_view rule.entry) }
+        ensures { result ≡ given (stem_for (suffixes_of book.now) (rule_view rule.entry)) }
     {
         let form = match rule.target.stem() {
             Some(stem) => Form::InBook(stem),
@@ -51,25 +51,18 @@ impl<'a> Stem<'a> {
         Stem { form }
     }
 
-    /// The stem of a name without such a rule.
-    pub(crate) fn of_name(
-        alloc: Global,
-        book: &'a Book,
-        name: &ReachedName<'a>,
-    ) -> Result<Stem<'a>, AllocError>
-        ensures { IfOk result (λ stem. stem ≡ suffix_stem (suffixes_of book.now) (reached_text name.now)) }
+    /// The stem in a node without such a rule.
+    pub(crate) fn own(book: &'a Book) -> Stem<'a>
+        ensures { result ≡ own (suffixes_of book.now) }
     {
-        match name {
-            ReachedName::InBook(name, _) => Ok(Stem {
-                form: Form::Suffixed(book, name),
-            }),
-            ReachedName::Other(name) => Stem::copied(alloc, suffix_stem(book, name.as_slice())),
+        Stem {
+            form: Form::Own(book),
         }
     }
 
     /// The two texts together. Most stems have no directory before them.
     pub(crate) fn joined(alloc: Global, front: &[u8], back: &[u8]) -> Result<Stem<'a>, AllocError>
-        ensures { IfOk result (λ stem. stem ≡ front.now ++ back.now) }
+        ensures { IfOk result (λ stem. stem ≡ given (front.now ++ back.now)) }
     {
         match front {
             [] => Stem::copied(alloc, back),
@@ -78,7 +71,7 @@ impl<'a> Stem<'a> {
     }
 
     fn copied(alloc: Global, text: &[u8]) -> Result<Stem<'a>, AllocError>
-        ensures { IfOk result (λ stem. stem ≡ text.now) }
+        ensures { IfOk result (λ stem. stem ≡ given text.now) }
     {
         let form = match ShortText::of(text) {
             Some(short) => Form::Short(short),
@@ -89,7 +82,7 @@ impl<'a> Stem<'a> {
 
     // The bytes of a vector. Takes no memory.
     fn held(text: Vec<u8>) -> Stem<'a>
-        ensures { result ≡ text.items }
+        ensures { result ≡ given text.items }
     {
         let form = match ShortText::of(text.as_slice()) {
             Some(short) => Form::Short(short),
@@ -98,11 +91,12 @@ impl<'a> Stem<'a> {
         Stem { form }
     }
 
-    /// Its bytes.
-    pub(crate) fn as_slice(&self) -> &[u8]
-        ensures { result.now ≡ self.now }
+    /// The stem in the node of a name.
+    pub(crate) fn of_node<'s>(&'s self, name: &'s [u8]) -> &'s [u8]
+        ensures { result.now ≡ stem_in name.now self.now }
     {
         match &self.form {
+            Form::Own(book) => suffix_stem(book, name),
             Form::Suffixed(book, name) => suffix_stem(book, name),
             Form::InBook(text) => text,
             Form::Short(text) => text.as_slice(),

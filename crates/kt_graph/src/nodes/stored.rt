@@ -1,16 +1,17 @@
 //! Nodes as the graph holds them, in three lists, with numbers for names.
 ghost use Rattle.std.specs.Prelude.{◌≡◌, ◌++◌, ◌∷◌, ◌<◌, ◌≤◌, ◌^◌, [], All, IfOk, OnOk, drop, get_or, length};
-ghost use Rattle.std.specs.Prelude.{option_map, slice_get, true, Some, None};
+ghost use Rattle.std.specs.Prelude.{option_map, option_to_list, slice_get, true, None};
 ghost use Rattle.kt_graph.specs.declared.nodes.node.NodeKind.TheVariants.{DoubleColon};
 ghost use Rattle.kt_graph.specs.inner.nodes.Stored.{input_numbers, order_only_numbers};
 ghost use Rattle.kt_graph.specs.inner.nodes.Stored.{AreAlike, AreRowsOf, AreStored, Grew, HasMore, IsHeadOf, IsLike};
 ghost use Rattle.kt_graph.specs.inner.nodes.Stored.{IsPartWithin, IsSpanWithin, node_like, nodes_stored};
 ghost use Rattle.kt_graph.specs.inner.nodes.Stored.{PutsParts, cut, stored_with, part_held, part_seen};
-ghost use Rattle.kt_graph.specs.inner.nodes.Stored.{parts_held, parts_stored, stored_at};
+ghost use Rattle.kt_graph.specs.inner.nodes.Stored.{parts_held, parts_stored, some_if, stored_at};
 
 use crate::nodes::inputs::{has_own_inputs, input_set, order_only_set};
 use crate::nodes::node::NodeKind;
 use crate::nodes::part::{Maker, Numbered, NumberedPart, Part};
+use crate::nodes::rows::{are_rows, put_rows, row_at};
 use crate::nodes::stem::Stem;
 use kt_list::{Rows, narrow};
 use kt_rules::RecipeLine;
@@ -29,10 +30,12 @@ pub(crate) struct StoredNodes<'a> {
 }
 
 /// A node without its lists.
-#[derive(Drop)]
+#[derive(Clone, Copy)]
 pub(crate) struct Head {
     kind: NodeKind,
-    made_with: Option<u32>,
+    // A mark beside the number takes less room than an option.
+    has_making: bool,
+    making: u32,
     parts: Span,
     // The first of the two rows of its inputs.
     inputs: u32,
@@ -41,10 +44,12 @@ pub(crate) struct Head {
 /// A part without its lists.
 #[derive(Drop)]
 pub(crate) struct HeldPart<'a> {
-    recipe: Option<&'a [RecipeLine]>,
+    // No lines without a recipe. The mark for that lies where it takes no room of its own.
+    lines: &'a [RecipeLine],
     stem: Stem<'a>,
     // The first of the two rows of its prerequisites.
     pub(crate) needs: u32,
+    has_recipe: bool,
 }
 
 /// The places of a list in a vector for all nodes.
@@ -133,6 +138,19 @@ impl<'a> StoredNodes<'a> {
         Ok(())
     }
 
+    /// Adds a node like one that is there, whose lists serve for both.
+    pub(crate) fn push_again(&mut self, number: usize) -> Result<(), AllocError>
+        ensures { OnOk result (self.new ≡ self.old ++ option_to_list (slice_get self.old number)) }
+    {
+        match head_at(self.heads.as_slice(), number) {
+            Some(head) => {
+                self.heads.push(head)?;
+                Ok(())
+            }
+            None => Ok(()),
+        }
+    }
+
     /// Adds a double-colon node at the end.
     pub(crate) fn push_double(
         &mut self,
@@ -160,10 +178,7 @@ impl<'a> StoredNodes<'a> {
     pub(crate) fn made_with(&self, number: usize) -> Option<usize>
         ensures { result ≡ (stored_at self.now number).made_with }
     {
-        match self.heads.get(number)?.made_with {
-            Some(making) => Some(making as usize),
-            None => None,
-        }
+        self.heads.get(number)?.made_with()
     }
 
     /// The number of parts of a node.
@@ -183,7 +198,7 @@ impl<'a> StoredNodes<'a> {
         let head = self.heads.get(number)?;
         let part = cut(self.parts.as_slice(), head.parts).get(part)?;
         Some(SeenPart {
-            recipe: part.recipe,
+            recipe: part.recipe(),
             stem: &part.stem,
             prerequisites: row_at(&self.rows, part.needs as usize),
             order_only: row_at(&self.rows, part.needs as usize + 1),
@@ -216,10 +231,64 @@ impl<'a> StoredNodes<'a> {
     {
         match (self.heads.get(one), self.heads.get(other)) {
             (Some(one), Some(other)) => {
-                one.inputs == other.inputs && one.made_with == other.made_with
+                one.inputs == other.inputs && one.made_with() == other.made_with()
             }
             _ => false,
         }
+    }
+}
+
+impl Head {
+    fn made_with(&self) -> Option<usize>
+        ensures { result ≡ some_if self.now.has_making self.now.making }
+    {
+        if self.has_making {
+            return Some(self.making as usize);
+        }
+        None
+    }
+}
+
+impl<'a> HeldPart<'a> {
+    // A part whose prerequisites are in the rows from this place on.
+    fn of(part: Part<'a>, needs: u32) -> HeldPart<'a>
+        ensures recipe { some_if result.has_recipe result.lines.now ≡ option_map (λ lines. lines.now) part.entry.recipe }
+        ensures stem { result.stem ≡ part.entry.stem }
+        ensures needs { result.needs ≡ needs }
+    {
+        let Part { recipe, stem } = part;
+        match recipe {
+            Some(lines) => HeldPart {
+                lines,
+                stem,
+                needs,
+                has_recipe: true,
+            },
+            None => HeldPart {
+                lines: &[],
+                stem,
+                needs,
+                has_recipe: false,
+            },
+        }
+    }
+
+    fn recipe(&self) -> Option<&'a [RecipeLine]>
+        ensures { option_map (λ lines. lines.now) result ≡ some_if self.now.has_recipe self.now.lines.now }
+    {
+        if self.has_recipe {
+            return Some(self.lines);
+        }
+        None
+    }
+}
+
+fn head_at(heads: &[Head], number: usize) -> Option<Head>
+    ensures { result ≡ slice_get heads.now number }
+{
+    match heads.get(number) {
+        Some(head) => Some(*head),
+        None => None,
     }
 }
 
@@ -229,17 +298,6 @@ fn cut<T>(items: &[T], span: Span) -> &[T]
     ensures { result.now ≡ cut items.now span }
 {
     &items[span.start as usize..span.end as usize]
-}
-
-/// The numbers in a row.
-#[inline(always)]
-pub(crate) fn row_at(rows: &Rows<u32>, place: usize) -> &[u32]
-    ensures { result.now ≡ get_or rows.now place [] }
-{
-    match rows.row(place) {
-        Some(row) => row,
-        None => &[],
-    }
 }
 
 // Adds the lists of a node with one part at the end of those of the others.
@@ -276,11 +334,7 @@ fn put_like<'a>(
         (stored_at (nodes_stored parts.old.items rows.now heads.now) number))) }
 {
     let (head, needs) = head_like(heads, parts.as_slice(), number, maker)?;
-    parts.push(HeldPart {
-        recipe: part.recipe,
-        stem: part.stem,
-        needs,
-    })?;
+    parts.push(HeldPart::of(part, needs))?;
     Ok(head)
 }
 
@@ -302,9 +356,11 @@ fn head_like(
         [part] => part.needs,
         _ => return Err(AllocError),
     };
+    let making = maker.making()?;
     let head = Head {
         kind: maker.kind,
-        made_with: narrow_making(maker.made_with)?,
+        has_making: maker.made_with.is_some(),
+        making,
         parts: span_of(parts.len(), parts.len() + 1)?,
         inputs: like.inputs,
     };
@@ -346,12 +402,13 @@ fn head_from(
     ensures head { IfOk result (IsHeadOf held.now rows.new (stored_with maker.kind maker.made_with
         (parts_stored rows.old (drop start held.now)))) }
 {
-    let made_with = narrow_making(maker.made_with)?;
+    let making = maker.making()?;
     let parts = span_of(start, held.len())?;
     let inputs = put_inputs(alloc, &held[start..], rows)?;
     Ok(Head {
         kind: maker.kind,
-        made_with,
+        has_making: maker.made_with.is_some(),
+        making,
         parts,
         inputs,
     })
@@ -389,11 +446,7 @@ fn put_part<'a>(
         needs.prerequisites.as_slice(),
         needs.order_only.as_slice(),
     )?;
-    held.push(HeldPart {
-        recipe: part.recipe,
-        stem: part.stem,
-        needs,
-    })?;
+    held.push(HeldPart::of(part, needs))?;
     Ok(())
 }
 
@@ -413,33 +466,6 @@ fn put_needs(
         }
     }
     put_rows(rows, prerequisites, order_only)
-}
-
-// Whether these are the rows from a place on.
-fn are_rows(rows: &Rows<u32>, place: u32, first: &[u32], second: &[u32]) -> bool
-    ensures { result ≡ true → AreRowsOf rows.now first.now second.now place }
-{
-    is_row(rows, place as usize, first) && is_row(rows, place as usize + 1, second)
-}
-
-fn is_row(rows: &Rows<u32>, place: usize, numbers: &[u32]) -> bool
-    ensures { result ≡ true → slice_get rows.now place ≡ Some numbers.now }
-{
-    match rows.row(place) {
-        Some(row) => row == numbers,
-        None => false,
-    }
-}
-
-// Adds two rows at the end.
-fn put_rows(rows: &mut Rows<u32>, first: &[u32], second: &[u32]) -> Result<u32, AllocError>
-    ensures grew { HasMore rows.old rows.new }
-    ensures are { IfOk result (AreRowsOf rows.new first.now second.now) }
-{
-    let place = narrow(rows.len())?;
-    rows.push_row(first)?;
-    rows.push_row(second)?;
-    Ok(place)
 }
 
 // The rows of the inputs of parts. If these are the prerequisites of the only part, its rows serve for both.
@@ -467,13 +493,4 @@ fn span_of(start: usize, end: usize) -> Result<Span, AllocError>
         start: narrow(start)?,
         end: narrow(end)?,
     })
-}
-
-fn narrow_making(making: Option<usize>) -> Result<Option<u32>, AllocError>
-    ensures { IfOk result (λ narrowed. narrowed ≡ making) }
-{
-    match making {
-        Some(number) => Ok(Some(narrow(number)?)),
-        None => Ok(None),
-    }
 }

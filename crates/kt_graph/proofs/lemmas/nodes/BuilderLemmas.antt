@@ -1,5 +1,5 @@
 -- One more name gets its node, from the goals on to the last of all.
-use Rattle.std.proofs.Common.{◌≡◌, ℕ, suc, zero, Bool, true, false, ◌+◌, ◌-◌, ◌<◌, ◌≤◌, if◌then◌else◌, List, [], ◌∷◌, ◌++◌, length, map, fold, take, drop, get_or, Option, Some, None, slice_get, unwrap_or, Contains, All, refl, sym, ap, subst, ◌∙◌, arith, ◌⊎◌, inl, inr, ⊎_elim, Bor}
+use Rattle.std.proofs.Common.{◌≡◌, ℕ, suc, zero, Bool, true, false, ◌+◌, ◌-◌, ◌<◌, ◌≤◌, if◌then◌else◌, List, [], ◌∷◌, ◌++◌, length, map, fold, take, drop, get_or, Option, Some, None, slice_get, unwrap_or, Contains, All, refl, sym, ap, subst, ◌∙◌, arith, ◌⊎◌, inl, inr, ⊎_elim}
 use Rattle.std.specs.Option.{option_map}
 use Rattle.std.proofs.lemmas.List.{length-append, length_push, take-append-drop}
 use Rattle.std.proofs.lemmas.List.Elements.{All-nil, All-cons, All-weaker, All-contains_itself}
@@ -7,13 +7,14 @@ use Rattle.std.proofs.lemmas.Option.{none-some, slice_get_within, slice_get-get_
 use Rattle.kt_text.specs.Words.{Text}
 use Rattle.kt_rules.specs.declared.entry.RecipeLine.{RecipeLine}
 use Rattle.kt_rules.specs.declared.entry.Target.{Target}
-use Rattle.kt_rules.specs.Book.{explicit_rules, patterns_of}
+use Rattle.kt_rules.specs.Book.{explicit_rules}
 use Rattle.kt_rules.specs.Entry.{Rule}
 use Rattle.kt_rules.specs.Names.{with_name}
 use Rattle.kt_graph.specs.declared.nodes.graph_builder.GraphBuilder.{GraphBuilder}
 use Rattle.kt_graph.specs.declared.nodes.node.Instance.{Instance as Held}
 use Rattle.kt_graph.specs.declared.nodes.node.NodeKind.{NodeKind}
 use Rattle.kt_graph.specs.declared.nodes.reached_name.ReachedName.{ReachedName}
+use Rattle.kt_graph.specs.inner.nodes.Stems.{stem_in}
 use Rattle.kt_graph.specs.inner.nodes.Stored.{StoredPart}
 use Rattle.kt_graph.specs.inner.nodes.Stored.{StoredNode}
 use Rattle.kt_graph.specs.search.Candidates.{Candidate}
@@ -25,6 +26,7 @@ use Rattle.kt_graph.specs.inner.nodes.GraphBuilder.{AllSay, AreTold, BuildsNode,
 use Rattle.kt_graph.specs.inner.nodes.Reached.{reached_text}
 use Rattle.kt_graph.specs.nodes.Views.{instance_at, instance_view, name_at, names_at, part_view}
 use Rattle.kt_graph.proofs.lemmas.nodes.NumberLemmas.{names_grow, parts_kept, place_kept}
+use Rattle.kt_graph.proofs.lemmas.nodes.StepLemmas.{over_kept}
 use Rattle.kt_graph.proofs.lemmas.nodes.ReachLemmas.{goal_reached, inputs_all, reached_all, reached_on, reached_only, reached_stays}
 
 -- ---- places in lists that grow
@@ -62,7 +64,7 @@ node_kept : (names needed : List Text) (instances new : List Held) (expected : N
     → SaysNode names instances expected node → SaysNode (fold with_name names needed) new expected node
 node_kept names needed instances new expected node kept h = record {
   kind = h.kind;
-  parts = parts_kept names needed expected.parts node.parts h.parts;
+  parts = parts_kept names needed expected.name expected.parts node.parts h.parts;
   making = making_kept instances new expected.made_with node.made_with kept h.making;
   inputs = h.inputs;
   order_only = h.order_only;
@@ -153,10 +155,7 @@ pub built_more : (start now built : GraphBuilder) (name : Text) → HasBuilt sta
 built_more start now built name h at builds =
     let grown = builds.grown in
     record {
-      over = record {
-        rules = grown.finder_rules ∙ h.over.rules ∙ ap (λ (x : Bor (List Rule)). patterns_of x.now) (sym grown.book);
-        known_names = grown.finder_names ∙ h.over.known_names ∙ ap (λ (x : Bor (List Text)). x.now) (sym grown.known_names);
-      };
+      over = over_kept now built _ _ grown h.over;
       book = grown.book ∙ h.book;
       known_names = grown.known_names ∙ h.known_names;
       told = record {
@@ -191,18 +190,18 @@ stand_below names (name ∷ expected) (number ∷ numbers) h =
     let rest : StandFor names expected numbers = cc in
     All-cons (λ n. n < length names) number numbers (slice_get_within names number name first) (stand_below names expected numbers rest)
 
-parts_numbered : (names : List Text) (expected : List Part) (parts : List StoredPart) → SayParts names expected parts
+parts_numbered : (names : List Text) (name : Text) (expected : List Part) (parts : List StoredPart) → SayParts names name expected parts
     → All (λ part. IsNumbered (length names) part) parts
-parts_numbered names [] [] h = All-nil (λ part. IsNumbered (length names) part)
-parts_numbered names [] (part ∷ parts) h = absurd h
-parts_numbered names (one ∷ expected) [] h = absurd h
-parts_numbered names (one ∷ expected) (part ∷ parts) h =
+parts_numbered names name [] [] h = All-nil (λ part. IsNumbered (length names) part)
+parts_numbered names name [] (part ∷ parts) h = absurd h
+parts_numbered names name (one ∷ expected) [] h = absurd h
+parts_numbered names name (one ∷ expected) (part ∷ parts) h =
     All-cons (λ p. IsNumbered (length names) p) part parts
     (record {
       prerequisites = stand_below names one.needs.prerequisites part.prerequisites h.0.needs.prerequisites;
       order_only = stand_below names one.needs.order_only part.order_only h.0.needs.order_only;
     })
-    (parts_numbered names expected parts h.1)
+    (parts_numbered names name expected parts h.1)
 
 name_read : (keys : List Text) (number : ℕ) (name : Text) → slice_get keys number ≡ Some name
     → name_at keys number ≡ name
@@ -227,24 +226,24 @@ part_from recipe stem prerequisites order_only =
 abbrev node_from : Text → NodeKind → List Part → Option Instance → Node
 node_from name kind parts made_with = record { name = name; kind = kind; parts = parts; made_with = made_with }
 
-part_read : (keys : List Text) (expected : Part) (part : StoredPart) → SaysPart keys expected part
-    → part_view keys part ≡ expected
-part_read keys expected part h =
+part_read : (keys : List Text) (name : Text) (expected : Part) (part : StoredPart) → SaysPart keys name expected part
+    → part_view keys name part ≡ expected
+part_read keys name expected part h =
     let first = names_read keys expected.needs.prerequisites part.prerequisites h.needs.prerequisites in
     let second = names_read keys expected.needs.order_only part.order_only h.needs.order_only in
-    ap (λ r. part_from r part.stem (names_at keys part.prerequisites) (names_at keys part.order_only)) h.recipe
+    ap (λ r. part_from r (stem_in name part.stem) (names_at keys part.prerequisites) (names_at keys part.order_only)) h.recipe
     ∙ ap (λ s. part_from expected.recipe s (names_at keys part.prerequisites) (names_at keys part.order_only)) h.stem
     ∙ ap (λ l. part_from expected.recipe expected.stem l (names_at keys part.order_only)) first
     ∙ ap (λ l. part_from expected.recipe expected.stem expected.needs.prerequisites l) second
 
-parts_read : (keys : List Text) (expected : List Part) (parts : List StoredPart) → SayParts keys expected parts
-    → map (part_view keys) parts ≡ expected
-parts_read keys [] [] h = refl
-parts_read keys [] (part ∷ parts) h = absurd h
-parts_read keys (one ∷ expected) [] h = absurd h
-parts_read keys (one ∷ expected) (part ∷ parts) h =
-    let e = part_read keys one part h.0 in
-    let es = parts_read keys expected parts h.1 in
+parts_read : (keys : List Text) (name : Text) (expected : List Part) (parts : List StoredPart) → SayParts keys name expected parts
+    → map (part_view keys name) parts ≡ expected
+parts_read keys name [] [] h = refl
+parts_read keys name [] (part ∷ parts) h = absurd h
+parts_read keys name (one ∷ expected) [] h = absurd h
+parts_read keys name (one ∷ expected) (part ∷ parts) h =
+    let e = part_read keys name one part h.0 in
+    let es = parts_read keys name expected parts h.1 in
     cc
 
 -- what a node says where the names are keys
@@ -252,15 +251,15 @@ says_told : (keys : List Text) (instances : List Held) (name : Text) (expected :
     → SaysNode keys instances expected node → IsStoredAs keys instances name expected node
 says_told keys instances name expected node named h = record {
   numbers = record {
-    parts = parts_numbered keys expected.parts node.parts h.parts;
+    parts = parts_numbered keys expected.name expected.parts node.parts h.parts;
     inputs = h.inputs;
     order_only = h.order_only;
     made_with = h.making.numbers;
   };
   told = λ number at.
-      ap (λ n. node_from n node.kind (map (part_view keys) node.parts) (instance_at instances node.made_with)) (at ∙ sym named)
-      ∙ ap (λ k. node_from expected.name k (map (part_view keys) node.parts) (instance_at instances node.made_with)) h.kind
-      ∙ ap (λ l. node_from expected.name expected.kind l (instance_at instances node.made_with)) (parts_read keys expected.parts node.parts h.parts)
+      ap (λ n. node_from n node.kind (map (part_view keys n) node.parts) (instance_at instances node.made_with)) (at ∙ sym named)
+      ∙ ap (λ k. node_from expected.name k (map (part_view keys expected.name) node.parts) (instance_at instances node.made_with)) h.kind
+      ∙ ap (λ l. node_from expected.name expected.kind l (instance_at instances node.made_with)) (parts_read keys expected.name expected.parts node.parts h.parts)
       ∙ ap (λ m. node_from expected.name expected.kind expected.parts m) h.making.told;
 }
 

@@ -9,6 +9,7 @@ use Rattle.kt_graph.specs.declared.search.choice.Chosen.{Chosen}
 use Rattle.kt_graph.specs.declared.nodes.inferring.Inferred.{Inferred}
 use Rattle.kt_graph.specs.search.Candidates.{Candidate, needs_with}
 use Rattle.kt_graph.specs.inner.nodes.Inferring.{GivesChosen, Infers, InfersFrom, inferred_node, pattern_making}
+use Rattle.kt_graph.specs.inner.nodes.Stems.{stem_in}
 use Rattle.kt_graph.specs.nodes.Node.{chosen_rule, implicit_node, joined_needs, needs_after, searched}
 use Rattle.kt_graph.specs.search.Search.{choice_of}
 use Rattle.kt_graph.specs.search.Views.{choice_view}
@@ -25,7 +26,7 @@ given : (candidate : Candidate) (rule : Rule) (chosen : Chosen) (inferred : Infe
     → candidate.needs ≡ needs_with candidate.directory candidate.stem rule.needs → GivesChosen rule chosen inferred
     → (name : Text) (rules : List (Rule × Target)) → inferred_node name rules inferred ≡ implicit_node name rules candidate rule
 given candidate rule chosen inferred told needing gives name rules =
-    let stem : inferred.stem ≡ candidate.directory ++ candidate.stem = gives.stem ∙ ap (λ c. c.directory ++ c.stem) told in
+    let stem : stem_in name inferred.stem ≡ candidate.directory ++ candidate.stem = ap (stem_in name) gives.stem ∙ ap (λ c. c.directory ++ c.stem) told in
     let needs : inferred.needs ≡ candidate.needs = gives.needs ∙ ap (λ c. needs_with c.directory c.stem rule.needs) told ∙ sym needing in
     let all : needs_after inferred.needs (joined_needs rules) ≡ needs_after candidate.needs (joined_needs rules) = ap (λ n. needs_after n (joined_needs rules)) needs in
     let made : option_map instance_view inferred.making ≡ pattern_making rule (choice_view candidate) = gives.making ∙ ap (pattern_making rule) told in

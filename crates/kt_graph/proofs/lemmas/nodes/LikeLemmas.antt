@@ -19,13 +19,13 @@ use Rattle.kt_text.specs.Words.{Text}
 use Rattle.kt_graph.specs.declared.nodes.graph_builder.GraphBuilder.{GraphBuilder}
 use Rattle.kt_graph.specs.declared.nodes.node.NodeKind.TheVariants.{Explicit}
 use Rattle.kt_graph.specs.declared.nodes.part.Part.{Part as NewPart}
-use Rattle.kt_graph.specs.inner.nodes.GraphBuilder.{AreTold, BuildsNode, IsLikeLast, LastNeeds, sole_node}
+use Rattle.kt_graph.specs.inner.nodes.GraphBuilder.{AreTold, BuildsNode, IsLeafOf, IsLikeLast, LastNeeds, sole_node}
 use Rattle.kt_graph.specs.inner.nodes.Needed.{part_with}
 use Rattle.kt_graph.specs.inner.nodes.Numbering.{IsMaking, SayParts, SaysNeeds, SaysNode, SaysPart, StandFor}
 use Rattle.kt_graph.specs.inner.nodes.Stored.{StoredNode, StoredPart, node_like, part_like, stored_at}
 use Rattle.kt_graph.specs.nodes.Node.{Instance, Node, Part, group_of, joined_needs, needs_after, node_of, node_with, other_rules, own_part, part_of}
 use Rattle.kt_graph.proofs.lemmas.nodes.BuildingLemmas.{joined_first, joined_own, last_cut}
-use Rattle.kt_graph.proofs.lemmas.nodes.StepLemmas.{node_is, single_with}
+use Rattle.kt_graph.proofs.lemmas.nodes.StepLemmas.{leaf_kept, node_is, single_with}
 use Rattle.kt_graph.proofs.lemmas.nodes.StoredLemmas.{stored_there}
 
 -- ---- names that are reached
@@ -75,11 +75,11 @@ one_alike made [] e = cc
 one_alike made (other ∷ []) e = (other, refl, head_is (rule_needs made) (rule_needs other) [] [] e)
 one_alike made (other ∷ more ∷ rest) e = cc
 
-one_part : (names : List Text) (expected : Part) (parts : List StoredPart) → SayParts names (expected ∷ []) parts
-    → (part : StoredPart) × (parts ≡ part ∷ []) × SaysPart names expected part
-one_part names expected [] h = absurd h
-one_part names expected (part ∷ []) h = (part, refl, h.0)
-one_part names expected (part ∷ more ∷ rest) h = absurd h.1
+one_part : (names : List Text) (name : Text) (expected : Part) (parts : List StoredPart) → SayParts names name (expected ∷ []) parts
+    → (part : StoredPart) × (parts ≡ part ∷ []) × SaysPart names name expected part
+one_part names name expected [] h = absurd h
+one_part names name expected (part ∷ []) h = (part, refl, h.0)
+one_part names name expected (part ∷ more ∷ rest) h = absurd h.1
 
 -- what the last node needs, the next one does
 pub last_needs : (builder : GraphBuilder) (name : Text) (made : Rule × Target) → AreTold builder → IsLikeLast builder name made
@@ -100,7 +100,7 @@ last_needs builder name made told like rules =
     let says : SaysNode builder.numbers builder.instances.keys (sole_node (suffixes_of book) other one) last =
     subst (λ (n : Node). SaysNode builder.numbers builder.instances.keys n last) node
     (told.told place other last like.needs.same.at (stored_there builder.nodes place (omega (arith, like.needs.next)))) in
-    let part = one_part builder.numbers (own_part (suffixes_of book) one) last.parts says.parts in
+    let part = one_part builder.numbers other (own_part (suffixes_of book) one) last.parts says.parts in
     record {
       last = last;
       there = ap (stored_at builder.nodes) before;
@@ -116,7 +116,7 @@ last_needs builder name made told like rules =
 pub holds_like : (old middle : GraphBuilder) (nodes : List StoredNode) (suffixes : List Text) (name : Text) (made : Rule × Target) (part : NewPart) (making : Option Instance)
     (made_with : Option ℕ) → middle ≡ record old { instances = middle.instances } → take (length old.instances.keys) middle.instances.keys ≡ old.instances.keys
     → IsMaking middle.instances.keys making made_with → making ≡ group_of made.0
-    → ((needs : Needs) → part_with part needs ≡ part_of suffixes made needs) → LastNeeds old (needs_for made.0 made.1)
+    → ((needs : Needs) → part_with name part needs ≡ part_of suffixes made needs) → LastNeeds old (needs_for made.0 made.1)
     → nodes ≡ middle.nodes ++ node_like Explicit made_with part (stored_at middle.nodes (length old.nodes - 1)) ∷ []
     → BuildsNode old (sole_node suffixes name made) (record middle { nodes = nodes })
 holds_like old middle nodes suffixes name made part making made_with others kept is made_is part_is needs pushed =
@@ -126,6 +126,9 @@ holds_like old middle nodes suffixes name made part making made_with others kept
     let numbers : middle.numbers ≡ old.numbers = ap (λ (s : GraphBuilder). s.numbers) others in
     let there : stored_at middle.nodes (length old.nodes - 1) ≡ needs.last =
     ap (λ (s : GraphBuilder). stored_at s.nodes (length old.nodes - 1)) others ∙ needs.there in
+    let all : nodes ≡ old.nodes ++ node ∷ [] =
+    pushed ∙ ap (λ (s : GraphBuilder). s.nodes ++ node_like Explicit made_with part (stored_at middle.nodes (length old.nodes - 1)) ∷ []) others
+    ∙ ap (λ (s : StoredNode). old.nodes ++ node_like Explicit made_with part s ∷ []) there in
     record {
       node = node;
       grown = record {
@@ -133,14 +136,14 @@ holds_like old middle nodes suffixes name made part making made_with others kept
         known_names = ap (λ (s : GraphBuilder). s.known) others;
         finder_rules = ap (λ (s : GraphBuilder). s.finder.rules) others;
         finder_names = ap (λ (s : GraphBuilder). s.finder.known) others;
-        nodes = pushed ∙ ap (λ (s : GraphBuilder). s.nodes ++ node_like Explicit made_with part (stored_at middle.nodes (length old.nodes - 1)) ∷ []) others
-            ∙ ap (λ (s : StoredNode). old.nodes ++ node_like Explicit made_with part s ∷ []) there;
+        nodes = all;
         names = numbers ∙ sym (needs_reached old.numbers own needs.part.prerequisites needs.part.order_only needs.says);
         instances = kept;
+        leaf = λ h. subst (λ (s : GraphBuilder). IsLeafOf s.leaf nodes s.book.now) (sym others) (leaf_kept old.leaf old.nodes nodes node old.book.now all h);
       };
       says = record {
         kind = refl;
-        parts = subst (λ (ps : List StoredPart). SayParts middle.numbers (own_part suffixes made ∷ []) (map (part_like part) ps)) (sym needs.alone) (
+        parts = subst (λ (ps : List StoredPart). SayParts middle.numbers name (own_part suffixes made ∷ []) (map (part_like part) ps)) (sym needs.alone) (
           record {
             recipe = ap (λ (p : Part). p.recipe) one;
             stem = ap (λ (p : Part). p.stem) one;

@@ -18,8 +18,6 @@ use Rattle.kt_graph.specs.inner.nodes.Inputs.{numbers_without, with_number}
 use Rattle.kt_graph.specs.inner.nodes.Stored.{input_numbers}
 use Rattle.kt_graph.specs.nodes.Views.{name_at, names_at, node_view, part_view}
 
--- ---- parts
-
 -- ---- numbers of names
 
 -- two numbers are equal if their names are
@@ -145,18 +143,18 @@ needed_numbers parts = flat_map (λ (part : StoredPart). part.prerequisites) par
 abbrev other_numbers : List StoredPart → List ℕ
 other_numbers parts = flat_map (λ (part : StoredPart). part.order_only) parts
 
-needed_view : (names : List Text) (parts : List StoredPart)
-    → flat_map (λ (part : Part). part.needs.prerequisites) (map (part_view names) parts) ≡ names_at names (needed_numbers parts)
-needed_view names [] = refl
-needed_view names (part ∷ parts) =
-    ap (λ (rest : List Text). names_at names part.prerequisites ++ rest) (needed_view names parts)
+needed_view : (names : List Text) (name : Text) (parts : List StoredPart)
+    → flat_map (λ (part : Part). part.needs.prerequisites) (map (part_view names name) parts) ≡ names_at names (needed_numbers parts)
+needed_view names name [] = refl
+needed_view names name (part ∷ parts) =
+    ap (λ (rest : List Text). names_at names part.prerequisites ++ rest) (needed_view names name parts)
     ∙ sym (map-append (name_at names) part.prerequisites (needed_numbers parts))
 
-other_told : (names : List Text) (parts : List StoredPart)
-    → flat_map (λ (part : Part). part.needs.order_only) (map (part_view names) parts) ≡ names_at names (other_numbers parts)
-other_told names [] = refl
-other_told names (part ∷ parts) =
-    ap (λ (rest : List Text). names_at names part.order_only ++ rest) (other_told names parts)
+other_told : (names : List Text) (name : Text) (parts : List StoredPart)
+    → flat_map (λ (part : Part). part.needs.order_only) (map (part_view names name) parts) ≡ names_at names (other_numbers parts)
+other_told names name [] = refl
+other_told names name (part ∷ parts) =
+    ap (λ (rest : List Text). names_at names part.order_only ++ rest) (other_told names name parts)
     ∙ sym (map-append (name_at names) part.order_only (other_numbers parts))
 
 needed_below : (count : ℕ) (parts : List StoredPart) → All (λ (part : StoredPart). IsNumbered count part) parts → AreBelow count (needed_numbers parts)
@@ -195,7 +193,7 @@ unfolding inputs_of without_repeats
 inputs_are names instances number node distinct numbers =
     ap (names_at names) numbers.inputs
     ∙ sym (with_all names distinct (needed_numbers node.parts) [] (needed_below (length names) node.parts numbers.parts) (All-nil (λ n. n < length names)))
-    ∙ ap (fold with_name []) (sym (needed_view names node.parts))
+    ∙ ap (fold with_name []) (sym (needed_view names (name_at names number) node.parts))
 
 pub others_are : (names : List Text) (instances : List Held) (number : ℕ) (node : StoredNode) → AreDistinct names
     → HasNumbers (length names) (length instances) node → names_at names node.order_only ≡ order_only_of (node_view names instances number node)
@@ -216,4 +214,4 @@ others_are names instances number node distinct numbers =
     ap (names_at names) (numbers.order_only ∙ sym (pass_all p (other_numbers parts) []))
     ∙ sym (names_pass names p q (fold with_number [] (other_numbers parts)) same)
     ∙ ap (filter q) (sym (with_all names distinct (other_numbers parts) [] all (All-nil (λ n. n < length names)))
-    ∙ ap (fold with_name []) (sym (other_told names parts)))
+    ∙ ap (fold with_name []) (sym (other_told names (name_at names number) parts)))

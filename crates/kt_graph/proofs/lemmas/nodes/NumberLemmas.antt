@@ -71,35 +71,35 @@ needs_kept names needed expected first second h = record {
   order_only = stand_kept names needed expected.order_only second h.order_only;
 }
 
-part_kept : (names needed : List Text) (expected : Part) (part : StoredPart) → SaysPart names expected part
-    → SaysPart (fold with_name names needed) expected part
-part_kept names needed expected part h = record {
+part_kept : (names needed : List Text) (name : Text) (expected : Part) (part : StoredPart) → SaysPart names name expected part
+    → SaysPart (fold with_name names needed) name expected part
+part_kept names needed name expected part h = record {
   recipe = h.recipe;
   stem = h.stem;
   needs = needs_kept names needed expected.needs part.prerequisites part.order_only h.needs;
 }
 
 -- parts stay the same when more names are reached
-pub parts_kept : (names needed : List Text) (expected : List Part) (parts : List StoredPart) → SayParts names expected parts
-    → SayParts (fold with_name names needed) expected parts
-parts_kept names needed [] [] h = h
-parts_kept names needed [] (part ∷ parts) h = absurd h
-parts_kept names needed (one ∷ expected) [] h = absurd h
-parts_kept names needed (one ∷ expected) (part ∷ parts) h =
-    (part_kept names needed one part h.0, parts_kept names needed expected parts h.1)
+pub parts_kept : (names needed : List Text) (name : Text) (expected : List Part) (parts : List StoredPart) → SayParts names name expected parts
+    → SayParts (fold with_name names needed) name expected parts
+parts_kept names needed name [] [] h = h
+parts_kept names needed name [] (part ∷ parts) h = absurd h
+parts_kept names needed name (one ∷ expected) [] h = absurd h
+parts_kept names needed name (one ∷ expected) (part ∷ parts) h =
+    (part_kept names needed name one part h.0, parts_kept names needed name expected parts h.1)
 
-parts_push : (names : List Text) (expected : List Part) (parts : List StoredPart) (one : Part) (part : StoredPart) → SayParts names expected parts
-    → SaysPart names one part → SayParts names (expected ++ one ∷ []) (parts ++ part ∷ [])
-parts_push names [] [] one part h last = (last, h)
-parts_push names [] (other ∷ parts) one part h last = absurd h
-parts_push names (first ∷ expected) [] one part h last = absurd h
-parts_push names (first ∷ expected) (other ∷ parts) one part h last = (h.0, parts_push names expected parts one part h.1 last)
+parts_push : (names : List Text) (name : Text) (expected : List Part) (parts : List StoredPart) (one : Part) (part : StoredPart) → SayParts names name expected parts
+    → SaysPart names name one part → SayParts names name (expected ++ one ∷ []) (parts ++ part ∷ [])
+parts_push names name [] [] one part h last = (last, h)
+parts_push names name [] (other ∷ parts) one part h last = absurd h
+parts_push names name (first ∷ expected) [] one part h last = absurd h
+parts_push names name (first ∷ expected) (other ∷ parts) one part h last = (h.0, parts_push names name expected parts one part h.1 last)
 
 -- one more part after others
-pub parts_more : (names new needed : List Text) (expected : List Part) (parts : List StoredPart) (one : Part) (part : StoredPart) → new ≡ fold with_name names needed
-    → SayParts names expected parts → SaysPart new one part → SayParts new (expected ++ one ∷ []) (parts ++ part ∷ [])
-parts_more names new needed expected parts one part grown h last =
-    parts_push new expected parts one part (subst (λ l. SayParts l expected parts) (sym grown) (parts_kept names needed expected parts h)) last
+pub parts_more : (names new needed : List Text) (name : Text) (expected : List Part) (parts : List StoredPart) (one : Part) (part : StoredPart) → new ≡ fold with_name names needed
+    → SayParts names name expected parts → SaysPart new name one part → SayParts new name (expected ++ one ∷ []) (parts ++ part ∷ [])
+parts_more names new needed name expected parts one part grown h last =
+    parts_push new name expected parts one part (subst (λ l. SayParts l name expected parts) (sym grown) (parts_kept names needed name expected parts h)) last
 
 -- ---- steps
 

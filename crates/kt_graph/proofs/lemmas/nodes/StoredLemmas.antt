@@ -1,16 +1,17 @@
 -- Nodes in three lists: what is stored stays when more is added.
-use Rattle.std.proofs.Common.{◌≡◌, ℕ, zero, suc, not, ◌+◌, ◌-◌, ◌<◌, ◌≤◌, List, [], ◌∷◌, ◌++◌, All, Option, Some, option_map, length, take, drop, get_or, slice_get, refl, sym, ap, ◌∙◌, subst, arith}
+use Rattle.std.proofs.Common.{◌≡◌, ℕ, zero, suc, not, ◌+◌, ◌-◌, ◌<◌, ◌≤◌, List, [], ◌∷◌, ◌++◌, All, Option, None, Some, option_map, length, take, drop, get_or, slice_get, refl, sym, ap, ◌∙◌, subst, arith}
 use Rattle.std.proofs.lemmas.List.{append-nil, append_assoc, drop-append-le, get_or_append_left, length-append, length-drop, map-append, take-append-le}
 use Rattle.std.proofs.lemmas.List.Elements.{All-contains, All-drop, All-head, All-push, All-tail, All-take, All-weaker}
 use Rattle.std.proofs.lemmas.Option.{none-some, same_Some, slice_get-get_or, slice_get-map}
 use Rattle.std.proofs.Math.Seq.{drop-append_seam}
+use Rattle.std.specs.Option.{option_to_list}
 use Rattle.kt_graph.specs.declared.nodes.node.NodeKind.{NodeKind}
 use Rattle.kt_graph.specs.declared.nodes.part.Maker.{Maker}
 use Rattle.kt_graph.specs.declared.nodes.part.Part.{Part as NewPart}
 use Rattle.kt_graph.specs.declared.nodes.stored.Head.{Head}
 use Rattle.kt_graph.specs.declared.nodes.stored.HeldPart.{HeldPart}
 use Rattle.kt_graph.specs.declared.nodes.stored.Span.{Span}
-use Rattle.kt_graph.specs.inner.nodes.Stored.{AreRowsOf, AreStored, Grew, HasMore, IsHeadOf, IsHeadWithin, IsLike, IsPartWithin, IsSpanWithin, PutsParts, StoredNode, StoredPart, cut, input_numbers, node_like, node_stored, stored_with, nodes_stored, order_only_numbers, part_stored, parts_stored, stored_at}
+use Rattle.kt_graph.specs.inner.nodes.Stored.{AreRowsOf, AreStored, Grew, HasMore, IsHeadOf, IsHeadWithin, IsLike, IsPartWithin, IsSpanWithin, PutsParts, StoredNode, StoredPart, cut, input_numbers, node_like, node_stored, stored_with, nodes_stored, order_only_numbers, part_stored, parts_stored, some_if, stored_at}
 use Rattle.kt_graph.specs.inner.nodes.Grouping.{is_made_at, making_at}
 use Rattle.kt_graph.specs.nodes.Node.{is_leaf}
 use Rattle.kt_graph.proofs.lemmas.MemberLemmas.{Contains-slice_get}
@@ -115,6 +116,21 @@ nodes_push parts new_parts rows new_rows heads head node grew h is =
     ∙ ap (λ (ns : List StoredNode). ns ++ node_stored new_parts new_rows head ∷ []) (nodes_same parts new_parts rows new_rows heads grew h)
     ∙ ap (λ (n : StoredNode). nodes_stored parts rows heads ++ n ∷ []) is
 
+again_told : (parts : List HeldPart) (rows : List (List ℕ)) (heads : List Head) (number : ℕ) (found : Option Head) → slice_get heads number ≡ found
+    → nodes_stored parts rows heads ++ option_to_list (option_map (node_stored parts rows) found)
+    ≡ nodes_stored parts rows heads ++ option_to_list (slice_get (nodes_stored parts rows heads) number)
+again_told parts rows heads number found at =
+    ap (λ (o : Option StoredNode). nodes_stored parts rows heads ++ option_to_list o)
+    (sym (slice_get-map (node_stored parts rows) heads number ∙ ap (option_map (node_stored parts rows)) at))
+
+-- one more node like one that is there
+pub nodes_again : (parts : List HeldPart) (rows : List (List ℕ)) (heads : List Head) (number : ℕ) (found : Option Head) → slice_get heads number ≡ found
+    → nodes_stored parts rows (heads ++ option_to_list found) ≡ nodes_stored parts rows heads ++ option_to_list (slice_get (nodes_stored parts rows heads) number)
+nodes_again parts rows heads number None at =
+    map-append (node_stored parts rows) heads [] ∙ again_told parts rows heads number None at
+nodes_again parts rows heads number (Some head) at =
+    map-append (node_stored parts rows) heads (head ∷ []) ∙ again_told parts rows heads number (Some head) at
+
 -- ---- steps
 
 pub more_none : {A : Type 0} (xs : List A) → HasMore xs xs
@@ -176,7 +192,7 @@ node_from kind parts made_with inputs order_only =
     record { kind = kind; parts = parts; made_with = made_with; inputs = inputs; order_only = order_only }
 
 -- the node whose parts begin at a place and are the last ones
-pub head_from : (parts : List HeldPart) (rows new : List (List ℕ)) (start : ℕ) (kind : NodeKind) (made_with : Option ℕ) (head : Head) → head.kind ≡ kind → head.made_with ≡ made_with
+pub head_from : (parts : List HeldPart) (rows new : List (List ℕ)) (start : ℕ) (kind : NodeKind) (made_with : Option ℕ) (head : Head) → head.kind ≡ kind → some_if head.has_making head.making ≡ made_with
     → start ≤ length parts → head.parts.start ≡ start → head.parts.end ≡ length parts → All (IsPartWithin (length rows)) parts → HasMore rows new
     → AreRowsOf new (input_numbers (parts_stored rows (drop start parts))) (order_only_numbers (parts_stored rows (drop start parts))) head.inputs
     → IsHeadOf parts new (stored_with kind made_with (parts_stored rows (drop start parts))) head
@@ -189,8 +205,8 @@ head_from parts rows new start kind made_with head is_kind made low begin end al
     ∙ parts_same rows new last (All-drop (IsPartWithin (length rows)) start parts all) grown in
     record {
       within = record { parts = record { rises = omega (arith, begin, end, low); ends = omega (arith, end) }; inputs = inputs.within };
-      is = ap (λ k. node_from k (parts_stored new (cut parts head.parts)) head.made_with (get_or new head.inputs []) (get_or new (head.inputs + 1) [])) is_kind
-          ∙ ap (λ p. node_from kind p head.made_with (get_or new head.inputs []) (get_or new (head.inputs + 1) [])) these
+      is = ap (λ k. node_from k (parts_stored new (cut parts head.parts)) (some_if head.has_making head.making) (get_or new head.inputs []) (get_or new (head.inputs + 1) [])) is_kind
+          ∙ ap (λ p. node_from kind p (some_if head.has_making head.making) (get_or new head.inputs []) (get_or new (head.inputs + 1) [])) these
           ∙ ap (λ m. node_from kind (parts_stored rows last) m (get_or new head.inputs []) (get_or new (head.inputs + 1) [])) made
           ∙ ap (λ l. node_from kind (parts_stored rows last) made_with l (get_or new (head.inputs + 1) [])) inputs.one
           ∙ ap (λ l. node_from kind (parts_stored rows last) made_with (input_numbers (parts_stored rows last)) l) inputs.other;
@@ -203,12 +219,10 @@ stored_is (first ∷ nodes) zero node at = same_Some first node at
 stored_is (first ∷ nodes) (suc number) node at = stored_is nodes number node at
 
 -- a node that needs what another does
-module _ (parts : List HeldPart) (rows : List (List ℕ)) (heads : List Head) (number : ℕ) (maker : Maker) (made : Head × ℕ) (part : NewPart) (new : List HeldPart)
-    (stored : AreStored parts rows heads) (like : IsLike heads parts number maker made)
-    (pushed : new ≡ parts ++ (record { recipe = part.recipe; stem = part.stem; needs = made.1 }) ∷ []) where
-  abbrev held : HeldPart
-  held = record { recipe = part.recipe; stem = part.stem; needs = made.1 }
-
+module _ (parts : List HeldPart) (rows : List (List ℕ)) (heads : List Head) (number : ℕ) (maker : Maker) (made : Head × ℕ) (part : NewPart) (held : HeldPart)
+    (new : List HeldPart) (stored : AreStored parts rows heads) (like : IsLike heads parts number maker made)
+    (recipe : some_if held.has_recipe held.lines.now ≡ option_map (λ lines. lines.now) part.recipe) (stem : held.stem ≡ part.stem) (needs : held.needs ≡ made.1)
+    (pushed : new ≡ parts ++ held ∷ []) where
   part_within : IsPartWithin (length rows) like.part
   part_within = All-head (IsPartWithin (length rows)) like.part []
       (subst (All (IsPartWithin (length rows))) like.alone (all_cut (IsPartWithin (length rows)) parts like.other.parts stored.parts_within))
@@ -217,7 +231,7 @@ module _ (parts : List HeldPart) (rows : List (List ℕ)) (heads : List Head) (n
   other_within = All-contains (IsHeadWithin (length parts) (length rows)) heads like.other stored.heads_within (Contains-slice_get heads number like.other like.at)
 
   pub grew_like : Grew parts rows new rows
-  grew_like = grew_part parts new rows held pushed (subst (λ n. n + 1 < length rows) (sym like.needs) part_within)
+  grew_like = grew_part parts new rows held pushed (subst (λ n. n + 1 < length rows) (sym (needs ∙ like.needs)) part_within)
 
   cut_like : cut new made.0.parts ≡ held ∷ []
   cut_like =
@@ -239,7 +253,7 @@ module _ (parts : List HeldPart) (rows : List (List ℕ)) (heads : List Head) (n
       inputs = subst (λ n. n + 1 < length rows) (sym like.inputs) other_within.inputs;
     };
     is =
-        rw (cut_like, other_stored, like.alone, like.needs, like.inputs, like.kind, like.made_with) refl;
+        rw (cut_like, other_stored, like.alone, recipe, stem, needs, like.needs, like.inputs, like.kind, like.made_with) refl;
   }
 
 pub stored_there : (nodes : List StoredNode) (number : ℕ) → number < length nodes → slice_get nodes number ≡ Some (stored_at nodes number)

@@ -1,5 +1,6 @@
 -- The names reached so far, and the nodes of the first of them, as the code holds them (kati's own).
 use Rattle.std.specs.Prelude.{◌≡◌, ℕ, ◌+◌, ◌-◌, ◌≤◌, true, false, List, [], ◌∷◌, ◌++◌, length, fold, take, All, Some, slice_get}
+use Rattle.std.specs.Prelude.{IfSome, None, Option}
 use Rattle.std.specs.List.{Contains}
 use Rattle.kt_text.specs.Words.{Text}
 use Rattle.kt_rules.specs.declared.entry.Needs.{Needs}
@@ -7,9 +8,11 @@ use Rattle.kt_rules.specs.declared.entry.Target.{Target}
 use Rattle.kt_rules.specs.Book.{AreMadeAlike, has_recipe, is_double, patterns_of}
 use Rattle.kt_rules.specs.Entry.{Rule}
 use Rattle.kt_rules.specs.Names.{with_name}
+use Rattle.kt_rules.specs.Suffixes.{suffixes_of}
 use Rattle.kt_graph.specs.declared.nodes.node.Instance.{Instance as Held}
-use Rattle.kt_graph.specs.declared.nodes.node.NodeKind.TheVariants.{Explicit}
-use Rattle.kt_graph.specs.inner.nodes.Stored.{StoredNode, StoredPart, input_numbers, order_only_numbers, stored_at}
+use Rattle.kt_graph.specs.declared.nodes.node.NodeKind.TheVariants.{Explicit, Leaf}
+use Rattle.kt_graph.specs.inner.nodes.Stems.{own}
+use Rattle.kt_graph.specs.inner.nodes.Stored.{StoredNode, StoredPart, input_numbers, order_only_numbers, stored_at, stored_with}
 use Rattle.kt_graph.specs.declared.nodes.graph_builder.GraphBuilder.{GraphBuilder}
 use Rattle.kt_graph.specs.inner.nodes.Needed.{needed_by}
 use Rattle.kt_graph.specs.nodes.Node.{Node, group_of, node_of, own_part}
@@ -17,10 +20,20 @@ use Rattle.kt_graph.specs.inner.nodes.Numbering.{IsStoredAs, SaysNeeds, SaysNode
 use Rattle.kt_graph.specs.Reach.{IsReached}
 use Rattle.kt_graph.specs.nodes.Views.{name_at}
 
+-- how each leaf is stored that needs nothing
+abbrev pub leaf_stored : List Text → StoredNode
+leaf_stored suffixes = stored_with Leaf None
+    (record { recipe = None; stem = own suffixes; prerequisites = []; order_only = [] } ∷ [])
+
+-- the number of such a leaf, if there is one
+abbrev pub IsLeafOf : Option ℕ → List StoredNode → List Rule → Type 0
+IsLeafOf leaf nodes rules = IfSome leaf (λ number. slice_get nodes number ≡ Some (leaf_stored (suffixes_of rules)))
+
 -- the search uses the rules of the book and its known names
 pub record IsOver (builder : GraphBuilder) : Type 0 where
   pub rules : builder.finder.rules ≡ patterns_of builder.book.now
   pub known_names : builder.finder.known ≡ builder.known.now
+  pub leaf : IsLeafOf builder.leaf builder.nodes builder.book.now
 
 -- names are reached and nodes added; those before and the makings keep their numbers, and all else stays
 pub record ReachesMore (old : GraphBuilder) (needed : List Text) (added : List StoredNode) (new : GraphBuilder) : Type 0 where
@@ -31,6 +44,7 @@ pub record ReachesMore (old : GraphBuilder) (needed : List Text) (added : List S
   pub nodes : new.nodes ≡ old.nodes ++ added
   pub names : new.numbers ≡ fold with_name old.numbers needed
   pub instances : take (length old.instances.keys) new.instances.keys ≡ old.instances.keys
+  pub leaf : IsLeafOf old.leaf old.nodes old.book.now → IsLeafOf new.leaf new.nodes new.book.now
 
 -- the expected node comes after the others, and what it needs is reached
 pub record BuildsNode (old : GraphBuilder) (expected : Node) (new : GraphBuilder) : Type 0 where

@@ -9,6 +9,7 @@ use Rattle.kt_graph.specs.declared.nodes.inferring.Inferred.{Inferred}
 use Rattle.kt_graph.specs.declared.nodes.node.NodeKind.TheVariants.{Implicit}
 use Rattle.kt_graph.specs.search.Candidates.{Candidate, needs_with}
 use Rattle.kt_graph.specs.nodes.Node.{Instance, Node, of_pattern, implicit_node, joined_needs, needs_after}
+use Rattle.kt_graph.specs.inner.nodes.Stems.{given, stem_in}
 use Rattle.kt_graph.specs.nodes.Views.{instance_view}
 
 -- the making of a pattern rule with several targets
@@ -19,7 +20,7 @@ pattern_making rule chosen = if nat_lt 1 (length rule.targets)
 -- what the code has is what the chosen rule gives
 pub record GivesChosen (rule : Rule) (chosen : Chosen) (inferred : Inferred) : Type 0 where
   pub recipe : option_map (λ lines. lines.now) inferred.recipe ≡ rule.recipe
-  pub stem : inferred.stem ≡ chosen.directory ++ chosen.stem
+  pub stem : inferred.stem ≡ given (chosen.directory ++ chosen.stem)
   pub needs : inferred.needs ≡ needs_with chosen.directory chosen.stem rule.needs
   pub making : option_map instance_view inferred.making ≡ pattern_making rule chosen
 
@@ -36,7 +37,7 @@ inferred_node name rules inferred = record {
   kind = Implicit;
   parts = record {
     recipe = option_map (λ lines. lines.now) inferred.recipe;
-    stem = inferred.stem;
+    stem = stem_in name inferred.stem;
     needs = needs_after inferred.needs (joined_needs rules);
   } ∷ [];
   made_with = option_map instance_view inferred.making;

@@ -13,6 +13,7 @@ use Rattle.kt_graph.specs.declared.nodes.needing.Sort.{Sort}
 use Rattle.kt_graph.specs.declared.nodes.needing.Sort.TheVariants.{Prerequisite, OrderOnly}
 use Rattle.kt_graph.specs.declared.nodes.node.NodeKind.{NodeKind}
 use Rattle.kt_graph.specs.declared.nodes.part.Part.{Part as NewPart}
+use Rattle.kt_graph.specs.inner.nodes.Stems.{stem_in}
 use Rattle.kt_graph.specs.nodes.Node.{Instance, Node, Part}
 
 -- the prerequisites of one sort
@@ -44,10 +45,11 @@ joined_after first earlier later = record {
   order_only = first.order_only ++ (rules_needs OrderOnly earlier ++ rules_needs OrderOnly later);
 }
 
-abbrev pub part_with : NewPart → Needs → Part
-part_with part needs = record {
+-- the part in the node of a name
+abbrev pub part_with : Text → NewPart → Needs → Part
+part_with name part needs = record {
   recipe = option_map (λ lines. lines.now) part.recipe;
-  stem = part.stem;
+  stem = stem_in name part.stem;
   needs = needs;
 }
 
@@ -56,7 +58,7 @@ abbrev pub single_node : Text → NodeKind → NewPart → Needs → Option Inst
 single_node name kind part needs made_with = record {
   name = name;
   kind = kind;
-  parts = part_with part needs ∷ [];
+  parts = part_with name part needs ∷ [];
   made_with = made_with;
 }
 

@@ -5,6 +5,7 @@ use Rattle.kt_text.specs.Words.{Text}
 use Rattle.kt_rules.specs.declared.entry.Needs.{Needs}
 use Rattle.kt_rules.specs.Names.{with_name}
 use Rattle.kt_graph.specs.declared.nodes.node.Instance.{Instance as Held}
+use Rattle.kt_graph.specs.inner.nodes.Stems.{stem_in}
 use Rattle.kt_graph.specs.inner.nodes.Stored.{StoredNode, StoredPart, input_numbers, order_only_numbers}
 use Rattle.kt_graph.specs.nodes.Node.{Instance, Node, Part}
 use Rattle.kt_graph.specs.nodes.Views.{instance_at, name_at, node_view}
@@ -45,23 +46,24 @@ pub record SaysNeeds (names : List Text) (expected : Needs) (needed others : Lis
   pub prerequisites : StandFor names expected.prerequisites needed
   pub order_only : StandFor names expected.order_only others
 
-pub record SaysPart (names : List Text) (expected : Part) (part : StoredPart) : Type 0 where
+-- the stored part is the expected one in the node of a name
+pub record SaysPart (names : List Text) (name : Text) (expected : Part) (part : StoredPart) : Type 0 where
   pub recipe : part.recipe ≡ expected.recipe
-  pub stem : part.stem ≡ expected.stem
+  pub stem : stem_in name part.stem ≡ expected.stem
   pub needs : SaysNeeds names expected.needs part.prerequisites part.order_only
 
-abbrev pub SayParts : List Text → List Part → List StoredPart → Type 0
-SayParts names expected parts = AllZip (SaysPart names) expected parts
+abbrev pub SayParts : List Text → Text → List Part → List StoredPart → Type 0
+SayParts names name expected parts = AllZip (SaysPart names name) expected parts
 
 -- the number of a making, if there is one
 pub record IsMaking (instances : List Held) (expected : Option Instance) (number : Option ℕ) : Type 0 where
   pub numbers : IfSome number (λ making. making < length instances)
   pub told : instance_at instances number ≡ expected
 
--- the stored node is the expected one, whatever its name
+-- the stored node is the expected one, if it has its name
 pub record SaysNode (names : List Text) (instances : List Held) (expected : Node) (node : StoredNode) : Type 0 where
   pub kind : node.kind ≡ expected.kind
-  pub parts : SayParts names expected.parts node.parts
+  pub parts : SayParts names expected.name expected.parts node.parts
   pub making : IsMaking instances expected.made_with node.made_with
   pub inputs : node.inputs ≡ input_numbers node.parts
   pub order_only : node.order_only ≡ order_only_numbers node.parts

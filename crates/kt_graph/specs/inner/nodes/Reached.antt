@@ -1,19 +1,25 @@
 -- Reached names by their numbers among all names, as the code holds them (kati's own).
 use Rattle.std.specs.Prelude.{◌≡◌, ℕ, zero, suc, ◌≤◌, List, [], ◌∷◌, ◌++◌, length, get_or, slice_get, bytes_eq}
 use Rattle.std.specs.Prelude.{Option, Some, None}
+use Rattle.std.specs.Borrow.{Bor}
 use Rattle.std.specs.List.{IsDistinct}
 use Rattle.kt_list.specs.Names.{place_of, with_name}
 use Rattle.kt_text.specs.Words.{Text}
 use Rattle.kt_graph.specs.declared.nodes.reached.Reached.{Reached}
 use Rattle.kt_graph.specs.declared.nodes.reached_name.ReachedName.{ReachedName}
-use Rattle.kt_graph.specs.declared.nodes.reached_name.ReachedName.TheVariants.{InBook, Other}
+use Rattle.kt_graph.specs.declared.nodes.reached_name.ReachedName.TheVariants.{InTables, Other}
 use Rattle.kt_graph.specs.inner.nodes.Numbering.{AreBelow}
 use Rattle.kt_graph.specs.nodes.Views.{names_at}
 
 -- the bytes of a name
 abbrev pub reached_text : ReachedName → Text
-reached_text (InBook name number) = name.now
+reached_text (InTables name number) = name.now
 reached_text (Other name) = name
+
+-- the names of a list, if there is one
+abbrev pub listed_in : Option (Bor (List Text)) → List Text
+listed_in None = []
+listed_in (Some names) = names.now
 
 -- the place that a mark stands for
 abbrev pub place_marked : ℕ → Option ℕ

@@ -1,8 +1,7 @@
 -- Nodes as the graph holds them: with numbers for names, and with the lists of all nodes in one (kati's own).
 use Rattle.std.specs.Prelude.{◌≡◌, ℕ, ◌≤◌, ◌<◌, ◌+◌, List, [], ◌++◌, length, map, All, Option, None, option_map}
-use Rattle.std.specs.Prelude.{◌∷◌, Some, flat_map, fold, get_or, slice_get}
+use Rattle.std.specs.Prelude.{◌∷◌, Bool, Some, false, flat_map, fold, get_or, slice_get, true}
 use Rattle.std.specs.List.{slice_range}
-use Rattle.kt_text.specs.Words.{Text}
 use Rattle.kt_rules.specs.declared.entry.RecipeLine.{RecipeLine}
 use Rattle.kt_graph.specs.declared.nodes.node.NodeKind.{NodeKind}
 use Rattle.kt_graph.specs.declared.nodes.node.NodeKind.TheVariants.{Leaf}
@@ -15,11 +14,12 @@ use Rattle.kt_graph.specs.declared.nodes.stored.HeldPart.{HeldPart}
 use Rattle.kt_graph.specs.declared.nodes.stored.SeenPart.{SeenPart}
 use Rattle.kt_graph.specs.declared.nodes.stored.Span.{Span}
 use Rattle.kt_graph.specs.inner.nodes.Inputs.{numbers_without, with_number}
+use Rattle.kt_graph.specs.inner.nodes.Stems.{HeldStem}
 
 -- a recipe with the stem and prerequisites for its automatic macros; the prerequisites in order and with repeats
 pub record StoredPart : Type 0 where
   pub recipe : Option (List RecipeLine)
-  pub stem : Text
+  pub stem : HeldStem
   pub prerequisites : List ℕ
   pub order_only : List ℕ
 
@@ -103,9 +103,14 @@ node_like kind made_with part other = record {
 abbrev pub cut : {A : Type 0} → List A → Span → List A
 cut items span = slice_range items span.start span.end
 
+-- what is marked as there
+abbrev pub some_if : {A : Type 0} → Bool → A → Option A
+some_if true x = Some x
+some_if false x = None
+
 abbrev pub part_stored : List (List ℕ) → HeldPart → StoredPart
 part_stored rows part = record {
-  recipe = option_map (λ lines. lines.now) part.recipe;
+  recipe = some_if part.has_recipe part.lines.now;
   stem = part.stem;
   prerequisites = get_or rows part.needs [];
   order_only = get_or rows (part.needs + 1) [];
@@ -118,7 +123,7 @@ abbrev pub node_stored : List HeldPart → List (List ℕ) → Head → StoredNo
 node_stored parts rows head = record {
   kind = head.kind;
   parts = parts_stored rows (cut parts head.parts);
-  made_with = head.made_with;
+  made_with = some_if head.has_making head.making;
   inputs = get_or rows head.inputs [];
   order_only = get_or rows (head.inputs + 1) [];
 }
@@ -180,7 +185,7 @@ pub record IsLike (heads : List Head) (parts : List HeldPart) (number : ℕ) (ma
   pub needs : made.1 ≡ part.needs
   pub inputs : made.0.inputs ≡ other.inputs
   pub kind : made.0.kind ≡ maker.kind
-  pub made_with : made.0.made_with ≡ maker.made_with
+  pub made_with : some_if made.0.has_making made.0.making ≡ maker.made_with
   pub start : made.0.parts.start ≡ length parts
   pub end : made.0.parts.end ≡ length parts + 1
 

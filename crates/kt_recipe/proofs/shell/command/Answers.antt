@@ -5,9 +5,9 @@ use Rattle.kt_recipe.specs.Shell.{shell_of}
 use Rattle.kt_recipe.proofs.ShellLemmas.{out_of_memory, put_parts_front}
 use Rattle.kt_recipe.proofs.shell.command.Goals as goal
 
-pub returns-in_err-new : goal.returns-in_err-new
+pub returns-in_err-commands : goal.returns-in_err-commands
 unfolding shell_of
-returns-in_err-new c =
+returns-in_err-commands c =
     let p = err_from_is_err_and c.from_residual.result c.from_residual.ensures.1 in
     let table = c.args.macros.now in
     let node = c.args.node.now in

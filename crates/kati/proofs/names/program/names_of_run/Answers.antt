@@ -2,7 +2,6 @@ use Rattle.std.proofs.Common.{ap, refl}
 use Rattle.kati.specs.Devices.{devices}
 use Rattle.kati.proofs.BlameLemmas.{on_ok_weaker}
 use Rattle.kati.proofs.TellLemmas.{told_end}
-use Rattle.kati.specs.Names.{nothing_seen}
 use Rattle.kati.proofs.NamesLemmas.{blames_after}
 use Rattle.kati.proofs.names.program.names_of_run.Goals as goal
 
@@ -10,17 +9,18 @@ pub returns : goal.returns
 returns g c =
     let first = g.F.Files.seen c.args.files.now in
     let files = g.F.Files.seen c.run-ran.new.files in
+    let ran = g.O.Sink.seen c.run-ran.new.out in
     let out = g.O.Sink.seen c.with_names-ended.new.out in
     let err = g.E.Sink.seen c.run-ran.new.err in
     record {
       run = c.run-ran.result;
-      ran = devices files nothing_seen err;
+      ran = devices files ran err;
       leaves = c.run-ran.ensures.leaves;
       ended = c.with_names-ended.result;
       named = devices files out err;
       names = c.with_names-ended.ensures;
       rest = (refl, refl);
-      blames = blames_after c.run-ran.result c.with_names-ended.result first files (g.O.Sink.seen c.args.out.now) out
+      blames = blames_after c.run-ran.result c.with_names-ended.result first files (g.O.Sink.seen c.args.out.now) ran out
           (g.E.Sink.seen c.args.err.now) err c.with_names-ended.ensures c.run-ran.ensures.blames;
       exit = c.finish.ensures.code;
       told = told_end c.with_names-ended.result files out err (g.E.Sink.seen c.finish.new.err)

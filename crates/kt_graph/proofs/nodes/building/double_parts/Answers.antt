@@ -24,11 +24,11 @@ loop-rule-preserved c =
     let new = c.double_part.new.names in
     let told = one_more_part own rule_view rules i rule c.loop-rule-test.true c.rule-item.is in
     record {
-      say = subst (λ l. SayParts new l (parts_held c.push.new.self.items)) (sym told)
-          (subst (λ l. SayParts new (before ++ one ∷ []) l)
+      say = λ name. subst (λ l. SayParts new name l (parts_held c.push.new.self.items)) (sym told)
+          (subst (λ l. SayParts new name (before ++ one ∷ []) l)
           (sym (ap parts_held c.in_ok-push.ensures.items ∙ map-append (λ (p : NumberedPart). part_held p.part p.needs) c.loop-rule.parts.items (part ∷ [])))
-          (parts_more c.loop-rule.names new (all_needs one.needs) before (parts_held c.loop-rule.parts.items) one (part_held part.part part.needs)
-          c.in_ok-double_part.ensures.reached c.loop-rule.invariant.say c.in_ok-double_part.ensures.says));
+          (parts_more c.loop-rule.names new (all_needs one.needs) name before (parts_held c.loop-rule.parts.items) one (part_held part.part part.needs)
+          c.in_ok-double_part.ensures.reached (c.loop-rule.invariant.say name) (c.in_ok-double_part.ensures.says name)));
       reached = needed_more c.args.names.now c.loop-rule.names new before one c.loop-rule.invariant.reached c.in_ok-double_part.ensures.reached
           ∙ ap (λ l. fold with_name c.args.names.now (needed_by_parts l)) (sym told);
     }

@@ -5,6 +5,6 @@ use Rattle.kt_graph.proofs.nodes.numbering.note_after.Goals as goal
 pub returns-clause-noted : goal.returns-clause-noted
 returns-clause-noted c =
     let number = c.in_ok-number.number in
-    ap (option_map (λ (place : ℕ). length c.args.table.now + place))
+    ap (option_map (λ (place : ℕ). length c.args.tables.now + place))
     (place_at c.number.new.self c.args.name.now number c.as_slice-names.ensures.differ c.in_ok-number.ensures.numbered)
     ∙ ap (λ count. Some (count + number)) (sym c.len.ensures.len)

@@ -1,6 +1,6 @@
-use Rattle.std.proofs.Common.{refl, subst}
+use Rattle.std.proofs.Common.{◌∙◌, ap, refl, subst}
 use Rattle.std.proofs.lemmas.List.{take_rest}
-use Rattle.kt_graph.specs.inner.nodes.Stored.{AreRowsOf, input_numbers, order_only_numbers, parts_stored}
+use Rattle.kt_graph.specs.inner.nodes.Stored.{AreRowsOf, input_numbers, order_only_numbers, parts_stored, some_if}
 use Rattle.kt_graph.proofs.lemmas.nodes.StoredLemmas.{head_from}
 use Rattle.kt_graph.proofs.nodes.stored.head_from.Goals as goal
 
@@ -12,5 +12,5 @@ returns-clause-head c =
     let start = c.args.start in
     let inputs = subst (λ l. AreRowsOf new (input_numbers (parts_stored rows l)) (order_only_numbers (parts_stored rows l)) c.in_ok-inputs.inputs)
     (take_rest held start) c.in_ok-inputs.ensures.are in
-    head_from held rows new start c.args.maker.kind c.args.maker.made_with _ refl c.in_ok-made_with.ensures c.requires.begins
+    head_from held rows new start c.args.maker.kind c.args.maker.made_with _ refl (ap (λ b. some_if b c.in_ok-making.making) c.is_some.ensures ∙ c.in_ok-making.ensures) c.requires.begins
     c.in_ok-parts.ensures.0 c.in_ok-parts.ensures.1 c.requires.within c.in_ok-inputs.ensures.grew inputs

@@ -1,5 +1,6 @@
-use Rattle.std.proofs.Common.{◌∙◌, length, refl, sym}
+use Rattle.std.proofs.Common.{◌∙◌, ap, length, refl, sym}
 use Rattle.std.proofs.lemmas.Option.{slice_get_read}
+use Rattle.kt_graph.specs.inner.nodes.Stored.{some_if}
 use Rattle.kt_graph.proofs.lemmas.nodes.InputLemmas.{one_alone}
 use Rattle.kt_graph.proofs.nodes.stored.head_like.Goals as goal
 
@@ -12,7 +13,7 @@ returns c = record {
   needs = refl;
   inputs = refl;
   kind = refl;
-  made_with = c.in_ok-narrow_making.ensures;
+  made_with = ap (λ b. some_if b c.in_ok-making.making) c.is_some.ensures ∙ c.in_ok-making.ensures;
   start = c.in_ok-span_of.ensures.0;
   end = c.in_ok-span_of.ensures.1;
 }

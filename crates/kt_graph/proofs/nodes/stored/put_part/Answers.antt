@@ -1,4 +1,4 @@
-use Rattle.std.proofs.Common.{subst, sym}
+use Rattle.std.proofs.Common.{arith, subst, sym}
 use Rattle.kt_graph.specs.inner.nodes.Stored.{Grew}
 use Rattle.kt_graph.proofs.lemmas.nodes.StoredLemmas.{grew_after, grew_part, grew_rows}
 use Rattle.kt_graph.proofs.nodes.stored.put_part.Goals as goal
@@ -14,4 +14,4 @@ returns-clause-grew c =
     let rows = c.args.rows.now in
     let new = c.put_needs.new.rows in
     grew_after held held c.push.new.self.items rows new new (grew_rows held rows new c.in_ok-needs.ensures.grew)
-    (grew_part held c.push.new.self.items new _ c.in_ok-push.ensures.items c.in_ok-needs.ensures.are.within)
+    (grew_part held c.push.new.self.items new _ c.in_ok-push.ensures.items (omega (arith, c.of.ensures.needs, c.in_ok-needs.ensures.are.within)))

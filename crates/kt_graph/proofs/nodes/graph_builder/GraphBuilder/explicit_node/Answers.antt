@@ -31,5 +31,5 @@ returns c =
     (single_told name Explicit part (needing_view needing) (given rules) making (group_of rule.0) (part_of (suffixes_of c.args.self.now.book.now) rule (given rules))
     (c.after-needing.ensures
     ∙ used_needs (needs_view c.needs.result) rule rules (map rule_view used.earlier.now) (map rule_view used.later.now) c.needs.ensures cut.before cut.after)
-    (c.of_rule-part.ensures (given rules)) c.in_ok-making.ensures)
+    (c.of_rule-part.ensures name (given rules)) c.in_ok-making.ensures)
     (h name)) c.hold.ensures

@@ -18,4 +18,4 @@ returns c =
     (λ (h : c.push_like.new.self ≡ middle.nodes ++ node_like Explicit made_with c.of_rule-part.result (stored_at middle.nodes (length old.nodes - 1)) ∷ []) name needs.
     holds_like old middle c.push_like.new.self (suffixes_of old.book.now) name (rule_view c.args.rule) c.of_rule-part.result
     (option_map instance_view c.in_ok-making.making) made_with c.in_ok-made_with.ensures.others c.in_ok-made_with.ensures.kept c.in_ok-made_with.ensures.making
-    c.in_ok-making.ensures c.of_rule-part.ensures needs h) (rw (c.saturating_sub-last.ensures, c.len.ensures.len) at c.push_like.ensures)
+    c.in_ok-making.ensures (c.of_rule-part.ensures name) needs h) (rw (c.saturating_sub-last.ensures, c.len.ensures.len) at c.push_like.ensures)

@@ -1,16 +1,27 @@
-use Rattle.std.proofs.Common.{◌∙◌, None, ap, map, refl, subst}
+use Rattle.std.proofs.Common.{◌∙◌, [], None, ap, false, map, subst, sym}
 use Rattle.std.proofs.lemmas.Result.{on_ok_weaker}
 use Rattle.kt_text.specs.Words.{Text}
 use Rattle.kt_rules.specs.Book.{is_phony}
 use Rattle.kt_rules.specs.Slots.{rule_view}
 use Rattle.kt_rules.specs.Suffixes.{suffixes_of}
-use Rattle.kt_graph.specs.declared.nodes.part.Part.{Part}
 use Rattle.kt_graph.specs.inner.nodes.Needed.{needing_view, single_node}
 use Rattle.kt_graph.specs.inner.nodes.Reached.{reached_text}
+use Rattle.kt_graph.specs.nodes.Node.{plain_node}
 use Rattle.kt_graph.specs.inner.nodes.GraphBuilder.{BuildsNode}
 use Rattle.kt_graph.proofs.lemmas.nodes.BuildingLemmas.{joined_alone}
-use Rattle.kt_graph.proofs.lemmas.nodes.StepLemmas.{plain_told}
+use Rattle.kt_graph.proofs.lemmas.nodes.StepLemmas.{leaf_told, plain_told}
 use Rattle.kt_graph.proofs.nodes.graph_builder.GraphBuilder.plain_node.Goals as goal
+
+pub returns-then-is_leaf : goal.returns-then-is_leaf
+returns-then-is_leaf c =
+    let book = c.args.self.now.book.now in
+    let suffixes = suffixes_of book in
+    let name = reached_text c.args.name.now in
+    let made = map rule_view c.args.rules.now in
+    let phony = c.is_phony-is_phony.ensures ∙ ap (is_phony book) c.as_slice.ensures in
+    let told = leaf_told suffixes name made c.is_phony-is_phony.result (sym c.is_leaf.ensures ∙ c.if-is_leaf.true) ∙ ap (plain_node suffixes name made) phony in
+    on_ok_weaker c.leaf_node.result (λ (h : (name : Text) → BuildsNode c.args.self.now (plain_node suffixes name [] false) c.leaf_node.new.self).
+    subst (λ n. BuildsNode c.args.self.now n c.leaf_node.new.self) told (h name)) c.leaf_node.ensures
 
 pub returns : goal.returns
 returns c =
@@ -19,9 +30,9 @@ returns c =
     let made = map rule_view c.args.rules.now in
     let kind = c.kind_without.result in
     let needs = needing_view c.of_rules-needing.result in
-    let part : Part = record { recipe = None; stem = c.in_ok-stem.stem } in
+    let part = c.bare-part.result in
     on_ok_weaker c.hold.result (λ (h : (name : Text) → BuildsNode c.args.self.now (single_node name kind part needs None) c.hold.new.self).
     subst (λ n. BuildsNode c.args.self.now n c.hold.new.self)
     (plain_told (suffixes_of book) name made c.is_phony-is_phony.result (is_phony book name) kind part needs c.kind_without.ensures
-    (c.is_phony-is_phony.ensures ∙ ap (is_phony book) c.as_slice.ensures) refl c.in_ok-stem.ensures (c.of_rules-needing.ensures ∙ joined_alone made))
+    (c.is_phony-is_phony.ensures ∙ ap (is_phony book) c.as_slice.ensures) c.bare-part.ensures.recipe c.bare-part.ensures.stem (c.of_rules-needing.ensures ∙ joined_alone made))
     (h name)) c.hold.ensures

@@ -1,4 +1,4 @@
-use Rattle.std.proofs.Common.{◌≡◌, ◌∙◌, None, Some, ap, map, subst, sym}
+use Rattle.std.proofs.Common.{◌≡◌, ◌∙◌, [], None, Some, ap, map, subst, sym}
 use Rattle.std.proofs.lemmas.Result.{on_ok_weaker}
 use Rattle.kt_text.specs.Words.{Text}
 use Rattle.kt_rules.specs.Slots.{rule_view}
@@ -6,8 +6,11 @@ use Rattle.kt_graph.specs.inner.nodes.Inferring.{InfersFrom, inferred_node}
 use Rattle.kt_graph.specs.nodes.Node.{node_by, searched}
 use Rattle.kt_graph.specs.inner.nodes.Reached.{reached_text}
 use Rattle.kt_graph.specs.inner.nodes.GraphBuilder.{BuildsNode}
-use Rattle.kt_graph.proofs.lemmas.nodes.StepLemmas.{builds_after}
+use Rattle.kt_graph.proofs.lemmas.nodes.StepLemmas.{builds_after, over_kept}
 use Rattle.kt_graph.proofs.nodes.graph_builder.GraphBuilder.searched_node.Goals as goal
+
+pub plain_node-requires : goal.plain_node-requires
+plain_node-requires c = over_kept c.args.self.now c.inferred.new.self [] [] c.in_ok-inferred.ensures.kept c.requires
 
 pub returns-in-Some : goal.returns-in-Some
 returns-in-Some c =

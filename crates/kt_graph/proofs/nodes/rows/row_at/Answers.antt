@@ -1,6 +1,6 @@
 use Rattle.std.proofs.Common.{◌∙◌, ℕ, [], Option, List, ap, unwrap_or}
 use Rattle.std.proofs.lemmas.Option.{unwrap_or-slice_get}
-use Rattle.kt_graph.proofs.nodes.stored.row_at.Goals as goal
+use Rattle.kt_graph.proofs.nodes.rows.row_at.Goals as goal
 
 pub returns-in-None : goal.returns-in-None
 returns-in-None c =

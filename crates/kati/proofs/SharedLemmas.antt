@@ -1,0 +1,87 @@
+-- Groups whose members share their inputs.
+use Rattle.std.proofs.Common.{◌≡◌, ℕ, zero, suc, Bool, true, false, not, ◌||◌, List, [], ◌∷◌, ◌++◌, take, filter, flat_map, fold, get_or, refl, sym, ◌∙◌, ap, append-nil}
+use Rattle.std.specs.List.{Contains}
+use Rattle.std.specs.Prelude.{nat_eq}
+use Rattle.std.specs.Cmp.Lexicographic.{pointwise}
+use Rattle.std.proofs.lemmas.Bool.{false≢true, or_right}
+use Rattle.std.proofs.lemmas.Slice.Eq.{bytes_eq-Decides}
+use Rattle.std.proofs.lemmas.List.Concat.{flat_map-cons}
+use Rattle.std.proofs.lemmas.List.Sums.{fold-append}
+use Rattle.kt_list.proofs.general.Elements.{in_first, in_rest}
+use Rattle.kt_text.specs.Words.{Text}
+use Rattle.kt_rules.specs.Names.{is_among, with_name, without_repeats}
+use Rattle.kt_rules.proofs.BookLemmas.{among_fold}
+use Rattle.kt_graph.specs.nodes.Node.{Node, inputs_of, order_only_of}
+use Rattle.kt_graph.specs.nodes.Groups.{ShareInputs}
+use Rattle.kati.specs.Planning.{joined_inputs, joined_order_only}
+use Rattle.kati.specs.inner.Shared.{AreShared, MayShare}
+
+pub shared_at : (groups : List (List Node)) (shared : List Bool) (place : ℕ) → AreShared groups shared
+    → MayShare (get_or groups place []) (get_or shared place false)
+shared_at [] [] place are = λ so. absurd (false≢true so)
+shared_at [] (shares ∷ shared) place are = absurd are
+shared_at (group ∷ groups) [] place are = absurd are
+shared_at (group ∷ groups) (shares ∷ shared) zero are = are.0
+shared_at (group ∷ groups) (shares ∷ shared) (suc place) are = shared_at groups shared place are.1
+
+-- names that are there are not added
+all_there : (set more : List Text) → ((name : Text) → is_among more name ≡ true → is_among set name ≡ true)
+    → fold with_name set more ≡ set
+all_there set [] there = refl
+all_there set (name ∷ more) there =
+    let here : is_among (name ∷ more) name ≡ true = ap (λ b. b || is_among more name) ((bytes_eq-Decides name name).1 refl) in
+    let same : with_name set name ≡ set = rw (there name here) refl in
+    ap (λ (l : List Text). fold with_name l more) same
+    ∙ all_there set more (λ other among. there other (or_right (pointwise nat_eq other name) (is_among more other) among))
+
+added_there : (set added : List Text) (name : Text) → is_among added name ≡ true → is_among (fold with_name set added) name ≡ true
+added_there set added name among = among_fold set added name ∙ or_right (is_among set name) (is_among added name) among
+
+module _ (names : Node → List Text) (node : Node) where
+  -- the names of nodes that have the same add none
+  all_again : (set : List Text) (others : List Node) → ((other : Node) → Contains others other → names other ≡ names node)
+      → ((name : Text) → is_among (names node) name ≡ true → is_among set name ≡ true)
+      → fold with_name set (flat_map names others) ≡ set
+  all_again set [] same there = refl
+  all_again set (other ∷ others) same there =
+      ap (fold with_name set) (flat_map-cons names other others) ∙ fold-append with_name set (names other) (flat_map names others)
+      ∙ ap (λ (l : List Text). fold with_name l (flat_map names others))
+      (ap (fold with_name set) (same other (in_first other others)) ∙ all_there set (names node) there)
+      ∙ all_again set others (λ one on. same one (in_rest other one others on)) there
+
+  first_tells : (others : List Node) → ((other : Node) → Contains others other → names other ≡ names node)
+      → without_repeats (flat_map names (node ∷ [])) ≡ without_repeats (flat_map names (node ∷ others))
+  unfolding without_repeats
+  first_tells others same =
+      ap (fold with_name []) (flat_map-cons names node [] ∙ append-nil (names node))
+      ∙ sym (all_again (fold with_name [] (names node)) others same (λ name among. added_there [] (names node) name among))
+      ∙ sym (fold-append with_name [] (names node) (flat_map names others))
+      ∙ ap (fold with_name []) (sym (flat_map-cons names node others))
+
+-- what the first member needs is what all do
+pub inputs_told : (group : List Node) → ShareInputs group → joined_inputs (take 1 group) ≡ joined_inputs group
+inputs_told [] share = refl
+inputs_told (node ∷ others) share =
+    first_tells inputs_of node others (λ other on. share.inputs other node (in_rest node other others on) (in_first node others))
+
+pub order_only_told : (group : List Node) → ShareInputs group → joined_order_only (take 1 group) ≡ joined_order_only group
+order_only_told [] share = refl
+order_only_told (node ∷ others) share =
+    ap (λ (l : List Text). filter (λ name. not (is_among l name)) (without_repeats (flat_map order_only_of (node ∷ []))))
+    (inputs_told (node ∷ others) share)
+    ∙ ap (filter (λ name. not (is_among (joined_inputs (node ∷ others)) name)))
+    (first_tells order_only_of node others (λ other on. share.order_only other node (in_rest node other others on) (in_first node others)))
+
+-- one more group
+shared_pushed : (groups : List (List Node)) (shared : List Bool) (group : List Node) (shares : Bool) → AreShared groups shared
+    → MayShare group shares → AreShared (groups ++ group ∷ []) (shared ++ shares ∷ [])
+shared_pushed [] [] group shares are may = (may, tt)
+shared_pushed [] (other ∷ shared) group shares are may = absurd are
+shared_pushed (first ∷ groups) [] group shares are may = absurd are
+shared_pushed (first ∷ groups) (other ∷ shared) group shares are may = (are.0, shared_pushed groups shared group shares are.1 may)
+
+pub shared_more : (groups groups' : List (List Node)) (shared shared' : List Bool) (group : List Node) (shares : Bool)
+    → groups' ≡ groups ++ group ∷ [] → shared' ≡ shared ++ shares ∷ [] → AreShared groups shared → MayShare group shares
+    → AreShared groups' shared'
+shared_more groups groups' shared shared' group shares grown noted are may =
+    rw (grown, noted) (shared_pushed groups shared group shares are may)

@@ -1,0 +1,7 @@
+use Rattle.std.proofs.Common.{◌≡◌, ◌++◌, drop, map}
+use Rattle.std.specs.Prelude.{string_bytes}
+use Rattle.kati.specs.Names.{behind_output, names_text}
+use Rattle.kati.proofs.names.naming.behind_output.Given as goal
+
+abbrev pub invariant-loop-name : goal.invariant-loop-name
+invariant-loop-name l = l.text.items ++ names_text (map string_bytes (drop l.name-index l.names)) ≡ behind_output (map string_bytes l.names)

@@ -1,0 +1,12 @@
+-- Groups whose members are told to share their inputs (kati's own).
+use Rattle.std.specs.Prelude.{◌≡◌, Bool, List, true}
+use Rattle.std.specs.List.{AllZip}
+use Rattle.kt_graph.specs.nodes.Node.{Node}
+use Rattle.kt_graph.specs.nodes.Groups.{ShareInputs}
+
+-- members that are told to share their inputs do
+abbrev pub MayShare : List Node → Bool → Type 0
+MayShare group shares = shares ≡ true → ShareInputs group
+
+abbrev pub AreShared : List (List Node) → List Bool → Type 0
+AreShared groups shared = AllZip MayShare groups shared

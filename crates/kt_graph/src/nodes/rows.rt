@@ -1,0 +1,48 @@
+//! The lists of numbers of all nodes, each a row.
+ghost use Rattle.std.specs.Prelude.{◌≡◌, [], IfOk, Some, get_or, slice_get, true};
+ghost use Rattle.kt_graph.specs.inner.nodes.Stored.{AreRowsOf, HasMore};
+
+use kt_list::{Rows, narrow};
+use std::alloc::AllocError;
+
+/// The numbers in a row.
+#[inline(always)]
+pub(crate) fn row_at(rows: &Rows<u32>, place: usize) -> &[u32]
+    ensures { result.now ≡ get_or rows.now place [] }
+{
+    match rows.row(place) {
+        Some(row) => row,
+        None => &[],
+    }
+}
+
+/// Whether these are the rows from a place on.
+pub(crate) fn are_rows(rows: &Rows<u32>, place: u32, first: &[u32], second: &[u32]) -> bool
+    ensures { result ≡ true → AreRowsOf rows.now first.now second.now place }
+{
+    is_row(rows, place as usize, first) && is_row(rows, place as usize + 1, second)
+}
+
+fn is_row(rows: &Rows<u32>, place: usize, numbers: &[u32]) -> bool
+    ensures { result ≡ true → slice_get rows.now place ≡ Some numbers.now }
+{
+    match rows.row(place) {
+        Some(row) => row == numbers,
+        None => false,
+    }
+}
+
+/// Adds two rows at the end. Beyond 4,294,967,295 the error is out of memory.
+pub(crate) fn put_rows(
+    rows: &mut Rows<u32>,
+    first: &[u32],
+    second: &[u32],
+) -> Result<u32, AllocError>
+    ensures grew { HasMore rows.old rows.new }
+    ensures are { IfOk result (AreRowsOf rows.new first.now second.now) }
+{
+    let place = narrow(rows.len())?;
+    rows.push_row(first)?;
+    rows.push_row(second)?;
+    Ok(place)
+}

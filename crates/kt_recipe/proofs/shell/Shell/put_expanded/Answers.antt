@@ -1,0 +1,23 @@
+use Rattle.std.proofs.Common.{refl}
+use Rattle.std.proofs.lemmas.Result.{err_from_is_err_and}
+use Rattle.kt_text.specs.Words.{Text}
+use Rattle.kt_eval.proofs.lemmas.GrowingLemmas.{front_same}
+use Rattle.kt_recipe.specs.Lines.{after_run, is_marked, pieces_of}
+use Rattle.kt_recipe.specs.Shell.{expansion, put_line, put_pieces}
+use Rattle.kt_recipe.specs.Views.{command_in, setting_at}
+use Rattle.kt_recipe.proofs.ShellLemmas.{put_pieces_front, stops_all}
+use Rattle.kt_recipe.proofs.shell.Shell.put_expanded.Goals as goal
+
+pub returns-in_err-text : goal.returns-in_err-text
+unfolding put_line
+returns-in_err-text c =
+    let p = err_from_is_err_and c.from_residual.result c.from_residual.ensures.1 in
+    let at = setting_at c.args.self.now c.args.line.now.place in
+    let line : Text = c.args.line.now.text in
+    let command = command_in c.args.command.now.items in
+    let told = rw (c.after_run.ensures, c.as_slice-line_text.ensures) at c.in_err-text.ensures in
+    let said = c.args.messages.now.items in
+    rw (p.1, p.2)
+    (stops_all _ _ c.in_err-text.field-0.0 said said c.expand.new.messages.items (expansion at (after_run line))
+    (λ (text : Text). put_pieces at (is_marked line) (pieces_of text) command) (put_line at line command)
+    (λ (text : Text). put_pieces_front at (is_marked line) (pieces_of text) command) (front_same said) refl told)

@@ -1,0 +1,51 @@
+-- Texts of which all but the automatic macros is known before any node is (the crate's own).
+use Rattle.std.specs.Prelude.{◌≡◌, ℕ, false, List, [], ◌∷◌, ◌++◌, Option}
+use Rattle.kt_text.specs.Words.{Text}
+use Rattle.kt_rules.specs.declared.place.Place.{Place}
+use Rattle.kt_eval.specs.Outcome.{Gave}
+use Rattle.kt_eval.specs.State.{frozen_world}
+use Rattle.kt_eval.specs.Step.{Step}
+use Rattle.kt_eval.specs.expanding.Expansion.{expanded}
+use Rattle.kt_eval.specs.expanding.Levels.{evaluator}
+use Rattle.kt_eval.specs.macros.Macros.{Table}
+use Rattle.kt_graph.specs.nodes.Node.{Node}
+use Rattle.kt_recipe.specs.declared.forms.Form.{Form}
+use Rattle.kt_recipe.specs.declared.prepared.Gap.{Gap}
+use Rattle.kt_recipe.specs.declared.prepared.Pieces.{Pieces}
+use Rattle.kt_recipe.specs.declared.subjects.Subject.{Subject}
+use Rattle.kt_recipe.specs.Automatic.{automatic_in, names_in}
+use Rattle.kt_recipe.specs.Forms.{text_of}
+
+-- the automatic macros of a part of a node, each after the text before it
+unfoldable pub filled_gaps : Node → ℕ → List Gap → Text
+filled_gaps node part [] = []
+filled_gaps node part (gap ∷ gaps) =
+    gap.before ++ (text_of gap.form (names_in node part gap.subject) ++ filled_gaps node part gaps)
+
+-- what pieces are in a part of a node
+unfoldable pub filled : Node → ℕ → Pieces → Text
+filled node part pieces = filled_gaps node part pieces.gaps.items ++ pieces.end.items
+
+-- a text is put after pieces that stand for a step: in each part of each node, with these macros, the step gives it
+-- and leaves all else as it was
+abbrev pub Adds : Table → Step Text → Pieces → Pieces → Type 0
+Adds table step old new =
+    (node : Node) (part : ℕ) (place : Option Place) (said : List Text)
+    → (text : Text) × (filled node part new ≡ filled node part old ++ text)
+    × (step (frozen_world table (automatic_in node part) place said)
+    ≡ Gave (frozen_world table (automatic_in node part) place said) text)
+
+-- a known text is put after pieces, or an automatic macro
+abbrev pub AddsText : Text → Pieces → Pieces → Type 0
+AddsText text old new = (node : Node) (part : ℕ) → filled node part new ≡ filled node part old ++ text
+
+abbrev pub AddsMacro : Subject → Form → Pieces → Pieces → Type 0
+AddsMacro subject form old new =
+    (node : Node) (part : ℕ) → filled node part new ≡ filled node part old ++ text_of form (names_in node part subject)
+
+-- the pieces are what a text expands to in each part of each node
+abbrev pub IsPrepared : Table → ℕ → Text → Pieces → Type 0
+IsPrepared table limit text pieces =
+    (node : Node) (part : ℕ) (place : Option Place) (said : List Text)
+    → expanded (evaluator false [] limit) text (frozen_world table (automatic_in node part) place said)
+    ≡ Gave (frozen_world table (automatic_in node part) place said) (filled node part pieces)
