@@ -12,12 +12,13 @@ use crate::macros::assigning::{Assigning, assignment_of};
 use crate::macros::scope::Scope;
 use crate::macros::{Flavour, Macro};
 use crate::reading::page::{Page, RawLine, Source};
+use crate::reading::recipe_texts::RecipeTexts;
 use crate::state::{Found, Frame, Left};
 use crate::stop::Stop;
 use crate::value::Value;
 use kt_list::{Sequence, Shared};
 use kt_rules::{Entry, FaultKind, Place, RuleReader};
-use kt_syntax::{Operator, Term, Unterminated, recipe_text};
+use kt_syntax::{Operator, Term, Unterminated};
 use kt_text::TextFault;
 use std::alloc::{AllocError, Global};
 use std::borrow::CowSlice;
@@ -33,6 +34,7 @@ pub(crate) struct Evaluation<'a, M: Scope, F: Files> {
     pub(crate) place: Option<Place>,
     pub(crate) rule: Option<Entry>,
     pub(crate) reader: RuleReader,
+    pub(crate) recipe_texts: RecipeTexts,
     pub(crate) files: &'a mut F,
 }
 
@@ -224,6 +226,7 @@ impl<'a, M: Scope, F: Files> Evaluation<'a, M, F> {
 
 impl<'a, M: Scope, F: Files> Evaluation<'a, M, F> {
     ghost use Rattle.kt_eval.specs.reading.Reading.{at_line, at_number, line_at, read_bytes};
+    ghost use Rattle.kt_syntax.specs.Recipes.{recipe_of};
     ghost use Rattle.kt_eval.specs.reading.Rules.{close_rule, enter_rule, open_rule, recipe_line, rule_place};
     ghost use Rattle.kt_eval.specs.State.{move_to, set_macro, set_rule};
     ghost use Rattle.kt_eval.specs.Outcome.{Gives, IfCut, left_of};
@@ -388,18 +391,17 @@ impl<'a, M: Scope, F: Files> Evaluation<'a, M, F> {
 
     // Opens the rule of an expanded head.
     #[tactic(auto, using(crate::proofs::Steps::open_rule_goes), unfolding(crate::specs::reading::Rules::open_rule))]
-    pub(crate) fn open_rule(
-        &mut self,
-        recipe: Option<Sequence<u8>>,
-        head: &[u8],
-    ) -> Result<(), Stop>
-        ensures gives { Gives (λ u. u) result self.new.world (open_rule recipe head.now self.old.world) }
-        ensures cut { IfCut result (GoesOn self.new.world (left_of (open_rule recipe head.now self.old.world))) }
+    pub(crate) fn open_rule(&mut self, recipe: Option<&[u8]>, head: &[u8]) -> Result<(), Stop>
+        ensures gives { Gives (λ u. u) result self.new.world
+            (open_rule (option_map recipe_of (option_map (λ text. text.now) recipe.entry)) head.now self.old.world) }
+        ensures cut { IfCut result (GoesOn self.new.world (left_of
+            (open_rule (option_map recipe_of (option_map (λ text. text.now) recipe.entry)) head.now self.old.world))) }
         ensures kept { Keeps self.old self.new }
         ensures blames { Blames result (files_of self.old) (files_of self.new) }
         ensures unfailed { self.new.failed ≡ self.old.failed }
     {
         let place = self.rule_place()?;
+        let recipe = self.recipe_texts.first_text(recipe)?;
         match self.reader.read(head, recipe, place) {
             Ok(rule) => {
                 self.rule = Some(rule);
@@ -420,8 +422,10 @@ impl<'a, M: Scope, F: Files> Evaluation<'a, M, F> {
     {
         let mut rule = rule;
         let place = self.rule_place()?;
-        let line = recipe_text(self.alloc, after_first(text))?;
-        rule.push(Sequence::from(line), place)?;
+        let line = self
+            .recipe_texts
+            .text(recipe_len(&rule), after_first(text))?;
+        rule.push(line, place)?;
         self.rule = Some(rule);
         Ok(())
     }
@@ -443,6 +447,14 @@ impl<'a, M: Scope, F: Files> Evaluation<'a, M, F> {
             Err(FileFault::Device) => Err(Stop::Device(copy)),
             Err(FileFault::Memory) => Err(Stop::Memory),
         }
+    }
+}
+
+// How many lines the recipe of a rule has.
+fn recipe_len(rule: &Entry) -> usize {
+    match rule.recipe() {
+        Some(lines) => lines.len(),
+        None => 0,
     }
 }
 

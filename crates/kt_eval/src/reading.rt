@@ -15,7 +15,6 @@ ghost use Rattle.kt_eval.specs.reading.Reading.{read_tab, read_text};
 ghost use Rattle.kt_eval.specs.macros.Assignments.{assign_line};
 ghost use Rattle.kt_eval.specs.reading.Rules.{rule_line, rule_of_parts};
 ghost use Rattle.kt_syntax.specs.Comments.{plain_of};
-ghost use Rattle.kt_syntax.specs.Recipes.{recipe_of};
 ghost use Rattle.kt_eval.specs.files.Files.{AgreeWith, Store};
 ghost use Rattle.kt_eval.specs.inner.Doing.{Does, reading_from};
 ghost use Rattle.kt_eval.specs.Outcome.{Fails, Gives, IfCut, Stopped, left_of};
@@ -26,6 +25,7 @@ mod conditionals;
 pub(crate) mod conditions;
 mod machine;
 pub(crate) mod page;
+pub(crate) mod recipe_texts;
 
 use crate::evaluation::Evaluation;
 use crate::fault::Fault;
@@ -33,15 +33,14 @@ use crate::files::Files;
 use crate::macros::scope::Scope;
 use crate::reading::page::{Page, RawLine, Source};
 use crate::stop::Stop;
-use kt_list::Sequence;
 use kt_rules::FaultKind;
 use kt_syntax::{
     Directive, Form, LineText, Missing, Operator, Step, Stray, TargetSpecific, classify,
-    classify_text, plain, recipe_text, rule_parts,
+    classify_text, plain, rule_parts,
 };
 use kt_text::{LineFault, line_marks};
 pub use machine::{Machine, Reading};
-use std::alloc::{AllocError, Global};
+use std::alloc::AllocError;
 
 impl<'a, M: Scope, F: Files> Evaluation<'a, M, F> {
     // Fails if the end of a block is missing.
@@ -456,19 +455,8 @@ impl<'a, M: Scope, F: Files> Evaluation<'a, M, F> {
               recipe = option_map (λ text. text.now) recipe.entry;
             }))) result self.old self.new }
     {
-        let recipe = recipe_of(self.alloc, recipe)?;
         let head = plain(self.alloc, head)?;
         let head = self.expand_text(below, head.as_slice())?;
         self.open_rule(recipe, head.as_slice())
-    }
-}
-
-// The recipe on the rule line itself.
-fn recipe_of(alloc: Global, recipe: Option<&[u8]>) -> Result<Option<Sequence<u8>>, AllocError>
-    ensures { IfOk result (λ text. text ≡ option_map recipe_of (option_map (λ part. part.now) recipe.entry)) }
-{
-    match recipe {
-        None => Ok(None),
-        Some(recipe) => Ok(Some(Sequence::from(recipe_text(alloc, recipe)?))),
     }
 }

@@ -9,7 +9,7 @@ use crate::needs::{NeedsView, shared_needs};
 use crate::place::Place;
 use crate::static_pattern::StaticPattern;
 use crate::target::{TargetView, Targets};
-use kt_list::{Sequence, Text};
+use kt_list::{Sequence, Shared, Text};
 use std::alloc::{AllocError, Global};
 use std::marker::Model;
 
@@ -70,7 +70,7 @@ pub struct Target {
 /// A line of a recipe, unexpanded.
 #[derive(Debug, Drop)]
 pub struct RecipeLine {
-    pub text: Sequence<u8>,
+    pub text: Shared<u8>,
     pub place: Place,
 }
 
@@ -148,7 +148,7 @@ impl Entry {
     }
 
     /// Adds a line to the end of the recipe, which is created if there is none.
-    pub fn push(&mut self, text: Sequence<u8>, place: Place) -> Result<(), AllocError>
+    pub fn push(&mut self, text: Shared<u8>, place: Place) -> Result<(), AllocError>
         ensures pushed { OnOk result (self.new ≡ with_line self.old (record { text = text; place = place })) }
         ensures refused { OnErr result (self.new ≡ self.old) }
     {

@@ -19,7 +19,7 @@ use crate::line::{Line, plain_needs, targets};
 use crate::place::Place;
 use crate::reading::{accepted, is_blank, read_rule};
 use crate::signs::{Signs, has_telling, holds_percent};
-use kt_list::Sequence;
+use kt_list::Shared;
 use kt_text::has_byte;
 use std::alloc::{AllocError, Global};
 use std::marker::Model;
@@ -62,7 +62,7 @@ impl RuleReader {
     pub fn read(
         &mut self,
         text: &[u8],
-        recipe: Option<Sequence<u8>>,
+        recipe: Option<Shared<u8>>,
         place: Place,
     ) -> Result<Entry, RuleFault>
         ensures { GivesExpected result (rule_of text.now recipe place) }

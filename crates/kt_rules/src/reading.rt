@@ -16,7 +16,7 @@ use crate::line::Line;
 use crate::place::Place;
 use crate::signs::Signs;
 use crate::static_pattern::StaticPattern;
-use kt_list::Sequence;
+use kt_list::Shared;
 use kt_text::is_separator;
 use std::alloc::{AllocError, Global};
 
@@ -33,7 +33,7 @@ use std::alloc::{AllocError, Global};
 pub fn read_rule(
     alloc: Global,
     text: &[u8],
-    recipe: Option<Sequence<u8>>,
+    recipe: Option<Shared<u8>>,
     place: Place,
 ) -> Result<Entry, RuleFault>
     ensures { GivesExpected result (rule_of text.now recipe place) }
@@ -58,7 +58,7 @@ pub(crate) fn accepted(
     alloc: Global,
     line: Line,
     signs: Signs,
-    recipe: Option<Sequence<u8>>,
+    recipe: Option<Shared<u8>>,
     place: Place,
 ) -> Result<Entry, RuleFault>
     requires { Tells signs line }
@@ -92,7 +92,7 @@ fn entry(
     alloc: Global,
     line: Line,
     percent: bool,
-    recipe: Option<Sequence<u8>>,
+    recipe: Option<Shared<u8>>,
     place: Place,
 ) -> Result<Entry, AllocError>
     requires { percent ≡ false → list_any has_percent line.targets ≡ false }
@@ -135,7 +135,7 @@ fn kind_of(separator: Separator, has_percent: bool) -> Kind
 // The recipe that begins after the semicolon of the rule line, if there is one.
 fn recipe_of(
     alloc: Global,
-    recipe: Option<Sequence<u8>>,
+    recipe: Option<Shared<u8>>,
     place: &Place,
 ) -> Result<Option<Vec<RecipeLine>>, AllocError>
     ensures { IfOk result (λ lines. option_map (λ v. v.items) lines ≡ recipe_of recipe place.now) }

@@ -1,7 +1,7 @@
 //! What tests need of rules: each is a line of the makefile `m`.
 #![tactic(auto)]
 
-use kt_list::{Sequence, Shared};
+use kt_list::Shared;
 use kt_rules::{Entry, Place, RuleFault, read_rule};
 use memchr::memchr;
 use std::alloc::{AllocError, Global};
@@ -13,8 +13,8 @@ pub fn place_of(alloc: Global, line: u64) -> Result<Place, AllocError> {
 }
 
 /// A text of a recipe.
-pub fn text_of(alloc: Global, bytes: &[u8]) -> Result<Sequence<u8>, AllocError> {
-    Ok(Sequence::from(Vec::from_slice(alloc, bytes)?))
+pub fn text_of(alloc: Global, bytes: &[u8]) -> Result<Shared<u8>, AllocError> {
+    Shared::from_vec(Vec::from_slice(alloc, bytes)?)
 }
 
 /// The entry of a head and a recipe.

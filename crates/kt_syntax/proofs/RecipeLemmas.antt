@@ -2,6 +2,7 @@
 use Rattle.std.proofs.Common.{◌≡◌, ◌<◌, ◌-◌, ◌+◌, ◌==◌, ℕ, suc, true, false, Some, None, List, [], ◌∷◌, ◌++◌, length, take, drop, length-take-le, append_assoc, refl, sym, ap, ◌∙◌, arith, ⊎_elim}
 use Rattle.std.proofs.lemmas.Bool.{cases_Bool}
 use Rattle.std.specs.Prelude.{slice_index}
+use Rattle.std.proofs.lemmas.List.{append-nil}
 use Rattle.std.specs.List.{onto_first, position_or_len}
 use Rattle.memchr.specs.Find.{IsFirstByte, is_byte}
 use Rattle.kt_text.specs.Words.{Text}
@@ -108,3 +109,8 @@ recipe_end before mask text whole out none so_far =
 pub recipe_of-start : (text : Text) → recipe_lines Edge (mask_of text) (pieces_of text) ≡ recipe_of text
 unfolding recipe_of
 recipe_of-start text = refl
+
+-- a text of one physical line
+pub line_stays : (text : Text) → IsFirstByte (is_byte 10) text None → text ≡ recipe_of text
+unfolding recipe_line
+line_stays text none = sym (append-nil text) ∙ recipe_end Edge (mask_of text) text (recipe_of text) [] none (recipe_of-start text)

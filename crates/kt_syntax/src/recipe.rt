@@ -1,5 +1,6 @@
 //! Recipe lines without their continuations.
 ghost use Rattle.std.specs.Prelude.{◌≡◌, ◌++◌, IfOk, OnOk};
+ghost use Rattle.std.specs.Cow.{cow_slice_items};
 ghost use Rattle.kt_text.specs.Lines.{before_backslash};
 ghost use Rattle.kt_syntax.specs.Recipes.{begun, content, ended, joint_of, newline_after, recipe_line, recipe_of};
 ghost use Rattle.kt_syntax.specs.Recipes.{space_before, without_tab};
@@ -9,6 +10,7 @@ use crate::symbol::Symbol;
 use kt_text::{is_continued, line_content, trim_end, trim_start};
 use memchr::memchr;
 use std::alloc::{AllocError, Global};
+use std::borrow::CowSlice;
 
 // What stands at an end of a physical line.
 #[derive(Clone, Copy)]
@@ -27,8 +29,20 @@ pub(crate) enum Joint {
 ///
 /// A continuation is dropped with one tab after it. Inside a reference continuations with the
 /// blanks round them are one space. A carriage return before a newline is dropped, and a backslash
-/// at the end of the text stays. GNU make manual, "Splitting Recipe Lines".
-pub fn recipe_text(alloc: Global, text: &[u8]) -> Result<Vec<u8>, AllocError>
+/// at the end of the text stays. GNU make manual, "Splitting Recipe Lines". A text without a newline
+/// stays as it is, and is borrowed.
+#[tactic(auto, using(crate::proofs::RecipeLemmas::line_stays))]
+pub fn recipe_text(alloc: Global, text: &[u8]) -> Result<CowSlice<'_, u8>, AllocError>
+    ensures { IfOk result (λ recipe. cow_slice_items recipe ≡ recipe_of text.now) }
+{
+    match memchr(b'\n', text) {
+        None => Ok(CowSlice::Borrowed(text)),
+        Some(_) => Ok(CowSlice::Owned(recipe_of_lines(alloc, text)?)),
+    }
+}
+
+// The same for a text of several physical lines.
+fn recipe_of_lines(alloc: Global, text: &[u8]) -> Result<Vec<u8>, AllocError>
     ensures { IfOk result (λ recipe. recipe.items ≡ recipe_of text.now) }
 {
     let mut recipe = Vec::new(alloc);

@@ -1,5 +1,5 @@
 -- The physical lines of a text.
-use Rattle.std.proofs.Common.{◌≡◌, ℕ, suc, ◌+◌, ◌-◌, ◌<◌, Bool, true, false, List, [], ◌∷◌, length, take, drop, length-take-le, refl, sym, ◌∙◌, ap, arith, Some, None, ◌==◌, if◌then◌else◌, ⊎_elim}
+use Rattle.std.proofs.Common.{◌≡◌, ℕ, suc, ◌+◌, ◌-◌, ◌<◌, ◌≤◌, Bool, true, false, List, [], ◌∷◌, length, take, drop, length-take-le, refl, sym, ◌∙◌, ap, arith, Some, None, ◌==◌, if◌then◌else◌, ⊎_elim}
 use Rattle.std.proofs.lemmas.Bool.{lt-ltb, le-ltb, eqb-true, eq-eqb, cases_Bool, false≢true}
 use Rattle.std.specs.Prelude.{slice_index}
 use Rattle.std.specs.List.{list_any, before_first, position_or_len}
@@ -42,6 +42,12 @@ longer byte next text =
 ended_alone : (byte : ℕ) (ended : Bool) → (byte == 10) ≡ ended → is_ended (byte ∷ []) ≡ ended
 unfolding is_ended
 ended_alone byte ended h = h
+
+-- an empty line
+pub empty_line : (text : List ℕ) → 1 ≤ length text → slice_index text 0 ≡ 10 → 1 ≡ line_len text
+unfolding line_len
+empty_line [] some is = absurd (omega (arith, some))
+empty_line (byte ∷ text) some is = rw is refl
 
 -- the first piece of a text is its first line
 pub pieces-step : (text : List ℕ) → 0 < length text

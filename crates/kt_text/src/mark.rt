@@ -1,41 +1,75 @@
-//! Logical lines as a text's reader holds them: in half the room of a `Line`.
-ghost use Rattle.std.specs.Prelude.{◌≡◌, IfOk};
+//! Logical lines as a text's reader holds them: in less than half the room of a `Line`.
+ghost use Rattle.std.specs.Prelude.{◌≡◌, false, true, IfOk};
 
 use crate::line::Line;
 use std::alloc::AllocError;
 use std::marker::Model;
 
-/// A logical line in numbers of 32 bits; contracts see the line.
+/// A logical line in three numbers of 32 bits; contracts see the line.
 #[derive(Debug, Drop)]
 pub struct Mark {
-    start: u32,
-    end: u32,
+    // Where the line begins and ends; the other way round where it begins with a tab, which is a byte of it at least.
+    first: u32,
+    second: u32,
     number: u32,
-    tab: bool,
 }
 
 impl Model for Mark {
     ghost use Rattle.kt_text.specs.declared.line.Line.{Line};
+    ghost use Rattle.kt_text.specs.inner.Marks.{marked_line};
 
     ghost Value = { Line };
 
-    ghost view = { λ mark. record {
-      span = record { start = mark.start; end = mark.end };
-      number = mark.number;
-      tab = mark.tab;
-    } };
+    ghost view = { λ mark. marked_line mark.first mark.second mark.number };
 }
 
 impl Mark {
-    /// The mark of a line. One beyond the first 4,294,967,295 bytes or lines has none, as if memory were refused.
+    /// The mark of a line. One beyond the first 4,294,967,295 bytes or lines has none, as if memory were refused; nor
+    /// has one that ends before its begin, or at it in spite of a tab.
     pub fn of(line: &Line) -> Result<Mark, AllocError>
         ensures { IfOk result (λ mark. mark ≡ line.now) }
     {
+        let start = narrow(line.span.start as u64)?;
+        let end = narrow(line.span.end as u64)?;
+        let number = narrow(line.number)?;
+        if line.tab {
+            Mark::tabbed(start, end, number)
+        } else {
+            Mark::untabbed(start, end, number)
+        }
+    }
+
+    fn tabbed(start: u32, end: u32, number: u32) -> Result<Mark, AllocError>
+        ensures { IfOk result (λ mark. mark ≡ record {
+          span = record { start = start; end = end };
+          number = number;
+          tab = true;
+        }) }
+    {
+        if start >= end {
+            return Err(AllocError);
+        }
         Ok(Mark {
-            start: narrow(line.span.start as u64)?,
-            end: narrow(line.span.end as u64)?,
-            number: narrow(line.number)?,
-            tab: line.tab,
+            first: end,
+            second: start,
+            number,
+        })
+    }
+
+    fn untabbed(start: u32, end: u32, number: u32) -> Result<Mark, AllocError>
+        ensures { IfOk result (λ mark. mark ≡ record {
+          span = record { start = start; end = end };
+          number = number;
+          tab = false;
+        }) }
+    {
+        if start > end {
+            return Err(AllocError);
+        }
+        Ok(Mark {
+            first: start,
+            second: end,
+            number,
         })
     }
 
@@ -43,10 +77,13 @@ impl Mark {
     pub fn line(&self) -> Line
         ensures { result ≡ self.now }
     {
+        let first = self.first as usize;
+        let second = self.second as usize;
+        let tab = first > second;
         Line {
-            span: self.start as usize..self.end as usize,
+            span: if tab { second..first } else { first..second },
             number: self.number as u64,
-            tab: self.tab,
+            tab,
         }
     }
 }

@@ -22,8 +22,20 @@ pub(crate) fn first_line(text: &[u8]) -> (&[u8], &[u8])
 }
 
 // How many bytes the first physical line takes.
-#[tactic(auto, using(crate::proofs::PhysicalLemmas::line_sizes))]
 fn line_size(text: &[u8]) -> usize
+    ensures value { result ≡ line_len text.now }
+    ensures some { 0 < length text.now → 0 < result }
+    ensures bound { result ≤ length text.now }
+{
+    match text {
+        // An empty line needs no search.
+        [b'\n', ..] => 1,
+        _ => searched_size(text),
+    }
+}
+
+#[tactic(auto, using(crate::proofs::PhysicalLemmas::line_sizes))]
+fn searched_size(text: &[u8]) -> usize
     ensures value { result ≡ line_len text.now }
     ensures some { 0 < length text.now → 0 < result }
     ensures bound { result ≤ length text.now }

@@ -7,6 +7,7 @@ use crate::files::{FileFault, Files};
 use crate::macros::Macros;
 use crate::macros::automatic::Automatic;
 use crate::macros::scope::Frozen;
+use crate::reading::recipe_texts::RecipeTexts;
 use crate::stop::Stop;
 use kt_list::Sequence;
 use kt_rules::{Place, RuleReader};
@@ -46,6 +47,7 @@ impl Macros {
             place,
             rule: None,
             reader: RuleReader::new(alloc),
+            recipe_texts: RecipeTexts::new(alloc),
             files: &mut files,
         };
         let result = evaluation.expand_here(limit, text);
@@ -57,6 +59,7 @@ impl Macros {
             place: _place,
             rule: _rule,
             reader: _reader,
+            recipe_texts: _recipe_texts,
             files,
         } = evaluation;
         let _ = &*files;

@@ -14,6 +14,7 @@ use crate::fault::Fault;
 use crate::files::Files;
 use crate::macros::scope::Makefile;
 use crate::macros::{Flavour, Macro, Macros, Origin};
+use crate::reading::recipe_texts::RecipeTexts;
 use crate::stop::Stop;
 use crate::value::Value;
 use kt_list::Sequence;
@@ -193,6 +194,7 @@ fn read_once<F: Files>(
         place: None,
         rule: None,
         reader: RuleReader::new(alloc),
+        recipe_texts: RecipeTexts::new(alloc),
         files,
     };
     let result = evaluation.read_first(limit, names);
@@ -204,6 +206,7 @@ fn read_once<F: Files>(
         place: _place,
         rule: _rule,
         reader: _reader,
+        recipe_texts: _recipe_texts,
         files,
     } = evaluation;
     let _ = &*files;

@@ -1,9 +1,11 @@
 -- Names that are marked by number, or by name (kati's own).
-use Rattle.std.specs.Prelude.{◌≡◌, ℕ, Bool, false, Option, Some, None, List, get_or, length}
+use Rattle.std.specs.Prelude.{◌≡◌, ℕ, Bool, false, true, Option, Some, None, List, get_or, length}
 use Rattle.kt_list.specs.Names.{is_among, place_of}
 use Rattle.kt_text.specs.Words.{Text}
 use Rattle.kt_rules.specs.declared.book.book_names.Marks.{Marks}
 use Rattle.kt_rules.specs.declared.book.book_rule.BookRule.{BookRule}
+use Rattle.kt_rules.specs.Suffixes.{all_needs}
+use Rattle.kt_rules.specs.Targets.{entry_view}
 use Rattle.kt_rules.specs.inner.Held.{AreBelow}
 
 -- the mark of a name: at its number, if it has one, or else among the other names
@@ -20,3 +22,8 @@ pub record IsOf (count : ℕ) (rule : BookRule) : Type 0 where
   pub many : count ≡ length rule.names.now
   pub prerequisites : AreBelow (length rule.names.now) rule.prerequisites.now
   pub order_only : AreBelow (length rule.names.now) rule.order_only.now
+
+-- the prerequisites that all targets of a rule share are marked
+abbrev pub HasShared : BookRule → Marks → Type 0
+HasShared rule marks = (name : Text) → is_among (all_needs (entry_view rule).needs) name ≡ true
+    → is_marked rule.names.now marks name ≡ true

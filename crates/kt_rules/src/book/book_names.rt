@@ -1,6 +1,6 @@
 //! The names that the rules of a book mention.
 ghost use Rattle.std.specs.Prelude.{◌≡◌, ◌||◌, List, bytes_eq, codes, false, find, flat_map, get_or, length};
-ghost use Rattle.std.specs.Prelude.{option_map, unwrap_or, IfOk, OnOk};
+ghost use Rattle.std.specs.Prelude.{option_map, true, unwrap_or, IfOk, OnOk};
 ghost use Rattle.kt_text.specs.Words.{Text};
 ghost use Rattle.kt_list.specs.Names.{place_of};
 ghost use Rattle.kt_rules.specs.Known.{named_by, named_with};
@@ -10,7 +10,7 @@ ghost use Rattle.kt_rules.specs.Slots.{rules_in};
 ghost use Rattle.kt_rules.specs.Suffixes.{all_needs};
 ghost use Rattle.kt_rules.specs.Targets.{entry_view, names_at, names_view, needs_view, target_view};
 ghost use Rattle.kt_rules.specs.inner.Held.{AreBelow};
-ghost use Rattle.kt_rules.specs.inner.Marks.{IsOf, is_marked};
+ghost use Rattle.kt_rules.specs.inner.Marks.{HasShared, IsOf, is_marked};
 
 use super::book_rule::BookRule;
 use super::rules::Rules;
@@ -136,27 +136,35 @@ impl Marks {
             || is_among (named_by suffixes.now (entry_view rule.entry)) name)) }
         ensures many { length self.new.numbers.items ≡ length self.old.numbers.items }
     {
+        let mut shared = false;
         for target in rule.targets() {
-            self.mark_target(suffixes, rule, target)?;
+            shared = self.mark_target(suffixes, rule, target, shared)?;
         }
         match phony_target(rule) {
-            Some(target) => self.mark_needs(rule, target),
+            Some(target) => {
+                self.mark_needs(rule, target, shared)?;
+                Ok(())
+            }
             None => Ok(()),
         }
     }
 
-    // Marks a target and its prerequisites, if the rule is explicit for it.
+    // Marks a target and its prerequisites, if the rule is explicit for it. Takes and returns whether those that all
+    // targets share are marked: that is done once a rule.
     fn mark_target(
         &mut self,
         suffixes: &Suffixes,
         rule: BookRule<'_>,
         target: TargetView<'_>,
-    ) -> Result<(), AllocError>
-        requires { IsOf (length self.old.numbers.items) rule }
+        shared: bool,
+    ) -> Result<bool, AllocError>
+        requires count { IsOf (length self.old.numbers.items) rule }
+        requires shared { shared ≡ true → HasShared rule self.old }
         ensures marked { OnOk result ((name : Text) → is_marked rule.entry.names.now self.new name
             ≡ (is_marked rule.entry.names.now self.old name || is_among (named_with suffixes.now (entry_view rule.entry)
             (target_view target.entry)) name)) }
         ensures many { length self.new.numbers.items ≡ length self.old.numbers.items }
+        ensures shared { IfOk result (λ shared. shared ≡ true → HasShared rule.entry self.new) }
     {
         if !is_explicit(
             suffixes,
@@ -165,25 +173,37 @@ impl Marks {
                 target,
             },
         ) {
-            return Ok(());
+            return Ok(shared);
         }
         self.mark_name(rule.names, target.name)?;
-        self.mark_needs(rule, target)
+        self.mark_needs(rule, target, shared)
     }
 
-    // Marks the prerequisites of a target.
-    fn mark_needs(&mut self, rule: BookRule<'_>, target: TargetView<'_>) -> Result<(), AllocError>
-        requires { IsOf (length self.old.numbers.items) rule }
+    // Marks the prerequisites of a target. Takes and returns whether those that all targets share are marked.
+    fn mark_needs(
+        &mut self,
+        rule: BookRule<'_>,
+        target: TargetView<'_>,
+        shared: bool,
+    ) -> Result<bool, AllocError>
+        requires count { IsOf (length self.old.numbers.items) rule }
+        requires shared { shared ≡ true → HasShared rule self.old }
         ensures marked { OnOk result ((name : Text) → is_marked rule.entry.names.now self.new name
             ≡ (is_marked rule.entry.names.now self.old name
             || is_among (all_needs (needs_for (entry_view rule.entry) (target_view target.entry))) name)) }
         ensures many { length self.new.numbers.items ≡ length self.old.numbers.items }
+        ensures shared { IfOk result (λ shared. shared ≡ true → HasShared rule.entry self.new) }
     {
         match target.stem() {
-            Some(stem) => self.mark_stemmed(rule.names, NeedsView::stemmed(target.needs, stem)),
+            Some(stem) => {
+                self.mark_stemmed(rule.names, NeedsView::stemmed(target.needs, stem))?;
+                Ok(shared)
+            }
             None => {
-                self.mark_shared(rule);
-                Ok(())
+                if !shared {
+                    self.mark_shared(rule);
+                }
+                Ok(true)
             }
         }
     }

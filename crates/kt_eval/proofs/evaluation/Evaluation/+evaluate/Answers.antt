@@ -202,20 +202,9 @@ call_by_name-returns-in_err-arguments g t c =
       blames = search rules;
     }
 
-pub read_rule-returns-in_err-recipe : goal.read_rule-returns-in_err-recipe
-read_rule-returns-in_err-recipe g t c =
-    let p = err_from_is_err_and c.from_residual.result c.from_residual.ensures.1 in
-    record {
-      gives = λ store agrees. rw (p.1, p.2) tt;
-      cut = λ store agrees. rw (p.1, p.2)
-          (rule_of_parts_front g.M.Scope.writable store c.args.below (Some (record { head = c.args.head.now; recipe = option_map (λ text. text.now) c.args.recipe })) c.args.self.now.world);
-      kept = search rules;
-      blames = search rules;
-    }
-
 pub read_rule-returns-in_err-head : goal.read_rule-returns-in_err-head
 read_rule-returns-in_err-head g t c =
-    let p = err_from_is_err_and c.from_residual-in_err-head.result c.from_residual-in_err-head.ensures.1 in
+    let p = err_from_is_err_and c.from_residual.result c.from_residual.ensures.1 in
     record {
       gives = λ store agrees. rw (p.1, p.2) tt;
       cut = λ store agrees. rw (p.1, p.2)

@@ -1,7 +1,8 @@
-use Rattle.std.proofs.Common.{◌≡◌, length}
+use Rattle.std.proofs.Common.{◌≡◌, length, true}
 use Rattle.std.specs.List.{flat_map}
 use Rattle.kt_rules.specs.Known.{named_with}
 use Rattle.kt_rules.specs.Targets.{entry_view, targets_view}
+use Rattle.kt_rules.specs.inner.Marks.{HasShared}
 use Rattle.kt_rules.proofs.MarkLemmas.{IsMarkedFrom}
 use Rattle.kt_rules.proofs.book.book_names.Marks.mark_rule.Given as goal
 
@@ -11,4 +12,5 @@ invariant-loop-target l =
     let named = flat_map (named_with l.suffixes rule) in record {
       marked : IsMarkedFrom l.rule.names.now (named rule.targets) (named (targets_view l.target-iterator)) l.fn.self l.self;
       many : length l.self.numbers.items ≡ length l.fn.self.numbers.items;
+      shared : l.shared ≡ true → HasShared l.rule l.self;
     }

@@ -1,7 +1,7 @@
 use Rattle.std.proofs.Common.{◌≡◌, ◌≤◌, ◌++◌, length}
 use Rattle.kt_text.specs.Lines.{pieces_of}
 use Rattle.kt_syntax.specs.Recipes.{recipe_lines, recipe_of}
-use Rattle.kt_syntax.proofs.recipe.recipe_text.Given as goal
+use Rattle.kt_syntax.proofs.recipe.recipe_of_lines.Given as goal
 
 abbrev pub invariant-loop-place : goal.invariant-loop-place
 invariant-loop-place l = record {

@@ -1,7 +1,7 @@
 use Rattle.std.proofs.Common.{◌≤◌, ◌+◌, length, refl, ap, ◌∙◌, arith, length-drop}
 use Rattle.kt_syntax.specs.Recipes.{joint_of, recipe_of}
 use Rattle.kt_syntax.proofs.RecipeLemmas.{recipe_more, recipe_end, recipe_of-start}
-use Rattle.kt_syntax.proofs.recipe.recipe_text.Goals as goal
+use Rattle.kt_syntax.proofs.recipe.recipe_of_lines.Goals as goal
 
 pub loop-place-init : goal.loop-place-init
 loop-place-init c = record { bound = omega arith; value = rw (c.new-recipe.ensures.items, c.new-mask.ensures.whole refl) (recipe_of-start c.args.text.now) }
