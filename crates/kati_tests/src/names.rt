@@ -209,15 +209,18 @@ fn writes_plan_and_names_with_ample_room_and_by_a_byte_a_call(rt: HostRuntime) {
 }
 
 /// After a read that fails nothing is written: its name is reported.
+fn check_reads(rt: &impl Abort, alloc: Global, row: &Row, names: &[&str]) {
+    for (before, name) in names.iter().enumerate() {
+        let devices = (before as u64 + 1, AMPLE, AMPLE);
+        let told: [&[u8]; 3] = [b"kati: cannot read ", name.as_bytes(), b"\n"];
+        check(rt, alloc, row, devices, 3, (b"", &told));
+    }
+}
+
 #[test]
 fn stops_at_each_read_that_fails(rt: HostRuntime) {
     for row in ROWS {
-        for before in 0..row.4.len() {
-            let name = row.4[before];
-            let devices = (before as u64 + 1, AMPLE, AMPLE);
-            let told: [&[u8]; 3] = [b"kati: cannot read ", name.as_bytes(), b"\n"];
-            check(&rt, rt.alloc(), &row, devices, 3, (b"", &told));
-        }
+        check_reads(&rt, rt.alloc(), &row, row.4);
     }
 }
 
