@@ -4,7 +4,7 @@ use Rattle.kt_text.specs.Words.{Text}
 use Rattle.kt_eval.specs.declared.stop.Stop.{Stop}
 use Rattle.kt_eval.specs.declared.stop.Stop.TheVariants as stops
 use Rattle.kt_eval.specs.files.Files.{Store}
-use Rattle.kt_eval.specs.Prefixes.{IsPrefix}
+use Rattle.kt_list.specs.Prefixes.{IsPrefix}
 use Rattle.kt_eval.specs.reading.Machine.{Read, Trace, traced}
 use Rattle.kt_eval.specs.Outcome.{Gives, Outcome, Gave, Stopped, StepOver, leaving, left_of, then_do}
 use Rattle.kt_eval.proofs.lemmas.GrowingLemmas.{front_next}

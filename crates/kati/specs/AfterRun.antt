@@ -8,7 +8,7 @@ use Rattle.kt_ninja.specs.Text.{plan_text}
 use Rattle.kt_ninja.specs.Writable.{IsWritable}
 use Rattle.kt_ninja.specs.Written.{GrowsByFront, SinkSeen, Takes}
 use Rattle.kt_eval.specs.declared.fault.Fault.{Fault}
-use Rattle.kt_eval.specs.Prefixes.{IsPrefix, last}
+use Rattle.kt_list.specs.Prefixes.{IsPrefix, last}
 use Rattle.kt_eval.specs.files.Files.{AgreeWith, FilesSeen, Store}
 use Rattle.kati_args.specs.declared.args.Args.{Args}
 use Rattle.kati_args.specs.declared.fault.ArgFault.{ArgFault}

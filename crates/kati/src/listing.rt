@@ -1,7 +1,7 @@
 //! The list of files that exist.
 ghost use Rattle.std.specs.Prelude.{◌≡◌, ◌≤◌, [], option_map, IfOk, Some};
 ghost use Rattle.kt_eval.specs.files.Files.{AgreeWith, AnswersGrow, Store};
-ghost use Rattle.kt_eval.specs.Prefixes.{IsPrefix};
+ghost use Rattle.kt_list.specs.Prefixes.{IsPrefix};
 ghost use Rattle.kt_eval.specs.reading.Machine.{Trace, traced};
 ghost use Rattle.kt_eval.specs.Outcome.{AsksNothing, Gives, left_of};
 ghost use Rattle.kt_eval.specs.Step.{Blames};

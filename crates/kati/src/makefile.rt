@@ -4,7 +4,7 @@ ghost use Rattle.kt_eval.specs.files.Files.{AgreeWith, AnswersGrow, Store};
 ghost use Rattle.kt_text.specs.Words.{Text};
 ghost use Rattle.kt_eval.specs.reading.Machine.{ComesBefore, Read, Trace, nothing_read, read_by, read_of, reading_by};
 ghost use Rattle.kt_eval.specs.reading.Machine.{traced, traced_by};
-ghost use Rattle.kt_eval.specs.Prefixes.{IsPrefix};
+ghost use Rattle.kt_list.specs.Prefixes.{IsPrefix};
 ghost use Rattle.kt_eval.specs.Outcome.{Gives, IfCut, Outcome, left_of};
 ghost use Rattle.kt_eval.specs.Step.{Blames, BlamesBy};
 ghost use Rattle.kati.specs.Makefile.{command_line_table, makefile_names, makefile_read, with_macro};

@@ -5,7 +5,7 @@ ghost use Rattle.kt_text.specs.Words.{Text};
 ghost use Rattle.kt_graph.specs.Known.{known_names};
 ghost use Rattle.kt_graph.specs.faults.Faults.{IsSoundGraph};
 ghost use Rattle.kt_ninja.specs.Writable.{IsWritable};
-ghost use Rattle.kt_eval.specs.Prefixes.{IsPrefix};
+ghost use Rattle.kt_list.specs.Prefixes.{IsPrefix};
 ghost use Rattle.kt_eval.specs.reading.Machine.{traced};
 ghost use Rattle.kt_eval.specs.Outcome.{AsksNothing, Ends, Gives};
 ghost use Rattle.kt_eval.specs.Step.{Blames};

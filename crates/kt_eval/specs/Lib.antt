@@ -1,7 +1,6 @@
 pub mod files
 pub mod Values
 pub mod macros
-pub mod Prefixes
 pub mod State
 pub mod Outcome
 pub mod Step

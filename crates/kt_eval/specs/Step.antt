@@ -10,7 +10,7 @@ use Rattle.kt_eval.specs.declared.fault.Fault.{Fault}
 use Rattle.kt_eval.specs.declared.stop.Stop.{Stop}
 use Rattle.kt_eval.specs.declared.stop.Stop.TheVariants as stops
 use Rattle.kt_eval.specs.files.Files.{Answer, AnswersGrow, FilesSeen}
-use Rattle.kt_eval.specs.Prefixes.{last}
+use Rattle.kt_list.specs.Prefixes.{last}
 use Rattle.kt_eval.specs.Outcome.{Gave, Stopped, StepOver}
 use Rattle.kt_eval.specs.State.{World}
 

@@ -10,7 +10,8 @@ use Rattle.kt_ninja_reader.specs.declared.read_fault.Fault.TheVariants.{NoReadin
 use Rattle.kt_ninja_reader.specs.JoinedLines.{Text}
 use Rattle.kt_ninja.specs.Writable.{is_empty}
 use Rattle.kt_ninja_reader.specs.Pieces.{Piece, Plain, Escaped, Variable, Where, after_dollar, in_braces, in_name, is_escapable, is_long_name_byte, is_short_name_byte, outer_step, outside, pieces_from}
-use Rattle.kt_ninja_reader.specs.inner.Cutting.{CutsOff, CutsShort, begins_short, dollar_piece}
+use Rattle.kt_ninja_reader.specs.inner.Cutting.{CutsOff, CutsShort, dollar_piece}
+use Rattle.kt_ninja_reader.specs.Spellings.{name_goes_on}
 use Rattle.kt_ninja_reader.specs.inner.Refusals.{LacksReading}
 
 -- a refusal of one reading is one of another that has no value either
@@ -134,15 +135,15 @@ in_braces-prefix name (b ∷ bs) =
     (cases_Bool (is_long_name_byte b))
 
 -- whether a text begins with a name
-pub begins_short-length : (text : Text) (n : ℕ) → n ≡ prefix_len is_short_name_byte text → n ≢ 0 → begins_short text ≡ true
-begins_short-length [] n h some = absurd (some h)
-begins_short-length (b ∷ bs) n h some = ⊎_elim (λ d. d) (λ d. absurd (some (rw d at h))) (cases_Bool (is_short_name_byte b))
+pub name_goes_on-length : (text : Text) (n : ℕ) → n ≡ prefix_len is_short_name_byte text → n ≢ 0 → name_goes_on text ≡ true
+name_goes_on-length [] n h some = absurd (some h)
+name_goes_on-length (b ∷ bs) n h some = ⊎_elim (λ d. d) (λ d. absurd (some (rw d at h))) (cases_Bool (is_short_name_byte b))
 
 -- a name without braces that is cut off
 pub short_cut : (text name after : Text) (n : ℕ) (cut : Cut) → n ≡ prefix_len is_short_name_byte text → n ≢ 0 → name ≡ take n text → after ≡ drop n text
-    → dollar_piece cut.dollar ≡ Variable name → cut.after.now ≡ after → (begins_short text ≡ true) × CutsOff (in_name []) text cut
+    → dollar_piece cut.dollar ≡ Variable name → cut.after.now ≡ after → (name_goes_on text ≡ true) × CutsOff (in_name []) text cut
 short_cut text name after n cut length_is some front back piece rest = (
-  begins_short-length text n length_is some,
+  name_goes_on-length text n length_is some,
   record {
     first = in_name-prefix [] text ∙ rw (sym length_is, sym front, sym back, piece, rest) refl;
     less = let shorter : length after ≤ length text = rw back (omega (arith, length-drop n text)) in rw rest shorter;
@@ -193,12 +194,12 @@ cuts_too old new text longer cut same more h =
 -- a name without braces, after its dollar
 pub short_of : (text : Text) (b : ℕ) (bs : Text) (cut : Cut) → text ≡ b ∷ bs → is_escapable b ≡ false → (b == 123) ≡ false → CutsShort text cut → CutsOff after_dollar text cut
 short_of text b bs cut is escapable brace h =
-    let short : is_short_name_byte b ≡ true = ap begins_short (sym is) ∙ h.0 in
+    let short : is_short_name_byte b ≡ true = ap name_goes_on (sym is) ∙ h.0 in
     cuts_too (in_name []) after_dollar text text cut (rw is (escape-short b bs escapable brace short)) (omega arith) h.1
 
-pub no_short_of : (text : Text) (b : ℕ) (bs : Text) → text ≡ b ∷ bs → is_escapable b ≡ false → (b == 123) ≡ false → begins_short text ≡ false → pieces_from after_dollar text ≡ None
+pub no_short_of : (text : Text) (b : ℕ) (bs : Text) → text ≡ b ∷ bs → is_escapable b ≡ false → (b == 123) ≡ false → name_goes_on text ≡ false → pieces_from after_dollar text ≡ None
 no_short_of text b bs is escapable brace h =
-    let short : is_short_name_byte b ≡ false = ap begins_short (sym is) ∙ h in rw is (escape-none b bs escapable brace short)
+    let short : is_short_name_byte b ≡ false = ap name_goes_on (sym is) ∙ h in rw is (escape-none b bs escapable brace short)
 
 -- what is cut off, where it is cut off elsewhere
 pub cuts_option : {P Q : Type 0} {C D : Cut → Type 0} (found : Option Cut) → MatchOption found P C → (P → Q) → ((cut : Cut) → C cut → D cut) → MatchOption found Q D

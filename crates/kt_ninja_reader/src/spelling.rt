@@ -8,7 +8,8 @@ ghost use Rattle.kt_ninja_reader.specs.Pieces.{Plain, after_dollar, in_braces, i
 ghost use Rattle.kt_ninja_reader.specs.Pieces.{is_short_name_byte, pieces, pieces_from};
 ghost use Rattle.kt_ninja_reader.specs.inner.Spelled.{is_spelled, pieces_in};
 ghost use Rattle.kt_ninja.specs.Writable.{is_empty};
-ghost use Rattle.kt_ninja_reader.specs.inner.Cutting.{AreSides, CutsOff, CutsShort, begins_short, dollar_piece, dollar_pieces};
+ghost use Rattle.kt_ninja_reader.specs.inner.Cutting.{AreSides, CutsOff, CutsShort, dollar_piece, dollar_pieces};
+ghost use Rattle.kt_ninja_reader.specs.Spellings.{name_goes_on};
 ghost use Rattle.kt_ninja_reader.specs.inner.Cutting.{is_mark, stops_at, variable_names};
 
 use crate::bytes::first_byte;
@@ -119,7 +120,7 @@ fn variable_in_braces(text: &[u8]) -> Option<Cut<'_>>
 
 // A variable without braces.
 fn short_variable(text: &[u8]) -> Option<Cut<'_>>
-    ensures { MatchOption result (begins_short text.now ≡ false) (CutsShort text.now) }
+    ensures { MatchOption result (name_goes_on text.now ≡ false) (CutsShort text.now) }
 {
     let length = short_name_length(text);
     if length == 0 {

@@ -21,7 +21,8 @@ use Rattle.kt_recipe.specs.Automatic.{automatic_in}
 use Rattle.kt_recipe.specs.Lines.{is_prefix, is_marked, pieces_of}
 use Rattle.kt_recipe.specs.Quoting.{quoted}
 use Rattle.kt_recipe.specs.Shell.{wrapped, setting_of, shell_text, expansion, put_piece, put_pieces, put_line, put_lines, put_part, put_parts, shell_of}
-use Rattle.kt_recipe.specs.Rows.{at_m, line, sample, rooted, simple, doubled, told, deferred, with_shell, comes_to}
+use Rattle.kt_recipe.specs.Rows.{line, sample, rooted, simple, doubled, told, with_shell, comes_to}
+use Rattle.kt_eval.specs.Rows.{at_m, deferred}
 use Rattle.kt_recipe.proofs.PlainLemmas.{listing}
 use Rattle.kt_recipe.proofs.TermLemmas.{terms_are, splitting, shell_terms}
 

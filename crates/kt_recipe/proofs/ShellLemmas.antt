@@ -5,7 +5,7 @@ use Rattle.kt_rules.specs.declared.entry.RecipeLine.{RecipeLine}
 use Rattle.kt_eval.specs.declared.stop.Stop.{Stop}
 use Rattle.kt_eval.specs.declared.stop.Stop.TheVariants as stops
 use Rattle.kt_eval.specs.files.Files.{Store}
-use Rattle.kt_eval.specs.Prefixes.{IsPrefix}
+use Rattle.kt_list.specs.Prefixes.{IsPrefix}
 use Rattle.kt_eval.specs.State.{World, frozen_world}
 use Rattle.kt_eval.specs.expanding.Expansion.{expanded}
 use Rattle.kt_eval.specs.expanding.Levels.{evaluator}

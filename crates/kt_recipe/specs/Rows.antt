@@ -1,21 +1,16 @@
 -- Worked values of automatic macros and of commands, as facts that compute.
 use Rattle.std.specs.Prelude.{◌≡◌, ℕ, List, [], ◌∷◌, Option, Some, None, codes}
 use Rattle.kt_text.specs.Words.{Text}
-use Rattle.kt_rules.specs.declared.place.Place.{Place}
 use Rattle.kt_rules.specs.declared.entry.RecipeLine.{RecipeLine}
-use Rattle.kt_eval.specs.declared.macros.Flavour.TheVariants.{Deferred}
-use Rattle.kt_eval.specs.declared.macros.Macro.{Macro}
 use Rattle.kt_eval.specs.files.Files.{look}
 use Rattle.kt_eval.specs.Outcome.{Outcome, Gave, Stopped}
+use Rattle.kt_eval.specs.Rows.{at_m, deferred}
 use Rattle.kt_eval.specs.Step.{fault_at}
-use Rattle.kt_eval.specs.macros.Macros.{Table, set_by_makefile}
+use Rattle.kt_eval.specs.macros.Macros.{Table}
 use Rattle.kt_graph.specs.declared.nodes.node.NodeKind.TheVariants.{DoubleColon, Explicit}
 use Rattle.kt_graph.specs.nodes.Node.{Node, Part}
 use Rattle.kt_recipe.specs.Automatic.{automatic_in}
 use Rattle.kt_recipe.specs.Shell.{shell_of}
-
-abbrev pub at_m : ℕ → Option Place
-at_m number = Some (record { file = codes "m"; line = number })
 
 abbrev pub line : ℕ → Text → RecipeLine
 line number text = record { text = text; place = record { file = codes "m"; line = number } }
@@ -53,9 +48,6 @@ doubled = record {
 -- the value of a name in the first part of a node
 abbrev pub told : Node → Text → Option Text
 told node name = look (automatic_in node 0) name
-
-abbrev pub deferred : Text → Text → Text × Macro
-deferred name value = (name, set_by_makefile Deferred value)
 
 -- the macros that a makefile begins with, before others
 abbrev pub with_shell : Table → Table

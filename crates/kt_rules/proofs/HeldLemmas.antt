@@ -23,7 +23,9 @@ use Rattle.kt_rules.specs.Book.{is_double, is_group}
 use Rattle.kt_rules.specs.Slots.{rules_in, slot_rule}
 use Rattle.kt_rules.specs.Suffixes.{all_needs}
 use Rattle.kt_rules.specs.Targets.{names_at}
-use Rattle.kt_rules.specs.inner.Held.{AreBelow, AreHeld, AreNumbersOf, GotLists, GotMore, GotNames, GotRow, HasOneMore, HasRows, IsKnown, IsLast, IsRow, rule_held, rule_in, sees, slots_held}
+use Rattle.kt_rules.specs.inner.Held.{AreHeld, AreNumbersOf, GotLists, GotNames, GotRow, HasOneMore, HasRows, IsKnown, IsLast, IsRow, rule_held, rule_in, sees, slots_held}
+use Rattle.kt_list.specs.Names.{AreBelow}
+use Rattle.kt_list.specs.Prefixes.{HasMore}
 
 -- ---- numbers of names
 
@@ -82,7 +84,7 @@ row_longer front rows new number is one =
     (one.0 ++ number ∷ [], is ∙ ap (λ (all : List (List ℕ)). with_item all number) one.1 ∙ item_last front one.0 number)
 
 -- the rows before those that were added
-pub rows_before : (front rows : List (List ℕ)) → GotMore front rows → take (length front) rows ≡ front
+pub rows_before : (front rows : List (List ℕ)) → HasMore front rows → take (length front) rows ≡ front
 rows_before front rows more = ap (take (length front)) more.1 ∙ take-append_seam front more.0
 
 pub row_open : (names : List Text) (front rows : List (List ℕ)) → rows ≡ front ++ [] ∷ [] → GotRow names front rows []
@@ -118,7 +120,7 @@ lists_added names front rows list got =
     (got.0 ∷ [], got.1, All-cons (AreBelow (length names)) got.0 [] (numbers_below names got.0 list got.2) (All-nil (AreBelow (length names))))
 
 -- a row stays where names and rows are added
-pub row_stays : (names new : List Text) (lists lists' : List (List ℕ)) (row : ℕ) (list : List Text) → GotNames names new → GotMore lists lists'
+pub row_stays : (names new : List Text) (lists lists' : List (List ℕ)) (row : ℕ) (list : List Text) → GotNames names new → HasMore lists lists'
     → IsRow names lists row list → IsRow new lists' row list
 row_stays names new lists lists' row list grew more is =
     let same : get_or lists' row [] ≡ get_or lists row []
@@ -193,7 +195,7 @@ known_more kinds kinds' count more kept longer None known = tt
 known_more kinds kinds' count more kept longer (Some held) known =
     (kept held.kind known.0, omega (arith, known.1, longer), omega (arith, known.2, longer))
 
-pub last_stays : (names new : List Text) (lists lists' : List (List ℕ)) (last : Option LastList) → GotNames names new → GotMore lists lists'
+pub last_stays : (names new : List Text) (lists lists' : List (List ℕ)) (last : Option LastList) → GotNames names new → HasMore lists lists'
     → IsLast names lists last → IsLast new lists' last
 last_stays names new lists lists' None grew more is = tt
 last_stays names new lists lists' (Some last) grew more is = row_stays names new lists lists' last.row (all_needs last.needs.value.1) grew more is

@@ -2,7 +2,7 @@
 use Rattle.std.proofs.Common.{◌≡◌, false, [], ◌∷◌, refl}
 use Rattle.kt_text.specs.Words.{Text}
 use Rattle.kt_rules.specs.Names.{is_special, is_refused_target, is_without_effect}
-use Rattle.kt_rules.specs.inner.Telling.{begins_with_dot}
+use Rattle.kt_rules.specs.Book.{begins_with_dot}
 
 -- such a name
 pub plain_name : (name : Text) → begins_with_dot name ≡ false → is_special name ≡ false

@@ -12,7 +12,8 @@ use Rattle.kt_rules.specs.Known.{names_in}
 use Rattle.kt_rules.specs.Slots.{rules_in}
 use Rattle.kt_rules.specs.Suffixes.{all_needs}
 use Rattle.kt_rules.specs.Targets.{names_at}
-use Rattle.kt_rules.specs.inner.Held.{AreBelow, IsKnown, needs_held, rule_held, rule_in, slots_held}
+use Rattle.kt_rules.specs.inner.Held.{IsKnown, needs_held, rule_held, rule_in, slots_held}
+use Rattle.kt_list.specs.Names.{AreBelow}
 
 -- names with numbers
 numbered_among : (names : List Text) (numbers : List ℕ) → AreBelow (length names) numbers → All (Contains names) (names_at names numbers)

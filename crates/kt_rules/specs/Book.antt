@@ -99,6 +99,7 @@ phony_of rule = option_map_or (λ names. names) (special_needs (codes ".PHONY") 
 unfoldable pub is_phony : List Rule → Text → Bool
 is_phony rules name = is_among (flat_map phony_of rules) name
 
+-- a name that may be special, and isn't the default goal by itself
 abbrev pub begins_with_dot : Text → Bool
 begins_with_dot [] = false
 begins_with_dot (byte ∷ name) = byte == 46

@@ -5,7 +5,8 @@ ghost use Rattle.std.specs.Cmp.Lexicographic.{pointwise};
 ghost use Rattle.kt_text.specs.Functions.{quotes_percent};
 ghost use Rattle.kt_rules.specs.Names.{is_member, is_refused_name, is_refused_target, is_special, is_wildcard};
 ghost use Rattle.kt_rules.specs.Names.{is_without_effect};
-ghost use Rattle.kt_rules.specs.inner.Telling.{begins_with_dot, is_telling, tells_early};
+ghost use Rattle.kt_rules.specs.inner.Telling.{is_telling, tells_early};
+ghost use Rattle.kt_rules.specs.Book.{begins_with_dot};
 
 use crate::name::has_backslash;
 use memchr::memmem;

@@ -18,7 +18,7 @@ use Rattle.kt_eval.specs.declared.macros.Flavour.TheVariants.{Deferred, Immediat
 use Rattle.kt_eval.specs.declared.state.Found.{Found}
 use Rattle.kt_eval.specs.declared.state.Frame.TheVariants.{Loop, Call}
 use Rattle.kt_eval.specs.macros.Macros.{Assigning, keeps, defers, expands, escapes, assigning, find}
-use Rattle.kt_eval.specs.Prefixes.{IsPrefix}
+use Rattle.kt_list.specs.Prefixes.{IsPrefix}
 use Rattle.kt_eval.specs.State.{World, lookup, bind, unbind, say}
 use Rattle.kt_eval.specs.Outcome.{Outcome, Gave, Stopped, then_do, left_of}
 use Rattle.kt_eval.specs.Step.{Step}

@@ -7,7 +7,7 @@ use Rattle.kt_eval.specs.files.Files.{Store}
 use Rattle.kt_eval.specs.macros.Macros.{Table}
 use Rattle.kt_eval.specs.State.{frozen_world}
 use Rattle.kt_eval.specs.declared.stop.Stop.{Stop}
-use Rattle.kt_eval.specs.Prefixes.{IsPrefix}
+use Rattle.kt_list.specs.Prefixes.{IsPrefix}
 use Rattle.kt_eval.specs.Outcome.{AsksNothing, Gives, IfCut, StepOver, leaving, left_of}
 use Rattle.kt_eval.specs.expanding.Expansion.{expanded}
 use Rattle.kt_eval.specs.expanding.Levels.{evaluator}

@@ -8,7 +8,7 @@ use Rattle.kt_eval.specs.declared.macros.Macro.{Macro}
 use Rattle.kt_eval.specs.declared.stop.Stop.{Stop}
 use Rattle.kt_eval.specs.declared.stop.Stop.TheVariants as stops
 use Rattle.kt_eval.specs.files.Files.{Store}
-use Rattle.kt_eval.specs.Prefixes.{IsPrefix}
+use Rattle.kt_list.specs.Prefixes.{IsPrefix}
 use Rattle.kt_eval.specs.macros.Macros.{Table, find, put, set_by_makefile}
 use Rattle.kt_eval.specs.State.{World}
 use Rattle.kt_eval.specs.Outcome.{Outcome, Gave, StepOver, ◌>>◌, leaving}

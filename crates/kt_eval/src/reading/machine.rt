@@ -2,7 +2,7 @@
 
 ghost use Rattle.std.specs.Prelude.{◌≡◌, ◌≤◌, IfErr, IfOk, None, OnOk, Some, map, true};
 ghost use Rattle.kt_eval.specs.files.Files.{AgreeWith, AnswersGrow, Store};
-ghost use Rattle.kt_eval.specs.Prefixes.{IsPrefix};
+ghost use Rattle.kt_list.specs.Prefixes.{IsPrefix};
 ghost use Rattle.kt_eval.specs.reading.Machine.{ComesBefore, IsCopy, Remembers, Repeats, nothing_read, read_by};
 ghost use Rattle.kt_eval.specs.reading.Machine.{read_of, reading, reading_by, traced, traced_by, with_default};
 ghost use Rattle.kt_eval.specs.Outcome.{Gives, IfCut, left_of};

@@ -10,7 +10,7 @@ ghost use Rattle.kt_rules.specs.Targets.{names_view, needed_view};
 ghost use Rattle.kt_graph.specs.inner.nodes.Needed.{first_needs, needing_as, needing_view, rules_needs};
 ghost use Rattle.kt_graph.specs.inner.nodes.Numbering.{AddsNumbers, SaysNeeds};
 ghost use Rattle.kt_graph.specs.inner.nodes.Reached.{reached_text};
-ghost use Rattle.kt_graph.specs.inner.nodes.Stored.{HasMore};
+ghost use Rattle.kt_list.specs.Prefixes.{HasMore};
 ghost use Rattle.kt_graph.specs.nodes.Views.{name_at};
 
 use crate::nodes::needing::{Needing, Sort, needed_as};

@@ -1,6 +1,7 @@
 //! The lists of numbers of all nodes, each a row.
 ghost use Rattle.std.specs.Prelude.{◌≡◌, [], IfOk, Some, get_or, slice_get, true};
-ghost use Rattle.kt_graph.specs.inner.nodes.Stored.{AreRowsOf, HasMore};
+ghost use Rattle.kt_graph.specs.inner.nodes.Stored.{AreRowsOf};
+ghost use Rattle.kt_list.specs.Prefixes.{HasMore};
 
 use kt_list::{Rows, narrow};
 use std::alloc::AllocError;

@@ -3,7 +3,8 @@ ghost use Rattle.std.specs.Prelude.{◌≡◌, ◌++◌, ◌∷◌, ◌<◌, ◌
 ghost use Rattle.std.specs.Prelude.{option_map, option_to_list, slice_get, true, None};
 ghost use Rattle.kt_graph.specs.declared.nodes.node.NodeKind.TheVariants.{DoubleColon};
 ghost use Rattle.kt_graph.specs.inner.nodes.Stored.{input_numbers, order_only_numbers};
-ghost use Rattle.kt_graph.specs.inner.nodes.Stored.{AreAlike, AreRowsOf, AreStored, Grew, HasMore, IsHeadOf, IsLike};
+ghost use Rattle.kt_graph.specs.inner.nodes.Stored.{AreAlike, AreRowsOf, AreStored, Grew, IsHeadOf, IsLike};
+ghost use Rattle.kt_list.specs.Prefixes.{HasMore};
 ghost use Rattle.kt_graph.specs.inner.nodes.Stored.{IsPartWithin, IsSpanWithin, node_like, nodes_stored};
 ghost use Rattle.kt_graph.specs.inner.nodes.Stored.{PutsParts, cut, stored_with, part_held, part_seen};
 ghost use Rattle.kt_graph.specs.inner.nodes.Stored.{parts_held, parts_stored, some_if, stored_at};

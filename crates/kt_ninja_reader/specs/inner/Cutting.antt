@@ -6,7 +6,8 @@ use Rattle.kt_ninja_reader.specs.declared.spelling.Dollar.{Dollar}
 use Rattle.kt_ninja_reader.specs.declared.spelling.Dollar.TheVariants.{Byte, Variable as Named}
 use Rattle.kt_ninja_reader.specs.JoinedLines.{Text}
 use Rattle.kt_ninja_reader.specs.Pieces.{Piece, Plain, Escaped, Variable, Where, in_name, is_long_name_byte}
-use Rattle.kt_ninja_reader.specs.Pieces.{is_short_name_byte, outside, pieces_from}
+use Rattle.kt_ninja_reader.specs.Pieces.{outside, pieces_from}
+use Rattle.kt_ninja_reader.specs.Spellings.{name_goes_on}
 use Rattle.kt_ninja_reader.specs.inner.Spelled.{is_spelled, pieces_in}
 use Rattle.kt_ninja_reader.specs.Forms.{is_plain}
 use Rattle.std.specs.List.{list_any}
@@ -22,14 +23,9 @@ pub record CutsOff (place : Where) (text : Text) (cut : Cut) : Type 0 where
       ≡ option_map (λ later. dollar_piece cut.dollar ∷ later) (pieces_from outside cut.after.now)
   pub less : length cut.after.now ≤ length text
 
--- whether the text begins with a byte of a variable's name
-abbrev pub begins_short : Text → Bool
-begins_short [] = false
-begins_short (b ∷ bs) = is_short_name_byte b
-
 -- the text begins with a name, which is cut off
 abbrev pub CutsShort : Text → Cut → Type 0
-CutsShort text cut = (begins_short text ≡ true) × CutsOff (in_name []) text cut
+CutsShort text cut = (name_goes_on text ≡ true) × CutsOff (in_name []) text cut
 
 -- the text ends, or goes on with a byte that passes
 abbrev pub stops_at : (ℕ → Bool) → Text → Type 0

@@ -2,6 +2,7 @@
 use Rattle.std.specs.Prelude.{◌≡◌, ℕ, ◌<◌, ◌≤◌, List, [], ◌∷◌, ◌++◌, drop, get_or, length, map, slice_get, take}
 use Rattle.std.specs.Prelude.{Bool, true, Option, Some, None, if◌then◌else◌, option_map}
 use Rattle.std.specs.List.{All}
+use Rattle.kt_list.specs.Names.{AreBelow}
 use Rattle.kt_text.specs.Words.{Text}
 use Rattle.kt_rules.specs.declared.book.book_rule.BookRule.{BookRule}
 use Rattle.kt_rules.specs.declared.book.held_rule.HeldRule.{HeldRule}
@@ -18,10 +19,6 @@ use Rattle.kt_rules.specs.Entry.{Rule, rule_by, target_of}
 use Rattle.kt_rules.specs.Slots.{IsKept}
 use Rattle.kt_rules.specs.Suffixes.{all_needs}
 use Rattle.kt_rules.specs.Targets.{line_needs, names_at}
-
--- each number is below a count
-abbrev pub AreBelow : ℕ → List ℕ → Type 0
-AreBelow count numbers = All (λ number. number < count) numbers
 
 -- these are the numbers of names, one by one
 abbrev pub AreNumbersOf : List Text → List ℕ → List Text → Type 0
@@ -93,10 +90,6 @@ pub record AreHeld (names : List Text) (lists : List (List ℕ)) (recipes : List
 abbrev pub numbered_target : BookRule → ℕ → Target
 numbered_target rule number =
     target_of rule.held.now.pattern (line_needs rule) (get_or rule.names.now number [])
-
--- items may have been added at the end
-abbrev pub GotMore : {A : Type 0} → List A → List A → Type 0
-GotMore {A} old new = (more : List A) × (new ≡ old ++ more)
 
 abbrev pub GotNames : List Text → List Text → Type 0
 GotNames old new = (more : List Text) × (new ≡ old ++ more)

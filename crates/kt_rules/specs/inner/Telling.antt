@@ -1,7 +1,6 @@
 -- The bytes that tell of the names of a rule line (kati's own).
-use Rattle.std.specs.Prelude.{◌≡◌, ℕ, Bool, false, ◌==◌, ◌||◌, [], ◌∷◌, None}
+use Rattle.std.specs.Prelude.{◌≡◌, ℕ, Bool, false, ◌==◌, ◌||◌, ◌∷◌, None}
 use Rattle.std.specs.List.{list_any}
-use Rattle.kt_text.specs.Words.{Text}
 use Rattle.kt_text.specs.Match.{has_percent}
 use Rattle.kt_rules.specs.declared.line.Line.{Line}
 use Rattle.kt_rules.specs.declared.signs.Signs.{Signs}
@@ -18,11 +17,6 @@ tells_early byte = is_wildcard byte || byte == 92 || byte == 41
 -- each refused name has one of these, or a tilde
 abbrev pub is_telling : ℕ → Bool
 is_telling byte = tells_early byte || byte == 126
-
--- a name that may be special
-abbrev pub begins_with_dot : Text → Bool
-begins_with_dot [] = false
-begins_with_dot (byte ∷ name) = byte == 46
 
 -- whether a text of a head has a telling byte, and whether that of its targets has a percent sign
 abbrev pub signs_of : Head → Signs

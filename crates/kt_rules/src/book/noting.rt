@@ -7,7 +7,8 @@ ghost use Rattle.kt_rules.specs.Slots.{GotRecipes, GotSpots, GrewIn, slot_rule, 
 ghost use Rattle.kt_rules.specs.Suffixes.{suffixes_after};
 ghost use Rattle.kt_rules.specs.Targets.{entry_view};
 ghost use Rattle.kt_rules.specs.Entry.{Rule};
-ghost use Rattle.kt_rules.specs.inner.Held.{AreBelow, numbered_target};
+ghost use Rattle.kt_rules.specs.inner.Held.{numbered_target};
+ghost use Rattle.kt_list.specs.Names.{AreBelow};
 
 use super::book_rule::BookRule;
 use super::rules::Rules;

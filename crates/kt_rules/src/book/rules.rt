@@ -3,11 +3,12 @@ ghost use Rattle.std.specs.Prelude.{◌≡◌, ◌++◌, ◌∷◌, [], ◌<◌,
 ghost use Rattle.std.specs.Prelude.{ℕ, slice_get, IfOk, IfSome, IsTrue, List, None, false, OnErr, OnOk, Some, unwrap_or};
 ghost use Rattle.std.specs.List.{Contains};
 ghost use Rattle.std.specs.Option.{option_and_then};
-ghost use Rattle.kt_list.specs.Names.{place_of};
+ghost use Rattle.kt_list.specs.Names.{AreBelow, place_of};
 ghost use Rattle.kt_text.specs.Words.{Text};
 ghost use Rattle.kt_rules.specs.Book.{is_double, is_group};
 ghost use Rattle.kt_rules.specs.inner.Alike.{HaveSameList, SaySame};
-ghost use Rattle.kt_rules.specs.inner.Held.{AreBelow, GotLists, GotMore, GotNames, GotRow, HasOneMore, HasRows};
+ghost use Rattle.kt_rules.specs.inner.Held.{GotLists, GotNames, GotRow, HasOneMore, HasRows};
+ghost use Rattle.kt_list.specs.Prefixes.{HasMore};
 ghost use Rattle.kt_rules.specs.inner.Held.{IsLast, IsRow, rule_held};
 ghost use Rattle.kt_rules.specs.Known.{names_in};
 ghost use Rattle.kt_rules.specs.Slots.{rules_in, slot_rule};
@@ -357,7 +358,7 @@ fn add_all(
     ensures listed { OnOk result (GotLists names.new lists.old lists.new) }
     ensures lined { OnOk result (lines.new ≡ lines.old
         ++ unwrap_or (option_map (λ own. own.items) recipe) [] ∷ []) }
-    ensures kept { GotMore lists.old lists.new }
+    ensures kept { HasMore lists.old lists.new }
     ensures lines_refused { OnErr result (lines.new ≡ lines.old) }
     ensures grown { GotNames names.old names.new }
 {
@@ -377,7 +378,7 @@ fn add_needs(
     ensures added { IsLast names.old lists.old last.now
         → IfOk result (λ row. IsRow names.new lists.new row (all_needs needs.now)) }
     ensures listed { OnOk result (GotLists names.new lists.old lists.new) }
-    ensures kept { GotMore lists.old lists.new }
+    ensures kept { HasMore lists.old lists.new }
     ensures grown { GotNames names.old names.new }
 {
     match known_row(last, needs) {
@@ -389,7 +390,7 @@ fn add_needs(
 fn add_own(names: &mut Names, lists: &mut Rows<u32>, needs: &Needs) -> Result<u32, AllocError>
     ensures added { IfOk result (λ row. IsRow names.new lists.new row (all_needs needs.now)) }
     ensures listed { OnOk result (GotLists names.new lists.old lists.new) }
-    ensures kept { GotMore lists.old lists.new }
+    ensures kept { HasMore lists.old lists.new }
     ensures grown { GotNames names.old names.new }
 {
     let prerequisites = needs.prerequisites.as_slice();
@@ -419,7 +420,7 @@ fn add_list(
 ) -> Result<u32, AllocError>
     ensures added { IfOk result (λ row. IsRow names.new lists.new row (first.now ++ others.now)) }
     ensures listed { OnOk result (GotLists names.new lists.old lists.new) }
-    ensures kept { GotMore lists.old lists.new }
+    ensures kept { HasMore lists.old lists.new }
     ensures grown { GotNames names.old names.new }
 {
     let row = narrow(lists.len())?;

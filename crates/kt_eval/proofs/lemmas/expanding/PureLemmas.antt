@@ -6,7 +6,7 @@ use Rattle.kt_eval.specs.declared.state.Frame.{Frame}
 use Rattle.kt_eval.specs.declared.stop.Stop.{Stop}
 use Rattle.kt_eval.specs.declared.stop.Stop.TheVariants as stops
 use Rattle.kt_eval.specs.files.Files.{Store}
-use Rattle.kt_eval.specs.Prefixes.{IsPrefix}
+use Rattle.kt_list.specs.Prefixes.{IsPrefix}
 use Rattle.kt_eval.specs.macros.Macros.{Table}
 use Rattle.kt_eval.specs.State.{World, frozen_world}
 use Rattle.kt_eval.specs.Outcome.{AsksNothing, Outcome, Gave, Stopped, Gives, IfCut, leaving, left_of}

@@ -20,7 +20,8 @@ use Rattle.kt_graph.specs.inner.nodes.Stored.{StoredNode}
 use Rattle.kt_graph.specs.search.Candidates.{Candidate}
 use Rattle.kt_graph.specs.inner.nodes.Needed.{needed_by}
 use Rattle.kt_graph.specs.nodes.Node.{Instance, Node, Part, all_inputs, node_by, node_of}
-use Rattle.kt_graph.specs.inner.nodes.Numbering.{AreBelow, HasNumbers, IsMaking, IsNumbered, IsStoredAs, SaysNode, SaysPart, SayParts, StandFor}
+use Rattle.kt_graph.specs.inner.nodes.Numbering.{HasNumbers, IsMaking, IsNumbered, IsStoredAs, SaysNode, SaysPart, SayParts, StandFor}
+use Rattle.kt_list.specs.Names.{AreBelow}
 use Rattle.kt_graph.specs.Reach.{IsReached}
 use Rattle.kt_graph.specs.inner.nodes.GraphBuilder.{AllSay, AreTold, BuildsNode, IsBegun, IsDone, IsOver, IsUnderWay}
 use Rattle.kt_graph.specs.inner.nodes.Reached.{reached_text}

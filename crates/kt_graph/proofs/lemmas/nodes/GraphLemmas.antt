@@ -19,7 +19,7 @@ use Rattle.kt_graph.specs.inner.nodes.Stored.{StoredNode}
 use Rattle.kt_graph.specs.inner.faults.Edges.{needed_numbers}
 use Rattle.kt_graph.specs.inner.faults.Files.{AreDistinct}
 use Rattle.kt_graph.specs.nodes.Node.{Node, all_inputs, inputs_of, node_of}
-use Rattle.kt_graph.specs.inner.nodes.Numbering.{AreBelow}
+use Rattle.kt_list.specs.Names.{AreBelow}
 use Rattle.kt_graph.specs.Reach.{HasInput, IsGraph, IsReached, Leads}
 use Rattle.kt_graph.specs.nodes.Views.{instance_view, name_at, names_at, node_at, node_view, nodes_view}
 use Rattle.kt_graph.specs.inner.nodes.GraphBuilder.{IsDone}

@@ -13,7 +13,8 @@ use Rattle.kt_graph.specs.inner.nodes.Stored.{StoredPart}
 use Rattle.kt_graph.specs.inner.nodes.Stored.{StoredNode}
 use Rattle.kt_graph.specs.inner.faults.Files.{AreDistinct}
 use Rattle.kt_graph.specs.nodes.Node.{Part, inputs_of, order_only_of}
-use Rattle.kt_graph.specs.inner.nodes.Numbering.{AreBelow, HasNumbers, IsNumbered}
+use Rattle.kt_graph.specs.inner.nodes.Numbering.{HasNumbers, IsNumbered}
+use Rattle.kt_list.specs.Names.{AreBelow}
 use Rattle.kt_graph.specs.inner.nodes.Inputs.{numbers_without, with_number}
 use Rattle.kt_graph.specs.inner.nodes.Stored.{input_numbers}
 use Rattle.kt_graph.specs.nodes.Views.{name_at, names_at, node_view, part_view}

@@ -12,14 +12,13 @@ use Rattle.std.proofs.lemmas.Map.Keys.{IsDistinct-push}
 use Rattle.std.proofs.lemmas.Option.{slice_get-get_or, slice_get_within}
 use Rattle.std.proofs.lemmas.Result.{IfOk-weaker, on_err_weaker}
 use Rattle.std.proofs.lemmas.Slice.Eq.{bytes_eq-Decides}
-use Rattle.kt_list.specs.Names.{is_among, place_of, with_name}
+use Rattle.kt_list.specs.Names.{AreBelow, is_among, place_of, with_name}
 use Rattle.kt_list.proofs.NameLemmas.{number_found}
 use Rattle.kt_text.specs.Words.{Text}
 use Rattle.kt_rules.proofs.NoteLemmas.{no_two, same_place}
 use Rattle.kt_graph.specs.declared.nodes.reached.Reached.{Reached}
-use Rattle.kt_graph.specs.inner.nodes.Numbering.{AreBelow}
 use Rattle.kt_graph.specs.inner.nodes.Reached.{HasSame, IsPlaced, IsPushed, IsReachedAt, ReachesNumber, StaysPlaced, place_held, place_marked}
-use Rattle.kt_graph.specs.inner.nodes.Stored.{HasMore}
+use Rattle.kt_list.specs.Prefixes.{HasMore}
 use Rattle.kt_graph.specs.nodes.Views.{name_at, names_at}
 use Rattle.kt_graph.proofs.lemmas.nodes.NumberLemmas.{place_kept}
 

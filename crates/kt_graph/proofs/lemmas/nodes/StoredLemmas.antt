@@ -11,7 +11,8 @@ use Rattle.kt_graph.specs.declared.nodes.part.Part.{Part as NewPart}
 use Rattle.kt_graph.specs.declared.nodes.stored.Head.{Head}
 use Rattle.kt_graph.specs.declared.nodes.stored.HeldPart.{HeldPart}
 use Rattle.kt_graph.specs.declared.nodes.stored.Span.{Span}
-use Rattle.kt_graph.specs.inner.nodes.Stored.{AreRowsOf, AreStored, Grew, HasMore, IsHeadOf, IsHeadWithin, IsLike, IsPartWithin, IsSpanWithin, PutsParts, StoredNode, StoredPart, cut, input_numbers, node_like, node_stored, stored_with, nodes_stored, order_only_numbers, part_stored, parts_stored, some_if, stored_at}
+use Rattle.kt_graph.specs.inner.nodes.Stored.{AreRowsOf, AreStored, Grew, IsHeadOf, IsHeadWithin, IsLike, IsPartWithin, IsSpanWithin, PutsParts, StoredNode, StoredPart, cut, input_numbers, node_like, node_stored, stored_with, nodes_stored, order_only_numbers, part_stored, parts_stored, some_if, stored_at}
+use Rattle.kt_list.specs.Prefixes.{HasMore}
 use Rattle.kt_graph.specs.inner.nodes.Grouping.{is_made_at, making_at}
 use Rattle.kt_graph.specs.nodes.Node.{is_leaf}
 use Rattle.kt_graph.proofs.lemmas.MemberLemmas.{Contains-slice_get}

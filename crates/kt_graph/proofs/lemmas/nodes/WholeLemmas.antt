@@ -15,7 +15,8 @@ use Rattle.kt_graph.specs.declared.nodes.node.Instance.{Instance as Held}
 use Rattle.kt_graph.specs.inner.nodes.Stored.{StoredNode}
 use Rattle.kt_graph.specs.inner.faults.Edges.{AreEdgesOf, AreMadeBelow, AreNeededBelow, HasNext, IsEdge, LeadsBack, LeadsOn, LeadsTo, needed_numbers}
 use Rattle.kt_graph.specs.nodes.Node.{Instance, Node, all_inputs, inputs_of, node_of}
-use Rattle.kt_graph.specs.inner.nodes.Numbering.{AreBelow, HasNumbers}
+use Rattle.kt_graph.specs.inner.nodes.Numbering.{HasNumbers}
+use Rattle.kt_list.specs.Names.{AreBelow}
 use Rattle.kt_graph.specs.Reach.{AreOneMaking, HasEdge, HasInput, IsCyclic, IsGraph, IsInGroup, IsReached, Leads, Reaches, itself, beside}
 use Rattle.kt_graph.specs.nodes.Views.{instance_at, instance_view, name_at, names_at, node_at, node_view, nodes_view}
 use Rattle.kt_graph.specs.inner.nodes.Graph.{IsWhole}

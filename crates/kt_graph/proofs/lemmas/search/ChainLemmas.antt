@@ -11,7 +11,8 @@ use Rattle.kt_rules.specs.Entry.{Rule}
 use Rattle.kt_graph.specs.declared.search.candidate.Candidate.{Candidate as HeldCandidate}
 use Rattle.kt_graph.specs.declared.search.question.Question.{Question}
 use Rattle.kt_graph.specs.declared.search.tried.Tried.{Tried}
-use Rattle.kt_graph.specs.inner.search.Chains.{IsFound, IsPrefix, IsRight, IsRightFor, KeepsAnswers, HasAnswered, StandsLast, StoodBefore, asked_besides, expected_for, left_for}
+use Rattle.kt_graph.specs.inner.search.Chains.{IsFound, IsRight, IsRightFor, KeepsAnswers, HasAnswered, StandsLast, StoodBefore, asked_besides, expected_for, left_for}
+use Rattle.kt_list.specs.Prefixes.{IsPrefix}
 use Rattle.kt_graph.specs.search.Search.{Sought, asked_eq, asking, chain_limit, fitting, with_question}
 use Rattle.kt_graph.specs.search.Views.{question_view}
 use Rattle.kt_graph.proofs.lemmas.search.AskingLemmas.{asking_is, after_deep}

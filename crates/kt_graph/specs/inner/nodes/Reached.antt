@@ -3,12 +3,11 @@ use Rattle.std.specs.Prelude.{◌≡◌, ℕ, zero, suc, ◌≤◌, List, [], �
 use Rattle.std.specs.Prelude.{Option, Some, None}
 use Rattle.std.specs.Borrow.{Bor}
 use Rattle.std.specs.List.{IsDistinct}
-use Rattle.kt_list.specs.Names.{place_of, with_name}
+use Rattle.kt_list.specs.Names.{AreBelow, place_of, with_name}
 use Rattle.kt_text.specs.Words.{Text}
 use Rattle.kt_graph.specs.declared.nodes.reached.Reached.{Reached}
 use Rattle.kt_graph.specs.declared.nodes.reached_name.ReachedName.{ReachedName}
 use Rattle.kt_graph.specs.declared.nodes.reached_name.ReachedName.TheVariants.{InTables, Other}
-use Rattle.kt_graph.specs.inner.nodes.Numbering.{AreBelow}
 use Rattle.kt_graph.specs.nodes.Views.{names_at}
 
 -- the bytes of a name

@@ -2,6 +2,7 @@
 use Rattle.std.specs.Prelude.{◌≡◌, ℕ, ◌≤◌, ◌<◌, ◌+◌, List, [], ◌++◌, length, map, All, Option, None, option_map}
 use Rattle.std.specs.Prelude.{◌∷◌, Bool, Some, false, flat_map, fold, get_or, slice_get, true}
 use Rattle.std.specs.List.{slice_range}
+use Rattle.kt_list.specs.Prefixes.{HasMore}
 use Rattle.kt_rules.specs.declared.entry.RecipeLine.{RecipeLine}
 use Rattle.kt_graph.specs.declared.nodes.node.NodeKind.{NodeKind}
 use Rattle.kt_graph.specs.declared.nodes.node.NodeKind.TheVariants.{Leaf}
@@ -158,10 +159,6 @@ pub record AreStored (parts : List HeldPart) (rows : List (List ℕ)) (heads : L
   pub heads_within : All (IsHeadWithin (length parts) (length rows)) heads
 
 -- ---- steps
-
--- a list may have more elements at the end
-abbrev pub HasMore : {A : Type 0} → List A → List A → Type 0
-HasMore {A} old new = (more : List A) × (new ≡ old ++ more)
 
 -- parts and rows were added at the end
 pub record Grew (parts : List HeldPart) (rows : List (List ℕ)) (new_parts : List HeldPart)

@@ -1,7 +1,8 @@
 -- The questions of a search with their answers, as the code holds them (kati's own).
-use Rattle.std.specs.Prelude.{◌≡◌, ℕ, zero, suc, ◌-◌, ◌<◌, ◌≤◌, true, false, List, [], ◌∷◌, ◌++◌, length, map, take}
+use Rattle.std.specs.Prelude.{◌≡◌, ℕ, zero, suc, ◌-◌, ◌<◌, ◌≤◌, true, false, List, [], ◌∷◌, ◌++◌, length, map}
 use Rattle.std.specs.Prelude.{fold, Option, Some, None, IfSome, unwrap_or, slice_get}
 use Rattle.std.specs.List.{Contains, list_any}
+use Rattle.kt_list.specs.Prefixes.{IsPrefix}
 use Rattle.kt_text.specs.Words.{Text}
 use Rattle.kt_rules.specs.Entry.{Rule}
 use Rattle.kt_graph.specs.declared.search.candidate.Candidate.{Candidate as HeldCandidate}
@@ -62,11 +63,6 @@ pub record HasAnswered (rules : List Rule) (known : List Text) (old new : Tried)
     (asked : List Sought) : Type 0 where
   pub put : Asks old new asked
   pub right : IsRightFor rules known new least
-
--- the second list begins with the first: any number of elements at the start, up to the length of the first, is the
--- same in both
-abbrev pub IsPrefix : {A : Type 0} → List A → List A → Type 0
-IsPrefix old new = (length old ≤ length new) × ((count : ℕ) → count ≤ length old → take count new ≡ take count old)
 
 -- the rules and known names of a search
 pub record Finding : Type 0 where

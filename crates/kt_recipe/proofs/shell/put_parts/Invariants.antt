@@ -1,6 +1,6 @@
 use Rattle.std.proofs.Common.{◌≡◌, ◌-◌, length}
 use Rattle.std.specs.List.{range_with_len}
-use Rattle.kt_eval.specs.Prefixes.{IsPrefix}
+use Rattle.kt_list.specs.Prefixes.{IsPrefix}
 use Rattle.kt_recipe.specs.Shell.{put_parts}
 use Rattle.kt_recipe.specs.Views.{command_in}
 use Rattle.kt_recipe.proofs.shell.put_parts.Given as goal

@@ -1,5 +1,5 @@
 use Rattle.std.proofs.Common.{◌≡◌, drop}
-use Rattle.kt_eval.specs.Prefixes.{IsPrefix}
+use Rattle.kt_list.specs.Prefixes.{IsPrefix}
 use Rattle.kt_recipe.specs.Automatic.{automatic_in}
 use Rattle.kt_recipe.specs.Shell.{put_lines}
 use Rattle.kt_recipe.specs.Views.{command_in}
