@@ -3,8 +3,7 @@ use Rattle.std.proofs.Common.{eqb, ◌≡◌, ℕ, Bool, true, false, List, [], 
 use Rattle.std.specs.List.{list_any}
 use Rattle.std.proofs.lemmas.Bool.{eq-eqb, or_parts, true≢false}
 use Rattle.kt_text.specs.Words.{Text}
-use Rattle.kati.specs.Names.{names_text}
-use Rattle.kati.specs.NamesApart.{LinesTellNames, has_newline}
+use Rattle.kati.specs.Names.{LinesTellNames, has_newline, names_text}
 
 abbrev first_of : List ℕ → ℕ
 first_of [] = 0

@@ -2,7 +2,7 @@
 use Rattle.std.proofs.Common.{◌≡◌, ℕ, ◌≤◌, List, [], ◌∷◌, ◌++◌, length, Option, Some, None, sym, ap, arith, zero, suc, subst}
 use Rattle.std.specs.Prelude.{slice_get}
 use Rattle.std.proofs.lemmas.List.{length-append}
-use Rattle.kati.specs.inner.Ranges.{AreRanges}
+use Rattle.kati.specs.inner.Drawn.{AreRanges}
 
 module _ {A : Type 0} (start end : A → ℕ) where
   pub ranges_longer : (size longer : ℕ) (marks : List A) → size ≤ longer → AreRanges start end size marks → AreRanges start end longer marks

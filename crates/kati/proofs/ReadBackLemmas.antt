@@ -17,7 +17,7 @@ use Rattle.kt_ninja_reader.proofs.PrintThenRead.{printed_is_read}
 use Rattle.kati_args.specs.declared.args.Args.{Args}
 use Rattle.kati.specs.Meaning.{Meaning, Means, MeansAfter, MeansGoals, Wanted, meaning_of, prepared}
 use Rattle.kati.specs.Planning.{plan_groups, plan_of, plan_unless, planned, text_fault, unwritable_in, written}
-use Rattle.kati.specs.ReadBack.{PlansReadBack}
+use Rattle.kati.specs.Once.{PlansReadBack}
 use Rattle.kati.specs.Steps.{telling}
 use Rattle.kati.specs.inner.Views.{is_text_trouble}
 use Rattle.kt_recipe.proofs.CommandLemmas.{gave_both}

@@ -12,10 +12,8 @@ pub mod Exits
 pub mod ErrorOutput
 pub mod AfterRun
 pub mod Limits
-pub mod ReadBack
 pub mod Exact
 pub mod Sound
 pub mod Once
 pub mod Names
-pub mod NamesApart
 pub mod inner

@@ -1,6 +1,6 @@
 -- What kati-asked writes, and how it ends (kati's own).
-use Rattle.std.specs.Prelude.{◌≡◌, ℕ, List, ◌∷◌, ◌++◌, Result, Ok, Err, codes}
-use Rattle.std.specs.List.{flat_map}
+use Rattle.std.specs.Prelude.{◌≡◌, ℕ, List, ◌∷◌, ◌++◌, Result, Ok, Err, codes, Bool, false, ◌==◌}
+use Rattle.std.specs.List.{flat_map, list_any}
 use Rattle.kt_list.specs.Counters.{Rises}
 use Rattle.kt_text.specs.Words.{Text}
 use Rattle.kt_eval.specs.files.Files.{AgreeWith, Store}
@@ -59,3 +59,13 @@ help_lead = codes "kati-asked runs kati, and writes the names that it asks for b
 -- the whole program: like kati, but for its run and the line before the help
 abbrev pub AskedExits : List Text → ℕ → Devices → Devices → Type 0
 AskedExits words code old new = Exits NamingExits help_lead words code old new
+
+-- ---- lines tell names
+
+abbrev pub has_newline : Text → Bool
+has_newline name = list_any (λ byte. byte == 10) name
+
+-- no two lists of names without newlines are written as the same text
+abbrev pub LinesTellNames : Type 0
+LinesTellNames = (one other : List Text) → list_any has_newline one ≡ false → list_any has_newline other ≡ false
+    → names_text one ≡ names_text other → one ≡ other

@@ -1,9 +1,13 @@
--- That a run has a meaning, and only one (kati's own).
-use Rattle.std.specs.Prelude.{◌≡◌, List}
+-- That a run has a meaning, and only one, and that its plan is read back from its text (kati's own).
+use Rattle.std.specs.Prelude.{◌≡◌, List, Ok}
 use Rattle.kt_text.specs.Words.{Text}
 use Rattle.kt_eval.specs.files.Files.{Store}
 use Rattle.kati_args.specs.declared.args.Args.{Args}
 use Rattle.kati.specs.Meaning.{Meaning, Means}
+use Rattle.kt_ninja.specs.declared.plan.Plan.{Plan}
+use Rattle.kt_ninja_reader.specs.NinjaRead.{ninja_read}
+use Rattle.kt_ninja.specs.Text.{plan_text}
+use Rattle.kt_ninja.specs.Writable.{IsWritable}
 
 -- two meanings of one run are equal: messages, plan or fault, and names asked for
 abbrev pub HasOneMeaning : Type 0
@@ -13,3 +17,9 @@ HasOneMeaning = (args : Args) (store : Store) (asked : List Text) (m n : Meaning
 -- each run has a meaning, whatever its arguments are and its files hold
 abbrev pub HasAMeaning : Type 0
 HasAMeaning = (args : Args) (store : Store) (asked : List Text) → (m : Meaning) × Means args store asked m
+
+-- each plan that a run means can be written, and its text is read as exactly this plan
+abbrev pub PlansReadBack : Type 0
+PlansReadBack = (args : Args) (store : Store) (asked : List Text) (m : Meaning) (plan : Plan)
+    → Means args store asked m → m.result ≡ Ok plan
+    → IsWritable plan × (ninja_read (plan_text plan) ≡ Ok plan)

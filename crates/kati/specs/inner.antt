@@ -1,7 +1,6 @@
 -- What only contracts of private functions and proofs cite: none of this is needed to read the public contracts.
 pub mod Stops
 pub mod Views
-pub mod Ranges
 pub mod Drawn
 pub mod Shared
 pub mod Shown

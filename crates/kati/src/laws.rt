@@ -2,9 +2,8 @@
 ghost use Rattle.kati.specs.Asked.{NamesAreAsked};
 ghost use Rattle.kati.specs.Exact.{PlansAreGraphs};
 ghost use Rattle.kati.specs.Limits.{OnlyCuts, OnlyCutsRuns};
-ghost use Rattle.kati.specs.NamesApart.{LinesTellNames};
-ghost use Rattle.kati.specs.Once.{HasAMeaning, HasOneMeaning};
-ghost use Rattle.kati.specs.ReadBack.{PlansReadBack};
+ghost use Rattle.kati.specs.Names.{LinesTellNames};
+ghost use Rattle.kati.specs.Once.{HasAMeaning, HasOneMeaning, PlansReadBack};
 ghost use Rattle.kati.specs.Sound.{PlansAreSound};
 
 /// A run has a meaning, whatever its arguments are and its files hold, so a law of meanings is never about nothing.

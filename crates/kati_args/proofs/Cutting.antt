@@ -6,7 +6,8 @@ use Rattle.std.proofs.lemmas.Str.Pattern.{IsSplitOnceResult, split_once_first}
 use Rattle.std.specs.Prelude.{true, false, Option, Some, None, MatchOption}
 use Rattle.std.specs.Borrow.{Bor}
 use Rattle.std.specs.List.{position_or_len, after_first}
-use Rattle.kati_args.specs.Args.{is_equals, is_macro, name_in}
+use Rattle.kati_args.specs.Args.{is_macro, name_in}
+use Rattle.kt_text.specs.Words.{is_equals}
 
 has_equals : (word : List ℕ) → is_macro word ≡ ltb (position_or_len is_equals word) (length word)
 has_equals [] = refl

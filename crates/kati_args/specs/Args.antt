@@ -6,7 +6,7 @@ use Rattle.std.specs.Prelude.{string_bytes, Option}
 use Rattle.std.specs.List.{list_any, before_first, after_first}
 use Rattle.std.specs.Option.{option_map_or}
 use Rattle.std.specs.Str.Parse.{digits_value, without_leading_plus}
-use Rattle.kt_text.specs.Words.{Text, is_separator}
+use Rattle.kt_text.specs.Words.{Text, is_separator, is_equals}
 use Rattle.clap.specs.Words.{App, IsAmong, Row, Rule, all_of, fault_of, first_of, kind_of, matches_of, new_app}
 use Rattle.clap.specs.Words.{new_rule, takes, with_rule}
 use Rattle.clap.specs.declared.builder.action.ArgAction.TheVariants.{Append, Set, SetTrue}
@@ -48,9 +48,6 @@ kati_app =
 
 abbrev pub words_in : List Row → List Text
 words_in rows = unwrap_or (all_of (codes "words") rows) []
-
-abbrev pub is_equals : ℕ → Bool
-is_equals byte = byte == 61
 
 -- a word with an equals sign is a macro, and the others are goals
 abbrev pub is_macro : Text → Bool

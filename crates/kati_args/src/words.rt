@@ -1,8 +1,8 @@
 //! Words that are no option: goals and macros.
 ghost use Rattle.std.specs.Prelude.{◌≡◌, IfOk, MatchOption, false, find, map, option_map, true};
 ghost use Rattle.std.specs.List.{after_first, list_any};
-ghost use Rattle.kt_text.specs.Words.{is_separator};
-ghost use Rattle.kati_args.specs.Args.{ends_in_operator, goals_in, is_bad_macro, is_bad_name, is_equals, is_macro};
+ghost use Rattle.kt_text.specs.Words.{is_equals, is_separator};
+ghost use Rattle.kati_args.specs.Args.{ends_in_operator, goals_in, is_bad_macro, is_bad_name, is_macro};
 ghost use Rattle.kati_args.specs.Args.{is_operator, macros_in, name_in};
 
 use crate::args::{Macro, Name};

@@ -5,11 +5,16 @@ use Rattle.std.proofs.lemmas.List.Folds.{list_all-append}
 use Rattle.std.proofs.Math.Seq.{take-append-add, drop-cons}
 use Rattle.kt_ninja_reader.specs.declared.joined.FileLine.{FileLine as CutLine}
 use Rattle.kt_ninja_reader.specs.declared.joined.Begun.{Begun as OpenLine}
-use Rattle.kt_ninja_reader.specs.inner.Joining.{Joins, added_text, begun_by, file_line, kept_text, text_with}
+use Rattle.kt_ninja_reader.specs.inner.Joining.{Joins, added_text, file_line, kept_text, text_with}
 use Rattle.std.proofs.lemmas.List.Sums.{position_or_len_is}
 use Rattle.memchr.specs.Find.{IsFirstByte, is_byte}
 use Rattle.std.specs.List.{position_or_len}
 use Rattle.kt_ninja_reader.specs.JoinedLines.{FileLine, JoinedLine, Text, ends_in_dollar, file_lines, first_number, goes_on, is_blank, is_comment, joined_from, joined_text, left_over, with_byte, without_indent}
+
+-- what was begun, if a line goes on
+abbrev pub begun_by : Bool → OpenLine → Option Begun
+begun_by true begun = Some (record { first = begun.number; front = begun.text })
+begun_by false begun = None
 
 -- whether a byte that was found is a hash
 abbrev pub is_hash : Option ℕ → Bool

@@ -22,7 +22,14 @@ use Rattle.kt_rules.specs.declared.book.pattern_set.PatternSet.{PatternSet}
 use Rattle.kt_rules.specs.Book.{is_made, patterns_in, suffix_rule_as_pattern, repeats, unrepeated, patterns_of, names_eq, target_names}
 use Rattle.kt_rules.specs.Suffixes.{suffixes_of}
 use Rattle.kt_rules.specs.Slots.{rules_in}
-use Rattle.kt_rules.specs.Patterns.{suffix_rules_at, stays_before, held, has_repeated, has_pattern, IsKeyOf, IsSorted}
+use Rattle.kt_rules.specs.Patterns.{suffix_rules_at, stays_before, held, has_repeated, has_pattern, IsKeyOf}
+
+-- the rules after the remaining ones are sorted: the kept ones are in reverse order, and the set has them all
+pub record IsSorted (all left kept : List Rule) (set : PatternSet) : Type 0 where
+  pub past : List Rule
+  pub whole : left ++ past ≡ all
+  pub stay : reverse kept ≡ unrepeated past
+  pub same : (rule : Rule) → has_pattern set rule ≡ list_any (repeats rule) past
 
 one_suffix_rule : (suffixes : List Text) (rule : Rule) (target : Target) (rest : List Target) (b : Bool)
     → filter_map (suffix_rule_as_pattern suffixes) (map (λ t. (rule, t)) (cond b (target ∷ rest) rest))

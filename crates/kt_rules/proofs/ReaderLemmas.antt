@@ -6,13 +6,13 @@ use Rattle.std.proofs.lemmas.Bool.{cases_Bool}
 use Rattle.std.proofs.lemmas.Bool.Decides.{Decides-eqb}
 use Rattle.std.proofs.lemmas.Slice.Eq.{starts_is}
 use Rattle.kt_text.specs.Match.{has_percent}
-use Rattle.kt_text.specs.Words.{Text}
+use Rattle.kt_text.specs.Words.{Text, is_colon}
 use Rattle.kt_rules.specs.declared.entry.Needs.{Needs}
 use Rattle.kt_rules.specs.declared.head.Separator.TheVariants.{Single}
 use Rattle.kt_rules.specs.declared.line.Line.{Line}
 use Rattle.kt_rules.specs.Entry.{read_line, tested_line}
 use Rattle.kt_rules.specs.RuleLine.{Head, after_double, head_of, line_of}
-use Rattle.kt_rules.specs.inner.Remembered.{IsLongCut, Names, ReadsAsLong, is_colon, long_line}
+use Rattle.kt_rules.specs.inner.Remembered.{IsLongCut, Names, ReadsAsLong, long_line}
 use Rattle.kt_rules.specs.inner.Telling.{is_telling, signs_of}
 use Rattle.kt_rules.proofs.BackslashLemmas.{never_colon}
 use Rattle.kt_rules.proofs.SignLemmas.{signs_tell}

@@ -1,6 +1,6 @@
 -- Pattern rules as the program holds them (kati's own).
-use Rattle.std.specs.Prelude.{ℕ, Bool, true, false, map, List, [], ◌++◌, filter_map, option_to_list}
-use Rattle.std.specs.Prelude.{◌≡◌, reverse, is_some, not, ◌&&◌, if◌then◌else◌}
+use Rattle.std.specs.Prelude.{ℕ, Bool, true, false, map, List, [], filter_map, option_to_list}
+use Rattle.std.specs.Prelude.{is_some, not, ◌&&◌, if◌then◌else◌}
 use Rattle.std.specs.List.{list_any}
 use Rattle.std.specs.declared.vec.Vec.{Vec}
 use Rattle.std.specs.declared.alloc.Global.{Global}
@@ -13,7 +13,7 @@ use Rattle.kt_rules.specs.Entry.{Rule}
 use Rattle.kt_rules.specs.declared.book.pattern_set.PatternKey.{PatternKey}
 use Rattle.kt_rules.specs.declared.book.pattern_set.PatternSet.{PatternSet}
 use Rattle.kt_rules.specs.Book.{is_made, target_rules, target_names, names_eq, suffix_rule_as_pattern}
-use Rattle.kt_rules.specs.Book.{repeats, unrepeated}
+use Rattle.kt_rules.specs.Book.{repeats}
 
 -- a rule with the kind, targets and prerequisites of a pattern rule
 abbrev pub form_view : Rule → PatternForm → Rule
@@ -69,10 +69,3 @@ has_pattern set rule = list_any (has_repeated rule) set.keys.keys
 -- whether a pattern rule is kept: it has a recipe, and none of the set repeats it
 abbrev pub stays_before : PatternSet → Rule → Bool
 stays_before past rule = is_some rule.recipe && not (has_pattern past rule)
-
--- the rules after the remaining ones are sorted: the kept ones are in reverse order, and the set has them all
-pub record IsSorted (all left kept : List Rule) (set : PatternSet) : Type 0 where
-  pub past : List Rule
-  pub whole : left ++ past ≡ all
-  pub stay : reverse kept ≡ unrepeated past
-  pub same : (rule : Rule) → has_pattern set rule ≡ list_any (repeats rule) past

@@ -15,7 +15,7 @@ use Rattle.kt_text.proofs.GapLemmas.{past, condenses, newline_end, shorter, spel
 use Rattle.kt_text.proofs.NewlineLemmas.{IsFree, free_at, free_take}
 use Rattle.kt_text.proofs.OneCondensing.{Around, around, left_of_gap}
 use Rattle.kt_syntax.specs.Heads.{head_end}
-use Rattle.kt_syntax.specs.Semicolons.{HasNoSemicolon, SemicolonLaw}
+use Rattle.kt_syntax.specs.Condensed.{HasNoSemicolon, SemicolonLaw}
 use Rattle.kt_syntax.proofs.StopLemmas.{State, at-no, at-yes, found_at, head_found, next, stops}
 use Rattle.kt_syntax.proofs.StopPlaces.{Stop, ahead, later}
 use Rattle.kt_syntax.proofs.StopLemmas.{plain, dollar, within}

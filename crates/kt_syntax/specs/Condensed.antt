@@ -1,10 +1,10 @@
 -- What a line says is what its condensed text says (GNU make manual, "Splitting Long Lines").
-use Rattle.std.specs.Prelude.{◌≡◌, Bool, Option, option_map}
+use Rattle.std.specs.Prelude.{◌≡◌, Bool, Option, option_map, ◌↔◌, take}
 use Rattle.kt_text.specs.Words.{Text}
 use Rattle.kt_text.specs.Lines.{condensed_of}
 use Rattle.kt_text.specs.Condensing.{IsLine}
-use Rattle.kt_syntax.specs.Kinds.{kind_of, line_kind}
-use Rattle.kt_syntax.specs.Heads.{RuleTexts, line_parts}
+use Rattle.kt_syntax.specs.Kinds.{kind_of, line_kind, comment_place}
+use Rattle.kt_syntax.specs.Heads.{RuleTexts, line_parts, head_end}
 
 -- the head, or none of a line that assigns a target-specific macro
 abbrev pub head_of_parts : Option RuleTexts → Option Text
@@ -16,3 +16,16 @@ pub record LineLaw : Type 0 where
   pub kind : (line : Text) (tab : Bool) → IsLine line → line_kind line tab ≡ line_kind (condensed_of line) tab
   pub head : (line : Text) → IsLine line
       → head_of_parts (line_parts line) ≡ head_of_parts (line_parts (condensed_of line))
+
+-- the semicolon of a rule line (POSIX.1-2024 make, "Target Rules"): the head ends at the first one of the line's text,
+-- in which continuations are condensed, and the recipe begins at the first one of the line as it stands; a text has
+-- none outside references before its comment
+abbrev pub HasNoSemicolon : Text → Type 0
+HasNoSemicolon text = head_end text ≡ comment_place text
+
+-- both are the same one, or there is none in either: what stands before the one in the line becomes, condensed, what
+-- stands before the one in the line's text
+pub record SemicolonLaw : Type 0 where
+  pub none : (line : Text) → HasNoSemicolon line ↔ HasNoSemicolon (condensed_of line)
+  pub same : (line : Text)
+      → condensed_of (take (head_end line) line) ≡ take (head_end (condensed_of line)) (condensed_of line)

@@ -17,7 +17,6 @@ pub mod Recipes
 pub mod RecipeTexts
 pub mod Roles
 pub mod Rows
-pub mod Semicolons
 pub mod Signs
 pub mod Steps
 pub mod Terms

@@ -6,14 +6,13 @@ ghost use Rattle.kt_syntax.specs.Assignments.{AssignmentLaw};
 ghost use Rattle.kt_syntax.specs.BlockRows.{RowsOfBlocks};
 ghost use Rattle.kt_syntax.specs.Blocks.{Items, blocks_of, tree_of};
 ghost use Rattle.kt_syntax.specs.CommentTexts.{CommentLaw};
-ghost use Rattle.kt_syntax.specs.Condensed.{LineLaw};
+ghost use Rattle.kt_syntax.specs.Condensed.{LineLaw, SemicolonLaw};
 ghost use Rattle.kt_syntax.specs.Grammar.{IsTreeOf};
 ghost use Rattle.kt_syntax.specs.Masked.{MaskLaw};
 ghost use Rattle.kt_syntax.specs.Modifiers.{ModifierLaw};
 ghost use Rattle.kt_syntax.specs.RecipeCuts.{SplicingLaw};
 ghost use Rattle.kt_syntax.specs.RecipeTexts.{RecipeLaw};
 ghost use Rattle.kt_syntax.specs.Rows.{RowsOfKinds, RowsOfRules, RowsOfTerms, RowsOfTexts};
-ghost use Rattle.kt_syntax.specs.Semicolons.{SemicolonLaw};
 ghost use Rattle.kt_syntax.specs.Signs.{SignLaw};
 
 /// By the grammar of blocks lines have exactly one tree and one missing end or none: the tree that

@@ -11,6 +11,12 @@ Text = List ℕ
 unfoldable pub is_separator : ℕ → Bool
 is_separator byte = byte == 32 || byte == 9 || byte == 10
 
+abbrev pub is_colon : ℕ → Bool
+is_colon byte = byte == 58
+
+abbrev pub is_equals : ℕ → Bool
+is_equals byte = byte == 61
+
 -- whether there is a byte
 abbrev pub is_nonempty : Text → Bool
 is_nonempty [] = false

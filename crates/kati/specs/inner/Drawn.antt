@@ -12,9 +12,13 @@ use Rattle.kt_ninja.specs.declared.plan.Statement.{Statement}
 use Rattle.kati.specs.declared.sketch.Joined.{Joined as HeldJoined}
 use Rattle.kati.specs.declared.sketch.Mark.{Mark}
 use Rattle.kati.specs.declared.sketch.Drawing.{Drawing}
-use Rattle.kati.specs.inner.Ranges.{AreRanges}
 use Rattle.kati.specs.Planning.{always_built, command_for, has_phony, implicit_of, joined_inputs, joined_order_only}
 use Rattle.kati.specs.Planning.{made_by, outs_of, with_always_built}
+
+-- the places of marks rise, and are in a list of this length
+abbrev pub AreRanges : {A : Type 0} → (A → ℕ) → (A → ℕ) → ℕ → List A → Type 0
+AreRanges start end size [] = Unit {0}
+AreRanges start end size (mark ∷ marks) = (start mark ≤ end mark) × (end mark ≤ size) × AreRanges start end size marks
 
 -- the joined prerequisites of the members of a group
 pub record Joined : Type 0 where

@@ -3,7 +3,7 @@
 use Rattle.std.specs.Prelude.{ℕ, zero, suc, ◌+◌, ◌-◌, Bool, true, false, ◌==◌, ◌&&◌, ◌||◌, List, [], ◌∷◌, ◌++◌, length}
 use Rattle.std.specs.Prelude.{take, drop, Option, Some, None, codes, bytes_eq, is_some, if◌then◌else◌}
 use Rattle.std.specs.List.{position_or_len, before_first, after_first, list_any}
-use Rattle.kt_text.specs.Words.{Text, is_separator, stripped_start}
+use Rattle.kt_text.specs.Words.{Text, is_separator, stripped_start, is_colon, is_equals}
 use Rattle.kt_text.specs.Match.{has_percent}
 use Rattle.kt_syntax.specs.declared.term.Mark.{Mark}
 use Rattle.kt_syntax.specs.declared.term.Mark.TheVariants.{Byte, Parentheses, Braces}
@@ -135,12 +135,6 @@ is_function_name name = is_some (function_of name) || is_refused_function name
 pub data Naming : Type 0 where
   plainly : (name : Text) → Naming
   substituting : (name pattern replacement : Text) → Naming
-
-abbrev pub is_colon : ℕ → Bool
-is_colon byte = byte == 58
-
-abbrev pub is_equals : ℕ → Bool
-is_equals byte = byte == 61
 
 -- a pattern and a replacement without a percent sign are for the ends of words
 abbrev pub substituting_ends : Text → Text → Text → Naming

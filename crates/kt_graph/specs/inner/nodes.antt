@@ -7,7 +7,6 @@ pub mod Needed
 pub mod Numbering
 pub mod Reached
 pub mod Inferring
-pub mod Building
 pub mod Graph
 pub mod Fronts
 pub mod Grouping

@@ -8,7 +8,7 @@ ghost use Rattle.kt_rules.specs.Names.{with_name};
 ghost use Rattle.kt_rules.specs.Slots.{rule_view};
 ghost use Rattle.kt_rules.specs.Targets.{entry_view, targets_view};
 ghost use Rattle.kt_rules.specs.Suffixes.{all_needs, suffixes_of};
-ghost use Rattle.kt_graph.specs.inner.nodes.Building.{IsCut};
+ghost use Rattle.kt_graph.specs.inner.nodes.GraphBuilder.{IsCut};
 ghost use Rattle.kt_graph.specs.inner.nodes.Needed.{needed_by_parts};
 ghost use Rattle.kt_graph.specs.inner.nodes.Numbering.{SayParts, SaysPart};
 ghost use Rattle.kt_graph.specs.inner.nodes.Stored.{part_held, parts_held};

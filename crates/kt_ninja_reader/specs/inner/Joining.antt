@@ -15,11 +15,6 @@ line_view (Other line) = record { number = line.value.number; text = line.value.
 abbrev pub file_line : CutLine → FileLine
 file_line cut = record { bytes = cut.bytes.now; ended = cut.ended }
 
--- what was begun, if a line goes on
-abbrev pub begun_by : Bool → OpenLine → Option Begun
-begun_by true begun = Some (record { first = begun.number; front = begun.text })
-begun_by false begun = None
-
 -- what a line of the file adds to a joined one, or begins it with
 abbrev pub added_text : Bool → Text → Text
 added_text true bytes = without_indent bytes

@@ -2,7 +2,7 @@
 use Rattle.std.specs.Prelude.{◌≡◌, ◌==◌, ◌||◌, Bool, false, ℕ, None, Some, map}
 use Rattle.std.specs.List.{list_any}
 use Rattle.kt_text.specs.Match.{has_percent}
-use Rattle.kt_text.specs.Words.{Text, words_of}
+use Rattle.kt_text.specs.Words.{Text, words_of, is_colon}
 use Rattle.kt_rules.specs.declared.entry.Needs.{Needs}
 use Rattle.kt_rules.specs.declared.head.Separator.TheVariants.{Single}
 use Rattle.kt_rules.specs.declared.reader.LongLine.{LongLine}
@@ -10,9 +10,6 @@ use Rattle.kt_rules.specs.Entry.{is_nil, read_line, tested_line}
 use Rattle.kt_rules.specs.Names.{is_among, name_of, wait_name, without_repeats, written_words}
 use Rattle.kt_rules.specs.RuleLine.{colon_cut, group_targets, needs_of}
 use Rattle.kt_rules.specs.inner.Telling.{Tells, is_telling}
-
-abbrev pub is_colon : ℕ → Bool
-is_colon byte = byte == 58
 
 -- a text without a colon and without a telling byte
 pub record IsPlain (text : Text) : Type 0 where

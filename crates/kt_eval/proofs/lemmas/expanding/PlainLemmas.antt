@@ -3,7 +3,7 @@ use Rattle.std.proofs.Common.{◌≡◌, ℕ, zero, suc, ◌+◌, Bool, true, fa
 use Rattle.std.proofs.lemmas.Bool.{and_parts, eq-eqb, not-true}
 use Rattle.std.specs.Prelude.{is_some}
 use Rattle.std.specs.List.{list_all, list_any, position_or_len}
-use Rattle.kt_text.specs.Words.{Text, is_separator}
+use Rattle.kt_text.specs.Words.{Text, is_colon, is_separator}
 use Rattle.kt_syntax.specs.declared.term.Mark.{Mark}
 use Rattle.kt_syntax.specs.declared.term.Mark.TheVariants.{Byte, Parentheses, Braces}
 use Rattle.kt_syntax.specs.Terms.{Token, literal, dollar, reference, unclosed}
@@ -15,7 +15,7 @@ use Rattle.kt_eval.specs.declared.state.Left.TheVariants.{Nothing, Value, Whole}
 use Rattle.kt_eval.specs.files.Files.{Store}
 use Rattle.kt_eval.specs.State.{World, lookup}
 use Rattle.kt_eval.specs.Outcome.{Gave}
-use Rattle.kt_eval.specs.expanding.Calls.{refers, asked_of, asked_by, is_colon, naming_of}
+use Rattle.kt_eval.specs.expanding.Calls.{refers, asked_of, asked_by, naming_of}
 use Rattle.kt_eval.specs.expanding.Expansion.{Evaluator, flavoured, value_of, body_of, value_named, referred, term_of}
 use Rattle.kt_eval.specs.expanding.Levels.{above, evaluator}
 use Rattle.kt_eval.specs.inner.Plain.{is_plain, put_if, left_unless, put_of, still_deferred, is_name_byte, names_plainly, value_left, put_by, left_by}

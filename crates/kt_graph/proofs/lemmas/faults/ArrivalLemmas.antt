@@ -7,10 +7,14 @@ use Rattle.std.proofs.lemmas.List.Concat.{flat_map-append}
 use Rattle.std.proofs.lemmas.List.Sums.{fold-append, get_or-le-sum_by, sum_by-append, sum_by-cons, sum_by-set}
 use Rattle.kt_graph.specs.declared.faults.edges.Edges.{Edges}
 use Rattle.kt_graph.specs.Reach.{Leads, Reaches}
-use Rattle.kt_graph.specs.inner.faults.Arrivals.{AreCounted, IsLeftIn, LeavesCircular, arrivals_at, count_left, is_left, next_of_all, next_of_left, with_arrival, without_arrival}
+use Rattle.kt_graph.specs.inner.faults.Arrivals.{AreCounted, IsLeftIn, LeavesCircular, arrivals_at, is_left, next_of_all, next_of_left, with_arrival, without_arrival}
 use Rattle.kt_graph.specs.inner.faults.Edges.{HasNext, LeadsBack, count_of, holds_in, next_of, rows_of, work_with}
 use Rattle.kt_graph.proofs.lemmas.MemberLemmas.{Contains-none}
 use Rattle.kt_graph.proofs.lemmas.faults.CircleLemmas.{Reaches-join, Reaches-step, has_within}
+
+-- how many vertices have edges to them left
+abbrev pub count_left : List ℕ → ℕ
+count_left counts = count_by is_left counts
 
 -- ---- edges to vertices
 

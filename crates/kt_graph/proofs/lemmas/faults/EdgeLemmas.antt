@@ -11,9 +11,14 @@ use Rattle.std.proofs.lemmas.List.Sums.{fold-append}
 use Rattle.std.proofs.lemmas.Option.{none-some, same_Some}
 use Rattle.kt_graph.specs.declared.faults.edges.Edges.{Edges}
 use Rattle.kt_graph.specs.inner.nodes.Stored.{StoredNode, stored_at}
-use Rattle.kt_graph.specs.inner.faults.Edges.{AreMadeBelow, AreNeededBelow, HaveEdges, IsRepeated, LeadToVertices, HasNext, IsEdge, LeadsTo, bare_rows, count_of, edges_from, edges_to, making_edges, makings_edges, needed_numbers, numbers_after, one_at, row_by, row_of, rows_of, turned_from, with_edge, with_edges}
+use Rattle.kt_graph.specs.inner.faults.Edges.{AreMadeBelow, AreNeededBelow, HaveEdges, IsRepeated, LeadToVertices, HasNext, IsEdge, LeadsTo, bare_rows, count_of, edges_from, edges_to, making_edges, makings_edges, needed_numbers, numbers_after, one_at, row_by, row_of, rows_of, with_edge, with_edges}
 use Rattle.kt_list.proofs.general.Elements.{first_or_rest, in_first, in_rest}
 use Rattle.kt_graph.proofs.lemmas.MemberLemmas.{Contains-none, Contains-map, Contains-from_map, Contains-slice_get}
+
+-- the edges of vertices from a number on, reversed
+abbrev pub turned_from : ℕ → List (List ℕ) → List (ℕ × ℕ)
+turned_from number [] = []
+turned_from number (row ∷ rows) = edges_to number row ++ turned_from (suc number) rows
 
 -- ---- one edge
 

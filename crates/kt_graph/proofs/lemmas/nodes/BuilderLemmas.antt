@@ -23,12 +23,18 @@ use Rattle.kt_graph.specs.nodes.Node.{Instance, Node, Part, all_inputs, node_by,
 use Rattle.kt_graph.specs.inner.nodes.Numbering.{HasNumbers, IsMaking, IsNumbered, IsStoredAs, SaysNode, SaysPart, SayParts, StandFor}
 use Rattle.kt_list.specs.Names.{AreBelow}
 use Rattle.kt_graph.specs.Reach.{IsReached}
-use Rattle.kt_graph.specs.inner.nodes.GraphBuilder.{AllSay, AreTold, BuildsNode, IsBegun, IsDone, IsOver, IsUnderWay}
+use Rattle.kt_graph.specs.inner.nodes.GraphBuilder.{AllSay, AreTold, BuildsNode, IsBegun, IsDone, IsOver}
 use Rattle.kt_graph.specs.inner.nodes.Reached.{reached_text}
 use Rattle.kt_graph.specs.nodes.Views.{instance_at, instance_view, name_at, names_at, part_view}
 use Rattle.kt_graph.proofs.lemmas.nodes.NumberLemmas.{names_grow, parts_kept, place_kept}
 use Rattle.kt_graph.proofs.lemmas.nodes.StepLemmas.{over_kept}
 use Rattle.kt_graph.proofs.lemmas.nodes.ReachLemmas.{goal_reached, inputs_all, reached_all, reached_on, reached_only, reached_stays}
+
+-- what was reached is needed by goals
+pub record IsUnderWay (rules : List Rule) (known goals names : List Text) (nodes : List StoredNode) : Type 0 where
+  pub reached : All (IsReached rules known goals) names
+  pub named : All (Contains names) goals
+  pub within : length nodes ≤ length names
 
 -- ---- places in lists that grow
 

@@ -9,9 +9,6 @@ use Rattle.kt_graph.specs.inner.faults.Edges.{LeadsBack, next_of, rows_of, work_
 abbrev pub is_left : ℕ → Bool
 is_left count = not (nat_eq count 0)
 
-abbrev pub count_left : List ℕ → ℕ
-count_left counts = count_by is_left counts
-
 abbrev pub IsLeftIn : List ℕ → ℕ → Type 0
 IsLeftIn counts vertex = 0 < get_or counts vertex 0
 

@@ -72,11 +72,6 @@ edges_to to froms = map (λ from. (from, to)) froms
 abbrev pub edges_from : ℕ → List ℕ → List (ℕ × ℕ)
 edges_from from numbers = map (λ to. (from, to)) numbers
 
--- the edges of vertices from a number on, reversed
-abbrev pub turned_from : ℕ → List (List ℕ) → List (ℕ × ℕ)
-turned_from number [] = []
-turned_from number (row ∷ rows) = edges_to number row ++ turned_from (suc number) rows
-
 -- edges lead to vertices
 abbrev pub LeadToVertices : Edges → Type 0
 LeadToVertices edges = (from to : ℕ) → HasNext edges from to → to < count_of edges

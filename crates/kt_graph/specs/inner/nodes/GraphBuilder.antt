@@ -1,7 +1,7 @@
 -- The names reached so far, and the nodes of the first of them, as the code holds them (kati's own).
 use Rattle.std.specs.Prelude.{◌≡◌, ℕ, ◌+◌, ◌-◌, ◌≤◌, true, false, List, [], ◌∷◌, ◌++◌, length, fold, take, All, Some, slice_get}
-use Rattle.std.specs.Prelude.{IfSome, None, Option}
-use Rattle.std.specs.List.{Contains}
+use Rattle.std.specs.Prelude.{IfSome, None, Option, map}
+use Rattle.std.specs.List.{Contains, after_last, before_last}
 use Rattle.kt_text.specs.Words.{Text}
 use Rattle.kt_rules.specs.declared.entry.Needs.{Needs}
 use Rattle.kt_rules.specs.declared.entry.Target.{Target}
@@ -19,6 +19,13 @@ use Rattle.kt_graph.specs.nodes.Node.{Node, group_of, node_of, own_part}
 use Rattle.kt_graph.specs.inner.nodes.Numbering.{IsStoredAs, SaysNeeds, SaysNode}
 use Rattle.kt_graph.specs.Reach.{IsReached}
 use Rattle.kt_graph.specs.nodes.Views.{name_at}
+use Rattle.kt_rules.specs.Slots.{rule_view}
+use Rattle.kt_graph.specs.declared.nodes.building.Used.{Used}
+
+-- the rules before the last rule with a recipe, and those after it
+pub record IsCut (rules : List (Rule × Target)) (used : Used) : Type 0 where
+  pub before : before_last has_recipe rules ≡ map rule_view used.earlier.now
+  pub after : after_last has_recipe rules ≡ map rule_view used.later.now
 
 -- how each leaf is stored that needs nothing
 abbrev pub leaf_stored : List Text → StoredNode
@@ -103,12 +110,6 @@ pub record LastNeeds (builder : GraphBuilder) (needs : Needs) : Type 0 where
 pub record IsBegun (goals : List Text) (builder : GraphBuilder) : Type 0 where
   pub names : builder.numbers ≡ fold with_name [] goals
   pub nodes : builder.nodes ≡ []
-
--- what was reached is needed by goals
-pub record IsUnderWay (rules : List Rule) (known goals names : List Text) (nodes : List StoredNode) : Type 0 where
-  pub reached : All (IsReached rules known goals) names
-  pub named : All (Contains names) goals
-  pub within : length nodes ≤ length names
 
 -- each name has its node
 pub record IsDone (rules : List Rule) (known goals : List Text) (names : List Text) (instances : List Held)

@@ -1,5 +1,6 @@
 use Rattle.std.proofs.Common.{◌+◌, ℕ, List, length}
-use Rattle.kt_graph.specs.inner.faults.Arrivals.{AreCounted, count_left}
+use Rattle.kt_graph.specs.inner.faults.Arrivals.{AreCounted}
+use Rattle.kt_graph.proofs.lemmas.faults.ArrivalLemmas.{count_left}
 use Rattle.kt_graph.proofs.faults.cycles.leave_after.Given as goal
 
 abbrev pub invariant-loop-vertex : goal.invariant-loop-vertex

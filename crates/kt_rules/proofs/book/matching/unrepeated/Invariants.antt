@@ -1,5 +1,5 @@
 use Rattle.std.proofs.Common.{vec_len}
-use Rattle.kt_rules.specs.Patterns.{IsSorted}
+use Rattle.kt_rules.proofs.PatternLemmas.{IsSorted}
 use Rattle.kt_rules.proofs.book.matching.unrepeated.Given as goal
 
 abbrev pub invariant-loop-pattern : goal.invariant-loop-pattern

@@ -1,5 +1,6 @@
 use Rattle.std.proofs.Common.{◌≡◌, drop}
-use Rattle.kt_graph.specs.inner.faults.Edges.{bare_rows, count_of, rows_held, rows_of, turned_from, with_edges}
+use Rattle.kt_graph.specs.inner.faults.Edges.{bare_rows, count_of, rows_held, rows_of, with_edges}
+use Rattle.kt_graph.proofs.lemmas.faults.EdgeLemmas.{turned_from}
 use Rattle.kt_graph.proofs.faults.edges.Edges.reversed.Given as goal
 
 abbrev pub invariant-loop-vertex : goal.invariant-loop-vertex

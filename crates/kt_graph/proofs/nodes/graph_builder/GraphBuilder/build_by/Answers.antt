@@ -5,10 +5,9 @@ use Rattle.kt_rules.specs.declared.entry.Target.{Target}
 use Rattle.kt_rules.specs.Entry.{Rule}
 use Rattle.kt_rules.specs.Slots.{rule_view}
 use Rattle.kt_rules.specs.Suffixes.{suffixes_of}
-use Rattle.kt_graph.specs.inner.nodes.Building.{IsCut}
 use Rattle.kt_graph.specs.nodes.Node.{double_node, explicit_node}
 use Rattle.kt_graph.specs.inner.nodes.Reached.{reached_text}
-use Rattle.kt_graph.specs.inner.nodes.GraphBuilder.{BuildsNode}
+use Rattle.kt_graph.specs.inner.nodes.GraphBuilder.{BuildsNode, IsCut}
 use Rattle.kt_graph.proofs.lemmas.nodes.StepLemmas.{double_with, single_with}
 use Rattle.kt_graph.proofs.nodes.graph_builder.GraphBuilder.build_by.Goals as goal
 
