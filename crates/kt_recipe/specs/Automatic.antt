@@ -21,13 +21,9 @@ marks =
 
 -- whether a `D` or `F` may come after the mark; after `|` none may [Automatic Variables], nor after `%` (kati's own)
 abbrev pub has_parts : Subject → Bool
-has_parts Target = true
-has_parts First = true
-has_parts Each = true
-has_parts Every = true
 has_parts OrderOnly = false
-has_parts Stem = true
 has_parts Member = false
+has_parts other = true
 
 -- what may come after a mark, and the form that it asks for
 abbrev pub endings : Bool → List (Text × Form)

@@ -7,7 +7,7 @@ use Rattle.std.specs.Cmp.Lexicographic.{pointwise}
 use Rattle.std.specs.Option.{option_or, option_map_or}
 use Rattle.kt_text.specs.Words.{Text}
 use Rattle.kt_rules.specs.declared.entry.Kind.{Kind}
-use Rattle.kt_rules.specs.declared.entry.Kind.TheVariants.{SingleColon, DoubleColon, Group, Pattern, TerminalPattern}
+use Rattle.kt_rules.specs.declared.entry.Kind.TheVariants.{DoubleColon, Group, Pattern, TerminalPattern}
 use Rattle.kt_rules.specs.declared.entry.Target.{Target}
 use Rattle.kt_rules.specs.declared.place.Place.{Place}
 use Rattle.kt_rules.specs.Names.{is_among, is_special}
@@ -18,25 +18,17 @@ use Rattle.kt_rules.specs.Refusals.{Refusal, Fault, bad_group, both_colons, two_
 use Rattle.kt_rules.specs.Suffixes.{special_needs, suffixes_of, suffix_patterns, is_single, is_bare, is_suffix_rule}
 
 abbrev pub is_double : Kind → Bool
-is_double SingleColon = false
 is_double DoubleColon = true
-is_double Group = false
-is_double Pattern = false
-is_double TerminalPattern = false
+is_double other = false
 
 abbrev pub is_group : Kind → Bool
-is_group SingleColon = false
-is_group DoubleColon = false
 is_group Group = true
-is_group Pattern = false
-is_group TerminalPattern = false
+is_group other = false
 
 abbrev pub is_pattern : Kind → Bool
-is_pattern SingleColon = false
-is_pattern DoubleColon = false
-is_pattern Group = false
 is_pattern Pattern = true
 is_pattern TerminalPattern = true
+is_pattern other = false
 
 -- whether a rule makes a target by name: a pattern rule doesn't, and a special target isn't made
 abbrev pub is_made : Rule → Target → Bool

@@ -6,14 +6,13 @@ use Rattle.std.specs.declared.vec.Vec.{Vec}
 use Rattle.std.specs.declared.alloc.Global.{Global}
 use Rattle.kt_text.specs.Words.{Text}
 use Rattle.kt_rules.specs.declared.entry.Kind.{Kind}
-use Rattle.kt_rules.specs.declared.entry.Kind.TheVariants.{SingleColon, DoubleColon, Group, Pattern, TerminalPattern}
+use Rattle.kt_rules.specs.declared.entry.Kind.TheVariants.{TerminalPattern}
 use Rattle.kt_rules.specs.declared.entry.Target.{Target}
 use Rattle.kt_rules.specs.declared.book.pattern.PatternForm.{PatternForm}
 use Rattle.kt_rules.specs.Entry.{Rule}
 use Rattle.kt_rules.specs.declared.book.pattern_set.PatternKey.{PatternKey}
 use Rattle.kt_rules.specs.declared.book.pattern_set.PatternSet.{PatternSet}
 use Rattle.kt_rules.specs.Book.{is_made, target_rules, target_names, names_eq, suffix_rule_as_pattern}
-use Rattle.kt_rules.specs.Book.{repeats}
 
 -- a rule with the kind, targets and prerequisites of a pattern rule
 abbrev pub form_view : Rule → PatternForm → Rule
@@ -37,11 +36,8 @@ suffix_rules_at suffixes rule target =
 
 -- whether a rule is terminal: no implicit rule is searched for to make the prerequisites
 abbrev pub is_terminal : Kind → Bool
-is_terminal SingleColon = false
-is_terminal DoubleColon = false
-is_terminal Group = false
-is_terminal Pattern = false
 is_terminal TerminalPattern = true
+is_terminal other = false
 
 -- ---- pattern rules that are kept
 

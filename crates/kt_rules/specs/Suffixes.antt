@@ -6,7 +6,7 @@ use Rattle.std.specs.List.{range_with_len}
 use Rattle.std.specs.Option.{option_map_or}
 use Rattle.kt_text.specs.Words.{Text, words_of}
 use Rattle.kt_rules.specs.declared.entry.Kind.{Kind}
-use Rattle.kt_rules.specs.declared.entry.Kind.TheVariants.{SingleColon, DoubleColon, Group, Pattern, TerminalPattern}
+use Rattle.kt_rules.specs.declared.entry.Kind.TheVariants.{SingleColon}
 use Rattle.kt_rules.specs.declared.entry.Needs.{Needs}
 use Rattle.kt_rules.specs.declared.entry.Target.{Target}
 use Rattle.kt_rules.specs.Names.{is_among, with_name}
@@ -59,10 +59,7 @@ suffix_patterns suffixes name =
 
 abbrev pub is_single : Kind → Bool
 is_single SingleColon = true
-is_single DoubleColon = false
-is_single Group = false
-is_single Pattern = false
-is_single TerminalPattern = false
+is_single other = false
 
 abbrev pub is_empty : List Text → Bool
 is_empty [] = true

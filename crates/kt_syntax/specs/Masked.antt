@@ -5,7 +5,7 @@ use Rattle.std.specs.Prelude.{◌≡◌, ℕ, ◌+◌, ◌<◌, ◌≤◌, Bool,
 use Rattle.std.specs.Prelude.{slice_index}
 use Rattle.kt_text.specs.Words.{Text}
 use Rattle.kt_text.specs.Lines.{is_continued_text}
-use Rattle.kt_syntax.specs.Terms.{Token, literal, dollar, reference, unclosed, kept, unit_length, IsTerm}
+use Rattle.kt_syntax.specs.Terms.{Token, literal, kept, unit_length, IsTerm}
 use Rattle.kt_syntax.specs.Mask.{inside, mask_of}
 
 -- a place of a line is one of a continuation: this begins at a backslash at which an odd number of them ends, and
@@ -19,11 +19,8 @@ pub record IsContinued (line : Text) (place : ℕ) : Type 0 where
 
 -- a literal stands outside references, unless it is the dollar at the end; no other term does
 abbrev pub is_outside : Token → Bool
-is_outside (literal []) = false
 is_outside (literal (byte ∷ bytes)) = true
-is_outside dollar = false
-is_outside (reference mark body) = false
-is_outside unclosed = false
+is_outside other = false
 
 -- the symbol of a place in a term that stands outside references or doesn't
 pub record IsSymbol (line : Text) (outside : Bool) (place symbol : ℕ) : Type 0 where

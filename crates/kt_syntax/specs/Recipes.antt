@@ -33,10 +33,8 @@ begun Inside text = trimmed_start text
 
 -- what is left before the joint after it
 abbrev pub ended : Joint → Text → Text
-ended Edge text = text
-ended Newline text = text
-ended Outside text = text
 ended Inside text = trimmed_end text
+ended other text = text
 
 -- the space of a continuation inside a reference; of several with nothing but blanks between them the last has it
 abbrev pub space_before : Joint → Joint → Text → Text

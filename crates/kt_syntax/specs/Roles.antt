@@ -1,6 +1,6 @@
 -- What lines are to the blocks round them (GNU make manual, "Syntax of Conditionals" and "Defining Multi-Line
 -- Variables"), by their kinds alone.
-use Rattle.std.specs.Prelude.{Bool, true, false, ◌&&◌, ◌||◌, ◌==◌, List, [], ◌∷◌, length, take, map, Option, Some, None}
+use Rattle.std.specs.Prelude.{Bool, true, false, ◌&&◌, ◌||◌, ◌==◌, List, [], ◌∷◌, length, take, map, Option, Some}
 use Rattle.std.specs.Prelude.{leb, if◌then◌else◌}
 use Rattle.std.specs.List.{slice_range}
 use Rattle.kt_text.specs.declared.line.Line.{Line}
@@ -11,7 +11,7 @@ use Rattle.kt_syntax.specs.declared.role.Role.{Role}
 use Rattle.kt_syntax.specs.declared.role.Role.TheVariants.{Ordinary, Conditional, Else, Endif, Define, Endef}
 use Rattle.kt_text.specs.Words.{Text}
 use Rattle.kt_syntax.specs.Mask.{mask_of}
-use Rattle.kt_syntax.specs.Kinds.{Kind, blank, assignment, directive, refused, rule, block_word, comment_place}
+use Rattle.kt_syntax.specs.Kinds.{Kind, directive, block_word, comment_place}
 use Rattle.kt_syntax.specs.Kinds.{line_kind, past_word}
 
 -- whether a line begins with a blank, with a backslash, which may be that of a continuation, with a byte of a line's
@@ -27,17 +27,11 @@ first_word text = slice_range text 0 (past_word 0 (take (comment_place text) (ma
 
 -- the four words of conditions
 abbrev pub opens_conditional : Option Directive → Bool
-opens_conditional None = false
 opens_conditional (Some word.Ifdef) = true
 opens_conditional (Some word.Ifndef) = true
 opens_conditional (Some word.Ifeq) = true
 opens_conditional (Some word.Ifneq) = true
-opens_conditional (Some word.Else) = false
-opens_conditional (Some word.Endif) = false
-opens_conditional (Some word.Define) = false
-opens_conditional (Some word.Endef) = false
-opens_conditional (Some word.Include) = false
-opens_conditional (Some word.OptionalInclude) = false
+opens_conditional other = false
 
 -- whether a condition follows an `else`: of the text after it only the first word counts (kati's own)
 unfoldable pub starts_condition : Text → Bool
@@ -58,11 +52,8 @@ role_by_word word.OptionalInclude rest = Ordinary
 
 -- the role of a line of a kind
 unfoldable pub role_of : Kind → Role
-role_of blank = Ordinary
-role_of (assignment name operator value) = Ordinary
 role_of (directive word rest) = role_by_word word rest
-role_of (refused word) = Ordinary
-role_of rule = Ordinary
+role_of other = Ordinary
 
 -- the bytes of a line, which are none where its place isn't one of the text
 abbrev pub line_text : Text → Line → Text

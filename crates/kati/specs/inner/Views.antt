@@ -1,6 +1,6 @@
 -- The code's own types as those of the definitions (kati's own).
 use Rattle.std.specs.Prelude.{ℕ, Bool, true, false, List}
-use Rattle.kt_ninja.specs.Writable.{Obstacle, no_output, bad_name, bad_command, repeated, not_an_output}
+use Rattle.kt_ninja.specs.Writable.{Obstacle, bad_name, bad_command}
 use Rattle.kt_text.specs.Words.{Text}
 use Rattle.kt_ninja.specs.declared.plan.Plan.{Plan}
 use Rattle.kt_eval.specs.files.Files.{Store}
@@ -35,6 +35,4 @@ EndMeans args store asked end = Means args store asked (meaning_of end)
 abbrev pub is_text_trouble : Obstacle → Bool
 is_text_trouble (bad_name name) = true
 is_text_trouble (bad_command number) = true
-is_text_trouble (no_output number) = false
-is_text_trouble (repeated name) = false
-is_text_trouble (not_an_output name) = false
+is_text_trouble other = false

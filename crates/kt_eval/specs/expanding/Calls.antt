@@ -48,15 +48,11 @@ is_refused_function name =
 abbrev pub commas : Function → Option ℕ
 commas (function.Text text_function) = Some (arity text_function - 1)
 commas function.If = Some 2
+commas function.Foreach = Some 2
 commas function.Or = None
 commas function.And = None
-commas function.Foreach = Some 2
 commas function.Call = None
-commas function.Value = Some 0
-commas function.Eval = Some 0
-commas function.Error = Some 0
-commas function.Warning = Some 0
-commas function.Info = Some 0
+commas other = Some 0
 
 -- the marks of a reference
 abbrev pub opener : Mark → ℕ

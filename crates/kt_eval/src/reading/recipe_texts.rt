@@ -28,7 +28,10 @@ impl RecipeTexts {
     }
 
     // The text of the recipe on the rule line itself, if there is one.
-    pub(crate) fn first_text(&mut self, line: Option<&[u8]>) -> Result<Option<Shared<u8>>, AllocError>
+    pub(crate) fn first_text(
+        &mut self,
+        line: Option<&[u8]>,
+    ) -> Result<Option<Shared<u8>>, AllocError>
         ensures { IfOk result (λ text. text ≡ option_map recipe_of (option_map (λ line. line.now) line.entry)) }
     {
         match line {

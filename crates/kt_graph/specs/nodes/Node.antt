@@ -165,11 +165,8 @@ node_of rules known name = node_with rules known name (explicit_rules rules name
 -- ---- what a node needs
 
 abbrev pub is_leaf : NodeKind → Bool
-is_leaf DoubleColon = false
-is_leaf Explicit = false
-is_leaf Implicit = false
-is_leaf Phony = false
 is_leaf Leaf = true
+is_leaf other = false
 
 -- the prerequisites without repeats
 unfoldable pub inputs_of : Node → List Text

@@ -1,6 +1,7 @@
 -- `==` says whether two plans are the same.
 use Rattle.std.proofs.Common.{◌≡◌, ℕ, List, refl, sym, ap, subst}
-use Rattle.std.specs.Prelude.{Bool, true, false, IsTrue, ◌↔◌, ◌&&◌}
+use Rattle.std.proofs.lemmas.Bool.Decides.{Decides-and}
+use Rattle.std.specs.Prelude.{Bool, IsTrue, ◌↔◌}
 use Rattle.std.specs.Bool.{Decides}
 use Rattle.std.specs.Cmp.{IsEquivalence, decided}
 use Rattle.std.specs.Cmp.Lexicographic.{pointwise, pointwise_decides, bytes_decides}
@@ -9,10 +10,6 @@ use Rattle.kt_ninja.specs.declared.plan.Made.TheVariants.{Command, Phony}
 use Rattle.kt_ninja.specs.declared.plan.Statement.{Statement}
 use Rattle.kt_ninja.specs.declared.plan.Plan.{Plan}
 use Rattle.kt_ninja.specs.Plan.{same_names, same_made, same_statement, same_plan}
-
-both : {P Q R : Type 0} (a b : Bool) → Decides a P → Decides b Q → (P → Q → R) → (R → P) → (R → Q) → Decides (a && b) R
-both true b one two make first second = (λ e. make (one.0 refl) (two.0 e), λ r. two.1 (second r))
-both false b one two make first second = (λ e. absurd (cc e), λ r. absurd (cc (one.1 (first r))))
 
 names_same : (a b : List (List ℕ)) → Decides (same_names a b) (a ≡ b)
 names_same a b = pointwise_decides bytes_decides a b
@@ -37,28 +34,31 @@ statement_of a b outs made inputs implicit order_only = λ i. record {
 plan_of : (a b : Plan) → a.statements ≡ b.statements → a.defaults ≡ b.defaults → a ≡ b
 plan_of a b statements defaults = λ i. record { statements = statements i; defaults = defaults i }
 
-pair : {P Q : Type 0} (a b : Bool) → Decides a P → Decides b Q → Decides (a && b) (P × Q)
-pair a b one two = both a b one two (λ e f. (e, f)) (λ p. p.0) (λ p. p.1)
-
 statement_same : (a b : Statement) → Decides (same_statement a b) (a ≡ b)
 statement_same a b =
-    let made = same_made a.made b.made in
-    let inputs = same_names a.inputs b.inputs in
-    let implicit = same_names a.implicit b.implicit in
-    let order_only = same_names a.order_only b.order_only in
-    both (same_names a.outs b.outs) (made && (inputs && (implicit && order_only))) (names_same a.outs b.outs)
-    (pair made (inputs && (implicit && order_only)) (made_same a.made b.made)
-    (pair inputs (implicit && order_only) (names_same a.inputs b.inputs)
-    (pair implicit order_only (names_same a.implicit b.implicit) (names_same a.order_only b.order_only))))
-    (λ e p. statement_of a b e p.0 p.1.0 p.1.1.0 p.1.1.1)
-    (λ e. ap (λ s. s.outs) e)
-    (λ e. (ap (λ s. s.made) e, (ap (λ s. s.inputs) e, (ap (λ s. s.implicit) e, ap (λ s. s.order_only) e))))
+    let inputs = Decides-and (same_names a.implicit b.implicit) (same_names a.order_only b.order_only)
+    (names_same a.implicit b.implicit) (names_same a.order_only b.order_only) in
+    let made = Decides-and (same_names a.inputs b.inputs) _ (names_same a.inputs b.inputs) inputs in
+    let all = Decides-and (same_names a.outs b.outs) _ (names_same a.outs b.outs)
+    (Decides-and (same_made a.made b.made) _ (made_same a.made b.made) made) in (
+      λ told. let p = all.0 told in statement_of a b p.0 p.1.0 p.1.1.0 p.1.1.1.0 p.1.1.1.1,
+      λ e. all.1 (
+        ap (λ s. s.outs) e,
+        (
+          ap (λ s. s.made) e,
+          (
+            ap (λ s. s.inputs) e,
+            (ap (λ s. s.implicit) e, ap (λ s. s.order_only) e),
+          ),
+        ),
+      ),
+    )
 
 plan_same : (a b : Plan) → Decides (same_plan a b) (a ≡ b)
 plan_same a b =
-    both (pointwise same_statement a.statements b.statements) (same_names a.defaults b.defaults)
-    (pointwise_decides statement_same a.statements b.statements) (names_same a.defaults b.defaults)
-    (plan_of a b) (λ e. ap (λ p. p.statements) e) (λ e. ap (λ p. p.defaults) e)
+    let all = Decides-and (pointwise same_statement a.statements b.statements) (same_names a.defaults b.defaults)
+    (pointwise_decides statement_same a.statements b.statements) (names_same a.defaults b.defaults) in
+    (λ told. let p = all.0 told in plan_of a b p.0 p.1, λ e. all.1 (ap (λ p. p.statements) e, ap (λ p. p.defaults) e))
 
 of_same : {K : Type 0} (E : K → K → Bool) (a b : K) (r : Bool) → ((x y : K) → Decides (E x y) (x ≡ y)) → r ≡ E a b
     → Decides r (a ≡ b)

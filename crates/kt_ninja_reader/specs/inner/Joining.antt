@@ -1,10 +1,10 @@
 -- Joining the lines of a file one after another (the reader's own).
-use Rattle.std.specs.Prelude.{◌≡◌, ◌-◌, Bool, true, false, ◌++◌, length, take, Option, Some, None, if◌then◌else◌}
+use Rattle.std.specs.Prelude.{◌≡◌, ◌-◌, Bool, true, false, ◌++◌, length, take, if◌then◌else◌}
 use Rattle.kt_ninja_reader.specs.declared.line.LineForm.{LineForm}
 use Rattle.kt_ninja_reader.specs.declared.line.LineForm.TheVariants.{Plain, Other}
 use Rattle.kt_ninja_reader.specs.declared.joined.FileLine.{FileLine as CutLine}
 use Rattle.kt_ninja_reader.specs.declared.joined.Begun.{Begun as OpenLine}
-use Rattle.kt_ninja_reader.specs.JoinedLines.{Begun, FileLine, JoinedLine, Text, goes_on, is_blank, is_comment, without_indent}
+use Rattle.kt_ninja_reader.specs.JoinedLines.{FileLine, JoinedLine, Text, goes_on, is_blank, is_comment, without_indent}
 
 -- a line as it is held
 abbrev pub line_view : LineForm → JoinedLine

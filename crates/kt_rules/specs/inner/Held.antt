@@ -11,7 +11,7 @@ use Rattle.kt_rules.specs.declared.book.rules.LastList.{LastList}
 use Rattle.kt_rules.specs.declared.book.rules.ListRows.{ListRows}
 use Rattle.kt_rules.specs.declared.book.spot.Spot.{Spot}
 use Rattle.kt_rules.specs.declared.entry.Kind.{Kind}
-use Rattle.kt_rules.specs.declared.entry.Kind.TheVariants.{SingleColon, DoubleColon, Group, Pattern, TerminalPattern}
+use Rattle.kt_rules.specs.declared.entry.Kind.TheVariants.{DoubleColon, Group}
 use Rattle.kt_rules.specs.declared.entry.Needs.{Needs}
 use Rattle.kt_rules.specs.declared.entry.RecipeLine.{RecipeLine}
 use Rattle.kt_rules.specs.declared.entry.Target.{Target}
@@ -52,11 +52,9 @@ slots_held names lists (lines ∷ recipes) (slot ∷ slots) =
 
 -- whether there may be rules of a kind
 abbrev pub sees : Kinds → Kind → Bool
-sees kinds SingleColon = true
 sees kinds DoubleColon = kinds.double
 sees kinds Group = kinds.group
-sees kinds Pattern = true
-sees kinds TerminalPattern = true
+sees kinds other = true
 
 -- there may be the rule in a slot, and its lists are among the rows
 abbrev pub IsKnown : Kinds → ℕ → Option HeldRule → Type 0

@@ -1,5 +1,5 @@
 -- The prerequisites that a reader of rule lines remembers (kati's own).
-use Rattle.std.specs.Prelude.{◌≡◌, ◌==◌, ◌||◌, Bool, false, ℕ, None, Some, map}
+use Rattle.std.specs.Prelude.{◌≡◌, ◌||◌, Bool, false, None, Some, map}
 use Rattle.std.specs.List.{list_any}
 use Rattle.kt_text.specs.Match.{has_percent}
 use Rattle.kt_text.specs.Words.{Text, words_of, is_colon}

@@ -1,5 +1,5 @@
 -- The bytes that tell of the names of a rule line (kati's own).
-use Rattle.std.specs.Prelude.{◌≡◌, ℕ, Bool, false, ◌==◌, ◌||◌, ◌∷◌, None}
+use Rattle.std.specs.Prelude.{◌≡◌, ℕ, Bool, false, ◌==◌, ◌||◌, None}
 use Rattle.std.specs.List.{list_any}
 use Rattle.kt_text.specs.Match.{has_percent}
 use Rattle.kt_rules.specs.declared.line.Line.{Line}

@@ -1,5 +1,5 @@
 -- The names reached so far, and the nodes of the first of them, as the code holds them (kati's own).
-use Rattle.std.specs.Prelude.{◌≡◌, ℕ, ◌+◌, ◌-◌, ◌≤◌, true, false, List, [], ◌∷◌, ◌++◌, length, fold, take, All, Some, slice_get}
+use Rattle.std.specs.Prelude.{◌≡◌, ℕ, ◌+◌, ◌-◌, true, false, List, [], ◌∷◌, ◌++◌, length, fold, take, All, Some, slice_get}
 use Rattle.std.specs.Prelude.{IfSome, None, Option, map}
 use Rattle.std.specs.List.{Contains, after_last, before_last}
 use Rattle.kt_text.specs.Words.{Text}
